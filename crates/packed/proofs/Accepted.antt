@@ -1,0 +1,85 @@
+-- A file is accepted, with its content, exactly when the plain rules hold.
+use Prim.Native.Nat.{ℕ, _≤_}
+use mathlib.Core.Path.{_≡_, refl, ap, sym, subst}
+use mathlib.Core.List.{List}
+use mathlib.Core.Bool.{Bool, true, false}
+use mathlib.Core.Logic.{_↔_, Iff·trans}
+use lib.ListN.{length, getD}
+use lib.Dec.{ltb}
+use native.Mathlib.Omega.{arith}
+use borrow.Author.Tests.{ltb-false, le-ltb}
+use Rattle.packed.specs.Bits.{bits}
+use Rattle.packed.specs.Format.{Format, Result, ok, bad, pick, ended, lay, whole, decode, encode}
+use Rattle.packed.specs.Formats.{pattern, catalogue, record′, sheet, book}
+use Rattle.packed.specs.Contents.{edgesOf, edgeCounts}
+use Rattle.packed.specs.Calls.{accepted, rejected, inFile, readFile, readPattern, readCatalogue, readRecord, readSheet, readBook}
+use Rattle.packed.specs.Plain.{PlainSheet, PatternFile, CatalogueFile, RecordFile, SheetFile, BookFile}
+use Rattle.packed.proofs.RoundTrip.{Bytes, inBytes-ok, decode-encode, encode-decode}
+use Rattle.packed.proofs.Files.{bytes-bytesOf}
+use Rattle.packed.proofs.AcceptedLaws.{accepts-file, whole-same}
+use Rattle.packed.proofs.AcceptedGraphs.{accepts-pattern, accepts-record}
+use Rattle.packed.proofs.AcceptedTurns.{accepts-catalogue, catalogue-length, turns-length}
+use Rattle.packed.proofs.AcceptedSheets.{accepts-sheet, accepts-book}
+
+-- ---- bytes of any number
+
+pub pattern-accepted : (s ws : List ℕ) → decode pattern s ≡ ok ws ↔ PatternFile s ws
+pattern-accepted s ws = accepts-file pattern (accepts-pattern 0) s ws
+
+pub catalogue-accepted : (s ws : List ℕ) → decode catalogue s ≡ ok ws ↔ CatalogueFile s ws
+catalogue-accepted s ws = Iff·trans (accepts-file catalogue accepts-catalogue s ws) (whole-same catalogue-length ws (bits s))
+
+pub record-accepted : (s ws : List ℕ) → decode record′ s ≡ ok ws ↔ RecordFile s ws
+record-accepted s ws = accepts-file record′ (accepts-record 0) s ws
+
+pub sheet-accepted : (m : ℕ) (s ws : List ℕ) → decode (sheet m) s ≡ ok ws ↔ SheetFile m s ws
+sheet-accepted m s ws = accepts-file (sheet m) (accepts-sheet m 0) s ws
+
+pub book-accepted : (ms s ws : List ℕ) → decode (book ms) s ≡ ok ws ↔ BookFile ms s ws
+book-accepted ms s ws =
+    Iff·trans (accepts-file (book ms) (accepts-book ms) s ws)
+    (whole-same (turns-length (λ i. PlainSheet (getD ms i 0)) (length ms)) ws (bits s))
+
+-- ---- files, which have at most so many bytes
+
+pick-accepted : (b : Bool) (file : ℕ) (r : Result ℕ) (ws : List ℕ) → pick b (rejected 1 file) (inFile file r) ≡ accepted ws ↔ ((b ≡ false) × (r ≡ ok ws))
+pick-accepted true file r ws =
+    (λ e. absurd (let z : _≡_ {A = ℕ} 0 1 = cc in omega arith), λ e. absurd (let d = e .0 in let z : _≡_ {A = ℕ} 0 1 = cc in omega arith))
+pick-accepted false file (ok xs) ws = (λ e. (refl, let q : xs ≡ ws = cc in ap ok q), λ e. ap (inFile file) (e .1))
+pick-accepted false file (bad n) ws =
+    (λ e. absurd (let z : _≡_ {A = ℕ} 0 1 = cc in omega arith), λ e. absurd (let d = e .1 in let z : _≡_ {A = ℕ} 0 1 = cc in omega arith))
+
+module _ (most file : ℕ) (F : Format) (s ws : List ℕ) {A : Type 0} (plain : decode F s ≡ ok ws ↔ A) where
+  read-accepted : readFile most file F s ≡ accepted ws ↔ ((length s ≤ most) × A)
+  unfolding readFile
+  read-accepted =
+      let p = pick-accepted (ltb most (length s)) file (decode F s) ws in
+      (λ e. let q = p .0 e in (ltb-false most (length s) (q .0), plain .0 (q .1)), λ q. p .1 (le-ltb most (length s) (q .0), plain .1 (q .1)))
+
+pub pattern-read : (s ws : List ℕ) → readPattern s ≡ accepted ws ↔ ((length s ≤ 44) × PatternFile s ws)
+pattern-read s ws = read-accepted 44 1 pattern s ws (pattern-accepted s ws)
+
+pub catalogue-read : (s ws : List ℕ) → readCatalogue s ≡ accepted ws ↔ ((length s ≤ 705) × CatalogueFile s ws)
+catalogue-read s ws = read-accepted 705 2 catalogue s ws (catalogue-accepted s ws)
+
+pub record-read : (s ws : List ℕ) → readRecord s ≡ accepted ws ↔ ((length s ≤ 40964) × RecordFile s ws)
+record-read s ws = read-accepted 40964 3 record′ s ws (record-accepted s ws)
+
+-- for the content p of a pattern
+pub sheet-read : (p s ws : List ℕ) → readSheet p s ≡ accepted ws ↔ ((length s ≤ 65536) × SheetFile (edgesOf p) s ws)
+sheet-read p s ws = read-accepted 65536 4 (sheet (edgesOf p)) s ws (sheet-accepted (edgesOf p) s ws)
+
+-- for the content c of a catalogue
+pub book-read : (c s ws : List ℕ) → readBook c s ≡ accepted ws ↔ ((length s ≤ 65536) × BookFile (edgeCounts c) s ws)
+book-read c s ws = read-accepted 65536 4 (book (edgeCounts c)) s ws (book-accepted (edgeCounts c) s ws)
+
+-- ---- what is written is what would be accepted
+
+pub written-accepted : (F : Format) (ws s : List ℕ) → encode F ws ≡ ok s ↔ (Bytes s × (decode F s ≡ ok ws))
+unfolding encode
+written-accepted F ws s = (
+  λ e.
+      let r = inBytes-ok (ended (lay (whole F) 0 ws)) s e in
+      (subst Bytes (sym (r .2)) (bytes-bytesOf _ (r .0)), encode-decode F ws s e),
+  λ q. decode-encode F s ws (q .0) (q .1),
+)

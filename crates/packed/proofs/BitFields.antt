@@ -1,0 +1,145 @@
+-- Fields read from whole bytes, and written byte by byte.
+use Prim.Native.Nat.{ℕ, zero, suc, _+_, _*_, _-_, _/_, _%_, _^_, _≤_, _<_}
+use mathlib.Core.Path.{_≡_, refl, ap, sym, _∙_, subst}
+use mathlib.Core.List.{List, [], _∷_, _++_}
+use mathlib.Core.Bool.{Bool}
+use lib.ListN.{length, take, drop, getD, set, length-append}
+use lib.Seq.{sets, take-at, drop-at, drop-cons}
+use lib.Dec.{eqb}
+use lib.Pow.{pow-pos, shr-shr, shr-lt, shl-exact, pow-add, pow-lt}
+use lib.Arith.{digits-lt}
+use native.Mathlib.Omega.{arith}
+use native.Mathlib.Nat.{mod-lt, mod-eq-of-lt, one-mul, div-add-mod'}
+use Rattle.packed.specs.Bits.{bitsOf, numFrom, num, bits, field, zeros, gap}
+use Rattle.packed.proofs.BitsLaws.{length-bitsOf, drop-bits, first-byte, bitsOf-add, bitsOf-mod, bitsOf-pair, zeros-num, field-add, field-inside}
+use Rattle.packed.proofs.Sets.{sets-append, sets-beyond, sets-drop, sets-left, sets-at}
+
+-- ---- words
+
+-- 1 << k in a word of w bits
+pub pow-word : (k w : ℕ) → k < w → 1 * 2 ^ k % 2 ^ w ≡ 2 ^ k
+pow-word k w h = rw one-mul (mod-eq-of-lt (pow-lt h))
+
+-- nothing is shifted out of a word
+high-word : (x n : ℕ) → x < 2 ^ 32 → x / 2 ^ n * 2 ^ n % 2 ^ 32 ≡ x / 2 ^ n * 2 ^ n
+high-word x n h = mod-eq-of-lt (omega (arith, div-add-mod' x (2 ^ n)))
+
+-- ---- reading
+
+pub field-none : (s : List ℕ) (at : ℕ) → field s at 0 ≡ 0
+unfolding field num numFrom
+field-none s at = refl
+
+field-byte : (s : List ℕ) (j : ℕ) → j < length s → getD s j 0 < 256 → field s (8 * j) 8 ≡ getD s j 0
+unfolding field
+field-byte s j h b = rw (drop-bits s j, drop-cons s j 0 h) (first-byte (getD s j 0) (drop (suc j) s) b)
+
+-- one byte more
+pub field-bytes : (s : List ℕ) (q i : ℕ) → q + i < length s → getD s (q + i) 0 < 256 → field s (8 * q) (8 * (i + 1)) ≡ field s (8 * q) (8 * i) * 256 + getD s (q + i) 0
+field-bytes s q i h b =
+    let e : 8 * (i + 1) ≡ 8 * i + 8 = omega arith in
+    let f : 8 * q + 8 * i ≡ 8 * (q + i) = omega arith in
+    rw (e, field-add s (8 * q) (8 * i) 8 (omega arith), f, field-byte s (q + i) h b)
+
+-- how many bytes the field of n bits at the bit offset at touches
+abbrev touched : ℕ → ℕ → ℕ
+touched at n = (at % 8 + n + 7) / 8
+
+-- a field from the number of the bytes that it touches, as it is computed in a word
+pub field-coded : (s : List ℕ) (at n v : ℕ) → n ≤ 32 → at + n ≤ 8 * length s → v ≡ field s (8 * (at / 8)) (8 * touched at n)
+    → v / 2 ^ (8 * touched at n - (at % 8 + n)) % (1 * 2 ^ n % 2 ^ 64) ≡ field s at n
+field-coded s at n v h l f =
+    let q : ℕ = at / 8 in
+    let r : ℕ = 8 * touched at n - (at % 8 + n) in
+    let e : 8 * touched at n ≡ at % 8 + (n + r) = omega arith in
+    let p : 8 * q + at % 8 ≡ at = omega arith in
+    rw (pow-word n 64 (omega arith), f)
+    (ap (λ (w : ℕ). field s (8 * q) w / 2 ^ r % 2 ^ n) e
+    ∙ sym (field-inside s (8 * q) (at % 8) n r (omega arith))
+    ∙ ap (λ (i : ℕ). field s i n) p)
+
+pub gap-zero : (s : List ℕ) (at : ℕ) → eqb (field s at ((8 - at % 8) % 8)) 0 ≡ zeros (take (gap at) (drop at (bits s)))
+unfolding field gap
+gap-zero s at = sym (zeros-num (take ((8 - at % 8) % 8) (drop at (bits s))))
+
+-- ---- writing
+
+-- the byte x, with c in the place of its k bits above the m low ones
+abbrev patch : ℕ → ℕ → ℕ → ℕ → ℕ
+patch x k m c = x / 2 ^ (k + m) * 2 ^ (k + m) + (c * 2 ^ m + x % 2 ^ m)
+
+low-lt : (k m x c : ℕ) → c < 2 ^ k → c * 2 ^ m + x % 2 ^ m < 2 ^ (k + m)
+low-lt k m x c fits = rw pow-add (digits-lt fits (mod-lt x (pow-pos m)))
+
+module _ (x k m c : ℕ) (within : k + m ≤ 8) (fits : c < 2 ^ k) where
+  whole : 8 - (k + m) + (k + m) ≡ 8
+  whole = omega arith
+
+  pub patch-lt : x < 256 → patch x k m c < 256
+  patch-lt h =
+      let o : ℕ = 8 - (k + m) in
+      let g : x / 2 ^ (k + m) < 2 ^ o = shr-lt o (k + m) (rw whole h) in
+      let r : 2 ^ o * 2 ^ (k + m) ≡ 2 ^ 8 = sym (pow-add 2 o (k + m)) ∙ ap (λ (w : ℕ). 2 ^ w) whole in
+      subst (λ (z : ℕ). patch x k m c < z) r (digits-lt g (low-lt k m x c fits))
+
+  -- as it is computed in a word
+  pub patch-coded : x < 256 → x / 2 ^ (k + m) * 2 ^ (k + m) % 2 ^ 32 + (c * 2 ^ m % 2 ^ 32 + x % (1 * 2 ^ m % 2 ^ 32)) ≡ patch x k m c
+  patch-coded h = rw (high-word x (k + m) (omega arith), pow-word m 32 (omega arith), shl-exact {a = c} k m 32 fits (omega arith))
+
+  -- the three parts of a byte, before and after
+  before : bitsOf 8 x ≡ bitsOf (8 - (k + m)) (x / 2 ^ (k + m)) ++ (bitsOf k (x / 2 ^ m) ++ bitsOf m x)
+  before = ap (λ (w : ℕ). bitsOf w x) (sym whole) ∙ rw (bitsOf-add (8 - (k + m)) (k + m) x, bitsOf-add k m x)
+
+  after : bitsOf 8 (patch x k m c) ≡ bitsOf (8 - (k + m)) (x / 2 ^ (k + m)) ++ (bitsOf k c ++ bitsOf m x)
+  after =
+      ap (λ (w : ℕ). bitsOf w (patch x k m c)) (sym whole)
+      ∙ rw (
+        bitsOf-pair (8 - (k + m)) (k + m) (x / 2 ^ (k + m)) (c * 2 ^ m + x % 2 ^ m) (low-lt k m x c fits),
+        bitsOf-pair k m c (x % 2 ^ m) (mod-lt x (pow-pos m)),
+        bitsOf-mod,
+      )
+
+  pub bitsOf-patch : bitsOf 8 (patch x k m c) ≡ sets (bitsOf 8 x) (8 - (k + m)) (bitsOf k c)
+  bitsOf-patch =
+      let o : ℕ = 8 - (k + m) in
+      after
+      ∙ sym (sets-at (bitsOf o (x / 2 ^ (k + m))) (bitsOf k (x / 2 ^ m)) (bitsOf m x) (bitsOf k c) o (length-bitsOf o (x / 2 ^ (k + m))) (length-bitsOf k c ∙ sym (length-bitsOf k (x / 2 ^ m))))
+      ∙ ap (λ (l : List Bool). sets l o (bitsOf k c)) (sym before)
+
+-- a byte is replaced by one that has m over its bits from o on
+bits-set : (s : List ℕ) (q o y : ℕ) (m : List Bool) → o + length m ≤ 8 → bitsOf 8 y ≡ sets (bitsOf 8 (getD s q 0)) o m → bits (set s q y) ≡ sets (bits s) (8 * q + o) m
+unfolding bits
+bits-set [] q o y m h e = sym (sets-beyond [] (8 * q + o) m (omega arith))
+bits-set (x ∷ xs) zero o y m h e =
+    let i : 8 * zero + o ≡ o = omega arith in
+    rw (i, e) (sym (sets-left (bitsOf 8 x) (bits xs) o m (omega (arith, length-bitsOf 8 x))))
+bits-set (x ∷ xs) (suc q) o y m h e =
+    let i : 8 * suc q + o ≡ 8 + (8 * q + o) = omega arith in
+    let l : List Bool = bitsOf 8 x ++ bits xs in
+    rw (i, sets-drop l 8 (8 * q + o) m (omega (arith, length-append (bitsOf 8 x) (bits xs), length-bitsOf 8 x)), take-at (bitsOf 8 x) (bits xs) 8 (length-bitsOf 8 x), drop-at (bitsOf 8 x) (bits xs) 8 (length-bitsOf 8 x), bits-set xs q o y m h e)
+
+-- k bits that lie in the byte at the bit offset p
+pub put-inside : (s : List ℕ) (p k c y : ℕ) → p % 8 + k ≤ 8 → bitsOf 8 y ≡ sets (bitsOf 8 (getD s (p / 8) 0)) (8 - (k + (8 - p % 8 - k))) (bitsOf k c) → bits (set s (p / 8) y) ≡ sets (bits s) p (bitsOf k c)
+put-inside s p k c y h e =
+    let o : 8 - (k + (8 - p % 8 - k)) ≡ p % 8 = omega arith in
+    let f : 8 * (p / 8) + p % 8 ≡ p = omega arith in
+    bits-set s (p / 8) (p % 8) y (bitsOf k c) (omega (arith, length-bitsOf k c)) (e ∙ rw o)
+    ∙ ap (λ (i : ℕ). sets (bits s) i (bitsOf k c)) f
+
+pub put-start : (l : List Bool) (at v : ℕ) → l ≡ sets l at (bitsOf 0 v)
+unfolding bitsOf
+put-start l at v = refl
+
+-- the first i bits of the n bits of v are written, then k more
+pub put-step : (l : List Bool) (at n i k v : ℕ) → i + k ≤ n
+    → sets (sets l at (bitsOf i (v / 2 ^ (n - i)))) (at + i) (bitsOf k (v / 2 ^ (n - i - k) % 2 ^ k))
+    ≡ sets l at (bitsOf (i + k) (v / 2 ^ (n - (i + k))))
+put-step l at n i k v h =
+    let y : ℕ = v / 2 ^ (n - (i + k)) in
+    let a : List Bool = bitsOf i (v / 2 ^ (n - i)) in
+    let e : n - i - k ≡ n - (i + k) = omega arith in
+    let f : n - (i + k) + k ≡ n - i = omega arith in
+    let j : bitsOf (i + k) y ≡ a ++ bitsOf k y = bitsOf-add i k y ∙ rw (shr-shr v (n - (i + k)) k, f) in
+    let la : length a ≡ i = length-bitsOf i (v / 2 ^ (n - i)) in
+    rw (e, bitsOf-mod, j)
+    (subst (λ (z : ℕ). sets (sets l at a) (at + z) (bitsOf k y) ≡ sets l at (a ++ bitsOf k y)) la (sets-append l at a (bitsOf k y)))

@@ -1,0 +1,243 @@
+-- What a call answers, by what its parts found: for any file and both directions.
+use Prim.Native.Nat.{ℕ, zero, suc, _+_, _-_, _<_, _≤_}
+use mathlib.Core.Path.{_≡_, refl, ap, sym, _∙_}
+use mathlib.Core.List.{List, [], _∷_, _++_}
+use mathlib.Core.Bool.{Bool, true, false, _||_}
+use lib.ListN.{length, take, drop, getD, replicate, length-take}
+use lib.Seq.{sets, take-at, drop-at}
+use lib.Dec.{ltb}
+use native.Mathlib.Omega.{arith}
+use native.Mathlib.Nat.{sub-zero}
+use native.Mathlib.Numerals.{add-one}
+use borrow.Author.Tests.{lt-ltb, le-ltb, ltb-false}
+use borrow.Rule.Slice.PartMut.{putMid, postOf}
+use Rattle.packed.specs.Format.{Format, Result, ok, bad, pick, decode, encode}
+use Rattle.packed.specs.Contents.{edgesOf, edgeCounts, Counted, Small, pairsIn, sum}
+use Rattle.packed.specs.Refusals.{Told, numberOf, detailOf, replyTold}
+use Rattle.packed.specs.Reading.{Content, Judges}
+use Rattle.packed.specs.Writing.{JudgesFields}
+use Rattle.packed.specs.Walks.{Different}
+use Rattle.packed.specs.Calls.{Answer, give, refuse, toldOf, fronts, outputsOf, workOf, Settled, desk, Verdict, rejected, inFile, readFile, writeFile, judged, pairsOf, uncrowdedBy, fit, fitFile, Answered}
+use Rattle.packed.specs.declared.reply.Refusal.{Refusal}
+use Rattle.packed.specs.declared.reply.Refusal.the-variants.{TooLong, NoRoom, SmallWorkspace}
+use Rattle.packed.specs.declared.reply.Reply.the-variants as reply-is
+use Rattle.packed.specs.declared.reply.Part.{Part}
+use Rattle.packed.specs.declared.reply.Part.the-variants as part-is
+use Rattle.packed.proofs.Sets.{sets-front}
+
+-- ---- verdicts
+
+-- what a pass over a file found is the verdict
+pub record Finds (v : Verdict) (file : ℕ) (r : Result ℕ) : Type 0 where
+  pub is : v ≡ inFile file r
+
+pub read-finds : (most file : ℕ) (F : Format) (s : List ℕ) → length s ≤ most → Finds (readFile most file F s) file (decode F s)
+unfolding readFile
+read-finds most file F s h = record { is = rw (le-ltb most (length s) h) }
+
+pub write-finds : (file : ℕ) (F : Format) (ws : List ℕ) → Finds (writeFile file F ws) file (encode F ws)
+unfolding writeFile
+write-finds file F ws = record { is = refl }
+
+judged-rejected : {v : Verdict} {n d : ℕ} (k : List ℕ → Answer) → v ≡ rejected n d → judged v k ≡ refuse n d
+unfolding judged
+judged-rejected k e = rw e
+
+pub judged-accepted : {v : Verdict} {r : Result ℕ} {file : ℕ} {ws : List ℕ} (k : List ℕ → Answer) → Finds v file r → r ≡ ok ws → judged v k ≡ k ws
+unfolding judged
+judged-accepted k f q = rw (f .is, q)
+
+-- ---- tests between a file's acceptance and the answer
+
+-- how an output is fitted: too long for the room is what t says of its length
+pub record Fits (g : ℕ → List ℕ → Answer) (t : ℕ → ℕ → Bool) : Type 0 where
+  pub is : (room : ℕ) (o : List ℕ) → g room o ≡ pick (t room (length o)) (refuse 12 (length o)) (give [] (o ∷ []))
+  pub within : (room n : ℕ) → t room n ≡ false → n ≤ room
+
+pub fit-fits : Fits fit ltb
+unfolding fit
+fit-fits = record { is = λ room o. refl; within = λ room n e. ltb-false room n e }
+
+or-no : (s t : Bool) → s || t ≡ false → (s ≡ false) × (t ≡ false)
+or-no true t q = absurd (let z : _≡_ {A = ℕ} 0 1 = cc in omega arith)
+or-no false t q = (refl, q)
+
+abbrev pub overFile : ℕ → ℕ → Bool
+overFile room n = ltb room n || ltb 65536 n
+
+pub overFile-no : (room n : ℕ) → overFile room n ≡ false → (n ≤ room) × (n ≤ 65536)
+overFile-no room n e = let q = or-no (ltb room n) (ltb 65536 n) e in (ltb-false room n (q .0), ltb-false 65536 n (q .1))
+
+pub fitFile-fits : Fits fitFile overFile
+unfolding fitFile
+fitFile-fits = record { is = λ room o. refl; within = λ room n e. overFile-no room n e .0 }
+
+crowded : (ms ws : List ℕ) (a : Answer) → 8192 < length (pairsOf ms ws) → uncrowdedBy ms ws a ≡ refuse 10 4
+unfolding uncrowdedBy
+crowded ms ws a h = rw (lt-ltb 8192 (length (pairsOf ms ws)) h)
+
+uncrowded-is : (ms ws : List ℕ) (a : Answer) → length (pairsOf ms ws) ≤ 8192 → uncrowdedBy ms ws a ≡ a
+unfolding uncrowdedBy
+uncrowded-is ms ws a h = rw (le-ltb 8192 (length (pairsOf ms ws)) h)
+
+-- the different pairs that were gathered are those of the content
+module _ {codes w : List ℕ} {n : ℕ} (ms ws : List ℕ) (d : Different codes n w) (e : codes ≡ pairsIn (sum ms) ws) where
+  pub gathered-many : (a : Answer) → 8192 < n → uncrowdedBy ms ws a ≡ refuse 10 4
+  unfolding pairsOf
+  gathered-many a h = crowded ms ws a (rw e at (d .many h))
+
+  pub gathered-few : (a : Answer) → n ≤ 8192 → uncrowdedBy ms ws a ≡ a
+  unfolding pairsOf
+  gathered-few a h = uncrowded-is ms ws a (omega (arith, rw e at (d .number h)))
+
+-- ---- what is answered
+
+module _ {a : Answer} (out : List ℕ) {out′ : List ℕ} where
+  -- a refusal leaves the output
+  answers-refusal : (x : Refusal) → a ≡ refuse (numberOf x) (detailOf x) → out′ ≡ out → Answered a (replyTold (reply-is.Refused x)) out out′
+  unfolding toldOf outputsOf
+  answers-refusal x e q = record { result = rw e; output = rw (e, q) }
+
+  -- an output stands at the front of what was lent
+  answers-given : {o : List ℕ} {n : ℕ} → a ≡ give [] (o ∷ []) → n ≡ length o → out′ ≡ o ++ drop (length o) out → Answered a (replyTold (reply-is.Done n)) out out′
+  unfolding toldOf outputsOf fronts
+  answers-given e m q = record { result = rw (e, m); output = rw (e, q) }
+
+-- the file is too long
+pub body-over : (most file : ℕ) (F : Format) (s : List ℕ) (k : List ℕ → Answer) (out : List ℕ) → most < length s
+    → Answered (judged (readFile most file F s) k) (replyTold (reply-is.Refused (TooLong file))) out out
+unfolding readFile
+body-over most file F s k out h = answers-refusal out (TooLong file) (judged-rejected k (rw (lt-ltb most (length s) h))) refl
+
+module _ {v : Verdict} {file : ℕ} {r : Result ℕ} (f : Finds v file r) (out : List ℕ) {lent : List ℕ} (same : lent ≡ out) where
+  -- it was refused
+  pub body-refused : (k : List ℕ → Answer) (x : Refusal) → (r ≡ bad (numberOf x)) × (detailOf x ≡ file) → Answered (judged v k) (replyTold (reply-is.Refused x)) out lent
+  body-refused k x q = answers-refusal out x (judged-rejected k (f .is ∙ ap (inFile file) (q .0)) ∙ ap (refuse (numberOf x)) (sym (q .1))) same
+
+  module _ {n : ℕ} {w w′ : List ℕ} (c : Content r n w w′) where
+    -- it was accepted, and refused afterwards
+    pub body-declined : (k : List ℕ → Answer) (x : Refusal) → k (c .fields) ≡ refuse (numberOf x) (detailOf x) → Answered (judged v k) (replyTold (reply-is.Refused x)) out lent
+    body-declined k x q = answers-refusal out x (judged-accepted k f (c .is) ∙ q) same
+
+    -- it passed another test, and the output is fitted
+    module _ {g : ℕ → List ℕ → Answer} {t : ℕ → ℕ → Bool} (z : Fits g t) (test : List ℕ → Answer → Answer) (passed : (a : Answer) → test (c .fields) a ≡ a) where
+      fitted : (b : Bool) → t (length lent) n ≡ b → test (c .fields) (g (length out) (c .fields)) ≡ pick b (refuse 12 n) (give [] (c .fields ∷ []))
+      fitted b e =
+          passed (g (length out) (c .fields))
+          ∙ z .is (length out) (c .fields)
+          ∙ ap (λ (m : ℕ). pick (t (length out) m) (refuse 12 m) (give [] (c .fields ∷ []))) (sym (c .number))
+          ∙ ap (λ (l : List ℕ). pick (t (length l) n) (refuse 12 n) (give [] (c .fields ∷ []))) (sym same)
+          ∙ ap (λ (s : Bool). pick s (refuse 12 n) (give [] (c .fields ∷ []))) e
+
+      pub body-tight : t (length lent) n ≡ true → Answered (judged v (λ o. test o (g (length out) o))) (replyTold (reply-is.Refused (NoRoom n))) out lent
+      body-tight e = body-declined (λ o. test o (g (length out) o)) (NoRoom n) (fitted true e)
+
+      pub body-given : {out′ : List ℕ} → t (length lent) n ≡ false → out′ ≡ sets lent 0 (c .fields)
+          → Answered (judged v (λ o. test o (g (length out) o))) (replyTold (reply-is.Done n)) out out′
+      body-given e q =
+          let h : n ≤ length out = rw same at (z .within (length lent) n e) in
+          answers-given out (judged-accepted (λ o. test o (g (length out) o)) f (c .is) ∙ fitted false e) (c .number)
+          (q ∙ ap (λ (l : List ℕ). sets l 0 (c .fields)) same ∙ sets-front out (c .fields) (omega (arith, c .number)))
+
+-- it was accepted, and the call goes on with its content
+pub body-goes-on : {v : Verdict} {file : ℕ} {r : Result ℕ} {n : ℕ} {w w′ : List ℕ} {told : Told} {out out′ : List ℕ} → Finds v file r → (c : Content r n w w′)
+    → (k : List ℕ → Answer) → Answered (k (c .fields)) told out out′ → Answered (judged v k) told out out′
+body-goes-on f c k b = rw (judged-accepted k f (c .is)) b
+
+-- no other test
+abbrev pub untested : List ℕ → Answer → Answer
+untested o a = a
+
+-- ---- how the output came about
+
+-- the front of the words that a content was read into
+pub front-is : {r : Result ℕ} {n : ℕ} {w w′ : List ℕ} (c : Content r n w w′) → n ≤ length w → take (n - 0) (drop 0 w′) ≡ c .fields
+front-is {n = n} {w} {w′} c h =
+    ap (λ (m : ℕ). take m w′) (sub-zero n)
+    ∙ ap (take n) (c .front ∙ sets-front w (c .fields) (omega (arith, c .number)))
+    ∙ take-at (c .fields) (drop (length (c .fields)) w) n (sym (c .number))
+
+-- the number of edges in a pattern's content
+pub edges-are : {r : Result ℕ} {n m : ℕ} {w w′ : List ℕ} (c : Content r n w w′) → n ≤ length w → m ≡ edgesOf (take (n - 0) (drop 0 w′)) → m ≡ edgesOf (c .fields)
+edges-are c h e = e ∙ ap edgesOf (front-is c h)
+
+-- it was copied
+pub copied : {r : Result ℕ} {n : ℕ} {w w′ : List ℕ} (c : Content r n w w′) (out : List ℕ) {out′ part : List ℕ} → n ≤ length w → part ≡ take (n - 0) (drop 0 w′)
+    → n ≤ length out → out′ ≡ part ++ drop (length part) out → out′ ≡ sets out 0 (c .fields)
+copied c out h p l q =
+    q ∙ ap (λ (l : List ℕ). l ++ drop (length l) out) (p ∙ front-is c h) ∙ sym (sets-front out (c .fields) (omega (arith, c .number)))
+
+-- an empty part of it was lent
+nothing-in : (ys : List ℕ) → length ys ≤ 0 → ys ≡ []
+nothing-in [] h = refl
+nothing-in (y ∷ ys) h = absurd (omega arith)
+
+pub none-lent : (out ys : List ℕ) → length ys ≡ length (take (0 - 0) (drop 0 out)) → putMid 0 (0 - 0) out ys ≡ out
+none-lent out ys e = ap (λ (l : List ℕ). l ++ out) (nothing-in ys (omega (arith, e)))
+
+-- a file that was accepted is judged once more, with the output lent
+pub judges-front : (r : Result ℕ) (file : ℕ) (p : Part) (ws w w′ : List ℕ) → Judges r file p w w′ → r ≡ ok ws → w′ ≡ sets w 0 ws
+judges-front r file (part-is.Upto at n) ws w w′ c e = let q : c .fields ≡ ws = cc (c .is) in c .front ∙ ap (sets w 0) q
+judges-front r file (part-is.Refused x) ws w w′ c e = absurd (let q = c .0 in let z : _≡_ {A = ℕ} 0 1 = cc in omega arith)
+
+pub judges-fields-front : (r : Result ℕ) (file : ℕ) (p : Part) (ws w w′ : List ℕ) → JudgesFields r file p w w′ → r ≡ ok ws → w′ ≡ sets w 0 ws
+judges-fields-front r file (part-is.Upto n i) ws w w′ c e = judges-front r file (part-is.Upto i n) ws w w′ c e
+judges-fields-front r file (part-is.Refused x) ws w w′ c e = judges-front r file (part-is.Refused x) ws w w′ c e
+
+-- ---- the numbers of edges of a catalogue's views, in a table of 16
+
+module _ {ws counts : List ℕ} (c : Counted ws counts) (few : getD ws 0 0 ≤ 16) where
+  pub counts-are : (k : ℕ) → length (edgeCounts ws) ≡ getD ws 0 0 → k ≡ getD ws 0 0 → take k counts ≡ edgeCounts ws
+  counts-are k l e = ap (take k) (c .is few) ∙ take-at (edgeCounts ws) (replicate (16 - getD ws 0 0) 0) k (omega arith)
+
+  pub counts-small : ((j : ℕ) → getD (edgeCounts ws) j 0 ≤ 32) → Small counts
+  counts-small h j = rw (c .is few) (padded (edgeCounts ws) (16 - getD ws 0 0) j h)
+    where
+      zero-at : (n j : ℕ) → getD (replicate n 0) j 0 ≤ 32
+      zero-at zero j = omega arith
+      zero-at (suc n) zero = omega arith
+      zero-at (suc n) (suc j) = zero-at n j
+
+      padded : (ms : List ℕ) (n j : ℕ) → ((j : ℕ) → getD ms j 0 ≤ 32) → getD (ms ++ replicate n 0) j 0 ≤ 32
+      padded [] n j h = zero-at n j
+      padded (m ∷ ms) n zero h = h 0
+      padded (m ∷ ms) n (suc j) h = padded ms n j (λ i. h (suc i))
+
+sum-suc : (l : List ℕ) (j : ℕ) → sum (take (suc j) l) ≡ sum (take j l) + getD l j 0
+unfolding sum
+sum-suc [] zero = refl
+sum-suc [] (suc j) = refl
+sum-suc (x ∷ l) zero = omega arith
+sum-suc (x ∷ l) (suc j) = omega (arith, sum-suc l j)
+
+pub sum-none : (l : List ℕ) → sum (take 0 l) ≡ 0
+unfolding sum
+sum-none l = refl
+
+pub sum-more : (l : List ℕ) (j : ℕ) → sum (take (j + 1) l) ≡ sum (take j l) + getD l j 0
+sum-more l j = rw add-one (sum-suc l j)
+
+-- ---- the workspace
+
+module _ (a : Answer) (out work : List ℕ) where
+  -- too small
+  pub settles-small : length work < 16384 → Settled [] (desk (length work) a) (replyTold (reply-is.Refused SmallWorkspace)) (out ∷ []) (out ∷ []) work work
+  unfolding desk workOf toldOf outputsOf
+  settles-small h =
+      let e = lt-ltb (length work) 16384 h in
+      record { result = rw e; outputs = rw e; workspace = rw e }
+
+  -- cleared
+  pub settles : {r : Told} {out′ work′ : List ℕ} → 16384 ≤ length work → Answered a r out out′ → work′ ≡ replicate 16384 0 ++ drop 16384 work
+      → Settled [] (desk (length work) a) r (out ∷ []) (out′ ∷ []) work work′
+  unfolding desk workOf
+  settles h b q =
+      let e = le-ltb (length work) 16384 h in
+      record { result = rw e (b .result); outputs = rw e (b .output); workspace = rw e q }
+
+  -- cleared, once its first words were lent
+  pub settles-lent : {r : Told} {out′ work′ : List ℕ} (ys : List ℕ) → 16384 ≤ length work → Answered a r out out′ → length ys ≡ length (take (16384 - 0) (drop 0 work))
+      → work′ ≡ replicate 16384 0 ++ drop 16384 (putMid 0 (16384 - 0) work ys) → Settled [] (desk (length work) a) r (out ∷ []) (out′ ∷ []) work work′
+  settles-lent ys h b n q =
+      let l : length ys ≡ 16384 = n ∙ simp length-take (omega arith) in
+      settles h b (q ∙ ap (λ (t : List ℕ). replicate 16384 0 ++ t) (drop-at ys (postOf 0 (16384 - 0) work) 16384 l))

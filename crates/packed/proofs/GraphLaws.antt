@@ -1,0 +1,430 @@
+-- Accepted records by the places of their fields, and the codes of their edges in the workspace.
+use Prim.Native.Nat.{ℕ, zero, suc, _+_, _*_, _/_, _%_, _^_, _<_, _≤_}
+use mathlib.Core.Path.{_≡_, refl, ap, ap₂, sym, _∙_}
+use mathlib.Core.List.{List, [], _∷_, _++_, append-assoc}
+use mathlib.Core.Bool.{Bool, true, false}
+use mathlib.Core.Logic.{⊎-elim}
+use lib.ListN.{length, take, drop, getD, set, replicate, length-append, length-drop, length-set, length-replicate, getD-replicate, List·getD-append}
+use lib.Seq.{take-at, drop-at, getD-append-add, getD-take, getD-set-same, getD-set-other, length-take-le, ext-getD}
+use native.Mathlib.Omega.{arith}
+use native.Mathlib.Nat.{mul-zero, mul-suc}
+use borrow.Author.Tests.{eqb-true}
+use Rattle.packed.specs.Bits.{bitsOf, bits, field, gap}
+use Rattle.packed.specs.Format.{ok, decode}
+use Rattle.packed.specs.Formats.{record′, code}
+use Rattle.packed.specs.Contents.{nodesOf, edgesOf}
+use Rattle.packed.specs.Plain.{fieldsOf, Below, fromAt, toAt, PlainEdges}
+use Rattle.packed.specs.Order.{word, Ascends, SameTo, Sorted, Repeats, member}
+use Rattle.packed.specs.Distinct.{distinct, BelowHead, Increasing}
+use Rattle.packed.specs.Loading.{codes}
+use Rattle.packed.specs.LoadedGraph.{CodesAt, Accepted, Ordered, Holds}
+use Rattle.packed.proofs.BitsLaws.{length-bitsOf, length-bits, num-bitsOf-lt, field-lt}
+use Rattle.packed.proofs.OrderCases.{lt-or-ge, eq-or-ne, or-cases}
+use Rattle.packed.proofs.Places.{times-find, times-le}
+use Rattle.packed.proofs.Sorts.{word-front, repeats-yes, repeats-same, same-in}
+use Rattle.packed.proofs.DistinctLaws.{distinct-own, member-distinct, member-at}
+use Rattle.packed.proofs.DistinctAbsorb.{distinct-sorted}
+use Rattle.packed.proofs.AcceptedEdges.{from-cons, to-cons}
+use Rattle.packed.proofs.Accepted.{record-accepted}
+
+-- ---- fields by their places in the bits
+field-here : (s : List ℕ) (at w v : ℕ) (p q : List Bool) → bits s ≡ p ++ (bitsOf w v ++ q) → length p ≡ at → v < 2 ^ w → field s at w ≡ v
+unfolding field
+field-here s at w v p q e l h =
+    rw (e, drop-at p (bitsOf w v ++ q) at l, take-at (bitsOf w v) q w (length-bitsOf w v)) (num-bitsOf-lt w v h)
+
+fields-length : (w : ℕ) (vs : List ℕ) → length (fieldsOf w vs) ≡ w * length vs
+unfolding fieldsOf
+fields-length w [] = sym (mul-zero w)
+fields-length w (v ∷ vs) =
+    length-append (bitsOf w v) (fieldsOf w vs) ∙ omega (arith, length-bitsOf w v, fields-length w vs, mul-suc w (length vs))
+
+fields-here : (s : List ℕ) (w : ℕ) (vs : List ℕ) (at : ℕ) (p q : List Bool) → bits s ≡ p ++ (fieldsOf w vs ++ q) → length p ≡ at → Below (2 ^ w) vs
+    → (j : ℕ) → j < length vs → field s (at + w * j) w ≡ getD vs j 0
+unfolding fieldsOf
+fields-here s w [] at p q e l b j h = absurd (omega arith)
+fields-here s w (v ∷ vs) at p q e l b zero h =
+    field-here s (at + w * 0) w v p (fieldsOf w vs ++ q) (e ∙ ap (λ (t : List Bool). p ++ t) (append-assoc (bitsOf w v) (fieldsOf w vs) q)) (omega arith) (b 0 (omega arith))
+fields-here s w (v ∷ vs) at p q e l b (suc j) h =
+    let n : length (p ++ bitsOf w v) ≡ at + w = length-append p (bitsOf w v) ∙ omega (arith, length-bitsOf w v) in
+    let z : at + w * suc j ≡ (at + w) + w * j = omega (arith, mul-suc w j) in
+    ap (λ (i : ℕ). field s i w) z
+    ∙ fields-here s w vs (at + w) (p ++ bitsOf w v) q
+    (e ∙ ap (λ (t : List Bool). p ++ t) (append-assoc (bitsOf w v) (fieldsOf w vs) q) ∙ sym (append-assoc p (bitsOf w v) (fieldsOf w vs ++ q)))
+    n (λ i g. b (suc i) (omega arith)) j (omega arith)
+
+-- ---- the places of a record's fields
+record Sited (s ws : List ℕ) : Type 0 where
+  nodes : ℕ
+  number : ℕ
+  labels : List ℕ
+  ends : List ℕ
+  tail : List Bool
+  content : ws ≡ nodes ∷ number ∷ (labels ++ ends)
+  spread : bits s ≡ bitsOf 13 nodes ++ (bitsOf 14 number ++ (fieldsOf 32 labels ++ (fieldsOf 12 ends ++ tail)))
+  most-nodes : nodes ≤ 4096
+  most-edges : number ≤ 8192
+  labels-each : length labels ≡ nodes
+  are-labels : Below (2 ^ 32) labels
+  edges : PlainEdges nodes number ends
+
+sited : (s ws : List ℕ) → decode record′ s ≡ ok ws → Sited s ws
+sited s ws e =
+    let q = record-accepted s ws .0 e in
+    let p = q .laid in
+    let tail : List Bool = replicate (gap (length (q .body))) false in
+    record {
+      nodes = p .nodes;
+      number = p .number;
+      labels = p .labels;
+      ends = p .ends;
+      tail = tail;
+      content = p .content;
+      spread = q .fills ∙ ap (λ (l : List Bool). l ++ tail) (p .layout) ∙ simp append-assoc;
+      most-nodes = p .most-nodes;
+      most-edges = p .most-edges;
+      labels-each = p .labels-each;
+      are-labels = p .are-labels;
+      edges = p .edges;
+    }
+
+module _ {s ws : List ℕ} (g : Sited s ws) where
+  nodes-is : nodesOf ws ≡ g .nodes
+  nodes-is = ap (λ (l : List ℕ). getD l 0 0) (g .content)
+
+  number-is : edgesOf ws ≡ g .number
+  number-is = ap (λ (l : List ℕ). getD l 1 0) (g .content)
+
+  abbrev front : List Bool
+  front = bitsOf 13 (g .nodes) ++ bitsOf 14 (g .number)
+
+  front-length : length front ≡ 27
+  front-length = length-append (bitsOf 13 (g .nodes)) (bitsOf 14 (g .number)) ∙ omega (arith, length-bitsOf 13 (g .nodes), length-bitsOf 14 (g .number))
+
+  from-labels : bits s ≡ front ++ (fieldsOf 32 (g .labels) ++ (fieldsOf 12 (g .ends) ++ g .tail))
+  from-labels = g .spread ∙ simp append-assoc
+
+  from-ends : bits s ≡ (front ++ fieldsOf 32 (g .labels)) ++ (fieldsOf 12 (g .ends) ++ g .tail)
+  from-ends = g .spread ∙ simp append-assoc
+
+  before-ends : length (front ++ fieldsOf 32 (g .labels)) ≡ 27 + 32 * g .nodes
+  before-ends =
+      length-append front (fieldsOf 32 (g .labels)) ∙ omega (arith, front-length, fields-length 32 (g .labels), g .labels-each)
+
+  sited-fits : 27 + 32 * nodesOf ws + 24 * edgesOf ws ≤ 8 * length s
+  sited-fits =
+      let l = length-bits s in
+      let a = ap length from-ends ∙ length-append (front ++ fieldsOf 32 (g .labels)) (fieldsOf 12 (g .ends) ++ g .tail) in
+      let b = length-append (fieldsOf 12 (g .ends)) (g .tail) in
+      let c = fields-length 12 (g .ends) in
+      let d = before-ends in
+      let m = g .edges .two-each in
+      let x = nodes-is in
+      let y = number-is in
+      omega arith
+
+  sited-nodes : field s 0 13 ≡ nodesOf ws
+  sited-nodes = field-here s 0 13 (g .nodes) [] _ (g .spread) refl (let h = g .most-nodes in omega arith) ∙ sym nodes-is
+
+  sited-number : field s 13 14 ≡ edgesOf ws
+  sited-number =
+      field-here s 13 14 (g .number) (bitsOf 13 (g .nodes)) _ (g .spread) (length-bitsOf 13 (g .nodes)) (let h = g .most-edges in omega arith) ∙ sym number-is
+
+  sited-label : (v : ℕ) → v < nodesOf ws → field s (27 + 32 * v) 32 ≡ getD ws (2 + v) 0
+  sited-label v h =
+      let k : v < length (g .labels) = omega (arith, nodes-is, g .labels-each) in
+      let z : 2 + v ≡ suc (suc v) = omega arith in
+      fields-here s 32 (g .labels) 27 front _ from-labels front-length (g .are-labels) v k
+      ∙ sym (ap₂ (λ (l : List ℕ) (i : ℕ). getD l i 0) (g .content) z ∙ List·getD-append (g .labels) (g .ends) 0 v k)
+
+  sited-ends : drop (2 + nodesOf ws) ws ≡ g .ends
+  sited-ends =
+      let z : 2 + nodesOf ws ≡ suc (suc (g .nodes)) = omega (arith, nodes-is) in
+      ap₂ (λ (i : ℕ) (l : List ℕ). drop i l) z (g .content) ∙ drop-at (g .labels) (g .ends) (g .nodes) (g .labels-each)
+
+  sited-end : (i : ℕ) → i < 2 * edgesOf ws → field s (27 + 32 * nodesOf ws + 12 * i) 12 ≡ getD (g .ends) i 0
+  sited-end i h =
+      let k : i < length (g .ends) = omega (arith, number-is, g .edges .two-each) in
+      let b : Below (2 ^ 12) (g .ends) = λ j l. let x = g .edges .are-nodes j l in let y = g .most-nodes in omega arith in
+      fields-here s 12 (g .ends) (27 + 32 * nodesOf ws) (front ++ fieldsOf 32 (g .labels)) _ from-ends (omega (arith, before-ends, nodes-is)) b i k
+
+  sited-length : length ws ≡ 2 + (nodesOf ws + 2 * edgesOf ws)
+  sited-length =
+      ap length (g .content) ∙ omega (arith, length-append (g .labels) (g .ends), g .labels-each, g .edges .two-each, nodes-is, number-is)
+
+  sited-below : (i : ℕ) → i < 2 * edgesOf ws → getD ws (2 + (nodesOf ws + i)) 0 < nodesOf ws
+  sited-below i h =
+      let z : 2 + (nodesOf ws + i) ≡ suc (suc (length (g .labels) + i)) = omega (arith, nodes-is, g .labels-each) in
+      let e : getD ws (2 + (nodesOf ws + i)) 0 ≡ getD (g .ends) i 0 =
+      ap₂ (λ (l : List ℕ) (j : ℕ). getD l j 0) (g .content) z ∙ getD-append-add (g .labels) (g .ends) i 0 in
+      let l = g .edges .are-nodes i (omega (arith, number-is, g .edges .two-each)) in
+      let n = nodes-is in
+      omega arith
+
+-- ---- an accepted record
+pub record-nodes-field : (s ws : List ℕ) → decode record′ s ≡ ok ws → field s 0 13 ≡ nodesOf ws
+record-nodes-field s ws e = sited-nodes (sited s ws e)
+
+pub record-edges-field : (s ws : List ℕ) → decode record′ s ≡ ok ws → field s 13 14 ≡ edgesOf ws
+record-edges-field s ws e = sited-number (sited s ws e)
+
+pub labels-field : (s ws : List ℕ) → decode record′ s ≡ ok ws → (v : ℕ) → v < nodesOf ws → field s (27 + 32 * v) 32 ≡ getD ws (2 + v) 0
+labels-field s ws e = sited-label (sited s ws e)
+
+pub record-fits : (s ws : List ℕ) → decode record′ s ≡ ok ws → 27 + 32 * nodesOf ws + 24 * edgesOf ws ≤ 8 * length s
+record-fits s ws e = sited-fits (sited s ws e)
+
+pub record-bounds : (s ws : List ℕ) → decode record′ s ≡ ok ws
+    → (nodesOf ws ≤ 4096) × (edgesOf ws ≤ 8192) × (length ws ≡ 2 + (nodesOf ws + 2 * edgesOf ws)) × (27 + 32 * nodesOf ws ≤ 8 * length s)
+record-bounds s ws e =
+    let g = sited s ws e in
+    let m = g .most-nodes in
+    let n = g .most-edges in
+    let x = nodes-is g in
+    let y = number-is g in
+    let f = sited-fits g in
+    (omega arith, omega arith, sited-length g, omega arith)
+
+pub ends-below : (s ws : List ℕ) → decode record′ s ≡ ok ws → (i : ℕ) → i < 2 * edgesOf ws → getD ws (2 + (nodesOf ws + i)) 0 < nodesOf ws
+ends-below s ws e = sited-below (sited s ws e)
+
+-- ---- codes
+codes-length : (m : ℕ) (ends : List ℕ) → length ends ≡ 2 * m → length (codes ends) ≡ m
+unfolding codes
+codes-length zero [] e = refl
+codes-length (suc m) [] e = absurd (omega arith)
+codes-length m (a ∷ []) e = absurd (omega arith)
+codes-length zero (a ∷ b ∷ ends) e = absurd (omega arith)
+codes-length (suc m) (a ∷ b ∷ ends) e = ap suc (codes-length m ends (omega arith))
+
+codes-at : (ends : List ℕ) (j : ℕ) → j < length (codes ends) → getD (codes ends) j 0 ≡ code (fromAt ends j) (toAt ends j)
+unfolding codes
+codes-at [] j h = absurd (omega arith)
+codes-at (a ∷ []) j h = absurd (omega arith)
+codes-at (a ∷ b ∷ ends) zero h = refl
+codes-at (a ∷ b ∷ ends) (suc j) h = codes-at ends j (omega arith) ∙ sym (ap₂ code (from-cons a b ends j) (to-cons a b ends j))
+
+-- edges that differ have codes that differ
+module _ {nodes number : ℕ} {ends : List ℕ} (few : nodes ≤ 4096) (p : PlainEdges nodes number ends) where
+  from-below : (j : ℕ) → j < number → fromAt ends j < nodes
+  from-below j h = p .are-nodes (2 * j) (let e = p .two-each in omega arith)
+
+  to-below : (j : ℕ) → j < number → toAt ends j < nodes
+  to-below j h = p .are-nodes (2 * j + 1) (let e = p .two-each in omega arith)
+
+  codes-differ : (i j : ℕ) → i < j → j < number → code (fromAt ends i) (toAt ends i) ≡ code (fromAt ends j) (toAt ends j) → ⊥
+  codes-differ i j l h e =
+      let a = to-below i (omega arith) in
+      let b = to-below j h in
+      p .differ i j l h (omega arith) (omega arith)
+
+-- ---- words that differ, sorted
+no-repeat : (m : ℕ) (f : ℕ → ℕ) → ((i j : ℕ) → i < j → j < m → f i ≡ f j → ⊥) → Repeats m f → ⊥
+unfolding Repeats
+no-repeat m f d t =
+    let a = times-find f (t .0) m 0 (let h = t .1 in omega arith) in
+    let b = times-find f (t .0) m 1 (let h = t .1 in omega arith) in
+    ⊎-elim
+    (λ (h : a .0 < b .0). d (a .0) (b .0) h (b .1) (a .2 ∙ sym (b .2)))
+    (λ (h : b .0 ≤ a .0). let z = times-le f (t .0) (b .0) (a .0) h in let x = a .3 in let y = b .3 in omega arith)
+    (lt-or-ge (a .0) (b .0))
+
+increasing-by : (l : List ℕ) → ((k : ℕ) → suc k < length l → getD l k 0 < getD l (suc k) 0) → Increasing l
+unfolding Increasing BelowHead
+increasing-by [] f = tt
+increasing-by (x ∷ []) f = (tt, tt)
+increasing-by (x ∷ y ∷ l) f = (f 0 (omega arith), increasing-by (y ∷ l) (λ k h. f (suc k) (omega arith)))
+
+-- so sorted, they are the different ones, ascending
+sorted-front : (m : ℕ) (w w′ : List ℕ) → m ≤ length w → ((i j : ℕ) → i < j → j < m → getD w i 0 ≡ getD w j 0 → ⊥) → Sorted m w w′ → take m w′ ≡ distinct (take m w)
+unfolding Ascends SameTo
+sorted-front m w w′ h d s =
+    let n = s .long in
+    let l : length (take m w′) ≡ m = length-take-le m w′ (omega arith) in
+    let none : Repeats m (word w′ 0) → ⊥ =
+    λ t. no-repeat m (word w 0) (λ i j p q e. d i j p q (sym (word-front w i) ∙ e ∙ word-front w j)) (repeats-same m (word w′ 0) (word w 0) (λ x. sym (s .same x)) t) in
+    let up : (k : ℕ) → suc k < length (take m w′) → getD (take m w′) k 0 < getD (take m w′) (suc k) 0 =
+    λ k p.
+    let a = getD-take m w′ k 0 (omega arith) ∙ sym (word-front w′ k) in
+    let b = getD-take m w′ (suc k) 0 (omega arith) ∙ sym (word-front w′ (suc k)) in
+    let o = s .order k (suc k) (omega arith) (omega arith) in
+    let z : k + 1 ≡ suc k = omega arith in
+    ⊎-elim
+    (λ (e : word w′ 0 k ≡ word w′ 0 (suc k)). absurd (none (repeats-yes m (word w′ 0) k (omega arith) (e ∙ ap (word w′ 0) (sym z)))))
+    (λ (e : word w′ 0 k ≡ word w′ 0 (suc k) → ⊥). lower a b o e)
+    (eq-or-ne (word w′ 0 k) (word w′ 0 (suc k))) in
+    sym (distinct-own (take m w′) (increasing-by (take m w′) up)) ∙ distinct-sorted w w′ 0 0 m (omega arith) (omega arith) (s .same)
+  where
+    lower : {a b x y : ℕ} → a ≡ x → b ≡ y → x ≤ y → (x ≡ y → ⊥) → a < b
+    lower {a} {b} {x} {y} p q o e =
+        ⊎-elim (λ (h : x < y). let z : a < b = omega arith in z) (λ (h : y ≤ x). absurd (e (omega arith))) (lt-or-ge x y)
+
+-- ---- the codes in the workspace, as they are loaded
+pub load-start : (s : List ℕ) (start : ℕ) (w : List ℕ) → CodesAt s start 0 w w
+load-start s start w = record { long = refl; each = λ j h. absurd (omega arith); rest = λ j h. refl }
+
+pub load-more : {s : List ℕ} {start k : ℕ} {w w′ : List ℕ} {a b : ℕ} → k < length w → a ≡ field s (start + 24 * k) 12 → b ≡ field s (start + 24 * k + 12) 12
+    → CodesAt s start k w w′ → CodesAt s start (k + 1) w (set w′ k (code a b))
+load-more {s} {start} {k} {w} {w′} {a} {b} h p q c =
+    record {
+      long = length-set w′ k (code a b) ∙ c .long;
+      each = λ j l.
+          ⊎-elim
+          (λ (e : j ≡ k).
+          ap (λ (i : ℕ). getD (set w′ k (code a b)) i 0) e
+          ∙ getD-set-same w′ k (code a b) 0 (let n = c .long in omega arith)
+          ∙ ap₂ code p q
+          ∙ ap (λ (i : ℕ). code (field s (start + 24 * i) 12) (field s (start + 24 * i + 12) 12)) (sym e))
+          (λ (e : j ≡ k → ⊥). getD-set-other w′ k j (code a b) 0 e ∙ c .each j (ne-lt e l))
+          (eq-or-ne j k);
+      rest = λ j l. getD-set-other w′ k j (code a b) 0 (λ e. omega arith) ∙ c .rest j (omega arith);
+    }
+  where
+    ne-lt : {j : ℕ} → (j ≡ k → ⊥) → j < k + 1 → j < k
+    ne-lt {j} e l = ⊎-elim (λ (u : j < k). u) (λ (u : k ≤ j). absurd (e (omega arith))) (lt-or-ge j k)
+
+pub load-small : {s : List ℕ} {start m : ℕ} {w w′ : List ℕ} → CodesAt s start m w w′ → (j : ℕ) → j < m → word w′ 0 j < 2 ^ 24
+load-small {s} {start} {m} {w} {w′} c j h =
+    let a = field-lt s (start + 24 * j) 12 12 (omega arith) in
+    let b = field-lt s (start + 24 * j + 12) 12 12 (omega arith) in
+    let e = word-front w′ j ∙ c .each j h in
+    omega arith
+
+-- ---- the edges of an accepted record, loaded into a cleared workspace and sorted
+module _ (s : List ℕ) (a : Accepted (decode record′ s)) {n m : ℕ} (en : n ≡ field s 0 13) (em : m ≡ field s 13 14) where
+  g : Sited s (a .fields)
+  g = sited s (a .fields) (a .is)
+
+  nodes-same : n ≡ nodesOf (a .fields)
+  nodes-same = en ∙ sited-nodes g
+
+  edges-same : m ≡ edgesOf (a .fields)
+  edges-same = em ∙ sited-number g
+
+  pub edges-fit : 27 + 32 * n + 24 * m ≤ 8 * length s
+  edges-fit = omega (arith, nodes-same, edges-same, sited-fits g)
+
+  pub edges-few : m ≤ 8192
+  edges-few = omega (arith, edges-same, number-is g, g .most-edges)
+
+  module _ (w : List ℕ) {w₁ w₂ : List ℕ} (long : length w ≡ 16384) (c : CodesAt s (27 + 32 * n) m (replicate 8192 0 ++ drop 8192 w) w₁) (o : Sorted m w₁ w₂) where
+    loaded-long : length w₁ ≡ 16384
+    loaded-long =
+        c .long
+        ∙ length-append (replicate 8192 0) (drop 8192 w)
+        ∙ omega (arith, length-replicate {A = ℕ} 8192 0, length-drop 8192 w, long)
+
+    loaded-at : (j : ℕ) → j < m → getD w₁ j 0 ≡ code (fromAt (g .ends) j) (toAt (g .ends) j)
+    loaded-at j h =
+        let x = nodes-same in
+        let y = edges-same in
+        let from : 27 + 32 * n + 24 * j ≡ 27 + 32 * nodesOf (a .fields) + 12 * (2 * j) = omega arith in
+        let to : 27 + 32 * n + 24 * j + 12 ≡ 27 + 32 * nodesOf (a .fields) + 12 * (2 * j + 1) = omega arith in
+        c .each j h
+        ∙ ap₂ (λ (u v : ℕ). code (field s u 12) (field s v 12)) from to
+        ∙ ap₂ code (sited-end g (2 * j) (omega arith)) (sited-end g (2 * j + 1) (omega arith))
+
+    codes-many : length (codes (g .ends)) ≡ m
+    codes-many = codes-length m (g .ends) (omega (arith, g .edges .two-each, edges-same, number-is g))
+
+    loaded-front : take m w₁ ≡ codes (g .ends)
+    loaded-front =
+        let l : length (take m w₁) ≡ m = length-take-le m w₁ (omega (arith, loaded-long, edges-few)) in
+        let k = codes-many in
+        ext-getD 0 (take m w₁) (codes (g .ends)) (l ∙ sym k)
+        (λ j h. let z : j < m = omega arith in
+        getD-take m w₁ j 0 z ∙ loaded-at j z ∙ sym (codes-at (g .ends) j (omega arith)))
+
+    loaded-differ : (i j : ℕ) → i < j → j < m → getD w₁ i 0 ≡ getD w₁ j 0 → ⊥
+    loaded-differ i j p q e =
+        let x = edges-same in
+        let y = number-is g in
+        codes-differ (g .most-nodes) (g .edges) i j p (omega arith) (sym (loaded-at i (omega arith)) ∙ e ∙ loaded-at j q)
+
+    -- a word is one of the codes, or was cleared
+    ordered-small : (i : ℕ) → i < 8192 → getD w₂ i 0 < 2 ^ 24
+    ordered-small i h =
+        ⊎-elim
+        (λ (p : i < m).
+        let q = same-in m (word w₁ 0) (word w₂ 0) (o .same) i p in
+        let u = load-small c (q .0) (q .1) in
+        let v = q .2 in
+        let z = word-front w₂ i in
+        omega arith)
+        (λ (p : m ≤ i).
+        let e : getD w₂ i 0 ≡ 0 =
+        o .between i p h
+        ∙ c .rest i p
+        ∙ List·getD-append (replicate 8192 0) (drop 8192 w) 0 i (omega (arith, length-replicate {A = ℕ} 8192 0))
+        ∙ getD-replicate 8192 i 0 0 h in
+        omega arith)
+        (lt-or-ge i m)
+
+    pub edges-ordered : Ordered (decode record′ s) w₂
+    edges-ordered =
+        record {
+          fields = a .fields;
+          is = a .is;
+          long = o .long ∙ loaded-long;
+          front =
+              ap (λ (k : ℕ). take k w₂) (sym edges-same)
+              ∙ sorted-front m w₁ w₂ (omega (arith, loaded-long, edges-few)) loaded-differ o
+              ∙ ap distinct (loaded-front ∙ ap codes (sym (sited-ends g)));
+          small = ordered-small;
+        }
+
+pub holds-by : (s : List ℕ) {n m : ℕ} {w : List ℕ} → Ordered (decode record′ s) w → n ≡ field s 0 13 → m ≡ field s 13 14 → Holds s n m w
+holds-by s {n} {m} {w} o en em =
+    let y : m ≡ edgesOf (o .fields) = em ∙ record-edges-field s (o .fields) (o .is) in
+    record {
+      fields = o .fields;
+      is = o .is;
+      nodes = en ∙ record-nodes-field s (o .fields) (o .is);
+      edges = y;
+      long = o .long;
+      front = ap (λ (k : ℕ). take k w) y ∙ o .front;
+      small = o .small;
+    }
+
+-- ---- the ends of the edges held
+-- where a member of a list stands
+member-place : (x : ℕ) (l : List ℕ) → member x l ≡ true → (j : ℕ) × (j < length l) × (getD l j 0 ≡ x)
+unfolding member
+member-place x [] e = absurd (let z : _≡_ {A = ℕ} 0 1 = cc in omega arith)
+member-place x (y ∷ l) e =
+    ⊎-elim
+    (λ h. (0, omega arith, eqb-true y x h))
+    (λ h. let r = member-place x l h in let n = r .1 in (suc (r .0), omega arith, r .2))
+    (or-cases _ _ e)
+
+code-parts : (a b c : ℕ) → b < 4096 → c ≡ code a b → (c / 4096 ≡ a) × (c % 4096 ≡ b)
+code-parts a b c h e = (omega arith, omega arith)
+
+-- each of the first m words is the code of an edge between nodes
+pub held-ends : {s : List ℕ} {n m : ℕ} {w : List ℕ} → Holds s n m w → (j : ℕ) → j < m → (getD w j 0 / 4096 < n) × (getD w j 0 % 4096 < n)
+held-ends {s} {n} {m} {w} h j l =
+    let g = sited s (h .fields) (h .is) in
+    let x = nodes-is g in
+    let y = number-is g in
+    let u = h .nodes in
+    let v = h .edges in
+    let few = g .most-edges in
+    let long = length-take-le m w (let z = h .long in omega arith) in
+    let front : take m w ≡ distinct (codes (g .ends)) = h .front ∙ ap (λ (t : List ℕ). distinct (codes t)) (sited-ends g) in
+    let c : ℕ = getD w j 0 in
+    let is : member c (codes (g .ends)) ≡ true =
+    sym (member-distinct c (codes (g .ends)))
+    ∙ ap (member c) (sym front)
+    ∙ ap (λ (z : ℕ). member z (take m w)) (sym (getD-take m w j 0 l))
+    ∙ member-at (take m w) j (omega arith) in
+    let r = member-place c (codes (g .ends)) is in
+    let k : ℕ = r .0 in
+    let many = codes-length (g .number) (g .ends) (g .edges .two-each) in
+    let below : k < g .number = let q = r .1 in omega arith in
+    let from = from-below (g .most-nodes) (g .edges) k below in
+    let to = to-below (g .most-nodes) (g .edges) k below in
+    let most = g .most-nodes in
+    let p = code-parts (fromAt (g .ends) k) (toAt (g .ends) k) c (omega arith) (sym (r .2) ∙ codes-at (g .ends) k (r .1)) in
+    let p₀ = p .0 in
+    let p₁ = p .1 in
+    (omega arith, omega arith)

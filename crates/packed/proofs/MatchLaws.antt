@@ -1,0 +1,355 @@
+-- The lists that masks mark, and the steps that count and write them.
+use Prim.Native.Nat.{ℕ, zero, suc, _+_, _-_, _*_, _/_, _%_, _^_, _<_, _≤_}
+use mathlib.Core.Path.{_≡_, refl, ap, ap₂, sym, _∙_}
+use mathlib.Core.Logic.{⊎-elim}
+use mathlib.Core.List.{List, [], _∷_, _++_, append-assoc, append-nil}
+use mathlib.Core.Bool.{Bool, true, false, _||_, or-false, or-assoc}
+use lib.ListN.{length, take, drop, getD, set, replicate, length-append, length-take, length-drop, length-set, length-replicate, getD-replicate, List·getD-eq-default}
+use lib.Seq.{sets, take-suc, getD-drop, getD-take, getD-set-same, getD-set-other, length-take-le}
+use lib.Dec.{eqb}
+use native.Mathlib.Omega.{arith}
+use borrow.Author.Count.{below-more}
+use borrow.Author.Tests.{eq-eqb, ne-eqb}
+use native.Mathlib.Numerals.{add-one}
+use native.Mathlib.Nat.{add-zero, zero-add}
+use Rattle.packed.specs.Bits.{bits, bitsOf, gap}
+use Rattle.packed.specs.Format.{pick}
+use Rattle.packed.specs.Matches.{marks, marked, markedFrom, anyEmpty, emptied, allOrNone, total, codesOf, masksOf, matchesOf, Marked, Counts, Written, Added, anyZero, sumOf, Listed, pairBits, listBits, ListWritten, ListsWritten}
+use Rattle.packed.proofs.BitsLaws.{length-bitsOf, length-bits, bitsOf-zero, bits-injective}
+use Rattle.packed.proofs.OrderCases.{lt-or-ge}
+use Rattle.packed.proofs.Sets.{sets-append}
+use Rattle.packed.proofs.RoundTrip.{Bytes}
+use Rattle.packed.proofs.Files.{bits-sets, bytes-sets}
+use Rattle.packed.proofs.SheetLaws.{Rising, rising-none, rising-next, rising-by, rising-less, Fit, fit-none, fit-next, fit-all, length-all, all-twice, length-pairBits, padded, Encoded, sheet-encodes}
+
+-- the codes under the edge e, and the lists of the first m edges, by the first n pairs of the workspace
+abbrev pub under : ℕ → ℕ → List ℕ → List ℕ
+under e n w = marked e (codesOf n w) (masksOf n w)
+
+abbrev pub listsOf : ℕ → ℕ → List ℕ → List (List ℕ)
+listsOf m n w = markedFrom 0 m (codesOf n w) (masksOf n w)
+
+-- ---- one more pair
+
+-- a code, where its mask names the edge
+abbrev one : Bool → ℕ → List ℕ
+one b p = pick b (p ∷ []) []
+
+pick-append : (b : Bool) (p : ℕ) (xs ys : List ℕ) → pick b (p ∷ (xs ++ ys)) (xs ++ ys) ≡ pick b (p ∷ xs) xs ++ ys
+pick-append true p xs ys = refl
+pick-append false p xs ys = refl
+
+marked-more : (e : ℕ) (ps qs : List ℕ) (p q : ℕ) → length ps ≡ length qs
+    → marked e (ps ++ (p ∷ [])) (qs ++ (q ∷ [])) ≡ marked e ps qs ++ one (marks e q) p
+unfolding marked
+marked-more e [] [] p q h = refl
+marked-more e [] (y ∷ qs) p q h = absurd (omega arith)
+marked-more e (x ∷ ps) [] p q h = absurd (omega arith)
+marked-more e (x ∷ ps) (y ∷ qs) p q h =
+    ap (λ (l : List ℕ). pick (marks e y) (x ∷ l) l) (marked-more e ps qs p q (omega arith))
+    ∙ pick-append (marks e y) x (marked e ps qs) (one (marks e q) p)
+
+under-more : (e i : ℕ) (w : List ℕ) → 8192 + i < length w → under e (i + 1) w ≡ under e i w ++ one (marks e (getD w (8192 + i) 0)) (getD w i 0)
+under-more e i w h =
+    let d : List ℕ = drop 8192 w in
+    let n : length d ≡ length w - 8192 = length-drop 8192 w in
+    let l : length (take i w) ≡ length (take i d) = length-take-le i w (omega arith) ∙ sym (length-take-le i d (omega arith)) in
+    let a : take (i + 1) w ≡ take i w ++ (getD w i 0 ∷ []) = ap (λ (k : ℕ). take k w) (add-one i) ∙ take-suc w i 0 (omega arith) in
+    let b : take (i + 1) d ≡ take i d ++ (getD d i 0 ∷ []) = ap (λ (k : ℕ). take k d) (add-one i) ∙ take-suc d i 0 (omega arith) in
+    ap₂ (marked e) a b
+    ∙ marked-more e (take i w) (take i d) (getD w i 0) (getD d i 0) l
+    ∙ ap (λ (q : ℕ). under e i w ++ one (marks e q) (getD w i 0)) (getD-drop 8192 w i 0)
+
+length-one : (e p q : ℕ) → length (one (marks e q) p) ≡ q / 2 ^ e % 2
+unfolding marks
+length-one e p q = go (q / 2 ^ e % 2) (omega arith)
+  where
+    go : (r : ℕ) → r < 2 → length (one (eqb r 1) p) ≡ r
+    go zero h = refl
+    go (suc zero) h = refl
+    go (suc (suc r)) h = absurd (omega arith)
+
+length-more : (e i : ℕ) (w : List ℕ) → 8192 + i < length w → length (under e (i + 1) w) ≡ length (under e i w) + getD w (8192 + i) 0 / 2 ^ e % 2
+length-more e i w h =
+    let q : ℕ = getD w (8192 + i) 0 in
+    let p : ℕ = getD w i 0 in
+    ap length (under-more e i w h) ∙ length-append (under e i w) (one (marks e q) p) ∙ ap (λ (k : ℕ). length (under e i w) + k) (length-one e p q)
+
+marked-least : (e : ℕ) (ps qs : List ℕ) → length (marked e ps qs) ≤ length ps
+unfolding marked
+marked-least e [] qs = omega arith
+marked-least e (p ∷ ps) qs = go (marks e (getD qs 0 0)) (marked e ps (drop 1 qs)) (marked-least e ps (drop 1 qs))
+  where
+    go : (b : Bool) (l : List ℕ) → length l ≤ length ps → length (pick b (p ∷ l) l) ≤ suc (length ps)
+    go true l h = omega arith
+    go false l h = omega arith
+
+pub under-most : (e n : ℕ) (w : List ℕ) → length (under e n w) ≤ n
+under-most e n w = omega (arith, marked-least e (take n w) (take n (drop 8192 w)), length-take n w)
+
+-- ---- the codes rise
+
+marked-rises : (e : ℕ) {least : ℕ} (ps qs : List ℕ) → Rising least ps → Rising least (marked e ps qs)
+unfolding marked
+marked-rises e ps qs rising-none = rising-none
+marked-rises e {least} ps qs (rising-next {c = c} {cs = cs} h s r) = go (marks e (getD qs 0 0)) (marked-rises e cs (drop 1 qs) r)
+  where
+    go : {l : List ℕ} (b : Bool) → Rising (suc c) l → Rising least (pick b (c ∷ l) l)
+    go true q = rising-next h s q
+    go false q = rising-less (omega arith) q
+
+fit-from : (e m : ℕ) (ps qs : List ℕ) → Rising 0 ps → length ps ≤ 8192 → Fit (markedFrom e m ps qs)
+unfolding markedFrom
+fit-from e zero ps qs r h = fit-none
+fit-from e (suc m) ps qs r h = fit-next (marked-rises e ps qs r) (omega (arith, marked-least e ps qs)) (fit-from (suc e) m ps qs r h)
+
+codes-rise : (n : ℕ) (w : List ℕ) → Marked n w → Rising 0 (codesOf n w)
+codes-rise n w k =
+    let e : length (take n w) ≡ n = length-take-le n w (omega arith) in
+    let at : (i : ℕ) → i < n → getD (take n w) i 0 ≡ getD w i 0 = λ i q. getD-take n w i 0 q in
+    rising-by 0 (take n w) (λ q. omega arith)
+    (λ i q. rw (at i (omega arith)) (k .small i (omega arith)))
+    (λ i j p q. rw (at i (omega arith), at j (omega arith)) (k .rises i j p (omega arith)))
+
+pub fit-lists : (n m : ℕ) (w : List ℕ) → Marked n w → Fit (listsOf m n w)
+fit-lists n m w k = fit-from 0 m (take n w) (take n (drop 8192 w)) (codes-rise n w k) (omega (arith, length-take n w, k .most))
+
+length-from : (e m : ℕ) (ps qs : List ℕ) → length (markedFrom e m ps qs) ≡ m
+unfolding markedFrom
+length-from e zero ps qs = refl
+length-from e (suc m) ps qs = ap suc (length-from (suc e) m ps qs)
+
+pub matches-encode : (n m : ℕ) (w : List ℕ) → Marked n w → Encoded m (matchesOf n m w)
+unfolding matchesOf
+matches-encode n m w k =
+    let ls : List (List ℕ) = listsOf m n w in
+    sheet-encodes m (allOrNone ls) (length-all ls ∙ length-from 0 m (take n w) (take n (drop 8192 w))) (fit-all ls (fit-lists n m w k)) (all-twice ls)
+
+-- ---- adding the bits of a mask
+
+pub record Adding (x : ℕ) (c₀ c : List ℕ) (e : ℕ) : Type 0 where
+  pub upto : e ≤ 32
+  pub long : length c ≡ length c₀
+  pub done : (k : ℕ) → k < e → getD c k 0 ≡ getD c₀ k 0 + x / 2 ^ k % 2
+  pub left : (k : ℕ) → e ≤ k → k < 32 → getD c k 0 ≡ getD c₀ k 0
+
+pub adding-start : (x : ℕ) (c : List ℕ) → Adding x c c 0
+adding-start x c = record { upto = omega arith; long = refl; done = λ k l. absurd (omega arith); left = λ k a b. refl }
+
+pub adding-next : (x : ℕ) (c₀ c : List ℕ) (e : ℕ) → Adding x c₀ c e → e < 32 → length c₀ ≡ 32 → Adding x c₀ (set c e (getD c e 0 + x / 2 ^ e % 2)) (e + 1)
+adding-next x c₀ c e t l h =
+    let v : ℕ = getD c e 0 + x / 2 ^ e % 2 in
+    let n : e < length c = omega (arith, t .long) in
+    record {
+      upto = omega arith;
+      long = length-set c e v ∙ t .long;
+      done = below-more (λ k. getD (set c e v) k 0 ≡ getD c₀ k 0 + x / 2 ^ k % 2) e
+          (λ k q. getD-set-other c e k v 0 (λ p. omega arith) ∙ t .done k q)
+          (getD-set-same c e v 0 n ∙ ap (λ (i : ℕ). i + x / 2 ^ e % 2) (t .left e (omega arith) l));
+      left = λ k a b. getD-set-other c e k v 0 (λ p. omega arith) ∙ t .left k (omega arith) b;
+    }
+
+pub adding-end : (x : ℕ) (c₀ c : List ℕ) (e : ℕ) → Adding x c₀ c e → 32 ≤ e → Added c₀ x c
+adding-end x c₀ c e t l = record { long = t .long; each = λ k q. t .done k (omega arith) }
+
+-- ---- counting
+
+pub counts-start : (w c : List ℕ) → c ≡ replicate 32 0 → Counts 0 w c
+unfolding marked
+counts-start w c h = record { long = ap length h ∙ length-replicate {A = ℕ} 32 0; each = λ e l. ap (λ (x : List ℕ). getD x e 0) h ∙ getD-replicate 32 e 0 0 l }
+
+pub counts-next : (i : ℕ) (w c c′ : List ℕ) → Counts i w c → 8192 + i < length w → Added c (getD w (8192 + i) 0) c′ → Counts (i + 1) w c′
+counts-next i w c c′ t h a =
+    record {
+      long = a .long ∙ t .long;
+      each = λ e l. a .each e l ∙ ap (λ (k : ℕ). k + getD w (8192 + i) 0 / 2 ^ e % 2) (t .each e l) ∙ sym (length-more e i w h);
+    }
+
+pub counts-most : (n : ℕ) (w c : List ℕ) → Counts n w c → (e : ℕ) → e < 32 → getD c e 0 ≤ n
+counts-most n w c t e l = omega (arith, t .each e l, under-most e n w)
+
+pub counts-few : (n : ℕ) (w c : List ℕ) → Counts n w c → n ≤ 8192 → (e : ℕ) → getD c e 0 ≤ 8192
+counts-few n w c t h e =
+    ⊎-elim (λ (l : e < 32). omega (arith, counts-most n w c t e l)) (λ (l : 32 ≤ e). omega (arith, List·getD-eq-default c 0 {n = e} (omega (arith, t .long)))) (lt-or-ge e 32)
+
+-- ---- one more list
+
+from-next : (e m : ℕ) (ps qs : List ℕ) → markedFrom e (suc m) ps qs ≡ markedFrom e m ps qs ++ (marked (e + m) ps qs ∷ [])
+unfolding markedFrom
+from-next e zero ps qs = ap (λ (k : ℕ). marked k ps qs ∷ []) (sym (add-zero e))
+from-next e (suc m) ps qs =
+    ap (λ (l : List (List ℕ)). marked e ps qs ∷ l)
+    (from-next (suc e) m ps qs ∙ ap (λ (k : ℕ). markedFrom (suc e) m ps qs ++ (marked k ps qs ∷ [])) (omega arith))
+
+lists-next : (m n : ℕ) (w : List ℕ) → listsOf (suc m) n w ≡ listsOf m n w ++ (under m n w ∷ [])
+lists-next m n w =
+    from-next 0 m (take n w) (take n (drop 8192 w)) ∙ ap (λ (k : ℕ). listsOf m n w ++ (under k n w ∷ [])) (zero-add m)
+
+total-next : (ls : List (List ℕ)) (l : List ℕ) → total (ls ++ (l ∷ [])) ≡ total ls + length l
+unfolding total
+total-next [] l = omega arith
+total-next (x ∷ ls) l = omega (arith, total-next ls l)
+
+empty-next : (ls : List (List ℕ)) (l : List ℕ) → anyEmpty (ls ++ (l ∷ [])) ≡ anyEmpty ls || eqb (length l) 0
+unfolding anyEmpty
+empty-next [] l = or-false (eqb (length l) 0)
+empty-next (x ∷ ls) l = ap (λ (b : Bool). eqb (length x) 0 || b) (empty-next ls l) ∙ sym (or-assoc (eqb (length x) 0) (anyEmpty ls) (eqb (length l) 0))
+
+bits-next : (ls : List (List ℕ)) (l : List ℕ) → listBits (ls ++ (l ∷ [])) ≡ listBits ls ++ (bitsOf 14 (length l) ++ pairBits l)
+unfolding listBits
+bits-next [] l = ap (λ (x : List Bool). bitsOf 14 (length l) ++ x) (append-nil (pairBits l))
+bits-next (x ∷ ls) l = rw (bits-next ls l) (simp append-assoc)
+
+-- ---- from counts to lists
+
+pub sum-next : (e : ℕ) (c : List ℕ) → sumOf (e + 1) c ≡ sumOf e c + getD c e 0
+unfolding sumOf
+sum-next e c = rw add-one
+
+pub zero-next : (e : ℕ) (c : List ℕ) → anyZero (e + 1) c ≡ anyZero e c || eqb (getD c e 0) 0
+unfolding anyZero
+zero-next e c = rw add-one
+
+pub sum-is : (n m : ℕ) (w c : List ℕ) → Counts n w c → m ≤ 32 → sumOf m c ≡ total (listsOf m n w)
+unfolding sumOf
+sum-is n zero w c t h = unfold total markedFrom in refl
+sum-is n (suc m) w c t h =
+    ap₂ (λ (a b : ℕ). a + b) (sum-is n m w c t (omega arith)) (t .each m (omega arith))
+    ∙ sym (ap total (lists-next m n w) ∙ total-next (listsOf m n w) (under m n w))
+
+pub zero-is : (n m : ℕ) (w c : List ℕ) → Counts n w c → m ≤ 32 → anyZero m c ≡ anyEmpty (listsOf m n w)
+unfolding anyZero
+zero-is n zero w c t h = unfold anyEmpty markedFrom in refl
+zero-is n (suc m) w c t h =
+    ap₂ (λ (a : Bool) (b : ℕ). a || eqb b 0) (zero-is n m w c t (omega arith)) (t .each m (omega arith))
+    ∙ sym (ap anyEmpty (lists-next m n w) ∙ empty-next (listsOf m n w) (under m n w))
+
+-- ---- none or all
+
+none-from : (e m : ℕ) (ps qs qs′ : List ℕ) → markedFrom e m [] qs ≡ emptied (markedFrom e m ps qs′)
+unfolding markedFrom marked emptied
+none-from e zero ps qs qs′ = refl
+none-from e (suc m) ps qs qs′ = ap (λ (l : List (List ℕ)). [] ∷ l) (none-from (suc e) m ps qs qs′)
+
+pub listed-none : (n m : ℕ) (w : List ℕ) → anyEmpty (listsOf m n w) ≡ true → Listed n m w 0
+unfolding matchesOf allOrNone
+listed-none n m w h = record { is = rw h; lists = none-from 0 m (take n w) [] (take n (drop 8192 w)) ∙ rw h }
+
+pub listed-all : (n m : ℕ) (w : List ℕ) → anyEmpty (listsOf m n w) ≡ false → Listed n m w n
+unfolding matchesOf allOrNone
+listed-all n m w h = record { is = rw h; lists = rw h }
+
+pub listed-most : (n m : ℕ) (w : List ℕ) (k : ℕ) → Listed n m w k → k ≤ n
+listed-most n m w k l = rw (l .is) (go (anyEmpty (listsOf m n w)))
+  where
+    go : (b : Bool) → pick b 0 n ≤ n
+    go true = omega arith
+    go false = omega arith
+
+pub listed-marked : (n m : ℕ) (w : List ℕ) (k : ℕ) → Listed n m w k → Marked n w → Marked k w
+listed-marked n m w k l t =
+    let h : k ≤ n = listed-most n m w k l in
+    record { long = t .long; most = omega (arith, t .most); small = λ i q. t .small i (omega arith); rises = λ i j p q. t .rises i j p (omega arith) }
+
+pub sum-listed : (n m : ℕ) (w : List ℕ) (k : ℕ) (c : List ℕ) → Listed n m w k → Counts k w c → m ≤ 32 → sumOf m c ≡ total (matchesOf n m w)
+sum-listed n m w k c l t h = sum-is k m w c t h ∙ ap total (l .lists)
+
+-- ---- writing
+
+pairs-next : (l : List ℕ) (p : ℕ) → pairBits (l ++ (p ∷ [])) ≡ pairBits l ++ bitsOf 24 p
+unfolding pairBits
+pairs-next [] p = append-nil (bitsOf 24 p)
+pairs-next (c ∷ cs) p = rw (pairs-next cs p) (sym (append-assoc (bitsOf 24 c) (pairBits cs) (bitsOf 24 p)))
+
+names : (e q : ℕ) → q / 2 ^ e % 2 ≡ 1 → marks e q ≡ true
+unfolding marks
+names e q h = eq-eqb (q / 2 ^ e % 2) 1 h
+
+names-not : (e q : ℕ) → (q / 2 ^ e % 2 ≡ 1 → ⊥) → marks e q ≡ false
+unfolding marks
+names-not e q h = ne-eqb (q / 2 ^ e % 2) 1 h
+
+pub list-start : (e : ℕ) (w b : List ℕ) (start : ℕ) → ListWritten 0 e w b start start b
+unfolding marked pairBits
+list-start e w b start = record { holds = refl; next = omega arith; most = omega arith }
+
+module _ {i e : ℕ} {w b₀ : List ℕ} {start at : ℕ} {b : List ℕ} (t : ListWritten i e w b₀ start at b) (h : 8192 + i < length w) where
+  -- the code i is listed
+  pub list-put : (b′ : List ℕ) → getD w (8192 + i) 0 / 2 ^ e % 2 ≡ 1 → bits b′ ≡ sets (bits b) at (bitsOf 24 (getD w i 0))
+      → ListWritten (i + 1) e w b₀ start (at + 24) b′
+  list-put b′ y q =
+      let u : List ℕ = under e i w in
+      let p : ℕ = getD w i 0 in
+      let n : at ≡ start + length (pairBits u) = omega (arith, t .next, length-pairBits u) in
+      let f : under e (i + 1) w ≡ u ++ (p ∷ []) = under-more e i w h ∙ ap (λ (c : Bool). u ++ one c p) (names e (getD w (8192 + i) 0) y) in
+      record {
+        holds =
+            q
+            ∙ ap (λ (x : List Bool). sets x at (bitsOf 24 p)) (t .holds)
+            ∙ ap (λ (k : ℕ). sets (sets (bits b₀) start (pairBits u)) k (bitsOf 24 p)) n
+            ∙ sets-append (bits b₀) start (pairBits u) (bitsOf 24 p)
+            ∙ ap (sets (bits b₀) start) (sym (ap pairBits f ∙ pairs-next u p));
+        next = omega (arith, t .next, ap length f, length-append u (p ∷ []));
+        most = omega (arith, t .most);
+      }
+
+  -- it is not
+  pub list-skip : (getD w (8192 + i) 0 / 2 ^ e % 2 ≡ 1 → ⊥) → ListWritten (i + 1) e w b₀ start at b
+  list-skip y =
+      let u : List ℕ = under e i w in
+      let f : under e (i + 1) w ≡ u = under-more e i w h ∙ ap (λ (c : Bool). u ++ one c (getD w i 0)) (names-not e (getD w (8192 + i) 0) y) ∙ append-nil u in
+      record {
+        holds = t .holds ∙ ap (λ (l : List ℕ). sets (bits b₀) start (pairBits l)) (sym f);
+        next = omega (arith, t .next, ap length f);
+        most = omega (arith, t .most);
+      }
+
+pub lists-start : (n : ℕ) (w b : List ℕ) → ListsWritten n 0 w b 0 b
+unfolding markedFrom listBits
+lists-start n w b = record { holds = refl; next = refl; most = omega arith }
+
+pub lists-put : {n e : ℕ} {w b₀ : List ℕ} {at : ℕ} {b : List ℕ} (b′ : List ℕ) {r : ℕ} {b″ : List ℕ} (c : ℕ)
+    → ListsWritten n e w b₀ at b → n ≤ 8192 → c ≡ length (under e n w) → bits b′ ≡ sets (bits b) at (bitsOf 14 c)
+    → ListWritten n e w b′ (at + 14) r b″ → ListsWritten n (e + 1) w b₀ r b″
+lists-put {n} {e} {w} {b₀} {at} {b} b′ {r} {b″} c t h k q s =
+    let u : List ℕ = under e n w in
+    let ls : List Bool = listBits (listsOf e n w) in
+    let p : List Bool = bitsOf 14 (length u) in
+    let f : listBits (listsOf (e + 1) n w) ≡ ls ++ (p ++ pairBits u) =
+    ap (λ (j : ℕ). listBits (listsOf j n w)) (add-one e) ∙ ap listBits (lists-next e n w) ∙ bits-next (listsOf e n w) u in
+    let d : bits b′ ≡ sets (bits b₀) 0 (ls ++ p) =
+    q
+    ∙ ap₂ (λ (x : List Bool) (j : ℕ). sets x at (bitsOf 14 j)) (t .holds) k
+    ∙ ap (λ (j : ℕ). sets (sets (bits b₀) 0 ls) j p) (t .next ∙ sym (zero-add (length ls)))
+    ∙ sets-append (bits b₀) 0 ls p in
+    let g : at + 14 ≡ 0 + length (ls ++ p) = omega (arith, t .next, length-append ls p, length-bitsOf 14 (length u)) in
+    record {
+      holds =
+          s .holds
+          ∙ ap₂ (λ (x : List Bool) (j : ℕ). sets x j (pairBits u)) d g
+          ∙ sets-append (bits b₀) 0 (ls ++ p) (pairBits u)
+          ∙ ap (sets (bits b₀) 0) (append-assoc ls p (pairBits u) ∙ sym f);
+      next = omega (arith, s .next, g, length-pairBits u, length-append (ls ++ p) (pairBits u), ap length (f ∙ sym (append-assoc ls p (pairBits u))));
+      most = omega (arith, s .most, t .most);
+    }
+
+pub sheet-written : {n m : ℕ} {w b₀ : List ℕ} {k at : ℕ} {b : List ℕ} {r : ℕ} {b′ : List ℕ} → Marked n w → Listed n m w k → ListsWritten k m w b₀ at b
+    → 8 * r ≡ at + gap at → bits b′ ≡ sets (bits b) at (bitsOf (gap at) 0) → Bytes b₀ → Bytes b′ → Written n m w b₀ r b′
+unfolding padded
+sheet-written {n} {m} {w} {b₀} {k} {at} {b} {r} {b′} t l s e q y₀ y =
+    let x : Encoded m (matchesOf n m w) = matches-encode n m w t in
+    let ls : List Bool = listBits (matchesOf n m w) in
+    let f : listBits (listsOf m k w) ≡ ls = ap listBits (l .lists) in
+    let a : at ≡ length ls = s .next ∙ ap length f in
+    let v : bits b′ ≡ sets (bits b₀) 0 (bits (x .bytes)) =
+    q
+    ∙ ap₂ (λ (z p : List Bool). sets z at p) (s .holds ∙ ap (sets (bits b₀) 0) f) (bitsOf-zero (gap at) ∙ ap (λ (j : ℕ). replicate (gap j) false) a)
+    ∙ ap (λ (j : ℕ). sets (sets (bits b₀) 0 ls) j (replicate (gap (length ls)) false)) (a ∙ sym (zero-add (length ls)))
+    ∙ sets-append (bits b₀) 0 ls (replicate (gap (length ls)) false)
+    ∙ ap (sets (bits b₀) 0) (sym (x .holds)) in
+    record {
+      bytes = x .bytes;
+      is = x .is;
+      number = omega (arith, e, ap gap a, length-bits (x .bytes), ap length (x .holds), length-append ls (replicate (gap (length ls)) false), length-replicate (gap (length ls)) false);
+      front = bits-injective b′ (sets b₀ 0 (x .bytes)) y (bytes-sets b₀ 0 (x .bytes) y₀ (x .small)) (v ∙ sym (bits-sets b₀ 0 (x .bytes)));
+    }

@@ -1,0 +1,293 @@
+-- For an accepted book, the walks over its bits and over its fields find the pairs of its content.
+use mathlib.Core.Path.{_≡_, refl, ap, ap₂, _∙_, sym, subst}
+use mathlib.Core.Bool.{Bool, true, false, not, _&&_, _||_}
+use mathlib.Core.List.{List, [], _∷_, _++_, append-nil, append-assoc}
+use Prim.Native.Nat.{ℕ, zero, suc, _+_, _-_, _*_, _%_, _<_, _≤_}
+use native.Mathlib.Omega.{arith}
+use native.Mathlib.Numerals.{one-add}
+use native.Mathlib.Nat.{add-zero, zero-add, suc-add, add-assoc, mod-eq-of-lt}
+use lib.Dec.{leb, ltb, eqb}
+use lib.ListN.{length, take, drop, getD, length-append, length-drop}
+use lib.Seq.{drop-at, drop-drop, getD-drop}
+use borrow.Author.Tests.{leb-true, ltb-true}
+use Rattle.packed.specs.Bits.{bits, num, field, zeros, gap}
+use Rattle.packed.specs.Format.{Format, done, ask, pad, then, whole, Got, got, fault, within, scan, ok, decode, encode}
+use Rattle.packed.specs.Formats.{code, pairs, lists, sheet, book}
+use Rattle.packed.specs.Contents.{codesIn, pairsIn, sum}
+use Rattle.packed.specs.Walks.{fieldOr, codesAt, listEnd, pairsAt, listsEnd, sheetEnd, bookPairs, codesFrom, pairsFrom}
+use Rattle.packed.proofs.BitsLaws.{length-bits, field-add}
+use Rattle.packed.proofs.RoundTrip.{push-got, pick-got, and-yes, ended-ok, onward, scan-done, scan-test, scan-then, encode-decode}
+use Rattle.packed.proofs.ReadingLaws.{gap-of, gap-in}
+use Rattle.packed.proofs.Walks.{field-or-in}
+
+-- ---- a pass taken apart
+-- f, and then g
+record Parts (f g : Format) (bs : List Bool) (ws : List ℕ) (rest : List Bool) : Type 0 where
+  front : List ℕ
+  left : List Bool
+  back : List ℕ
+  first : scan f bs ≡ got front left
+  second : scan g left ≡ got back rest
+  splits : ws ≡ front ++ back
+
+onward-parts : (f g : Format) (bs : List Bool) (ws : List ℕ) (rest : List Bool) (r : Got ℕ Bool) → scan f bs ≡ r
+    → onward r (λ xs t. scan g t) ≡ got ws rest → Parts f g bs ws rest
+onward-parts f g bs ws rest (got xs t) p e =
+    let q = push-got xs (scan g t) ws rest e in
+    record { front = xs; left = t; back = q .0; first = p; second = q .1; splits = q .2 }
+onward-parts f g bs ws rest (fault n) p e = absurd (let z : _≡_ {A = ℕ} 0 1 = cc in omega arith)
+
+parts : (f g : Format) (bs : List Bool) (ws : List ℕ) (rest : List Bool) → scan (then f g) bs ≡ got ws rest → Parts f g bs ws rest
+parts f g bs ws rest e = onward-parts f g bs ws rest (scan f bs) refl (sym (scan-then f g bs) ∙ e)
+
+-- zero bits up to a whole byte, and nothing more
+pad-got : (bs : List Bool) (ws : List ℕ) (rest : List Bool) → scan (pad done) bs ≡ got ws rest → (ws ≡ []) × (rest ≡ drop (length bs % 8) bs)
+unfolding scan
+pad-got bs ws rest e =
+    let p = pick-got (zeros (take (length bs % 8) bs)) _ 9 ws rest e in
+    let q : got [] (drop (length bs % 8) bs) ≡ got ws rest = p .1 in
+    (cc, cc)
+
+-- a field, and then what follows it
+record Took (s : List ℕ) (at w bound : ℕ) (f : ℕ → Format) (ws : List ℕ) (rest : List Bool) : Type 0 where
+  next : List ℕ
+  splits : ws ≡ fieldOr s at w ∷ next
+  small : fieldOr s at w < bound
+  fits : at + w ≤ 8 * length s
+  goes : scan (f (fieldOr s at w)) (drop (at + w) (bits s)) ≡ got next rest
+
+below-bound : (low bound v : ℕ) → within low bound v ≡ true → v < bound
+unfolding within
+below-bound low bound v e = ltb-true v bound (and-yes (leb low v) (ltb v bound) e .1)
+
+took : (s : List ℕ) (at w low bound e : ℕ) (f : ℕ → Format) (ws : List ℕ) (rest : List Bool) → at ≤ 8 * length s
+    → scan (ask w low bound e f) (drop at (bits s)) ≡ got ws rest → Took s at w bound f ws rest
+unfolding scan
+took s at w low bound e f ws rest h g =
+    let d : List Bool = drop at (bits s) in
+    let v : ℕ = num (take w d) in
+    let p = pick-got (leb w (length d)) _ 2 ws rest g in
+    let fits : at + w ≤ 8 * length s = omega (arith, leb-true w (length d) (p .0), length-drop at (bits s), length-bits s) in
+    let q = pick-got (within low bound v) _ e ws rest (p .1) in
+    let t = push-got (v ∷ []) (scan (f v) (drop w d)) ws rest (q .1) in
+    let is : v ≡ fieldOr s at w = sym (field-or-in s at w fits ∙ (unfold field in refl)) in
+    record {
+      next = t .0;
+      splits = t .2 ∙ ap (λ (x : ℕ). x ∷ t .0) is;
+      small = subst (λ (x : ℕ). x < bound) is (below-bound low bound v (q .0));
+      fits = fits;
+      goes = ap (λ (x : ℕ). scan (f x) (drop (at + w) (bits s))) (sym is) ∙ ap (scan (f v)) (sym (drop-drop w at (bits s))) ∙ t .1;
+    }
+
+-- ---- the content of pairs and of lists, wherever it stands
+-- ps are the fields of k pairs with these codes
+record PairFields (k : ℕ) (ps codes : List ℕ) : Type 0 where
+  long : length ps ≡ 2 * k
+  within : (more : List ℕ) → codesIn k (ps ++ more) ≡ codes
+  from : (l : List ℕ) (i : ℕ) (more : List ℕ) → drop i l ≡ ps ++ more → codesFrom l i k ≡ codes
+
+-- ws are the fields of m lists with these codes
+record ListFields (m : ℕ) (ws codes : List ℕ) : Type 0 where
+  within : (k : ℕ) (more : List ℕ) → pairsIn (m + k) (ws ++ more) ≡ codes ++ pairsIn k more
+  from : (k : ℕ) (l : List ℕ) (i : ℕ) (more : List ℕ) → drop i l ≡ ws ++ more → pairsFrom l i (m + k) ≡ codes ++ pairsFrom l (i + length ws) k
+
+-- what stands at i, and after it
+head-at : (l : List ℕ) (i x : ℕ) (xs : List ℕ) → drop i l ≡ x ∷ xs → getD l i 0 ≡ x
+head-at l i x xs e = ap (λ (j : ℕ). getD l j 0) (sym (add-zero i)) ∙ sym (getD-drop i l 0 0) ∙ ap (λ (t : List ℕ). getD t 0 0) e
+
+tail-at : (l : List ℕ) (i : ℕ) (xs ys : List ℕ) (n : ℕ) → length xs ≡ n → drop i l ≡ xs ++ ys → drop (i + n) l ≡ ys
+tail-at l i xs ys n h e = sym (drop-drop n i l) ∙ ap (drop n) e ∙ drop-at xs ys n h
+
+no-pairs : PairFields 0 [] []
+no-pairs = record { long = refl; within = λ more. (unfold codesIn in refl); from = λ l i more e. (unfold codesFrom in refl) }
+
+pair-fields : (k a b : ℕ) (ps codes : List ℕ) → a < 4096 → b < 4096 → PairFields k ps codes → PairFields (suc k) (a ∷ b ∷ ps) (code a b ∷ codes)
+pair-fields k a b ps codes ha hb t =
+    record {
+      long = omega (arith, t .long);
+      within = λ more. (unfold codesIn in ap (λ (l : List ℕ). code a b ∷ l) (t .within more));
+      from = λ l i more e.
+          (unfold codesFrom in
+          let x : getD l i 0 ≡ a = head-at l i a (b ∷ (ps ++ more)) e in
+          let d : drop (i + 1) l ≡ b ∷ (ps ++ more) = tail-at l i (a ∷ []) (b ∷ (ps ++ more)) 1 refl e in
+          let y : getD l (i + 1) 0 ≡ b = head-at l (i + 1) b (ps ++ more) d in
+          rw (x, y, mod-eq-of-lt ha, mod-eq-of-lt hb, t .from l (i + 2) more (tail-at l i (a ∷ b ∷ []) (ps ++ more) 2 refl e)));
+    }
+
+no-lists : ListFields 0 [] []
+no-lists =
+    record {
+      within = λ k more. rw (zero-add k);
+      from = λ k l i more e. rw (zero-add k, add-zero i);
+    }
+
+-- one list more, in front
+list-fields : (m n : ℕ) (ps codes ws others : List ℕ) → n < 16384 → PairFields n ps codes → ListFields m ws others → ListFields (suc m) (n ∷ (ps ++ ws)) (codes ++ others)
+list-fields m n ps codes ws others h p t =
+    record {
+      within = λ k more. (unfold pairsIn in
+          rw (suc-add, append-assoc ps ws more, one-add, drop-at ps (ws ++ more) (2 * n) (p .long), p .within (ws ++ more), t .within k more) (sym (append-assoc codes others (pairsIn k more))));
+      from = λ k l i more e.
+          (unfold pairsFrom in
+          let f : drop i l ≡ n ∷ (ps ++ (ws ++ more)) = e ∙ ap (λ (x : List ℕ). n ∷ x) (append-assoc ps ws more) in
+          let x : getD l i 0 ≡ n = head-at l i n (ps ++ (ws ++ more)) f in
+          let d : drop (i + 1) l ≡ ps ++ (ws ++ more) = tail-at l i (n ∷ []) (ps ++ (ws ++ more)) 1 refl f in
+          let r : drop (i + (1 + 2 * n)) l ≡ ws ++ more = tail-at l i (n ∷ ps) (ws ++ more) (1 + 2 * n) (omega (arith, p .long)) f in
+          let z : i + (1 + 2 * n) + length ws ≡ i + suc (length (ps ++ ws)) = omega (arith, length-append ps ws, p .long) in
+          rw (suc-add, x, mod-eq-of-lt h, p .from l (i + 1) (ws ++ more) d, t .from k l (i + (1 + 2 * n)) more r, z) (sym (append-assoc codes others (pairsFrom l (i + suc (length (ps ++ ws))) k))));
+    }
+
+-- lists, and then others
+both-fields : (m n : ℕ) (ws codes us others : List ℕ) → ListFields m ws codes → ListFields n us others → ListFields (m + n) (ws ++ us) (codes ++ others)
+both-fields m n ws codes us others a b =
+    record {
+      within = λ k more.
+          rw (add-assoc m n k, append-assoc ws us more, a .within (n + k) (us ++ more), b .within k more) (sym (append-assoc codes others (pairsIn k more)));
+      from = λ k l i more e.
+          (let f : drop i l ≡ ws ++ (us ++ more) = e ∙ append-assoc ws us more in
+          let r : drop (i + length ws) l ≡ us ++ more = tail-at l i ws (us ++ more) (length ws) refl f in
+          let z : i + length ws + length us ≡ i + length (ws ++ us) = omega (arith, length-append ws us) in
+          rw (add-assoc m n k, a .from (n + k) l i (us ++ more) f, b .from k l (i + length ws) more r, z) (sym (append-assoc codes others (pairsFrom l (i + length (ws ++ us)) k))));
+    }
+
+-- ---- what a pass reads
+record PairsRead (s : List ℕ) (at k : ℕ) (ps : List ℕ) (rest : List Bool) : Type 0 where
+  ends : rest ≡ drop (at + 24 * k) (bits s)
+  fits : at + 24 * k ≤ 8 * length s
+  fields : PairFields k ps (codesAt s at k)
+
+-- two fields of 12 bits are one of 24
+pair-code : (s : List ℕ) (at : ℕ) → at + 12 + 12 ≤ 8 * length s → fieldOr s at 24 ≡ code (fieldOr s at 12) (fieldOr s (at + 12) 12)
+pair-code s at h =
+    field-or-in s at 24 (omega arith)
+    ∙ field-add s at 12 12 h
+    ∙ ap₂ code (sym (field-or-in s at 12 (omega arith))) (sym (field-or-in s (at + 12) 12 h))
+
+read-pairs : (s : List ℕ) (k least at : ℕ) (ps : List ℕ) (rest : List Bool) → at ≤ 8 * length s → scan (pairs k least) (drop at (bits s)) ≡ got ps rest
+    → PairsRead s at k ps rest
+unfolding pairs codesAt
+read-pairs s zero least at ps rest h e =
+    let q : got [] (drop at (bits s)) ≡ got ps rest = sym (scan-done (drop at (bits s))) ∙ e in
+    let p : [] ≡ ps = cc in
+    let r : drop at (bits s) ≡ rest = cc in
+    let z : at + 24 * 0 ≡ at = omega arith in
+    record { ends = rw z (sym r); fits = omega arith; fields = rw (← p) no-pairs }
+read-pairs s (suc k) least at ps rest h e =
+    let a = took s at 12 0 4096 3 _ ps rest h e in
+    let b = took s (at + 12) 12 0 4096 3 _ (a .next) rest (a .fits) (a .goes) in
+    let x : ℕ = fieldOr s at 12 in
+    let y : ℕ = fieldOr s (at + 12) 12 in
+    let c = pick-got (leb least (code x y)) _ 6 (b .next) rest (sym (scan-test _ _ _ _) ∙ b .goes) in
+    let r = read-pairs s k (suc (code x y)) (at + 12 + 12) (b .next) rest (b .fits) (c .1) in
+    let w : ps ≡ x ∷ y ∷ b .next = a .splits ∙ ap (λ (l : List ℕ). x ∷ l) (b .splits) in
+    let z : at + 12 + 12 ≡ at + 24 = omega arith in
+    let v : at + 24 * suc k ≡ at + 12 + 12 + 24 * k = omega arith in
+    record {
+      ends = rw v (r .ends);
+      fits = rw v (r .fits);
+      fields = rw (w, pair-code s at (b .fits), ← z) (pair-fields k x y (b .next) (codesAt s (at + 12 + 12) k) (a .small) (b .small) (r .fields));
+    }
+
+record ListsRead (s : List ℕ) (at m : ℕ) (ws : List ℕ) (rest : List Bool) : Type 0 where
+  ends : rest ≡ drop (listsEnd s at m) (bits s)
+  fits : listsEnd s at m ≤ 8 * length s
+  fields : ListFields m ws (pairsAt s at m)
+
+list-end : (s : List ℕ) (at : ℕ) → at + 14 + 24 * fieldOr s at 14 ≡ listEnd s at
+unfolding listEnd
+list-end s at = omega arith
+
+read-lists : (s : List ℕ) (m : ℕ) (none some : Bool) (at : ℕ) (ws : List ℕ) (rest : List Bool) → at ≤ 8 * length s
+    → scan (lists m none some) (drop at (bits s)) ≡ got ws rest → ListsRead s at m ws rest
+unfolding lists listsEnd pairsAt
+read-lists s zero none some at ws rest h e =
+    let c = pick-got (not (none && some)) (scan done (drop at (bits s))) 8 ws rest (sym (scan-test _ _ _ _) ∙ e) in
+    let q : got [] (drop at (bits s)) ≡ got ws rest = sym (scan-done (drop at (bits s))) ∙ c .1 in
+    let p : [] ≡ ws = cc in
+    let r : drop at (bits s) ≡ rest = cc in
+    record { ends = sym r; fits = h; fields = rw (← p) no-lists }
+read-lists s (suc m) none some at ws rest h e =
+    let n : ℕ = fieldOr s at 14 in
+    let a = took s at 14 0 8193 3 _ ws rest h e in
+    let q = parts (pairs n 0) _ (drop (at + 14) (bits s)) (a .next) rest (a .goes) in
+    let p = read-pairs s n 0 (at + 14) (q .front) (q .left) (a .fits) (q .first) in
+    let z : at + 14 + 24 * n ≡ listEnd s at = list-end s at in
+    let r = read-lists s m (none || eqb n 0) (some || not (eqb n 0)) (listEnd s at) (q .back) rest
+    (subst (λ (i : ℕ). i ≤ 8 * length s) z (p .fits))
+    (ap (scan (lists m (none || eqb n 0) (some || not (eqb n 0)))) (ap (λ (i : ℕ). drop i (bits s)) (sym z) ∙ sym (p .ends)) ∙ q .second) in
+    let w : ws ≡ n ∷ (q .front ++ q .back) = a .splits ∙ ap (λ (l : List ℕ). n ∷ l) (q .splits) in
+    record {
+      ends = r .ends;
+      fits = r .fits;
+      fields = rw w (list-fields m n (q .front) (codesAt s (at + 14) n) (q .back) (pairsAt s (listEnd s at) m) (let y = a .small in omega arith) (p .fields) (r .fields));
+    }
+
+-- a sheet, and zero bits up to a whole byte
+record SheetRead (s : List ℕ) (at m : ℕ) (ws : List ℕ) (rest : List Bool) : Type 0 where
+  ends : rest ≡ drop (sheetEnd s at m) (bits s)
+  fits : sheetEnd s at m ≤ 8 * length s
+  fields : ListFields m ws (pairsAt s at m)
+
+-- what is before the padding is all
+before-padding : {f : Format} {bs : List Bool} {ws : List ℕ} {rest : List Bool} (p : Parts f (pad done) bs ws rest) → ws ≡ p .front
+before-padding p =
+    p .splits ∙ ap (λ (l : List ℕ). p .front ++ l) (pad-got (p .left) (p .back) _ (p .second) .0) ∙ append-nil (p .front)
+
+whole-parts : (f : Format) (bs : List Bool) (ws : List ℕ) (rest : List Bool) → scan (whole f) bs ≡ got ws rest → Parts f (pad done) bs ws rest
+unfolding whole
+whole-parts f bs ws rest e = parts f (pad done) bs ws rest e
+
+read-sheet : (s : List ℕ) (m at : ℕ) (ws : List ℕ) (rest : List Bool) → at ≤ 8 * length s → scan (whole (sheet m)) (drop at (bits s)) ≡ got ws rest
+    → SheetRead s at m ws rest
+unfolding sheet
+read-sheet s m at ws rest h e =
+    let end : ℕ = listsEnd s at m in
+    let p = whole-parts (sheet m) (drop at (bits s)) ws rest e in
+    let l = read-lists s m false false at (p .front) (p .left) h (p .first) in
+    let g : length (p .left) % 8 ≡ gap end =
+    ap (λ (x : List Bool). length x % 8) (l .ends)
+    ∙ ap (λ (n : ℕ). n % 8) (length-drop end (bits s) ∙ ap (λ (n : ℕ). n - end) (length-bits s))
+    ∙ gap-of end (length s) (l .fits) in
+    record {
+      ends = pad-got (p .left) (p .back) rest (p .second) .1 ∙ ap₂ (λ (n : ℕ) (x : List Bool). drop n x) g (l .ends) ∙ drop-drop (gap end) end (bits s);
+      fits = gap-in end (length s) (l .fits);
+      fields = rw (before-padding p) (l .fields);
+    }
+
+read-book : (s ms : List ℕ) (at : ℕ) (ws : List ℕ) (rest : List Bool) → at ≤ 8 * length s → scan (book ms) (drop at (bits s)) ≡ got ws rest
+    → ListFields (sum ms) ws (bookPairs s at ms)
+unfolding book sum bookPairs
+read-book s [] at ws rest h e =
+    let q : got [] (drop at (bits s)) ≡ got ws rest = sym (scan-done (drop at (bits s))) ∙ e in
+    let p : [] ≡ ws = cc in
+    rw (← p) no-lists
+read-book s (m ∷ ms) at ws rest h e =
+    let p = parts (whole (sheet m)) (book ms) (drop at (bits s)) ws rest e in
+    let l = read-sheet s m at (p .front) (p .left) h (p .first) in
+    let r = read-book s ms (sheetEnd s at m) (p .back) rest (l .fits) (ap (scan (book ms)) (sym (l .ends)) ∙ p .second) in
+    rw (p .splits) (both-fields m (sum ms) (p .front) (pairsAt s at m) (p .back) (bookPairs s (sheetEnd s at m) ms) (l .fields) r)
+
+read-whole : (ms s ws : List ℕ) → decode (book ms) s ≡ ok ws → ListFields (sum ms) ws (bookPairs s 0 ms)
+unfolding decode
+read-whole ms s ws e =
+    let p = whole-parts (book ms) (bits s) ws [] (ended-ok (scan (whole (book ms)) (bits s)) ws e) in
+    rw (before-padding p) (read-book s ms 0 (p .front) (p .left) (omega arith) (p .first))
+
+-- the codes of the content, and those that the walk over the fields finds
+module _ (m : ℕ) (ws codes : List ℕ) (t : ListFields m ws codes) where
+  content-pairs : pairsIn m ws ≡ codes
+  unfolding pairsIn
+  content-pairs = ap₂ pairsIn (sym (add-zero m)) (sym (append-nil ws)) ∙ t .within 0 [] ∙ append-nil codes
+
+  walked-pairs : pairsFrom ws 0 m ≡ codes
+  unfolding pairsFrom
+  walked-pairs = ap (pairsFrom ws 0) (sym (add-zero m)) ∙ t .from 0 ws 0 [] (sym (append-nil ws)) ∙ append-nil codes
+
+-- ---- the walks
+pub book-pairs : (ms s ws : List ℕ) → decode (book ms) s ≡ ok ws → bookPairs s 0 ms ≡ pairsIn (sum ms) ws
+book-pairs ms s ws e = sym (content-pairs (sum ms) ws (bookPairs s 0 ms) (read-whole ms s ws e))
+
+pub field-pairs : (ms ws s : List ℕ) → encode (book ms) ws ≡ ok s → pairsFrom ws 0 (sum ms) ≡ pairsIn (sum ms) ws
+field-pairs ms ws s e =
+    let t = read-whole ms s ws (encode-decode (book ms) ws s e) in
+    walked-pairs (sum ms) ws (bookPairs s 0 ms) t ∙ sym (content-pairs (sum ms) ws (bookPairs s 0 ms) t)

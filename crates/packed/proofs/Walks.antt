@@ -1,0 +1,97 @@
+-- The walks over the pairs of sheets and books, one step at a time.
+use mathlib.Core.Path.{_≡_, refl, sym}
+use mathlib.Core.List.{List, [], _∷_, _++_}
+use Prim.Native.Nat.{ℕ, zero, suc, _+_, _-_, _*_, _/_, _%_, _<_, _≤_}
+use native.Mathlib.Omega.{arith}
+use native.Mathlib.Numerals.{add-one}
+use native.Mathlib.Nat.{mod-eq-of-lt}
+use lib.ListN.{length, take, drop, getD, length-take, drop-of-length-le, List·getD-eq-default}
+use lib.Seq.{drop-cons, getD-take, length-take-le}
+use borrow.Author.Tests.{le-leb, lt-leb}
+use Rattle.packed.specs.Bits.{field, gap}
+use Rattle.packed.specs.Walks.{fieldOr, codesAt, listEnd, pairsAt, listsEnd, bookPairs, codesFrom, pairsFrom}
+
+-- ---- a field, or 0
+pub field-or-in : (s : List ℕ) (at n : ℕ) → at + n ≤ 8 * length s → fieldOr s at n ≡ field s at n
+unfolding fieldOr
+field-or-in s at n h = rw (le-leb (at + n) (8 * length s) h)
+
+pub field-or-out : (s : List ℕ) (at n : ℕ) → 8 * length s < at + n → fieldOr s at n ≡ 0
+unfolding fieldOr
+field-or-out s at n h = rw (lt-leb (at + n) (8 * length s) h)
+
+pub low-none : (ws : List ℕ) (i n : ℕ) → length ws ≤ i → 0 < n → 0 ≡ getD ws i 0 % n
+low-none ws i n h p = rw (List·getD-eq-default ws 0 h) (sym (mod-eq-of-lt p))
+
+-- ---- a list, pair by pair
+pub codes-none : (s : List ℕ) (at k : ℕ) → k ≤ 0 → codesAt s at k ≡ []
+unfolding codesAt
+codes-none s at zero h = refl
+codes-none s at (suc k) h = absurd (omega arith)
+
+pub codes-more : (s : List ℕ) (at k v : ℕ) → 0 < k → v ≡ fieldOr s at 24 → codesAt s at k ≡ (v ∷ []) ++ codesAt s (at + 24) (k - 1)
+unfolding codesAt
+codes-more s at zero v h e = absurd (omega arith)
+codes-more s at (suc k) v h e = let z : suc k - 1 ≡ k = omega arith in rw (z, e)
+
+-- ---- lists
+pub pairs-none : (s : List ℕ) (at m : ℕ) → m ≤ 0 → pairsAt s at m ≡ []
+unfolding pairsAt
+pairs-none s at zero h = refl
+pairs-none s at (suc m) h = absurd (omega arith)
+
+pub pairs-more : (s : List ℕ) (at m n : ℕ) → 0 < m → n ≡ fieldOr s at 14
+    → pairsAt s at m ≡ codesAt s (at + 14) n ++ pairsAt s (at + (14 + 24 * n)) (m - 1)
+unfolding pairsAt listEnd
+pairs-more s at zero n h e = absurd (omega arith)
+pairs-more s at (suc m) n h e = let z : suc m - 1 ≡ m = omega arith in rw (z, e)
+
+pub ends-none : (s : List ℕ) (at m : ℕ) → m ≤ 0 → listsEnd s at m ≡ at
+unfolding listsEnd
+ends-none s at zero h = refl
+ends-none s at (suc m) h = absurd (omega arith)
+
+pub ends-more : (s : List ℕ) (at m n : ℕ) → 0 < m → n ≡ fieldOr s at 14 → listsEnd s at m ≡ listsEnd s (at + (14 + 24 * n)) (m - 1)
+unfolding listsEnd listEnd
+ends-more s at zero n h e = absurd (omega arith)
+ends-more s at (suc m) n h e = let z : suc m - 1 ≡ m = omega arith in rw (z, e)
+
+-- ---- a book, sheet by sheet
+-- the next whole byte, as it is computed
+gap-up : (at : ℕ) → at + gap at ≡ (at + 7) / 8 * 8
+unfolding gap
+gap-up at = omega arith
+
+pub book-none : (s : List ℕ) (at j k : ℕ) (counts : List ℕ) → k ≤ j → bookPairs s at (drop j (take k counts)) ≡ []
+unfolding bookPairs
+book-none s at j k counts h = rw (drop-of-length-le (take k counts) {i = j} (omega (arith, length-take k counts)))
+
+pub book-more : (s : List ℕ) (at j k end : ℕ) (counts : List ℕ) → j < k → k ≤ length counts → end ≡ listsEnd s at (getD counts j 0)
+    → bookPairs s at (drop j (take k counts)) ≡ pairsAt s at (getD counts j 0) ++ bookPairs s ((end + 7) / 8 * 8) (drop (j + 1) (take k counts))
+unfolding bookPairs
+book-more s at j k end counts h l e =
+    let z = length-take-le k counts l in
+    rw (drop-cons (take k counts) j 0 (omega arith), getD-take k counts j 0 h, ← e, gap-up end, add-one)
+
+-- ---- the same among fields
+pub codes-from-none : (ws : List ℕ) (i k : ℕ) → k ≤ 0 → codesFrom ws i k ≡ []
+unfolding codesFrom
+codes-from-none ws i zero h = refl
+codes-from-none ws i (suc k) h = absurd (omega arith)
+
+pub codes-from-more : (ws : List ℕ) (i k a b : ℕ) → 0 < k → a ≡ getD ws i 0 % 4096 → b ≡ getD ws (i + 1) 0 % 4096
+    → codesFrom ws i k ≡ ((a * 4096 + b) ∷ []) ++ codesFrom ws (i + 2) (k - 1)
+unfolding codesFrom
+codes-from-more ws i zero a b h e f = absurd (omega arith)
+codes-from-more ws i (suc k) a b h e f = let z : suc k - 1 ≡ k = omega arith in rw (z, e, f)
+
+pub pairs-from-none : (ws : List ℕ) (i m : ℕ) → m ≤ 0 → pairsFrom ws i m ≡ []
+unfolding pairsFrom
+pairs-from-none ws i zero h = refl
+pairs-from-none ws i (suc m) h = absurd (omega arith)
+
+pub pairs-from-more : (ws : List ℕ) (i m n : ℕ) → 0 < m → n ≡ getD ws i 0 % 16384
+    → pairsFrom ws i m ≡ codesFrom ws (i + 1) n ++ pairsFrom ws (i + (1 + 2 * n)) (m - 1)
+unfolding pairsFrom
+pairs-from-more ws i zero n h e = absurd (omega arith)
+pairs-from-more ws i (suc m) n h e = let z : suc m - 1 ≡ m = omega arith in rw (z, e)

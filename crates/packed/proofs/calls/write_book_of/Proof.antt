@@ -1,0 +1,121 @@
+-- `packed::calls::write_book_of` meets its contract.
+use mathlib.Core.Path.{ap, _∙_}
+use lib.ListN.{length, take}
+use Rattle.packed.specs.Format.{encode}
+use Rattle.packed.specs.Formats.{book}
+use Rattle.packed.specs.Walks.{pairsFrom}
+use Rattle.packed.specs.Calls.{uncrowdedBy, fitFile}
+use Rattle.packed.specs.declared.reply.Refusal.the-variants.{TooManyPairs}
+use Rattle.packed.proofs.WalkLaws.{field-pairs}
+use Rattle.packed.proofs.CallLaws.{write-finds, fitFile-fits, body-refused, body-declined, body-tight, body-given, gathered-many, gathered-few, none-lent, judges-fields-front}
+use borrow.Author.Needs.{needs}
+use Rattle.packed.proofs.calls.write_book_of.Statement.{statement}
+use Rattle.packed.proofs.calls.write_book_of.Tie as tie
+
+sub-judge-book-fields : tie.Need-sub-judge-book-fields
+sub-judge-book-fields c = search needs
+
+part-judge-book-fields-start : tie.Need-part-judge-book-fields-start
+part-judge-book-fields-start c = search needs
+
+part-judge-book-fields-end : tie.Need-part-judge-book-fields-end
+part-judge-book-fields-end c = search needs
+
+judge-book-fields-requires : tie.Need-judge-book-fields-requires
+judge-book-fields-requires c κs = search needs
+
+enum-known-p : tie.Need-enum-known-p
+enum-known-p c = search needs
+
+list-count-requires : tie.Need-list-count-requires
+list-count-requires c κs = search needs
+
+gather-fields-requires : tie.Need-gather-fields-requires
+gather-fields-requires c κs = search needs
+
+same-length : tie.Need-same-length
+same-length c = search needs
+
+same-length-2 : tie.Need-same-length-2
+same-length-2 c = search needs
+
+returns : tie.Need-returns
+returns c =
+    let a = c .before .before .before .before .before .before .before .before .before .before .before .before .before .before .before .before .args in
+    let j = c .before .before .before .before .before .before .before .before .before .before .before .judge-book-fields in
+    let ms = take (a .k) (a .counts) in
+    let q = rw (c .before .before .before .before .before .before .before .p .given .1) at (j .ensures) in
+    body-declined (write-finds 4 (book ms) (a .fields .now)) (a .out .now) (none-lent (a .out .now) (j .last .1 .1 .1 .0) (j .kept .1 .1 .1 .0)) q (λ o. uncrowdedBy ms (a .fields .now) (fitFile (length (a .out .now)) o)) (TooManyPairs 4) (gathered-many ms (a .fields .now) (c .before .before .before .gather-fields .ensures) (ap (pairsFrom (a .fields .now) 0) (c .before .before .before .before .before .list-count .ensures .0) ∙ field-pairs ms (a .fields .now) (q .fields) (q .is)) (fitFile (length (a .out .now)) (q .fields)) (c .if1 .taken))
+
+same-length-3 : tie.Need-same-length-3
+same-length-3 c = search needs
+
+same-length-4 : tie.Need-same-length-4
+same-length-4 c = search needs
+
+returns-2 : tie.Need-returns-2
+returns-2 c =
+    let a = c .before .before .before .before .before .before .before .before .before .before .before .before .before .before .before .before .before .args in
+    let j = c .before .before .before .before .before .before .before .before .before .before .before .before .judge-book-fields in
+    let ms = take (a .k) (a .counts) in
+    let q = rw (c .before .before .before .before .before .before .before .before .p .given .1) at (j .ensures) in
+    body-tight (write-finds 4 (book ms) (a .fields .now)) (a .out .now) (none-lent (a .out .now) (j .last .1 .1 .1 .0) (j .kept .1 .1 .1 .0)) q fitFile-fits (λ o. uncrowdedBy ms (a .fields .now))
+    (λ b. gathered-few ms (a .fields .now) (c .before .before .before .before .gather-fields .ensures) (ap (pairsFrom (a .fields .now) 0) (c .before .before .before .before .before .before .list-count .ensures .0) ∙ field-pairs ms (a .fields .now) (q .fields) (q .is)) b (c .before .if1 .left)) (c .if2 .taken)
+
+judge-book-fields-requires-2 : tie.Need-judge-book-fields-requires-2
+judge-book-fields-requires-2 c κs = search needs
+
+enum-known-p-2 : tie.Need-enum-known-p-2
+enum-known-p-2 c = search needs
+
+same-length-5 : tie.Need-same-length-5
+same-length-5 c = search needs
+
+same-length-6 : tie.Need-same-length-6
+same-length-6 c = search needs
+
+returns-3 : tie.Need-returns-3
+returns-3 c =
+    let a = c .before .before .before .before .before .before .before .before .before .before .before .before .before .before .before .before .before .before .before .before .before .args in
+    let j = c .before .before .before .before .before .before .before .before .before .before .before .before .before .before .before .before .judge-book-fields in
+    let ms = take (a .k) (a .counts) in
+    let q = rw (c .before .before .before .before .before .before .before .before .before .before .before .before .p .given .1) at (j .ensures) in
+    body-given (write-finds 4 (book ms) (a .fields .now)) (a .out .now) (none-lent (a .out .now) (j .last .1 .1 .1 .0) (j .kept .1 .1 .1 .0)) q fitFile-fits (λ o. uncrowdedBy ms (a .fields .now))
+    (λ b. gathered-few ms (a .fields .now) (c .before .before .before .before .before .before .before .before .gather-fields .ensures) (ap (pairsFrom (a .fields .now) 0) (c .before .before .before .before .before .before .before .before .before .before .list-count .ensures .0) ∙ field-pairs ms (a .fields .now) (q .fields) (q .is)) b (c .before .before .before .before .before .if1 .left)) (c .before .before .before .before .if2 .left)
+    (judges-fields-front (encode (book ms) (a .fields .now)) 4 (c .before .before .judge-book-fields2 .result) (q .fields) _ _ (c .before .before .judge-book-fields2 .ensures) (q .is))
+
+same-length-7 : tie.Need-same-length-7
+same-length-7 c = search needs
+
+returns-4 : tie.Need-returns-4
+returns-4 c =
+    let a = c .before .before .before .before .before .before .before .before .before .before .args in
+    let j = c .before .before .before .before .before .judge-book-fields in
+    let ms = take (a .k) (a .counts) in
+    let q = rw (c .before .p2 .given .1) at (j .ensures) in
+    body-refused (write-finds 4 (book ms) (a .fields .now)) (a .out .now) (none-lent (a .out .now) (j .last .1 .1 .1 .0) (j .kept .1 .1 .1 .0)) (λ o. uncrowdedBy ms (a .fields .now) (fitFile (length (a .out .now)) o)) (c .before .p2 .given .0 .0) q
+
+pub write-book-of-spec : {M : Type 1} → statement M
+write-book-of-spec =
+    tie.close
+    (tie.spec
+    sub-judge-book-fields
+    part-judge-book-fields-start
+    part-judge-book-fields-end
+    judge-book-fields-requires
+    enum-known-p
+    list-count-requires
+    gather-fields-requires
+    same-length
+    same-length-2
+    returns
+    same-length-3
+    same-length-4
+    returns-2
+    judge-book-fields-requires-2
+    enum-known-p-2
+    same-length-5
+    same-length-6
+    returns-3
+    same-length-7
+    returns-4)

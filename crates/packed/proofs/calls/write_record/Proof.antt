@@ -1,0 +1,96 @@
+-- `packed::calls::write_record` meets its contract.
+use mathlib.Core.Path.{refl}
+use borrow.Author.Tests.{lt-ltb, le-ltb}
+use lib.ListN.{length}
+use Rattle.packed.specs.Format.{encode}
+use Rattle.packed.specs.Formats.{record′}
+use Rattle.packed.specs.Calls.{fit, recordWritten}
+use Rattle.packed.proofs.CallLaws.{write-finds, fit-fits, body-refused, body-tight, body-given, untested, none-lent, judges-fields-front}
+use borrow.Author.Needs.{needs}
+use Rattle.packed.proofs.calls.write_record.Statement.{statement}
+use Rattle.packed.proofs.calls.write_record.Tie as tie
+
+sub-judge-record-fields : tie.Need-sub-judge-record-fields
+sub-judge-record-fields c = search needs
+
+part-judge-record-fields-start : tie.Need-part-judge-record-fields-start
+part-judge-record-fields-start c = search needs
+
+part-judge-record-fields-end : tie.Need-part-judge-record-fields-end
+part-judge-record-fields-end c = search needs
+
+judge-record-fields-requires : tie.Need-judge-record-fields-requires
+judge-record-fields-requires c κs = search needs
+
+enum-known-p : tie.Need-enum-known-p
+enum-known-p c = search needs
+
+same-length : tie.Need-same-length
+same-length c = search needs
+
+same-length-2 : tie.Need-same-length-2
+same-length-2 c = search needs
+
+returns : tie.Need-returns
+unfolding recordWritten
+returns c =
+    let j = c .before .before .before .before .before .before .before .before .judge-record-fields in
+    let a = c .before .before .before .before .before .before .before .before .before .before .before .before .before .before .args in
+    let q = rw (c .before .before .p .given .1) at (j .ensures) in
+    body-tight (write-finds 3 record′ (a .fields .now)) (a .out .now) (none-lent (a .out .now) (j .last .1 .0) (j .kept .1 .0)) q fit-fits untested (λ b. refl) (lt-ltb _ _ (c .if1 .taken))
+
+judge-record-fields-requires-2 : tie.Need-judge-record-fields-requires-2
+judge-record-fields-requires-2 c κs = search needs
+
+enum-known-p-2 : tie.Need-enum-known-p-2
+enum-known-p-2 c = search needs
+
+same-length-3 : tie.Need-same-length-3
+same-length-3 c = search needs
+
+same-length-4 : tie.Need-same-length-4
+same-length-4 c = search needs
+
+returns-2 : tie.Need-returns-2
+unfolding recordWritten
+returns-2 c =
+    let j = c .before .before .before .before .before .before .before .before .before .before .before .before .before .before .before .judge-record-fields in
+    let a = c .before .before .before .before .before .before .before .before .before .before .before .before .before .before .before .before .before .before .before .before .before .args in
+    let q = rw (c .before .before .before .before .before .before .before .before .before .p .given .1) at (j .ensures) in
+    body-given (write-finds 3 record′ (a .fields .now)) (a .out .now) (none-lent (a .out .now) (j .last .1 .0) (j .kept .1 .0)) q fit-fits untested (λ b. refl) (le-ltb _ _ (c .before .before .before .before .before .before .before .if1 .left))
+    (judges-fields-front (encode record′ (a .fields .now)) 3 (c .before .before .before .before .judge-record-fields2 .result) (q .fields) _ _ (c .before .before .before .before .judge-record-fields2 .ensures) (q .is))
+
+same-length-5 : tie.Need-same-length-5
+same-length-5 c = search needs
+
+same-length-6 : tie.Need-same-length-6
+same-length-6 c = search needs
+
+returns-3 : tie.Need-returns-3
+unfolding recordWritten
+returns-3 c =
+    let j = c .before .before .before .before .before .before .before .judge-record-fields in
+    let a = c .before .before .before .before .before .before .before .before .before .before .before .before .before .args in
+    let q = rw (c .before .p2 .given .1) at (j .ensures) in
+    body-refused (write-finds 3 record′ (a .fields .now)) (a .out .now) (none-lent (a .out .now) (j .last .1 .0) (j .kept .1 .0)) (fit (length (a .out .now))) (c .before .p2 .given .0 .0) q
+
+pub write-record-spec : {M : Type 1} → statement M
+write-record-spec =
+    tie.close
+    (tie.spec
+    sub-judge-record-fields
+    part-judge-record-fields-start
+    part-judge-record-fields-end
+    judge-record-fields-requires
+    enum-known-p
+    same-length
+    same-length-2
+    returns
+    judge-record-fields-requires-2
+    enum-known-p-2
+    same-length-3
+    same-length-4
+    returns-2
+    same-length-5
+    same-length-6
+    returns-3)

@@ -1,0 +1,33 @@
+-- `packed::field::write_padding` meets its contract.
+use mathlib.Core.Path.{_≡_, refl, sym, _∙_}
+use native.Mathlib.Omega.{arith}
+use Rattle.packed.specs.Bits.{gap}
+use lib.Pow.{pow-pos}
+use Rattle.packed.proofs.Closing.{next-byte, gap-bits}
+use borrow.Author.Needs.{needs}
+use Rattle.packed.proofs.field.write_padding.Statement.{statement}
+use Rattle.packed.proofs.field.write_padding.Tie as tie
+
+sub-n : tie.Need-sub-n
+sub-n c = search needs
+
+cast-put-bits : tie.Need-cast-put-bits
+cast-put-bits c = search needs
+
+put-bits-requires : tie.Need-put-bits-requires
+put-bits-requires c κs =
+    (omega arith, omega arith, pow-pos _)
+
+add-result : tie.Need-add-result
+add-result c = search needs
+
+same-length : tie.Need-same-length
+same-length c = search needs
+
+returns : tie.Need-returns
+returns c =
+    (next-byte (c .before .before .before .before .before .args .at), c .before .before .put-bits .ensures ∙ gap-bits _ (c .before .before .before .before .before .args .at))
+
+pub write-padding-spec : {M : Type 1} → statement M
+write-padding-spec =
+    tie.close (tie.spec sub-n cast-put-bits put-bits-requires add-result same-length returns)

@@ -1,0 +1,76 @@
+-- `packed::field::write_two` meets its contract.
+use mathlib.Core.Path.{_≡_, refl}
+use native.Mathlib.Omega.{arith}
+use Rattle.packed.proofs.WritingLaws.{begins, writes, rejected}
+use borrow.Author.Needs.{needs}
+use Rattle.packed.proofs.field.write_two.Statement.{statement}
+use Rattle.packed.proofs.field.write_two.Tie as tie
+
+write-field-requires : tie.Need-write-field-requires
+write-field-requires c κs = search needs
+
+enum-known-f : tie.Need-enum-known-f
+enum-known-f c = search needs
+
+enum-known-f-2 : tie.Need-enum-known-f-2
+enum-known-f-2 c = search needs
+
+same-length : tie.Need-same-length
+same-length c = search needs
+
+returns : tie.Need-returns
+returns c =
+    let p = rw (c .before .f2 .given .1) at (c .before .before .before .before .before .write-field .ensures) in
+    λ f. p _
+
+add-write-field : tie.Need-add-write-field
+add-write-field c = search needs
+
+add-write-field-2 : tie.Need-add-write-field-2
+add-write-field-2 c = search needs
+
+write-field-requires-2 : tie.Need-write-field-requires-2
+write-field-requires-2 c κs = search needs
+
+enum-known-g : tie.Need-enum-known-g
+enum-known-g c = search needs
+
+enum-known-g-2 : tie.Need-enum-known-g-2
+enum-known-g-2 c = search needs
+
+same-length-2 : tie.Need-same-length-2
+same-length-2 c = search needs
+
+returns-2 : tie.Need-returns-2
+returns-2 c =
+    let p = rw (c .before .before .before .before .before .before .before .before .f .given .1) at (c .before .before .before .before .before .before .before .before .before .before .before .before .write-field .ensures) in
+    let q = rw (c .before .g .given .1) at (c .before .before .before .before .before .write-field2 .ensures) in
+    record { between = _; first = p; second = q }
+
+same-length-3 : tie.Need-same-length-3
+same-length-3 c = search needs
+
+returns-3 : tie.Need-returns-3
+returns-3 c =
+    let p = rw (c .before .before .before .before .before .before .before .before .f .given .1) at (c .before .before .before .before .before .before .before .before .before .before .before .before .write-field .ensures) in
+    let q = rw (c .before .g2 .given .1) at (c .before .before .before .before .before .write-field2 .ensures) in
+    λ f. rejected (writes (begins (c .before .before .before .before .before .before .before .before .before .before .before .before .before .before .before .before .pre .0)) p) (q _)
+
+pub write-two-spec : {M : Type 1} → statement M
+write-two-spec =
+    tie.close
+    (tie.spec
+    write-field-requires
+    enum-known-f
+    enum-known-f-2
+    same-length
+    returns
+    add-write-field
+    add-write-field-2
+    write-field-requires-2
+    enum-known-g
+    enum-known-g-2
+    same-length-2
+    returns-2
+    same-length-3
+    returns-3)

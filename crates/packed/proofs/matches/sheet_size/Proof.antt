@@ -1,0 +1,55 @@
+-- `packed::matches::sheet_size` meets its contract.
+use Prim.Native.Nat.{ℕ, _+_, _*_, _/_}
+use mathlib.Core.Path.{ap, _∙_}
+use native.Mathlib.Omega.{arith}
+use borrow.Author.Needs.{needs}
+use Rattle.packed.proofs.MatchLaws.{listed-most, counts-few, sum-listed}
+use Rattle.packed.proofs.matches.sheet_size.Statement.{statement}
+use Rattle.packed.proofs.matches.sheet_size.Tie as tie
+
+listed-requires : tie.Need-listed-requires
+listed-requires c κs = search needs
+
+counts-requires : tie.Need-counts-requires
+counts-requires c κs =
+    let h = listed-most _ _ _ _ (c .listed .ensures) in
+    (omega (arith, h), c .before .before .pre .2)
+
+sum-requires : tie.Need-sum-requires
+sum-requires c κs =
+    let h = listed-most _ _ _ _ (c .before .listed .ensures) in
+    (c .before .before .before .pre .0, counts-few _ _ _ (c .counts .ensures) (omega (arith, h)))
+
+mul-result : tie.Need-mul-result
+mul-result c = search needs
+
+cast-result : tie.Need-cast-result
+cast-result c = search needs
+
+mul-result-2 : tie.Need-mul-result-2
+mul-result-2 c = search needs
+
+add-result : tie.Need-add-result
+add-result c = search needs
+
+add-result-2 : tie.Need-add-result-2
+add-result-2 c = search needs
+
+returns : tie.Need-returns
+returns c =
+    let m = c .before .before .before .before .args .m in
+    ap (λ (t : ℕ). (14 * m + 24 * t + 7) / 8) (c .sum .ensures .0 ∙ sum-listed _ _ _ _ _ (c .before .before .listed .ensures) (c .before .counts .ensures) (c .before .before .before .before .pre .0))
+
+pub sheet-size-spec : {M : Type 1} → statement M
+sheet-size-spec =
+    tie.close
+    (tie.spec
+    listed-requires
+    counts-requires
+    sum-requires
+    mul-result
+    cast-result
+    mul-result-2
+    add-result
+    add-result-2
+    returns)

@@ -1,0 +1,82 @@
+-- `packed::record::judge_record` meets its contract.
+use native.Mathlib.Omega.{arith}
+use Rattle.packed.specs.Formats.{record′}
+use Rattle.packed.proofs.Records.{kept-small, kept-once, kept-twice}
+use Rattle.packed.proofs.LoadingLaws.{loads-repeat, loads-wrong, lazy-ends}
+use borrow.Author.Needs.{needs}
+use Rattle.packed.proofs.record.judge_record.Statement.{statement}
+use Rattle.packed.proofs.record.judge_record.Tie as tie
+
+read-fields-requires : tie.Need-read-fields-requires
+read-fields-requires c κs = search needs
+
+repeats-requires : tie.Need-repeats-requires
+repeats-requires c κs =
+    let l = c .before .before .before .before .before .read-fields .ensures in
+    (l .kept .few, search needs, kept-small (omega (arith, c .before .before .before .before .before .before .before .before .before .before .before .pre .1)) (l .kept))
+
+same-length : tie.Need-same-length
+same-length c = search needs
+
+same-length-2 : tie.Need-same-length-2
+same-length-2 c = search needs
+
+returns : tie.Need-returns
+returns c =
+    let l = c .before .before .before .before .before .before .before .before .before .read-fields .ensures in
+    loads-repeat l (kept-twice (omega (arith, c .before .before .before .before .before .before .before .before .before .before .before .before .before .before .before .pre .1)) (l .kept) (c .before .before .before .repeats .ensures .0) (c .if1 .taken))
+
+enum-known-p : tie.Need-enum-known-p
+enum-known-p c = search needs
+
+enum-told : tie.Need-enum-told
+enum-told c = search needs
+
+same-length-3 : tie.Need-same-length-3
+same-length-3 c = search needs
+
+same-length-4 : tie.Need-same-length-4
+same-length-4 c = search needs
+
+returns-2 : tie.Need-returns-2
+returns-2 c =
+    let l = c .before .before .before .before .before .before .before .before .before .before .before .read-fields .ensures in
+    loads-wrong l (kept-once (omega (arith, c .before .before .before .before .before .before .before .before .before .before .before .before .before .before .before .before .before .pre .1)) (l .kept) (c .before .before .before .before .before .repeats .ensures .0) (c .before .before .if1 .left)) (c .enum-told .given .1)
+
+close-file-requires : tie.Need-close-file-requires
+close-file-requires c κs =
+    let l = c .before .before .before .before .before .before .before .before .before .before .before .before .read-fields .ensures in
+    let q = rw (c .before .p .given .1) at (l .part) in
+    record { small = c .before .before .before .before .before .before .before .before .before .before .before .before .before .before .before .before .before .before .pre .0; inside = q .inside; few = q .few }
+
+same-length-5 : tie.Need-same-length-5
+same-length-5 c = search needs
+
+same-length-6 : tie.Need-same-length-6
+same-length-6 c = search needs
+
+returns-3 : tie.Need-returns-3
+returns-3 c =
+    let l = c .before .before .before .before .before .before .before .before .before .before .before .before .before .read-fields .ensures in
+    let q = rw (c .before .before .p .given .1) at (l .part) in
+    c .close-file .ensures record′ _ _
+    (lazy-ends (kept-once (omega (arith, c .before .before .before .before .before .before .before .before .before .before .before .before .before .before .before .before .before .before .before .pre .1)) (l .kept) (c .before .before .before .before .before .before .before .repeats .ensures .0) (c .before .before .before .before .if1 .left)) q)
+
+pub judge-record-spec : {M : Type 1} → statement M
+judge-record-spec =
+    tie.close
+    (tie.spec
+    read-fields-requires
+    repeats-requires
+    same-length
+    same-length-2
+    returns
+    enum-known-p
+    enum-told
+    same-length-3
+    same-length-4
+    returns-2
+    close-file-requires
+    same-length-5
+    same-length-6
+    returns-3)

@@ -1,0 +1,122 @@
+-- `packed::record::read_fields` meets its contract.
+use mathlib.Core.Path.{refl}
+use native.Mathlib.Omega.{arith}
+use Rattle.packed.proofs.ReadingLaws.{refused, calls-refused}
+use Rattle.packed.proofs.LoadingLaws.{record-is, record-nodes, record-number, record-labels, loads-stopped, loads-tail}
+use borrow.Author.Needs.{needs}
+use Rattle.packed.proofs.record.read_fields.Statement.{statement}
+use Rattle.packed.proofs.record.read_fields.Tie as tie
+
+read-field-requires : tie.Need-read-field-requires
+read-field-requires c κs = search needs
+
+enum-known-f : tie.Need-enum-known-f
+enum-known-f c = search needs
+
+enum-known-f-2 : tie.Need-enum-known-f-2
+enum-known-f-2 c = search needs
+
+stopped-requires : tie.Need-stopped-requires
+stopped-requires c κs = search needs
+
+same-length : tie.Need-same-length
+same-length c = search needs
+
+returns : tie.Need-returns
+returns c =
+    let p = rw (c .before .before .f2 .given .1) at (c .before .before .before .before .before .before .read-field .ensures) in
+    loads-stopped _ (c .stopped .ensures .1) (c .stopped .ensures .0) (rw record-is (p _))
+
+read-field-requires-2 : tie.Need-read-field-requires-2
+read-field-requires-2 c κs =
+    let p = rw (c .before .before .f .given .1) at (c .before .before .before .before .before .before .read-field .ensures) in
+    (record { small = c .before .before .before .before .before .before .before .before .before .before .before .pre .0; inside = p .fits; few = omega arith }, omega arith, omega arith, refl)
+
+enum-known-g : tie.Need-enum-known-g
+enum-known-g c = search needs
+
+enum-known-g-2 : tie.Need-enum-known-g-2
+enum-known-g-2 c = search needs
+
+stopped-requires-2 : tie.Need-stopped-requires-2
+stopped-requires-2 c κs = search needs
+
+same-length-2 : tie.Need-same-length-2
+same-length-2 c = search needs
+
+returns-2 : tie.Need-returns-2
+returns-2 c =
+    let p = rw (c .before .before .before .before .before .before .before .before .before .f .given .1) at (c .before .before .before .before .before .before .before .before .before .before .before .before .before .read-field .ensures) in
+    let q = rw (c .before .before .g2 .given .1) at (c .before .before .before .before .before .before .read-field2 .ensures) in
+    loads-stopped _ (c .stopped2 .ensures .1) (c .stopped2 .ensures .0) (refused (record-nodes p) (q _))
+
+read-labels-requires : tie.Need-read-labels-requires
+read-labels-requires c κs =
+    let q = rw (c .before .before .g .given .1) at (c .before .before .before .before .before .before .read-field2 .ensures) in
+    record { small = c .before .before .before .before .before .before .before .before .before .before .before .before .before .before .before .before .before .before .pre .0; inside = q .fits; few = omega arith }
+
+enum-known-p : tie.Need-enum-known-p
+enum-known-p c = search needs
+
+read-edges-requires : tie.Need-read-edges-requires
+read-edges-requires c κs =
+    let p = rw (c .before .before .before .before .before .before .before .before .before .before .before .before .before .before .before .before .before .f .given .1) at (c .before .before .before .before .before .before .before .before .before .before .before .before .before .before .before .before .before .before .before .before .before .read-field .ensures) in
+    let q = rw (c .before .before .before .before .before .before .before .before .before .before .g .given .1) at (c .before .before .before .before .before .before .before .before .before .before .before .before .before .before .read-field2 .ensures) in
+    let r = rw (c .before .before .before .p .given .1) at (c .before .before .before .before .before .before .before .read-labels .ensures) in
+    (record { small = c .before .before .before .before .before .before .before .before .before .before .before .before .before .before .before .before .before .before .before .before .before .before .before .before .before .before .pre .0; inside = r .inside; few = omega (arith, r .paced) }, omega (arith, p .most), omega (arith, q .most), c .before .before .before .before .before .before .before .before .before .before .before .before .before .before .before .before .before .before .before .before .before .before .before .before .before .before .pre .1)
+
+enum-known-p-2 : tie.Need-enum-known-p-2
+enum-known-p-2 c = search needs
+
+stopped-requires-3 : tie.Need-stopped-requires-3
+stopped-requires-3 c κs = search needs
+
+same-length-3 : tie.Need-same-length-3
+same-length-3 c = search needs
+
+same-length-4 : tie.Need-same-length-4
+same-length-4 c = search needs
+
+returns-3 : tie.Need-returns-3
+returns-3 c =
+    let p = rw (c .before .before .before .before .before .before .before .before .before .before .before .before .before .before .before .before .before .before .before .before .before .before .f .given .1) at (c .before .before .before .before .before .before .before .before .before .before .before .before .before .before .before .before .before .before .before .before .before .before .before .before .before .before .read-field .ensures) in
+    let q = rw (c .before .before .before .before .before .before .before .before .before .before .before .before .before .before .before .g .given .1) at (c .before .before .before .before .before .before .before .before .before .before .before .before .before .before .before .before .before .before .before .read-field2 .ensures) in
+    let r = rw (c .before .before .before .before .before .before .before .before .p .given .1) at (c .before .before .before .before .before .before .before .before .before .before .before .before .read-labels .ensures) in
+    loads-tail (record-labels p q r) (c .before .before .before .before .read-edges .ensures)
+
+same-length-5 : tie.Need-same-length-5
+same-length-5 c = search needs
+
+returns-4 : tie.Need-returns-4
+returns-4 c =
+    let p = rw (c .before .before .before .before .before .before .before .before .before .before .before .before .before .before .before .before .f .given .1) at (c .before .before .before .before .before .before .before .before .before .before .before .before .before .before .before .before .before .before .before .before .read-field .ensures) in
+    let q = rw (c .before .before .before .before .before .before .before .before .before .g .given .1) at (c .before .before .before .before .before .before .before .before .before .before .before .before .before .read-field2 .ensures) in
+    let r = rw (c .before .before .p2 .given .1) at (c .before .before .before .before .before .before .read-labels .ensures) in
+    loads-stopped _ (c .stopped3 .ensures .1) (c .stopped3 .ensures .0) (calls-refused _ _ (record-number p q) r)
+
+pub read-fields-spec : {M : Type 1} → statement M
+read-fields-spec =
+    tie.close
+    (tie.spec
+    read-field-requires
+    enum-known-f
+    enum-known-f-2
+    stopped-requires
+    same-length
+    returns
+    read-field-requires-2
+    enum-known-g
+    enum-known-g-2
+    stopped-requires-2
+    same-length-2
+    returns-2
+    read-labels-requires
+    enum-known-p
+    read-edges-requires
+    enum-known-p-2
+    stopped-requires-3
+    same-length-3
+    same-length-4
+    returns-3
+    same-length-5
+    returns-4)

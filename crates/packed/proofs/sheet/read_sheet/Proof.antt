@@ -1,0 +1,74 @@
+-- `packed::sheet::read_sheet` meets its contract.
+use native.Mathlib.Omega.{arith}
+use mathlib.Core.Path.{refl, sym, _∙_}
+use Rattle.packed.specs.Formats.{sheet}
+use Rattle.packed.specs.declared.reply.Refusal.the-variants.{Trailing}
+use Rattle.packed.proofs.ReadingLaws.{same-at, pads, ends-dirty}
+use Rattle.packed.proofs.Sheets.{whole-passes, whole-refused}
+use Rattle.packed.proofs.Closing.{next-byte}
+use borrow.Author.Needs.{needs}
+use Rattle.packed.proofs.sheet.read_sheet.Statement.{statement}
+use Rattle.packed.proofs.sheet.read_sheet.Tie as tie
+
+mul-read-lists : tie.Need-mul-read-lists
+mul-read-lists c = search needs
+
+read-lists-requires : tie.Need-read-lists-requires
+read-lists-requires c κs = search needs
+
+enum-known-p : tie.Need-enum-known-p
+enum-known-p c = search needs
+
+enum-told : tie.Need-enum-told
+enum-told c = search needs
+
+same-length : tie.Need-same-length
+same-length c = search needs
+
+returns : tie.Need-returns
+returns c =
+    let e = c .enum-told .given .1 in
+    rw e (whole-refused (sheet (c .before .before .before .before .before .before .before .before .args .m)) (c .before .before .before .before .before .before .before .before .pre .inside) (rw e at (c .before .before .before .before .read-lists .ensures)))
+
+is-clear-requires : tie.Need-is-clear-requires
+is-clear-requires c κs =
+    let q = rw (c .before .p .given .1) at (c .before .before .before .before .before .read-lists .ensures) in
+    (q .inside, omega (arith, c .before .before .before .before .before .before .before .before .before .pre .small))
+
+add-t14 : tie.Need-add-t14
+add-t14 c =
+    let q = rw (c .before .before .before .p .given .1) at (c .before .before .before .before .before .before .before .read-lists .ensures) in
+    omega (arith, q .inside, c .before .before .before .before .before .before .before .before .before .before .before .pre .small)
+
+same-length-2 : tie.Need-same-length-2
+same-length-2 c = search needs
+
+returns-2 : tie.Need-returns-2
+returns-2 c =
+    let q = rw (c .before .before .before .p .given .1) at (c .before .before .before .before .before .before .before .read-lists .ensures) in
+    same-at (sym (next-byte _)) refl (pads (sym (c .before .is-clear .ensures) ∙ c .if1 .taken) (whole-passes (sheet (c .before .before .before .before .before .before .before .before .before .before .before .args .m)) (c .before .before .before .before .before .before .before .before .before .before .before .pre .inside) q))
+
+same-length-3 : tie.Need-same-length-3
+same-length-3 c = search needs
+
+returns-3 : tie.Need-returns-3
+returns-3 c =
+    let q = rw (c .before .before .before .p .given .1) at (c .before .before .before .before .before .before .before .read-lists .ensures) in
+    ends-dirty (Trailing 4) (sym (c .before .is-clear .ensures) ∙ c .if1 .left) refl (whole-passes (sheet (c .before .before .before .before .before .before .before .before .before .before .before .args .m)) (c .before .before .before .before .before .before .before .before .before .before .before .pre .inside) q)
+
+pub read-sheet-spec : {M : Type 1} → statement M
+read-sheet-spec =
+    tie.close
+    (tie.spec
+    mul-read-lists
+    read-lists-requires
+    enum-known-p
+    enum-told
+    same-length
+    returns
+    is-clear-requires
+    add-t14
+    same-length-2
+    returns-2
+    same-length-3
+    returns-3)

@@ -1,0 +1,53 @@
+-- `packed::sheet::write_sheet` meets its contract.
+use native.Mathlib.Omega.{arith}
+use mathlib.Core.Path.{refl, sym}
+use Rattle.packed.specs.Formats.{sheet}
+use Rattle.packed.proofs.WritingLaws.{same-to, fills}
+use Rattle.packed.proofs.Sheets.{gap-small, whole-accepted, whole-rejected}
+use borrow.Author.Needs.{needs}
+use Rattle.packed.proofs.sheet.write_sheet.Statement.{statement}
+use Rattle.packed.proofs.sheet.write_sheet.Tie as tie
+
+write-lists-requires : tie.Need-write-lists-requires
+write-lists-requires c κs = search needs
+
+enum-known-p : tie.Need-enum-known-p
+enum-known-p c = search needs
+
+enum-told : tie.Need-enum-told
+enum-told c = search needs
+
+same-length : tie.Need-same-length
+same-length c = search needs
+
+returns : tie.Need-returns
+returns c =
+    let e = c .enum-told .given .1 in
+    rw e (whole-rejected (sheet (c .before .before .before .before .before .before .before .before .args .m)) (c .before .before .before .before .before .before .before .before .pre .0) (rw e at (c .before .before .before .before .write-lists .ensures)))
+
+write-padding-requires : tie.Need-write-padding-requires
+write-padding-requires c κs =
+    let q = rw (c .before .before .p .given .1) at (c .before .before .before .before .before .before .write-lists .ensures) in
+    omega (arith, q .1, c .before .before .before .before .before .before .before .before .before .before .pre .1)
+
+same-length-2 : tie.Need-same-length-2
+same-length-2 c = search needs
+
+returns-2 : tie.Need-returns-2
+returns-2 c =
+    let q = rw (c .before .before .before .before .before .p .given .1) at (c .before .before .before .before .before .before .before .before .before .write-lists .ensures) in
+    let p = c .before .before .write-padding .ensures in
+    (same-to refl (sym (p .0)) (fills (p .1) (whole-accepted (sheet (c .before .before .before .before .before .before .before .before .before .before .before .before .before .args .m)) (c .before .before .before .before .before .before .before .before .before .before .before .before .before .pre .0) (q .0))), omega (arith, q .1, c .before .before .before .before .before .before .before .before .before .before .before .before .before .pre .1, p .0, gap-small (c .before .before .before .before .before .p .given .0 .0)))
+
+pub write-sheet-spec : {M : Type 1} → statement M
+write-sheet-spec =
+    tie.close
+    (tie.spec
+    write-lists-requires
+    enum-known-p
+    enum-told
+    same-length
+    returns
+    write-padding-requires
+    same-length-2
+    returns-2)

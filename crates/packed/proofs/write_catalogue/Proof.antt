@@ -1,0 +1,34 @@
+-- `packed::write_catalogue` meets its contract.
+use lib.ListN.{length}
+use Rattle.packed.specs.Calls.{catalogueWritten}
+use Rattle.packed.proofs.CallLaws.{settles-small, settles}
+use borrow.Author.Needs.{needs}
+use Rattle.packed.proofs.write_catalogue.Statement.{statement}
+use Rattle.packed.proofs.write_catalogue.Tie as tie
+
+returns : tie.Need-returns
+returns c =
+    let a = c .before .before .before .before .args in
+    settles-small (catalogueWritten (a .fields .now) (length (a .out .now))) (a .out .now) (a .work .now) (c .if1 .taken)
+
+write-catalogue-requires : tie.Need-write-catalogue-requires
+write-catalogue-requires c κs = search needs
+
+clear-requires : tie.Need-clear-requires
+clear-requires c κs = search needs
+
+same-length : tie.Need-same-length
+same-length c = search needs
+
+same-length-2 : tie.Need-same-length-2
+same-length-2 c = search needs
+
+returns-2 : tie.Need-returns-2
+returns-2 c =
+    let a = c .before .before .before .before .before .before .before .before .before .before .before .before .args in
+    settles (catalogueWritten (a .fields .now) (length (a .out .now))) (a .out .now) (a .work .now) (c .before .before .before .before .before .before .before .before .if1 .left) (c .before .before .before .before .before .before .write-catalogue .ensures) (c .before .before .clear .ensures)
+
+pub write-catalogue-spec : {M : Type 1} → statement M
+write-catalogue-spec =
+    tie.close
+    (tie.spec returns write-catalogue-requires clear-requires same-length same-length-2 returns-2)

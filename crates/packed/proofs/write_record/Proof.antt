@@ -1,0 +1,54 @@
+-- `packed::write_record` meets its contract.
+use lib.ListN.{length}
+use Rattle.packed.specs.Calls.{recordWritten}
+use Rattle.packed.proofs.CallLaws.{settles-small, settles-lent}
+use borrow.Author.Needs.{needs}
+use Rattle.packed.proofs.write_record.Statement.{statement}
+use Rattle.packed.proofs.write_record.Tie as tie
+
+returns : tie.Need-returns
+returns c =
+    let a = c .before .before .before .before .args in
+    settles-small (recordWritten (a .fields .now) (length (a .out .now))) (a .out .now) (a .work .now) (c .if1 .taken)
+
+sub-write-record : tie.Need-sub-write-record
+sub-write-record c = search needs
+
+part-write-record-start : tie.Need-part-write-record-start
+part-write-record-start c = search needs
+
+part-write-record-end : tie.Need-part-write-record-end
+part-write-record-end c = search needs
+
+write-record-requires : tie.Need-write-record-requires
+write-record-requires c κs = search needs
+
+clear-requires : tie.Need-clear-requires
+clear-requires c κs = search needs
+
+same-length : tie.Need-same-length
+same-length c = search needs
+
+same-length-2 : tie.Need-same-length-2
+same-length-2 c = search needs
+
+returns-2 : tie.Need-returns-2
+returns-2 c =
+    let a = c .before .before .before .before .before .before .before .before .before .before .before .before .before .before .before .args in
+    let k = c .before .before .before .before .before .before .before .before .write-record in
+    settles-lent (recordWritten (a .fields .now) (length (a .out .now))) (a .out .now) (a .work .now) (k .last .1 .1 .0) (c .before .before .before .before .before .before .before .before .before .before .before .if1 .left)
+    (k .ensures) (k .kept .1 .1 .0) (c .before .before .clear .ensures)
+
+pub write-record-spec : {M : Type 1} → statement M
+write-record-spec =
+    tie.close
+    (tie.spec
+    returns
+    sub-write-record
+    part-write-record-start
+    part-write-record-end
+    write-record-requires
+    clear-requires
+    same-length
+    same-length-2
+    returns-2)

@@ -1,0 +1,21 @@
+-- A pattern's fields by value.
+use Prim.Native.Nat.{ℕ, _+_, _*_, _<_, _≤_}
+use mathlib.Core.Path.{_≡_}
+use mathlib.Core.List.{List}
+use lib.ListN.{length, getD}
+use Rattle.packed.specs.Contents.{nodesOf, edgesOf}
+use Rattle.packed.specs.declared.by_value.Pattern.{Pattern}
+
+-- the first n of a table of so many are the words from first on, each so many words after the one before; the others are zero
+pub record Spread (ws : List ℕ) (first step n size : ℕ) (r : List ℕ) : Type 0 where
+  pub long : length r ≡ size
+  pub each : (j : ℕ) → j < n → getD r j 0 ≡ getD ws (first + step * j) 0
+  pub rest : (j : ℕ) → n ≤ j → getD r j 0 ≡ 0
+
+-- the pattern with the content ws
+pub record HoldsPattern (ws : List ℕ) (p : Pattern) : Type 0 where
+  pub nodes : p .nodes ≡ nodesOf ws
+  pub edges : p .edges ≡ edgesOf ws
+  pub labels : Spread ws 2 1 (nodesOf ws) 16 (p .labels)
+  pub from : Spread ws (2 + nodesOf ws) 2 (edgesOf ws) 32 (p .from)
+  pub to : Spread ws (3 + nodesOf ws) 2 (edgesOf ws) 32 (p .to)

@@ -1,0 +1,154 @@
+-- What each call answers, and what it settles for every input.
+use Prim.Native.Nat.{ℕ}
+use mathlib.Core.Path.{_≡_}
+use mathlib.Core.List.{List, [], _∷_, _++_, map}
+use mathlib.Core.Bool.{Bool, _||_}
+use lib.ListN.{length, take, drop, replicate}
+use lib.Dec.{ltb}
+use Rattle.packed.specs.Format.{Format, Result, ok, bad, pick, decode, encode}
+use Rattle.packed.specs.Formats.{pattern, catalogue, record′, sheet, book}
+use Rattle.packed.specs.Contents.{edgesOf, edgeCounts, pairsIn, sum}
+use Rattle.packed.specs.Distinct.{distinct}
+use Rattle.packed.specs.Refusals.{Told, told}
+
+-- ---- the protocol
+
+-- what a call answers, from what it is lent: values by value and its outputs in order, or a refusal's number and detail
+pub data Answer : Type 0 where
+  give : List ℕ → List (List ℕ) → Answer
+  refuse : ℕ → ℕ → Answer
+
+-- what its result tells: the length of each output and the values; on a refusal the detail, and blank in the place of the values
+unfoldable pub toldOf : List ℕ → Answer → Told
+toldOf blank (give vs outs) = told 0 (map length outs ++ vs)
+toldOf blank (refuse n d) = told n (d ∷ blank)
+
+-- each output at the front of what is lent for it
+unfoldable pub fronts : List (List ℕ) → List (List ℕ) → List (List ℕ)
+fronts [] lent = lent
+fronts (o ∷ os) [] = []
+fronts (o ∷ os) (l ∷ lent) = (o ++ drop (length o) l) ∷ fronts os lent
+
+-- what the lent outputs hold afterwards: on a refusal they are untouched
+unfoldable pub outputsOf : Answer → List (List ℕ) → List (List ℕ)
+outputsOf (give vs outs) lent = fronts outs lent
+outputsOf (refuse n d) lent = lent
+
+-- the words that every call is lent to work in ("work words"), and what they hold afterwards
+abbrev pub workspace : ℕ
+workspace = 16384
+
+unfoldable pub workOf : List ℕ → List ℕ
+workOf work = pick (ltb (length work) workspace) work (replicate workspace 0 ++ drop workspace work)
+
+-- what a call settles: its result, each output and the workspace
+pub record Settled (blank : List ℕ) (a : Answer) (r : Told) (outs outs′ : List (List ℕ)) (work work′ : List ℕ) : Type 0 where
+  pub result : r ≡ toldOf blank a
+  pub outputs : outs′ ≡ outputsOf a outs
+  pub workspace : work′ ≡ workOf work
+
+-- a call refuses with 14 where it is lent too few words to work in
+unfoldable pub desk : ℕ → Answer → Answer
+desk words a = pick (ltb words workspace) (refuse 14 0) a
+
+-- ---- files
+
+-- a file is accepted with its content, or refused with a number and the file's number
+pub data Verdict : Type 0 where
+  accepted : List ℕ → Verdict
+  rejected : ℕ → ℕ → Verdict
+
+abbrev pub inFile : ℕ → Result ℕ → Verdict
+inFile file (ok ws) = accepted ws
+inFile file (bad e) = rejected e file
+
+-- reading a file of at most so many bytes: 1, then front to back
+unfoldable pub readFile : ℕ → ℕ → Format → List ℕ → Verdict
+readFile most file f s = pick (ltb most (length s)) (rejected 1 file) (inFile file (decode f s))
+
+-- writing one: the same front to back
+unfoldable pub writeFile : ℕ → Format → List ℕ → Verdict
+writeFile file f ws = inFile file (encode f ws)
+
+-- a refusal is handed up as it came
+unfoldable pub judged : Verdict → (List ℕ → Answer) → Answer
+judged (accepted ws) k = k ws
+judged (rejected n d) k = refuse n d
+
+abbrev pub readPattern : List ℕ → Verdict
+readPattern s = readFile 44 1 pattern s
+
+abbrev pub readCatalogue : List ℕ → Verdict
+readCatalogue s = readFile 705 2 catalogue s
+
+abbrev pub readRecord : List ℕ → Verdict
+readRecord s = readFile 40964 3 record′ s
+
+-- a sheet stands beside its pattern's content, a book beside its catalogue's
+abbrev pub readSheet : List ℕ → List ℕ → Verdict
+readSheet p s = readFile 65536 4 (sheet (edgesOf p)) s
+
+abbrev pub readBook : List ℕ → List ℕ → Verdict
+readBook c s = readFile 65536 4 (book (edgeCounts c)) s
+
+abbrev pub writeSheet : List ℕ → List ℕ → Verdict
+writeSheet p ws = writeFile 4 (sheet (edgesOf p)) ws
+
+abbrev pub writeBook : List ℕ → List ℕ → Verdict
+writeBook c ws = writeFile 4 (book (edgeCounts c)) ws
+
+-- the different pairs of a book for views with so many edges, by their codes, ascending
+unfoldable pub pairsOf : List ℕ → List ℕ → List ℕ
+pairsOf ms ws = distinct (pairsIn (sum ms) ws)
+
+-- 10: over 8,192 different pairs stand in a book
+unfoldable pub uncrowdedBy : List ℕ → List ℕ → Answer → Answer
+uncrowdedBy ms ws a = pick (ltb 8192 (length (pairsOf ms ws))) (refuse 10 4) a
+
+abbrev pub uncrowded : List ℕ → List ℕ → Answer → Answer
+uncrowded c ws a = uncrowdedBy (edgeCounts c) ws a
+
+-- 12: the output needs more than was lent
+unfoldable pub fit : ℕ → List ℕ → Answer
+fit room o = pick (ltb room (length o)) (refuse 12 (length o)) (give [] (o ∷ []))
+
+-- the same for a sheet or a book, which has at most 65,536 bytes
+unfoldable pub fitFile : ℕ → List ℕ → Answer
+fitFile room o = pick (ltb room (length o) || ltb 65536 (length o)) (refuse 12 (length o)) (give [] (o ∷ []))
+
+-- ---- the calls: what each answers with the workspace aside, and then whole, from the lengths of the output and of the workspace
+
+unfoldable pub patternRead : List ℕ → ℕ → Answer
+patternRead s room = judged (readPattern s) (fit room)
+
+unfoldable pub catalogueRead : List ℕ → ℕ → Answer
+catalogueRead s room = judged (readCatalogue s) (fit room)
+
+unfoldable pub recordRead : List ℕ → ℕ → Answer
+recordRead s room = judged (readRecord s) (fit room)
+
+unfoldable pub sheetRead : List ℕ → List ℕ → ℕ → Answer
+sheetRead p s room = judged (readPattern p) (λ ps. judged (readSheet ps s) (fit room))
+
+unfoldable pub bookRead : List ℕ → List ℕ → ℕ → Answer
+bookRead c s room = judged (readCatalogue c) (λ cs. judged (readBook cs s) (λ ws. uncrowded cs ws (fit room ws)))
+
+unfoldable pub patternWritten : List ℕ → ℕ → Answer
+patternWritten ws room = judged (writeFile 1 pattern ws) (fit room)
+
+unfoldable pub catalogueWritten : List ℕ → ℕ → Answer
+catalogueWritten ws room = judged (writeFile 2 catalogue ws) (fit room)
+
+unfoldable pub recordWritten : List ℕ → ℕ → Answer
+recordWritten ws room = judged (writeFile 3 record′ ws) (fit room)
+
+unfoldable pub sheetWritten : List ℕ → List ℕ → ℕ → Answer
+sheetWritten p ws room = judged (readPattern p) (λ ps. judged (writeSheet ps ws) (fitFile room))
+
+unfoldable pub bookWritten : List ℕ → List ℕ → ℕ → Answer
+bookWritten c ws room = judged (readCatalogue c) (λ cs. judged (writeBook cs ws) (λ s. uncrowded cs ws (fitFile room s)))
+
+-- with the workspace aside: the result and the one output
+pub record Answered (a : Answer) (r : Told) (out out′ : List ℕ) : Type 0 where
+  pub result : r ≡ toldOf [] a
+  pub output : out′ ∷ [] ≡ outputsOf a (out ∷ [])

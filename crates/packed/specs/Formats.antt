@@ -1,0 +1,96 @@
+-- The formats of the five files, in the order of the requirements.
+use Prim.Native.Nat.{ℕ, zero, suc, _+_, _*_, _^_}
+use mathlib.Core.List.{List, [], _∷_, _++_}
+use mathlib.Core.Bool.{Bool, true, false, not, _&&_, _||_}
+use lib.Dec.{eqb, leb}
+use Rattle.packed.specs.Format.{Format, done, ask, test, pad, then, times, whole}
+
+-- a count: w bits, low to high, else 3
+abbrev pub count : ℕ → ℕ → ℕ → (ℕ → Format) → Format
+count w low high f = ask w low (suc high) 3 f
+
+-- ---- edges ("links"), of a pattern and of a record
+
+-- whether the edge from a to b is among those with these ends: from, to, from, to, ..
+unfoldable pub linked : ℕ → ℕ → List ℕ → Bool
+linked a b [] = false
+linked a b (x ∷ []) = false
+linked a b (x ∷ y ∷ ends) = (eqb x a && eqb y b) || linked a b ends
+
+-- an end of an edge: w bits, one of so many nodes ("items"), else 4
+abbrev pub end : ℕ → ℕ → (ℕ → Format) → Format
+end w nodes f = ask w 0 nodes 4 f
+
+-- so many edges more, after those with these ends: no edge stands twice (5); at the end comes last
+unfoldable pub edges : ℕ → ℕ → (List ℕ → Format) → ℕ → List ℕ → Format
+edges w nodes last zero ends = last ends
+edges w nodes last (suc more) ends =
+    end w nodes (λ from. end w nodes (λ to.
+    test (not (linked from to ends)) 5 (edges w nodes last more (ends ++ (from ∷ to ∷ [])))))
+
+-- ---- a pattern: a query ("question") or a view ("extract")
+
+-- whether x is an end, and whether each node below n is one
+unfoldable pub isEnd : ℕ → List ℕ → Bool
+isEnd x [] = false
+isEnd x (y ∷ ends) = eqb y x || isEnd x ends
+
+unfoldable pub allEnds : ℕ → List ℕ → Bool
+allEnds zero ends = true
+allEnds (suc n) ends = allEnds n ends && isEnd n ends
+
+-- a label ("kind"): 5 bits
+unfoldable pub label : Format
+label = ask 5 0 32 3 (λ v. done)
+
+-- each node is an end of some edge (7)
+unfoldable pub joined : ℕ → List ℕ → Format
+joined nodes ends = test (allEnds nodes ends) 7 done
+
+-- the numbers of nodes and edges, the labels, the edges
+unfoldable pub pattern : Format
+pattern = count 5 1 16 (λ nodes. count 6 1 32 (λ number. then (times nodes label) (edges 4 nodes (joined nodes) number [])))
+
+-- ---- a catalogue: the number of views, and the views, each on a byte
+unfoldable pub catalogue : Format
+catalogue = count 5 0 16 (λ number. pad (times number (whole pattern)))
+
+-- ---- a record
+
+-- the labels of a node: 32 bits
+unfoldable pub labels : Format
+labels = ask 32 0 (2 ^ 32) 3 (λ v. done)
+
+abbrev pub nothing : List ℕ → Format
+nothing ends = done
+
+unfoldable pub record′ : Format
+record′ = count 13 0 4096 (λ nodes. count 14 0 8192 (λ number. then (times nodes labels) (edges 12 nodes nothing number [])))
+
+-- ---- a sheet: the match sets of a pattern with m edges
+
+-- the code of a pair
+abbrev pub code : ℕ → ℕ → ℕ
+code a b = a * 4096 + b
+
+-- a pair's number: 12 bits
+abbrev pub number12 : (ℕ → Format) → Format
+number12 f = ask 12 0 4096 3 f
+
+-- so many pairs, each with a code of at least least (6)
+unfoldable pub pairs : ℕ → ℕ → Format
+pairs zero least = done
+pairs (suc k) least = number12 (λ a. number12 (λ b. test (leb least (code a b)) 6 (pairs k (suc (code a b)))))
+
+-- so many lists; none: a count was zero, some: a count was not; not both (8)
+unfoldable pub lists : ℕ → Bool → Bool → Format
+lists zero none some = test (not (none && some)) 8 done
+lists (suc m) none some = count 14 0 8192 (λ n. then (pairs n 0) (lists m (none || eqb n 0) (some || not (eqb n 0))))
+
+unfoldable pub sheet : ℕ → Format
+sheet m = lists m false false
+
+-- ---- a book: a sheet for each view, whose numbers of edges are listed, each on a byte
+unfoldable pub book : List ℕ → Format
+book [] = done
+book (m ∷ ms) = then (whole (sheet m)) (book ms)

@@ -1,0 +1,16 @@
+pub mod Bits
+pub mod Format
+pub mod Formats
+pub mod Refusals
+pub mod Contents
+pub mod Distinct
+pub mod Calls
+pub mod Order
+pub mod Reading
+pub mod Writing
+pub mod Loading
+pub mod Walks
+pub mod Matches
+pub mod ByValue
+pub mod LoadedGraph
+pub mod Plain

@@ -1,0 +1,48 @@
+-- A record's edges in the workspace.
+use Prim.Native.Nat.{ℕ, _+_, _*_, _^_, _<_, _≤_}
+use mathlib.Core.Path.{_≡_}
+use mathlib.Core.List.{List}
+use lib.ListN.{length, take, drop, getD}
+use Rattle.packed.specs.Bits.{field}
+use Rattle.packed.specs.Format.{Result, ok, bad, decode}
+use Rattle.packed.specs.Formats.{record′, code}
+use Rattle.packed.specs.Contents.{nodesOf, edgesOf}
+use Rattle.packed.specs.Loading.{codes}
+use Rattle.packed.specs.Distinct.{distinct}
+use Rattle.packed.specs.Refusals.{numberOf, detailOf}
+use Rattle.packed.specs.declared.graph.Graph.{Graph}
+use Rattle.packed.specs.declared.graph.Graph.the-variants as graph-is
+
+-- the codes of m edges whose ends stand from the bit offset start on are at the front of the workspace; the words after them are as they were
+pub record CodesAt (s : List ℕ) (start m : ℕ) (w w′ : List ℕ) : Type 0 where
+  pub long : length w′ ≡ length w
+  pub each : (j : ℕ) → j < m → getD w′ j 0 ≡ code (field s (start + 24 * j) 12) (field s (start + 24 * j + 12) 12)
+  pub rest : (j : ℕ) → m ≤ j → getD w′ j 0 ≡ getD w j 0
+
+-- a file was accepted
+pub record Accepted (r : Result ℕ) : Type 0 where
+  pub fields : List ℕ
+  pub is : r ≡ ok fields
+
+-- a record was accepted; the codes of its edges stand at the front of the workspace, ascending, each once, and each word up to 8192 has
+-- 24 bits
+pub record Ordered (r : Result ℕ) (w : List ℕ) : Type 0 where
+  pub fields : List ℕ
+  pub is : r ≡ ok fields
+  pub long : length w ≡ 16384
+  pub front : take (edgesOf fields) w ≡ distinct (codes (drop (2 + nodesOf fields) fields))
+  pub small : (i : ℕ) → i < 8192 → getD w i 0 < 2 ^ 24
+
+-- the same with the content's numbers of nodes and edges
+pub record Holds (s : List ℕ) (n m : ℕ) (w : List ℕ) : Type 0 where
+  pub fields : List ℕ
+  pub is : decode record′ s ≡ ok fields
+  pub nodes : n ≡ nodesOf fields
+  pub edges : m ≡ edgesOf fields
+  pub long : length w ≡ 16384
+  pub front : take m w ≡ distinct (codes (drop (2 + nodesOf fields) fields))
+  pub small : (i : ℕ) → i < 8192 → getD w i 0 < 2 ^ 24
+
+abbrev pub LoadsGraph : List ℕ → Graph → List ℕ → Type 0
+LoadsGraph s (graph-is.Of n m) w = Holds s n m w
+LoadsGraph s (graph-is.Refused x) w = (decode record′ s ≡ bad (numberOf x)) × (detailOf x ≡ 3)

@@ -1,0 +1,121 @@
+-- A sheet made from pairs: codes in ascending order, each with a mask that says under which edges of the pattern it is listed.
+use Prim.Native.Nat.{ℕ, zero, suc, _+_, _*_, _/_, _%_, _^_, _<_, _≤_}
+use mathlib.Core.Path.{_≡_}
+use mathlib.Core.List.{List, [], _∷_, _++_}
+use mathlib.Core.Bool.{Bool, false, _||_}
+use lib.ListN.{length, take, drop, getD}
+use lib.Seq.{sets}
+use lib.Dec.{eqb}
+use Rattle.packed.specs.Bits.{odd, bits, bitsOf}
+use Rattle.packed.specs.Format.{pick, encode, ok}
+use Rattle.packed.specs.Formats.{sheet}
+
+-- whether the mask q names the edge e
+unfoldable pub marks : ℕ → ℕ → Bool
+marks e q = odd (q / 2 ^ e)
+
+-- the codes of ps whose masks, in qs, name the edge e
+unfoldable pub marked : ℕ → List ℕ → List ℕ → List ℕ
+marked e [] qs = []
+marked e (p ∷ ps) qs = pick (marks e (getD qs 0 0)) (p ∷ marked e ps (drop 1 qs)) (marked e ps (drop 1 qs))
+
+-- the same for so many edges from e on
+unfoldable pub markedFrom : ℕ → ℕ → List ℕ → List ℕ → List (List ℕ)
+markedFrom e zero ps qs = []
+markedFrom e (suc k) ps qs = marked e ps qs ∷ markedFrom (suc e) k ps qs
+
+unfoldable pub anyEmpty : List (List ℕ) → Bool
+anyEmpty [] = false
+anyEmpty (l ∷ ls) = eqb (length l) 0 || anyEmpty ls
+
+unfoldable pub emptied : List (List ℕ) → List (List ℕ)
+emptied [] = []
+emptied (l ∷ ls) = [] ∷ emptied ls
+
+-- where one list is empty, all are
+unfoldable pub allOrNone : List (List ℕ) → List (List ℕ)
+allOrNone ls = pick (anyEmpty ls) (emptied ls) ls
+
+-- the fields of a list's pairs, and of lists: each a count and its pairs
+unfoldable pub ends : List ℕ → List ℕ
+ends [] = []
+ends (c ∷ cs) = c / 4096 ∷ c % 4096 ∷ ends cs
+
+unfoldable pub fieldsOf : List (List ℕ) → List ℕ
+fieldsOf [] = []
+fieldsOf (l ∷ ls) = length l ∷ (ends l ++ fieldsOf ls)
+
+-- how many pairs lists have
+unfoldable pub total : List (List ℕ) → ℕ
+total [] = 0
+total (l ∷ ls) = length l + total ls
+
+-- the n codes at the front of the workspace, and their masks from word 8192 on
+abbrev pub codesOf : ℕ → List ℕ → List ℕ
+codesOf n w = take n w
+
+abbrev pub masksOf : ℕ → List ℕ → List ℕ
+masksOf n w = take n (drop 8192 w)
+
+-- the lists of a sheet for m edges
+unfoldable pub matchesOf : ℕ → ℕ → List ℕ → List (List ℕ)
+matchesOf n m w = allOrNone (markedFrom 0 m (codesOf n w) (masksOf n w))
+
+-- the codes ascend, each once
+pub record Marked (n : ℕ) (w : List ℕ) : Type 0 where
+  pub long : 16384 ≤ length w
+  pub most : n ≤ 8192
+  pub small : (i : ℕ) → i < n → getD w i 0 < 2 ^ 24
+  pub rises : (i j : ℕ) → i < j → j < n → getD w i 0 < getD w j 0
+
+-- how many pairs the lists have, each by itself
+pub record Counts (n : ℕ) (w c : List ℕ) : Type 0 where
+  pub long : length c ≡ 32
+  pub each : (e : ℕ) → e < 32 → getD c e 0 ≡ length (marked e (codesOf n w) (masksOf n w))
+
+-- the bytes of the sheet stand at the front of out as far as it goes
+pub record Written (n m : ℕ) (w out : List ℕ) (r : ℕ) (out′ : List ℕ) : Type 0 where
+  pub bytes : List ℕ
+  pub is : encode (sheet m) (fieldsOf (matchesOf n m w)) ≡ ok bytes
+  pub number : r ≡ length bytes
+  pub front : out′ ≡ sets out 0 bytes
+
+-- ---- the steps
+
+-- each bit of x is added to its count
+pub record Added (c : List ℕ) (x : ℕ) (c′ : List ℕ) : Type 0 where
+  pub long : length c′ ≡ length c
+  pub each : (e : ℕ) → e < 32 → getD c′ e 0 ≡ getD c e 0 + x / 2 ^ e % 2
+
+-- whether one of the first m counts is zero, and their sum
+unfoldable pub anyZero : ℕ → List ℕ → Bool
+anyZero zero c = false
+anyZero (suc m) c = anyZero m c || eqb (getD c m 0) 0
+
+unfoldable pub sumOf : ℕ → List ℕ → ℕ
+sumOf zero c = 0
+sumOf (suc m) c = sumOf m c + getD c m 0
+
+-- none of the pairs are listed where one of the lists would be empty, else all
+pub record Listed (n m : ℕ) (w : List ℕ) (r : ℕ) : Type 0 where
+  pub is : r ≡ pick (anyEmpty (markedFrom 0 m (codesOf n w) (masksOf n w))) 0 n
+  pub lists : markedFrom 0 m (codesOf r w) (masksOf r w) ≡ matchesOf n m w
+
+-- the bits of a list's pairs, and of lists with their counts
+unfoldable pub pairBits : List ℕ → List Bool
+pairBits [] = []
+pairBits (c ∷ cs) = bitsOf 24 c ++ pairBits cs
+
+unfoldable pub listBits : List (List ℕ) → List Bool
+listBits [] = []
+listBits (l ∷ ls) = bitsOf 14 (length l) ++ (pairBits l ++ listBits ls)
+
+pub record ListWritten (n e : ℕ) (w out : List ℕ) (start r : ℕ) (out′ : List ℕ) : Type 0 where
+  pub holds : bits out′ ≡ sets (bits out) start (pairBits (marked e (codesOf n w) (masksOf n w)))
+  pub next : r ≡ start + 24 * length (marked e (codesOf n w) (masksOf n w))
+  pub most : r ≤ start + 24 * n
+
+pub record ListsWritten (n m : ℕ) (w out : List ℕ) (r : ℕ) (out′ : List ℕ) : Type 0 where
+  pub holds : bits out′ ≡ sets (bits out) 0 (listBits (markedFrom 0 m (codesOf n w) (masksOf n w)))
+  pub next : r ≡ length (listBits (markedFrom 0 m (codesOf n w) (masksOf n w)))
+  pub most : r ≤ 196622 * m

@@ -1,0 +1,137 @@
+-- The rules of the five files said plainly, with no format: what stands in the content ws of a file, and which bits bs it has.
+use Prim.Native.Nat.{ℕ, suc, _+_, _*_, _^_, _≤_, _<_}
+use mathlib.Core.Path.{_≡_}
+use mathlib.Core.List.{List, [], _∷_, _++_, flatten}
+use mathlib.Core.Bool.{Bool, false}
+use mathlib.Core.Logic.{_⊎_}
+use lib.ListN.{length, getD, replicate}
+use Rattle.packed.specs.Bits.{bitsOf, bits, gap}
+
+-- ---- what the files share
+
+-- a content and its bits
+abbrev pub Laid : Type 1
+Laid = List ℕ → List Bool → Type 0
+
+-- numbers in fields of w bits, one after the other
+unfoldable pub fieldsOf : ℕ → List ℕ → List Bool
+fieldsOf w [] = []
+fieldsOf w (v ∷ vs) = bitsOf w v ++ fieldsOf w vs
+
+-- each number of a list is below bound
+abbrev pub Below : ℕ → List ℕ → Type 0
+Below bound l = (i : ℕ) → i < length l → getD l i 0 < bound
+
+-- zero bits up to a whole byte, and nothing after them
+pub record Whole (One : Laid) (ws : List ℕ) (bs : List Bool) : Type 0 where
+  pub body : List Bool
+  pub laid : One ws body
+  pub fills : bs ≡ body ++ replicate (gap (length body)) false
+
+-- so many parts, one after the other: contents and bits of each
+pub record InTurn (One : ℕ → Laid) (number : ℕ) (ws : List ℕ) (bs : List Bool) : Type 0 where
+  pub contents : List (List ℕ)
+  pub laid : List (List Bool)
+  pub many : length contents ≡ number
+  pub many-laid : length laid ≡ number
+  pub each : (i : ℕ) → i < number → One i (getD contents i []) (getD laid i [])
+  pub content : ws ≡ flatten contents
+  pub layout : bs ≡ flatten laid
+
+-- ---- edges and pairs: from, to, from, to, ..
+
+abbrev pub fromAt : List ℕ → ℕ → ℕ
+fromAt ends i = getD ends (2 * i) 0
+
+abbrev pub toAt : List ℕ → ℕ → ℕ
+toAt ends i = getD ends (2 * i + 1) 0
+
+-- so many edges between so many nodes: each end is a node (4), and no edge repeats an earlier one (5)
+pub record PlainEdges (nodes number : ℕ) (ends : List ℕ) : Type 0 where
+  pub two-each : length ends ≡ 2 * number
+  pub are-nodes : Below nodes ends
+  pub differ : (i j : ℕ) → i < j → j < number → fromAt ends i ≡ fromAt ends j → toAt ends i ≡ toAt ends j → ⊥
+
+-- ---- a pattern: 1 to 16 nodes, each with a label 0 to 31, and 1 to 32 edges; each node is an end of some edge (7)
+pub record PlainPattern (ws : List ℕ) (bs : List Bool) : Type 0 where
+  pub nodes : ℕ
+  pub number : ℕ
+  pub labels : List ℕ
+  pub ends : List ℕ
+  pub content : ws ≡ nodes ∷ number ∷ (labels ++ ends)
+  pub layout : bs ≡ bitsOf 5 nodes ++ (bitsOf 6 number ++ (fieldsOf 5 labels ++ fieldsOf 4 ends))
+  pub some-nodes : 1 ≤ nodes
+  pub most-nodes : nodes ≤ 16
+  pub some-edges : 1 ≤ number
+  pub most-edges : number ≤ 32
+  pub label-each : length labels ≡ nodes
+  pub are-labels : Below 32 labels
+  pub edges : PlainEdges nodes number ends
+  pub met : (x : ℕ) → x < nodes → (i : ℕ) × (i < length ends) × (getD ends i 0 ≡ x)
+
+-- the file s has the content ws
+abbrev pub PatternFile : List ℕ → List ℕ → Type 0
+PatternFile s ws = Whole PlainPattern ws (bits s)
+
+-- ---- a catalogue: the number of patterns, zero bits up to a byte, and the patterns, each as in a file of its own
+pub record PlainCatalogue (ws : List ℕ) (bs : List Bool) : Type 0 where
+  pub number : ℕ
+  pub inner : List ℕ
+  pub laid : List Bool
+  pub content : ws ≡ number ∷ inner
+  pub layout : bs ≡ bitsOf 5 number ++ (replicate 3 false ++ laid)
+  pub most : number ≤ 16
+  pub patterns : InTurn (λ i. Whole PlainPattern) number inner laid
+
+abbrev pub CatalogueFile : List ℕ → List ℕ → Type 0
+CatalogueFile s ws = PlainCatalogue ws (bits s)
+
+-- ---- a record: 0 to 4,096 nodes, each with 32 bits of labels, and 0 to 8,192 edges
+pub record PlainRecord (ws : List ℕ) (bs : List Bool) : Type 0 where
+  pub nodes : ℕ
+  pub number : ℕ
+  pub labels : List ℕ
+  pub ends : List ℕ
+  pub content : ws ≡ nodes ∷ number ∷ (labels ++ ends)
+  pub layout : bs ≡ bitsOf 13 nodes ++ (bitsOf 14 number ++ (fieldsOf 32 labels ++ fieldsOf 12 ends))
+  pub most-nodes : nodes ≤ 4096
+  pub most-edges : number ≤ 8192
+  pub labels-each : length labels ≡ nodes
+  pub are-labels : Below (2 ^ 32) labels
+  pub edges : PlainEdges nodes number ends
+
+abbrev pub RecordFile : List ℕ → List ℕ → Type 0
+RecordFile s ws = Whole PlainRecord ws (bits s)
+
+-- ---- a sheet: a list of pairs for each edge of a pattern
+
+-- pair i stands before pair j: by from, then to
+abbrev pub Before : List ℕ → ℕ → ℕ → Type 0
+Before ends i j = (fromAt ends i < fromAt ends j) ⊎ ((fromAt ends i ≡ fromAt ends j) × (toAt ends i < toAt ends j))
+
+-- a count, 0 to 8,192, and that many pairs, strictly ascending (6)
+pub record PlainList (ws : List ℕ) (bs : List Bool) : Type 0 where
+  pub number : ℕ
+  pub ends : List ℕ
+  pub content : ws ≡ number ∷ ends
+  pub layout : bs ≡ bitsOf 14 number ++ fieldsOf 12 ends
+  pub most : number ≤ 8192
+  pub two-each : length ends ≡ 2 * number
+  pub small : Below 4096 ends
+  pub ascend : (i : ℕ) → suc i < number → Before ends i (suc i)
+
+-- the first number of each content, its count
+abbrev pub countAt : List (List ℕ) → ℕ → ℕ
+countAt contents i = getD (getD contents i []) 0 0
+
+-- m lists, whose counts are all at least 1 or all zero (8)
+pub record PlainSheet (m : ℕ) (ws : List ℕ) (bs : List Bool) : Type 0 where
+  pub lists : InTurn (λ i. PlainList) m ws bs
+  pub even : ((i : ℕ) → i < m → 1 ≤ countAt (lists .contents) i) ⊎ ((i : ℕ) → i < m → countAt (lists .contents) i ≡ 0)
+
+abbrev pub SheetFile : ℕ → List ℕ → List ℕ → Type 0
+SheetFile m s ws = Whole (PlainSheet m) ws (bits s)
+
+-- ---- a book: a sheet for each number of edges in ms, each as in a file of its own
+abbrev pub BookFile : List ℕ → List ℕ → List ℕ → Type 0
+BookFile ms s ws = InTurn (λ i. Whole (PlainSheet (getD ms i 0))) (length ms) ws (bits s)

@@ -1,0 +1,49 @@
+-- The number and the detail of each refusal, and of every answer that is an enum: 0 for success, and then its values.
+use Prim.Native.Nat.{ℕ}
+use mathlib.Core.List.{List, [], _∷_}
+use Rattle.packed.specs.declared.reply.Refusal.{Refusal}
+use Rattle.packed.specs.declared.reply.Refusal.the-variants.{TooLong, Truncated, OutOfRange, NoSuchNode, DuplicateEdge, NotAscending, IsolatedNode, MixedCounts, Trailing, TooManyPairs, NotContained, NoRoom, Contained, SmallWorkspace}
+use Rattle.packed.specs.declared.reply.Reply.{Reply}
+use Rattle.packed.specs.declared.reply.Reply.the-variants as reply-is
+
+abbrev pub numberOf : Refusal → ℕ
+numberOf (TooLong d) = 1
+numberOf (Truncated d) = 2
+numberOf (OutOfRange d) = 3
+numberOf (NoSuchNode d) = 4
+numberOf (DuplicateEdge d) = 5
+numberOf (NotAscending d) = 6
+numberOf (IsolatedNode d) = 7
+numberOf (MixedCounts d) = 8
+numberOf (Trailing d) = 9
+numberOf (TooManyPairs d) = 10
+numberOf (NotContained d) = 11
+numberOf (NoRoom d) = 12
+numberOf Contained = 13
+numberOf SmallWorkspace = 14
+
+-- 1 to 10: the file's number; 11: the lowest unmatched edge; 12: the size needed; 13 and 14: zero
+abbrev pub detailOf : Refusal → ℕ
+detailOf (TooLong d) = d
+detailOf (Truncated d) = d
+detailOf (OutOfRange d) = d
+detailOf (NoSuchNode d) = d
+detailOf (DuplicateEdge d) = d
+detailOf (NotAscending d) = d
+detailOf (IsolatedNode d) = d
+detailOf (MixedCounts d) = d
+detailOf (Trailing d) = d
+detailOf (TooManyPairs d) = d
+detailOf (NotContained d) = d
+detailOf (NoRoom d) = d
+detailOf Contained = 0
+detailOf SmallWorkspace = 0
+
+-- what an answer tells: a number, 0 for success, and values
+pub data Told : Type 0 where
+  told : ℕ → List ℕ → Told
+
+-- the answer of a call with one output: how much of it was written, or the refusal with its detail
+abbrev pub replyTold : Reply → Told
+replyTold (reply-is.Done n) = told 0 (n ∷ [])
+replyTold (reply-is.Refused x) = told (numberOf x) (detailOf x ∷ [])

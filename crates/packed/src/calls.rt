@@ -1,0 +1,313 @@
+// The client calls with room to work in: 16,384 words, which are left in any state.
+ghost use mathlib.Core.Path.{_≡_};
+ghost use Prim.Native.Nat.{ℕ, _+_, _*_, _≤_};
+ghost use lib.ListN.{length, take};
+ghost use Rattle.packed.specs.Format.{pick};
+ghost use Rattle.packed.specs.Formats.{sheet, book};
+ghost use Rattle.packed.specs.Contents.{Small, sum, pairsIn};
+ghost use Rattle.packed.specs.Refusals.{replyTold};
+ghost use Rattle.packed.specs.Calls.{Answered, readFile, writeFile, judged, fit, fitFile, uncrowdedBy, patternRead, catalogueRead, recordRead, sheetRead, bookRead, patternWritten, catalogueWritten, recordWritten, sheetWritten, bookWritten};
+use crate::catalogue;
+use crate::gather;
+use crate::pattern;
+use crate::record;
+use crate::reply::Part;
+use crate::reply::Refusal;
+use crate::reply::Reply;
+use crate::sheet;
+use crate::workspace;
+
+// ---- readers
+
+pub fn read_pattern(bytes: &[u8], out: &mut [u32], words: &mut [u32]) -> Reply
+    requires { ⌜ length (now words) ≡ 16384 ⌝ }
+    ensures { λ r. ⌜ Answered (patternRead (now (bytes .entry)) (length (now (out .entry)))) (replyTold r) (now (out .entry)) (now (out .exit)) ⌝ }
+{
+    if 44 < bytes.len() {
+        return Reply::Refused(Refusal::TooLong(1));
+    }
+    let p = pattern::judge_pattern(bytes, words);
+    match p {
+        Part::Upto(_, n) => {
+            if out.len() < n {
+                return Reply::Refused(Refusal::NoRoom(n));
+            }
+            workspace::copy_words(&words[0..n], out);
+            Reply::Done(n)
+        }
+        Part::Refused(x) => Reply::Refused(x),
+    }
+}
+
+pub fn read_catalogue(bytes: &[u8], out: &mut [u32], words: &mut [u32]) -> Reply
+    requires { ⌜ length (now words) ≡ 16384 ⌝ }
+    ensures { λ r. ⌜ Answered (catalogueRead (now (bytes .entry)) (length (now (out .entry)))) (replyTold r) (now (out .entry)) (now (out .exit)) ⌝ }
+{
+    if 705 < bytes.len() {
+        return Reply::Refused(Refusal::TooLong(2));
+    }
+    let p = catalogue::judge_catalogue(bytes, words);
+    match p {
+        Part::Upto(_, n) => {
+            if out.len() < n {
+                return Reply::Refused(Refusal::NoRoom(n));
+            }
+            workspace::copy_words(&words[0..n], out);
+            Reply::Done(n)
+        }
+        Part::Refused(x) => Reply::Refused(x),
+    }
+}
+
+// The file is judged with no output at first, and once it is accepted and fits it is read again into the output.
+pub fn read_record(bytes: &[u8], out: &mut [u32], words: &mut [u32]) -> Reply
+    requires { ⌜ length (now words) ≡ 16384 ⌝ }
+    ensures { λ r. ⌜ Answered (recordRead (now (bytes .entry)) (length (now (out .entry)))) (replyTold r) (now (out .entry)) (now (out .exit)) ⌝ }
+{
+    if 40964 < bytes.len() {
+        return Reply::Refused(Refusal::TooLong(3));
+    }
+    let p = record::judge_record(bytes, &mut out[0..0], words);
+    match p {
+        Part::Upto(_, count) => {
+            if out.len() < count {
+                return Reply::Refused(Refusal::NoRoom(count));
+            }
+            record::judge_record(bytes, out, words);
+            Reply::Done(count)
+        }
+        Part::Refused(x) => Reply::Refused(x),
+    }
+}
+
+// A sheet for a pattern with m edges.
+fn read_sheet_of(bytes: &[u8], m: u32, out: &mut [u32]) -> Reply
+    ensures { λ r. ⌜ Answered (judged (readFile 65536 4 (sheet m) (now (bytes .entry))) (fit (length (now (out .entry))))) (replyTold r) (now (out .entry)) (now (out .exit)) ⌝ }
+{
+    if 65536 < bytes.len() {
+        return Reply::Refused(Refusal::TooLong(4));
+    }
+    let p = sheet::judge_sheet(bytes, m, &mut out[0..0]);
+    match p {
+        Part::Upto(_, n) => {
+            if out.len() < n {
+                return Reply::Refused(Refusal::NoRoom(n));
+            }
+            sheet::judge_sheet(bytes, m, out);
+            Reply::Done(n)
+        }
+        Part::Refused(x) => Reply::Refused(x),
+    }
+}
+
+pub fn read_sheet(pattern: &[u8], bytes: &[u8], out: &mut [u32], words: &mut [u32]) -> Reply
+    requires { ⌜ length (now words) ≡ 16384 ⌝ }
+    ensures { λ r. ⌜ Answered (sheetRead (now (pattern .entry)) (now (bytes .entry)) (length (now (out .entry)))) (replyTold r) (now (out .entry)) (now (out .exit)) ⌝ }
+{
+    if 44 < pattern.len() {
+        return Reply::Refused(Refusal::TooLong(1));
+    }
+    let p = pattern::judge_pattern(pattern, words);
+    match p {
+        Part::Upto(_, n) => {
+            let m = catalogue::word_at(&words[0..n], 1);
+            read_sheet_of(bytes, m, out)
+        }
+        Part::Refused(x) => Reply::Refused(x),
+    }
+}
+
+// A book for views with so many edges.
+fn read_book_of(
+    bytes: &[u8],
+    counts: [u32; 16],
+    k: usize,
+    out: &mut [u32],
+    words: &mut [u32],
+) -> Reply
+    requires { ⌜ (length (now words) ≡ 16384) × (k ≤ 16) × Small counts ⌝ }
+    ensures { λ r. ⌜ Answered (judged (readFile 65536 4 (book (take k counts)) (now (bytes .entry))) (λ ws. uncrowdedBy (take k counts) ws (fit (length (now (out .entry))) ws))) (replyTold r) (now (out .entry)) (now (out .exit)) ⌝ }
+{
+    if 65536 < bytes.len() {
+        return Reply::Refused(Refusal::TooLong(4));
+    }
+    let p = sheet::judge_book(bytes, counts, k, &mut out[0..0]);
+    match p {
+        Part::Upto(_, n) => {
+            let different = gather::gather_book(bytes, counts, k, words);
+            if 8192 < different {
+                return Reply::Refused(Refusal::TooManyPairs(4));
+            }
+            if out.len() < n {
+                return Reply::Refused(Refusal::NoRoom(n));
+            }
+            sheet::judge_book(bytes, counts, k, out);
+            Reply::Done(n)
+        }
+        Part::Refused(x) => Reply::Refused(x),
+    }
+}
+
+pub fn read_book(catalogue: &[u8], bytes: &[u8], out: &mut [u32], words: &mut [u32]) -> Reply
+    requires { ⌜ length (now words) ≡ 16384 ⌝ }
+    ensures { λ r. ⌜ Answered (bookRead (now (catalogue .entry)) (now (bytes .entry)) (length (now (out .entry)))) (replyTold r) (now (out .entry)) (now (out .exit)) ⌝ }
+{
+    if 705 < catalogue.len() {
+        return Reply::Refused(Refusal::TooLong(2));
+    }
+    let p = catalogue::judge_catalogue(catalogue, words);
+    match p {
+        Part::Upto(_, n) => {
+            let k = catalogue::word_at(&words[0..n], 0);
+            let counts = catalogue::edge_counts(&words[0..n]);
+            read_book_of(bytes, counts, k as usize, out, words)
+        }
+        Part::Refused(x) => Reply::Refused(x),
+    }
+}
+
+// ---- writers
+
+pub fn write_pattern(fields: &[u32], out: &mut [u8]) -> Reply
+    ensures { λ r. ⌜ Answered (patternWritten (now (fields .entry)) (length (now (out .entry)))) (replyTold r) (now (out .entry)) (now (out .exit)) ⌝ }
+{
+    let p = pattern::judge_pattern_fields(fields, &mut out[0..0]);
+    match p {
+        Part::Upto(n, _) => {
+            if out.len() < n {
+                return Reply::Refused(Refusal::NoRoom(n));
+            }
+            pattern::judge_pattern_fields(fields, out);
+            Reply::Done(n)
+        }
+        Part::Refused(x) => Reply::Refused(x),
+    }
+}
+
+pub fn write_catalogue(fields: &[u32], out: &mut [u8]) -> Reply
+    ensures { λ r. ⌜ Answered (catalogueWritten (now (fields .entry)) (length (now (out .entry)))) (replyTold r) (now (out .entry)) (now (out .exit)) ⌝ }
+{
+    let p = catalogue::judge_catalogue_fields(fields, &mut out[0..0]);
+    match p {
+        Part::Upto(n, _) => {
+            if out.len() < n {
+                return Reply::Refused(Refusal::NoRoom(n));
+            }
+            catalogue::judge_catalogue_fields(fields, out);
+            Reply::Done(n)
+        }
+        Part::Refused(x) => Reply::Refused(x),
+    }
+}
+
+pub fn write_record(fields: &[u32], out: &mut [u8], words: &mut [u32]) -> Reply
+    requires { ⌜ length (now words) ≡ 16384 ⌝ }
+    ensures { λ r. ⌜ Answered (recordWritten (now (fields .entry)) (length (now (out .entry)))) (replyTold r) (now (out .entry)) (now (out .exit)) ⌝ }
+{
+    let p = record::judge_record_fields(fields, &mut out[0..0], words);
+    match p {
+        Part::Upto(n, _) => {
+            if out.len() < n {
+                return Reply::Refused(Refusal::NoRoom(n));
+            }
+            record::judge_record_fields(fields, out, words);
+            Reply::Done(n)
+        }
+        Part::Refused(x) => Reply::Refused(x),
+    }
+}
+
+// A sheet for a pattern with m edges.
+fn write_sheet_of(fields: &[u32], m: u32, out: &mut [u8]) -> Reply
+    requires { ⌜ m ≤ 32 ⌝ }
+    ensures { λ r. ⌜ Answered (judged (writeFile 4 (sheet m) (now (fields .entry))) (fitFile (length (now (out .entry))))) (replyTold r) (now (out .entry)) (now (out .exit)) ⌝ }
+{
+    let p = sheet::judge_sheet_fields(fields, m, &mut out[0..0]);
+    match p {
+        Part::Upto(n, _) => {
+            if (out.len() < n) | (65536 < n) {
+                return Reply::Refused(Refusal::NoRoom(n));
+            }
+            sheet::judge_sheet_fields(fields, m, out);
+            Reply::Done(n)
+        }
+        Part::Refused(x) => Reply::Refused(x),
+    }
+}
+
+pub fn write_sheet(pattern: &[u8], fields: &[u32], out: &mut [u8], words: &mut [u32]) -> Reply
+    requires { ⌜ length (now words) ≡ 16384 ⌝ }
+    ensures { λ r. ⌜ Answered (sheetWritten (now (pattern .entry)) (now (fields .entry)) (length (now (out .entry)))) (replyTold r) (now (out .entry)) (now (out .exit)) ⌝ }
+{
+    if 44 < pattern.len() {
+        return Reply::Refused(Refusal::TooLong(1));
+    }
+    let p = pattern::judge_pattern(pattern, words);
+    match p {
+        Part::Upto(_, n) => {
+            let m = catalogue::word_at(&words[0..n], 1);
+            write_sheet_of(fields, m, out)
+        }
+        Part::Refused(x) => Reply::Refused(x),
+    }
+}
+
+// How many lists a book for views with so many edges has.
+fn list_count(counts: [u32; 16], k: usize) -> u32
+    requires { ⌜ (k ≤ 16) × Small counts ⌝ }
+    ensures { λ r. ⌜ (r ≡ sum (take k counts)) × (r ≤ 512) ⌝ }
+{
+    let mut total: u32 = 0;
+    let mut j: usize = 0;
+    while j < k {
+        total += counts[j];
+        j += 1;
+    }
+    total
+}
+
+// A book for views with so many edges.
+fn write_book_of(
+    fields: &[u32],
+    counts: [u32; 16],
+    k: usize,
+    out: &mut [u8],
+    words: &mut [u32],
+) -> Reply
+    requires { ⌜ (length (now words) ≡ 16384) × (k ≤ 16) × Small counts ⌝ }
+    ensures { λ r. ⌜ Answered (judged (writeFile 4 (book (take k counts)) (now (fields .entry))) (λ s. uncrowdedBy (take k counts) (now (fields .entry)) (fitFile (length (now (out .entry))) s))) (replyTold r) (now (out .entry)) (now (out .exit)) ⌝ }
+{
+    let p = sheet::judge_book_fields(fields, counts, k, &mut out[0..0]);
+    match p {
+        Part::Upto(n, _) => {
+            let different = gather::gather_fields(fields, list_count(counts, k), words);
+            if 8192 < different {
+                return Reply::Refused(Refusal::TooManyPairs(4));
+            }
+            if (out.len() < n) | (65536 < n) {
+                return Reply::Refused(Refusal::NoRoom(n));
+            }
+            sheet::judge_book_fields(fields, counts, k, out);
+            Reply::Done(n)
+        }
+        Part::Refused(x) => Reply::Refused(x),
+    }
+}
+
+pub fn write_book(catalogue: &[u8], fields: &[u32], out: &mut [u8], words: &mut [u32]) -> Reply
+    requires { ⌜ length (now words) ≡ 16384 ⌝ }
+    ensures { λ r. ⌜ Answered (bookWritten (now (catalogue .entry)) (now (fields .entry)) (length (now (out .entry)))) (replyTold r) (now (out .entry)) (now (out .exit)) ⌝ }
+{
+    if 705 < catalogue.len() {
+        return Reply::Refused(Refusal::TooLong(2));
+    }
+    let p = catalogue::judge_catalogue(catalogue, words);
+    match p {
+        Part::Upto(_, n) => {
+            let k = catalogue::word_at(&words[0..n], 0);
+            let counts = catalogue::edge_counts(&words[0..n]);
+            write_book_of(fields, counts, k as usize, out, words)
+        }
+        Part::Refused(x) => Reply::Refused(x),
+    }
+}

@@ -1,0 +1,146 @@
+// Bit-packed files: patterns, catalogues, records, sheets and books, read into fields and written from fields.
+//
+// Each call is lent an output and a workspace of at least 16,384 words. It answers how much of the output it wrote, or a refusal that
+// leaves the output untouched. The first 16,384 words of the workspace are zero afterwards, unless there were fewer.
+pub mod bits;
+pub mod by_value;
+mod calls;
+pub mod catalogue;
+pub mod distinct;
+mod field;
+pub mod gather;
+pub mod graph;
+pub mod matches;
+pub mod pattern;
+pub mod record;
+pub mod reply;
+mod sheet;
+pub mod sort;
+pub mod workspace;
+
+ghost use mathlib.Core.List.{[], _∷_};
+ghost use lib.ListN.{length};
+ghost use Rattle.packed.specs.Refusals.{replyTold};
+ghost use Rattle.packed.specs.Calls.{Settled, desk, patternRead, catalogueRead, recordRead, sheetRead, bookRead, patternWritten, catalogueWritten, recordWritten, sheetWritten, bookWritten};
+use reply::Refusal;
+use reply::Reply;
+
+// Reads a pattern.
+pub fn read_pattern(bytes: &[u8], out: &mut [u32], work: &mut [u32]) -> Reply
+    ensures { λ r. ⌜ Settled [] (desk (length (now (work .entry))) (patternRead (now (bytes .entry)) (length (now (out .entry))))) (replyTold r) (now (out .entry) ∷ []) (now (out .exit) ∷ []) (now (work .entry)) (now (work .exit)) ⌝ }
+{
+    if work.len() < 16384 {
+        return Reply::Refused(Refusal::SmallWorkspace);
+    }
+    let r = calls::read_pattern(bytes, out, &mut work[0..16384]);
+    workspace::clear(work, 16384);
+    r
+}
+
+// Reads a catalogue.
+pub fn read_catalogue(bytes: &[u8], out: &mut [u32], work: &mut [u32]) -> Reply
+    ensures { λ r. ⌜ Settled [] (desk (length (now (work .entry))) (catalogueRead (now (bytes .entry)) (length (now (out .entry))))) (replyTold r) (now (out .entry) ∷ []) (now (out .exit) ∷ []) (now (work .entry)) (now (work .exit)) ⌝ }
+{
+    if work.len() < 16384 {
+        return Reply::Refused(Refusal::SmallWorkspace);
+    }
+    let r = calls::read_catalogue(bytes, out, &mut work[0..16384]);
+    workspace::clear(work, 16384);
+    r
+}
+
+// Reads a record.
+pub fn read_record(bytes: &[u8], out: &mut [u32], work: &mut [u32]) -> Reply
+    ensures { λ r. ⌜ Settled [] (desk (length (now (work .entry))) (recordRead (now (bytes .entry)) (length (now (out .entry))))) (replyTold r) (now (out .entry) ∷ []) (now (out .exit) ∷ []) (now (work .entry)) (now (work .exit)) ⌝ }
+{
+    if work.len() < 16384 {
+        return Reply::Refused(Refusal::SmallWorkspace);
+    }
+    let r = calls::read_record(bytes, out, &mut work[0..16384]);
+    workspace::clear(work, 16384);
+    r
+}
+
+// Reads a sheet beside its pattern.
+pub fn read_sheet(pattern: &[u8], bytes: &[u8], out: &mut [u32], work: &mut [u32]) -> Reply
+    ensures { λ r. ⌜ Settled [] (desk (length (now (work .entry))) (sheetRead (now (pattern .entry)) (now (bytes .entry)) (length (now (out .entry))))) (replyTold r) (now (out .entry) ∷ []) (now (out .exit) ∷ []) (now (work .entry)) (now (work .exit)) ⌝ }
+{
+    if work.len() < 16384 {
+        return Reply::Refused(Refusal::SmallWorkspace);
+    }
+    let r = calls::read_sheet(pattern, bytes, out, &mut work[0..16384]);
+    workspace::clear(work, 16384);
+    r
+}
+
+// Reads a book beside its catalogue.
+pub fn read_book(catalogue: &[u8], bytes: &[u8], out: &mut [u32], work: &mut [u32]) -> Reply
+    ensures { λ r. ⌜ Settled [] (desk (length (now (work .entry))) (bookRead (now (catalogue .entry)) (now (bytes .entry)) (length (now (out .entry))))) (replyTold r) (now (out .entry) ∷ []) (now (out .exit) ∷ []) (now (work .entry)) (now (work .exit)) ⌝ }
+{
+    if work.len() < 16384 {
+        return Reply::Refused(Refusal::SmallWorkspace);
+    }
+    let r = calls::read_book(catalogue, bytes, out, &mut work[0..16384]);
+    workspace::clear(work, 16384);
+    r
+}
+
+// Writes a pattern.
+pub fn write_pattern(fields: &[u32], out: &mut [u8], work: &mut [u32]) -> Reply
+    ensures { λ r. ⌜ Settled [] (desk (length (now (work .entry))) (patternWritten (now (fields .entry)) (length (now (out .entry))))) (replyTold r) (now (out .entry) ∷ []) (now (out .exit) ∷ []) (now (work .entry)) (now (work .exit)) ⌝ }
+{
+    if work.len() < 16384 {
+        return Reply::Refused(Refusal::SmallWorkspace);
+    }
+    let r = calls::write_pattern(fields, out);
+    workspace::clear(work, 16384);
+    r
+}
+
+// Writes a catalogue.
+pub fn write_catalogue(fields: &[u32], out: &mut [u8], work: &mut [u32]) -> Reply
+    ensures { λ r. ⌜ Settled [] (desk (length (now (work .entry))) (catalogueWritten (now (fields .entry)) (length (now (out .entry))))) (replyTold r) (now (out .entry) ∷ []) (now (out .exit) ∷ []) (now (work .entry)) (now (work .exit)) ⌝ }
+{
+    if work.len() < 16384 {
+        return Reply::Refused(Refusal::SmallWorkspace);
+    }
+    let r = calls::write_catalogue(fields, out);
+    workspace::clear(work, 16384);
+    r
+}
+
+// Writes a record.
+pub fn write_record(fields: &[u32], out: &mut [u8], work: &mut [u32]) -> Reply
+    ensures { λ r. ⌜ Settled [] (desk (length (now (work .entry))) (recordWritten (now (fields .entry)) (length (now (out .entry))))) (replyTold r) (now (out .entry) ∷ []) (now (out .exit) ∷ []) (now (work .entry)) (now (work .exit)) ⌝ }
+{
+    if work.len() < 16384 {
+        return Reply::Refused(Refusal::SmallWorkspace);
+    }
+    let r = calls::write_record(fields, out, &mut work[0..16384]);
+    workspace::clear(work, 16384);
+    r
+}
+
+// Writes a sheet beside its pattern.
+pub fn write_sheet(pattern: &[u8], fields: &[u32], out: &mut [u8], work: &mut [u32]) -> Reply
+    ensures { λ r. ⌜ Settled [] (desk (length (now (work .entry))) (sheetWritten (now (pattern .entry)) (now (fields .entry)) (length (now (out .entry))))) (replyTold r) (now (out .entry) ∷ []) (now (out .exit) ∷ []) (now (work .entry)) (now (work .exit)) ⌝ }
+{
+    if work.len() < 16384 {
+        return Reply::Refused(Refusal::SmallWorkspace);
+    }
+    let r = calls::write_sheet(pattern, fields, out, &mut work[0..16384]);
+    workspace::clear(work, 16384);
+    r
+}
+
+// Writes a book beside its catalogue.
+pub fn write_book(catalogue: &[u8], fields: &[u32], out: &mut [u8], work: &mut [u32]) -> Reply
+    ensures { λ r. ⌜ Settled [] (desk (length (now (work .entry))) (bookWritten (now (catalogue .entry)) (now (fields .entry)) (length (now (out .entry))))) (replyTold r) (now (out .entry) ∷ []) (now (out .exit) ∷ []) (now (work .entry)) (now (work .exit)) ⌝ }
+{
+    if work.len() < 16384 {
+        return Reply::Refused(Refusal::SmallWorkspace);
+    }
+    let r = calls::write_book(catalogue, fields, out, &mut work[0..16384]);
+    workspace::clear(work, 16384);
+    r
+}

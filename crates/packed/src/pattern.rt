@@ -1,0 +1,357 @@
+// Patterns and catalogues. Their content is small: it is read into words with room for it, which serve to look back at the edges.
+ghost use mathlib.Core.Path.{_≡_};
+ghost use mathlib.Core.List.{List, []};
+ghost use Prim.Native.Nat.{ℕ, _+_, _*_, _^_, _<_, _≤_};
+ghost use lib.ListN.{length, take, getD};
+ghost use Rattle.packed.specs.Format.{times, whole, decode, encode};
+ghost use Rattle.packed.specs.Formats.{linked, isEnd, allEnds, label, edges, joined, pattern, catalogue};
+ghost use Rattle.packed.specs.Contents.{edgeCounts};
+ghost use Rattle.packed.specs.Reading.{Stands, Room, ReadsUpTo, ReadsBytesUpTo, JudgesUpTo};
+ghost use Rattle.packed.specs.Writing.{Writes, WritesBytes, JudgesFields};
+use crate::bits;
+use crate::field;
+use crate::reply::Field;
+use crate::reply::Part;
+use crate::reply::Refusal;
+use crate::reply::Two;
+
+// So many labels.
+fn read_labels(s: &[u8], start: usize, n: u32, file: u32, words: &mut [u32], first: usize) -> Part
+    requires { ⌜ Stands (now s) start first ⌝ }
+    ensures { λ r. ⌜ ReadsUpTo n (times n label) (now (s .entry)) start (now (words .entry)) first file r (now (words .exit)) ⌝ }
+{
+    let mut at = start;
+    let mut i = first;
+    let mut left = n;
+    while 0 < left {
+        let f = field::read_field(s, at, 5, 0, 32, Refusal::OutOfRange(file), file, words, i);
+        match f {
+            Field::Value(_) => {
+                at += 5;
+                i += 1;
+                left -= 1;
+            }
+            Field::Refused(x) => {
+                return Part::Refused(x);
+            }
+        }
+    }
+    Part::Upto(at, i)
+}
+
+// Whether the edge from a to b is among those with these ends.
+fn is_linked(ends: &[u32], a: u32, b: u32) -> bool
+    ensures { λ r. ⌜ r ≡ linked a b (now (ends .entry)) ⌝ }
+{
+    let mut i = 0;
+    while 1 < ends.len() - i {
+        if (ends[i] == a) & (ends[i + 1] == b) {
+            return true;
+        }
+        i += 2;
+    }
+    false
+}
+
+fn is_end(ends: &[u32], x: u32) -> bool
+    ensures { λ r. ⌜ r ≡ isEnd x (now (ends .entry)) ⌝ }
+{
+    let mut i = 0;
+    while i < ends.len() {
+        if ends[i] == x {
+            return true;
+        }
+        i += 1;
+    }
+    false
+}
+
+// Whether each node below n is an end.
+fn are_ends(ends: &[u32], n: u32) -> bool
+    ensures { λ r. ⌜ r ≡ allEnds n (now (ends .entry)) ⌝ }
+{
+    let mut all = true;
+    let mut x: u32 = 0;
+    while x < n {
+        all = all & is_end(ends, x);
+        x += 1;
+    }
+    all
+}
+
+// So many edges between so many nodes.
+fn read_edges(
+    s: &[u8],
+    start: usize,
+    nodes: u32,
+    number: u32,
+    file: u32,
+    words: &mut [u32],
+    first: usize,
+) -> Part
+    requires { ⌜ Stands (now s) start first × Room (now words) first (2 * number) ⌝ }
+    ensures { λ r. ⌜ ReadsUpTo (2 * number) (edges 4 nodes (joined nodes) number []) (now (s .entry)) start (now (words .entry)) first file r (now (words .exit)) ⌝ }
+{
+    let mut at = start;
+    let mut i = first;
+    let mut left = number;
+    while 0 < left {
+        let f = field::read_two(
+            s,
+            at,
+            4,
+            nodes as u64,
+            Refusal::NoSuchNode(file),
+            file,
+            words,
+            i,
+        );
+        match f {
+            Two::Values(a, b) => {
+                if is_linked(&words[first..i], a, b) {
+                    return Part::Refused(Refusal::DuplicateEdge(file));
+                }
+                at += 8;
+                i += 2;
+                left -= 1;
+            }
+            Two::Refused(x) => {
+                return Part::Refused(x);
+            }
+        }
+    }
+    if are_ends(&words[first..i], nodes) {
+        Part::Upto(at, i)
+    } else {
+        Part::Refused(Refusal::IsolatedNode(file))
+    }
+}
+
+// The fields of a pattern.
+fn read_fields(s: &[u8], start: usize, file: u32, words: &mut [u32], first: usize) -> Part
+    requires { ⌜ Stands (now s) start first × Room (now words) first 82 ⌝ }
+    ensures { λ r. ⌜ ReadsUpTo 82 pattern (now (s .entry)) start (now (words .entry)) first file r (now (words .exit)) ⌝ }
+{
+    let f = field::read_field(
+        s,
+        start,
+        5,
+        1,
+        17,
+        Refusal::OutOfRange(file),
+        file,
+        words,
+        first,
+    );
+    let nodes = match f {
+        Field::Value(v) => v,
+        Field::Refused(x) => {
+            return Part::Refused(x);
+        }
+    };
+    let g = field::read_field(
+        s,
+        start + 5,
+        6,
+        1,
+        33,
+        Refusal::OutOfRange(file),
+        file,
+        words,
+        first + 1,
+    );
+    let number = match g {
+        Field::Value(v) => v,
+        Field::Refused(x) => {
+            return Part::Refused(x);
+        }
+    };
+    let p = read_labels(s, start + 11, nodes, file, words, first + 2);
+    let Part::Upto(at, i) = p else {
+        return p;
+    };
+    read_edges(s, at, nodes, number, file, words, i)
+}
+
+// A pattern from a byte on: the next byte and the next word.
+pub fn read_pattern(s: &[u8], byte: usize, file: u32, words: &mut [u32], first: usize) -> Part
+    requires { ⌜ Stands (now s) (8 * byte) first × Room (now words) first 82 ⌝ }
+    ensures { λ r. ⌜ ReadsBytesUpTo 82 (whole pattern) (now (s .entry)) byte (now (words .entry)) first file r (now (words .exit)) ⌝ }
+{
+    let p = read_fields(s, 8 * byte, file, words, first);
+    let Part::Upto(at, i) = p else {
+        return p;
+    };
+    if bits::is_clear(s, at) {
+        Part::Upto((at + 7) / 8, i)
+    } else {
+        Part::Refused(Refusal::Trailing(file))
+    }
+}
+
+// A whole pattern, a file of its own: its content stands at the front of the words.
+pub fn judge_pattern(s: &[u8], words: &mut [u32]) -> Part
+    requires { ⌜ (length (now s) ≤ 65536) × Room (now words) 0 82 ⌝ }
+    ensures { λ r. ⌜ JudgesUpTo 82 (decode pattern (now (s .entry))) 1 r (now (words .entry)) (now (words .exit)) ⌝ }
+{
+    let p = read_pattern(s, 0, 1, words, 0);
+    let Part::Upto(byte, _) = p else {
+        return p;
+    };
+    if byte < s.len() {
+        return Part::Refused(Refusal::Trailing(1));
+    }
+    p
+}
+
+// So many labels.
+fn write_labels(
+    words: &[u32],
+    first: usize,
+    n: u32,
+    file: u32,
+    out: &mut [u8],
+    start: usize,
+) -> Part
+    requires { ⌜ (first ≤ length (now words)) × (start + 5 * n ≤ 2 ^ 20) ⌝ }
+    ensures { λ r. ⌜ Writes (times n label) (now (words .entry)) first (now (out .entry)) start (5 * n) file r (now (out .exit)) ⌝ }
+{
+    let mut i = first;
+    let mut at = start;
+    let mut left = n;
+    while 0 < left {
+        let f = field::write_field(words, i, 5, 0, 32, Refusal::OutOfRange(file), file, out, at);
+        match f {
+            Field::Value(_) => {
+                i += 1;
+                at += 5;
+                left -= 1;
+            }
+            Field::Refused(x) => {
+                return Part::Refused(x);
+            }
+        }
+    }
+    Part::Upto(at, i)
+}
+
+// So many edges between so many nodes.
+fn write_edges(
+    words: &[u32],
+    first: usize,
+    nodes: u32,
+    number: u32,
+    file: u32,
+    out: &mut [u8],
+    start: usize,
+) -> Part
+    requires { ⌜ (first ≤ length (now words)) × (nodes ≤ 16) × (start + 8 * number ≤ 2 ^ 20) ⌝ }
+    ensures { λ r. ⌜ Writes (edges 4 nodes (joined nodes) number []) (now (words .entry)) first (now (out .entry)) start (8 * number) file r (now (out .exit)) ⌝ }
+{
+    let mut i = first;
+    let mut at = start;
+    let mut left = number;
+    while 0 < left {
+        let f = field::write_two(
+            words,
+            i,
+            4,
+            nodes as u64,
+            Refusal::NoSuchNode(file),
+            file,
+            out,
+            at,
+        );
+        match f {
+            Two::Values(a, b) => {
+                if is_linked(&words[first..i], a, b) {
+                    return Part::Refused(Refusal::DuplicateEdge(file));
+                }
+                i += 2;
+                at += 8;
+                left -= 1;
+            }
+            Two::Refused(x) => {
+                return Part::Refused(x);
+            }
+        }
+    }
+    if are_ends(&words[first..i], nodes) {
+        Part::Upto(at, i)
+    } else {
+        Part::Refused(Refusal::IsolatedNode(file))
+    }
+}
+
+// The fields of a pattern.
+fn write_fields(words: &[u32], first: usize, file: u32, out: &mut [u8], start: usize) -> Part
+    requires { ⌜ (first ≤ length (now words)) × (start ≤ 2 ^ 19) ⌝ }
+    ensures { λ r. ⌜ Writes pattern (now (words .entry)) first (now (out .entry)) start 347 file r (now (out .exit)) ⌝ }
+{
+    let f = field::write_field(
+        words,
+        first,
+        5,
+        1,
+        17,
+        Refusal::OutOfRange(file),
+        file,
+        out,
+        start,
+    );
+    let nodes = match f {
+        Field::Value(v) => v,
+        Field::Refused(x) => {
+            return Part::Refused(x);
+        }
+    };
+    let g = field::write_field(
+        words,
+        first + 1,
+        6,
+        1,
+        33,
+        Refusal::OutOfRange(file),
+        file,
+        out,
+        start + 5,
+    );
+    let number = match g {
+        Field::Value(v) => v,
+        Field::Refused(x) => {
+            return Part::Refused(x);
+        }
+    };
+    let p = write_labels(words, first + 2, nodes, file, out, start + 11);
+    let Part::Upto(at, i) = p else {
+        return p;
+    };
+    write_edges(words, i, nodes, number, file, out, at)
+}
+
+// A pattern at the front of out: the next byte and the next word.
+pub fn write_pattern(words: &[u32], first: usize, file: u32, out: &mut [u8]) -> Part
+    requires { ⌜ first ≤ length (now words) ⌝ }
+    ensures { λ r. ⌜ WritesBytes (whole pattern) (now (words .entry)) first (now (out .entry)) 0 44 file r (now (out .exit)) ⌝ }
+{
+    let p = write_fields(words, first, file, out, 0);
+    let Part::Upto(at, i) = p else {
+        return p;
+    };
+    let byte = field::write_padding(out, at);
+    Part::Upto(byte, i)
+}
+
+// A whole pattern, a file of its own: its bytes stand at the front of out as far as it goes.
+pub fn judge_pattern_fields(words: &[u32], out: &mut [u8]) -> Part
+    ensures { λ r. ⌜ JudgesFields (encode pattern (now (words .entry))) 1 r (now (out .entry)) (now (out .exit)) ⌝ }
+{
+    let p = write_pattern(words, 0, 1, out);
+    let Part::Upto(_, i) = p else {
+        return p;
+    };
+    if i < words.len() {
+        return Part::Refused(Refusal::Trailing(1));
+    }
+    p
+}

@@ -1,0 +1,277 @@
+// Records. The codes of the edges are loaded into the workspace on the way, where they are sorted to find a repeat.
+ghost use mathlib.Core.Path.{_≡_};
+ghost use mathlib.Core.List.{List, []};
+ghost use Prim.Native.Nat.{ℕ, _+_, _*_, _^_, _<_, _≤_};
+ghost use lib.ListN.{length};
+ghost use Rattle.packed.specs.Format.{times, decode, encode};
+ghost use Rattle.packed.specs.Formats.{labels, edges, nothing, record′};
+ghost use Rattle.packed.specs.Reading.{Stands, Reads, Judges};
+ghost use Rattle.packed.specs.Writing.{Writes, JudgesFields};
+ghost use Rattle.packed.specs.Loading.{Loads, LoadsFields};
+use crate::field;
+use crate::reply::Field;
+use crate::reply::Loaded;
+use crate::reply::Part;
+use crate::reply::Refusal;
+use crate::reply::Two;
+use crate::sort;
+
+// The labels of so many nodes.
+fn read_labels(s: &[u8], start: usize, n: u32, words: &mut [u32], first: usize) -> Part
+    requires { ⌜ Stands (now s) start first ⌝ }
+    ensures { λ r. ⌜ Reads (times n labels) (now (s .entry)) start (now (words .entry)) first 3 r (now (words .exit)) ⌝ }
+{
+    let mut at = start;
+    let mut i = first;
+    let mut left = n;
+    while 0 < left {
+        let f = field::read_field(
+            s,
+            at,
+            32,
+            0,
+            0x1_0000_0000,
+            Refusal::OutOfRange(3),
+            3,
+            words,
+            i,
+        );
+        match f {
+            Field::Value(_) => {
+                at += 32;
+                i += 1;
+                left -= 1;
+            }
+            Field::Refused(x) => {
+                return Part::Refused(x);
+            }
+        }
+    }
+    Part::Upto(at, i)
+}
+
+// So many edges between so many nodes, whose codes go to the front of the workspace; repeats are not looked for.
+fn read_edges(
+    s: &[u8],
+    start: usize,
+    nodes: u32,
+    number: u32,
+    words: &mut [u32],
+    first: usize,
+    work: &mut [u32],
+) -> Loaded
+    requires { ⌜ Stands (now s) start first × (nodes ≤ 4096) × (number ≤ 8192) × (8192 ≤ length (now work)) ⌝ }
+    ensures { λ r. ⌜ Loads (edges 12 nodes nothing number []) (now (s .entry)) start (now (words .entry)) first 3 (now (work .entry)) r (now (words .exit)) (now (work .exit)) ⌝ }
+{
+    let mut at = start;
+    let mut i = first;
+    let mut k: usize = 0;
+    let mut left = number;
+    while 0 < left {
+        let f = field::read_two(s, at, 12, nodes as u64, Refusal::NoSuchNode(3), 3, words, i);
+        match f {
+            Two::Values(a, b) => {
+                work[k] = a * 4096 + b;
+                at += 24;
+                i += 2;
+                k += 1;
+                left -= 1;
+            }
+            Two::Refused(x) => {
+                return Loaded {
+                    part: Part::Refused(x),
+                    edges: k,
+                };
+            }
+        }
+    }
+    Loaded {
+        part: Part::Upto(at, i),
+        edges: k,
+    }
+}
+
+// A refusal before the edges.
+fn stopped(x: Refusal) -> Loaded
+    ensures { λ r. ⌜ (r .part ≡ Part.Refused x) × (r .edges ≡ 0) ⌝ }
+{
+    Loaded {
+        part: Part::Refused(x),
+        edges: 0,
+    }
+}
+
+// The fields of a record, repeats aside.
+fn read_fields(s: &[u8], words: &mut [u32], work: &mut [u32]) -> Loaded
+    requires { ⌜ (length (now s) ≤ 65536) × (8192 ≤ length (now work)) ⌝ }
+    ensures { λ r. ⌜ Loads record′ (now (s .entry)) 0 (now (words .entry)) 0 3 (now (work .entry)) r (now (words .exit)) (now (work .exit)) ⌝ }
+{
+    let f = field::read_field(s, 0, 13, 0, 4097, Refusal::OutOfRange(3), 3, words, 0);
+    let nodes = match f {
+        Field::Value(v) => v,
+        Field::Refused(x) => {
+            return stopped(x);
+        }
+    };
+    let g = field::read_field(s, 13, 14, 0, 8193, Refusal::OutOfRange(3), 3, words, 1);
+    let number = match g {
+        Field::Value(v) => v,
+        Field::Refused(x) => {
+            return stopped(x);
+        }
+    };
+    let p = read_labels(s, 27, nodes, words, 2);
+    match p {
+        Part::Upto(at, i) => read_edges(s, at, nodes, number, words, i, work),
+        Part::Refused(x) => stopped(x),
+    }
+}
+
+// A whole record: its content goes to the front of the words as far as they go. On acceptance the codes of its edges stand at the
+// front of the workspace, ascending.
+pub fn judge_record(s: &[u8], words: &mut [u32], work: &mut [u32]) -> Part
+    requires { ⌜ (length (now s) ≤ 65536) × (length (now work) ≡ 16384) ⌝ }
+    ensures { λ r. ⌜ Judges (decode record′ (now (s .entry))) 3 r (now (words .entry)) (now (words .exit)) ⌝ }
+{
+    let l = read_fields(s, words, work);
+    let k = l.edges;
+    let p = l.part;
+    if sort::repeats(work, k) {
+        return Part::Refused(Refusal::DuplicateEdge(3));
+    }
+    let Part::Upto(at, i) = p else {
+        return p;
+    };
+    field::close_file(s, at, i, 3)
+}
+
+// The labels of so many nodes.
+fn write_labels(words: &[u32], first: usize, n: u32, out: &mut [u8], start: usize) -> Part
+    requires { ⌜ (first ≤ length (now words)) × (start + 32 * n ≤ 2 ^ 20) ⌝ }
+    ensures { λ r. ⌜ Writes (times n labels) (now (words .entry)) first (now (out .entry)) start (32 * n) 3 r (now (out .exit)) ⌝ }
+{
+    let mut i = first;
+    let mut at = start;
+    let mut left = n;
+    while 0 < left {
+        let f = field::write_field(
+            words,
+            i,
+            32,
+            0,
+            0x1_0000_0000,
+            Refusal::OutOfRange(3),
+            3,
+            out,
+            at,
+        );
+        match f {
+            Field::Value(_) => {
+                i += 1;
+                at += 32;
+                left -= 1;
+            }
+            Field::Refused(x) => {
+                return Part::Refused(x);
+            }
+        }
+    }
+    Part::Upto(at, i)
+}
+
+// So many edges between so many nodes, whose codes go to the front of the workspace; repeats are not looked for.
+fn write_edges(
+    words: &[u32],
+    first: usize,
+    nodes: u32,
+    number: u32,
+    out: &mut [u8],
+    start: usize,
+    work: &mut [u32],
+) -> Loaded
+    requires { ⌜ (first ≤ length (now words)) × (nodes ≤ 4096) × (number ≤ 8192) × (start ≤ 2 ^ 20) × (8192 ≤ length (now work)) ⌝ }
+    ensures { λ r. ⌜ LoadsFields (edges 12 nodes nothing number []) (now (words .entry)) first (now (out .entry)) start (24 * number) 3 (now (work .entry)) r (now (out .exit)) (now (work .exit)) ⌝ }
+{
+    let mut i = first;
+    let mut at = start;
+    let mut k: usize = 0;
+    let mut left = number;
+    while 0 < left {
+        let f = field::write_two(
+            words,
+            i,
+            12,
+            nodes as u64,
+            Refusal::NoSuchNode(3),
+            3,
+            out,
+            at,
+        );
+        match f {
+            Two::Values(a, b) => {
+                work[k] = a * 4096 + b;
+                i += 2;
+                at += 24;
+                k += 1;
+                left -= 1;
+            }
+            Two::Refused(x) => {
+                return Loaded {
+                    part: Part::Refused(x),
+                    edges: k,
+                };
+            }
+        }
+    }
+    Loaded {
+        part: Part::Upto(at, i),
+        edges: k,
+    }
+}
+
+// The fields of a record, repeats aside.
+fn write_fields(words: &[u32], out: &mut [u8], work: &mut [u32]) -> Loaded
+    requires { ⌜ 8192 ≤ length (now work) ⌝ }
+    ensures { λ r. ⌜ LoadsFields record′ (now (words .entry)) 0 (now (out .entry)) 0 327707 3 (now (work .entry)) r (now (out .exit)) (now (work .exit)) ⌝ }
+{
+    let f = field::write_field(words, 0, 13, 0, 4097, Refusal::OutOfRange(3), 3, out, 0);
+    let nodes = match f {
+        Field::Value(v) => v,
+        Field::Refused(x) => {
+            return stopped(x);
+        }
+    };
+    let g = field::write_field(words, 1, 14, 0, 8193, Refusal::OutOfRange(3), 3, out, 13);
+    let number = match g {
+        Field::Value(v) => v,
+        Field::Refused(x) => {
+            return stopped(x);
+        }
+    };
+    let p = write_labels(words, 2, nodes, out, 27);
+    match p {
+        Part::Upto(at, i) => write_edges(words, i, nodes, number, out, at, work),
+        Part::Refused(x) => stopped(x),
+    }
+}
+
+// A whole record: its bytes go to the front of out as far as it goes.
+pub fn judge_record_fields(words: &[u32], out: &mut [u8], work: &mut [u32]) -> Part
+    requires { ⌜ length (now work) ≡ 16384 ⌝ }
+    ensures { λ r. ⌜ JudgesFields (encode record′ (now (words .entry))) 3 r (now (out .entry)) (now (out .exit)) ⌝ }
+{
+    let l = write_fields(words, out, work);
+    let k = l.edges;
+    let p = l.part;
+    if sort::repeats(work, k) {
+        return Part::Refused(Refusal::DuplicateEdge(3));
+    }
+    let Part::Upto(at, i) = p else {
+        return p;
+    };
+    if i < words.len() {
+        return Part::Refused(Refusal::Trailing(3));
+    }
+    let byte = field::write_padding(out, at);
+    Part::Upto(byte, i)
+}

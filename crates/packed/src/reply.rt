@@ -1,0 +1,63 @@
+// What calls and their parts answer.
+
+// Why a call refuses. The word and the number of each are those of the requirements; specs/Refusals.antt has the numbers and details.
+pub enum Refusal {
+    // 1, long: a file is over its most bytes
+    TooLong(u32),
+    // 2, short: the bits or the fields end before a field does
+    Truncated(u32),
+    // 3, count: a count, or another value of a field, lies outside its range
+    OutOfRange(u32),
+    // 4, stray: an edge's end is not a node
+    NoSuchNode(u32),
+    // 5, twice: an edge repeats an earlier one
+    DuplicateEdge(u32),
+    // 6, order: a pair doesn't exceed the one before
+    NotAscending(u32),
+    // 7, loose: a pattern's node is at no edge
+    IsolatedNode(u32),
+    // 8, uneven: a sheet has zero and nonzero counts
+    MixedCounts(u32),
+    // 9, tail: a padding bit isn't zero, or something follows the last field
+    Trailing(u32),
+    // 10, crowded: over 8,192 different pairs stand in a book
+    TooManyPairs(u32),
+    // 11, uncovered: the lowest unmatched edge
+    NotContained(u32),
+    // 12, no fit: how much the output takes
+    NoRoom(usize),
+    // 13, covered
+    Contained,
+    // 14, desk: fewer than 16,384 words were lent to work in
+    SmallWorkspace,
+}
+
+// What a call with one output answers: how much of it was written, or the refusal.
+pub enum Reply {
+    Done(usize),
+    Refused(Refusal),
+}
+
+// One field of a file.
+pub enum Field {
+    Value(u32),
+    Refused(Refusal),
+}
+
+// A part of a file: where it ends and which field comes next, or the refusal.
+pub enum Part {
+    Upto(usize, usize),
+    Refused(Refusal),
+}
+
+// Two fields of one kind, one after the other.
+pub enum Two {
+    Values(u32, u32),
+    Refused(Refusal),
+}
+
+// A part of a file that was read or written up to its edges, and how many edges were loaded.
+pub struct Loaded {
+    pub part: Part,
+    pub edges: usize,
+}
