@@ -1,0 +1,50 @@
+-- `cases::table_lines` is safe and ends: the measure is what is left to pass.
+use Prim.Native.Nat.{_-_}
+use borrow.Author.Needs.{needs}
+use Rattle.cases.proofs.table_lines.Statement.{statement}
+use Rattle.cases.proofs.table_lines.Tie as tie
+
+abbrev Inv-loop : tie.InvT-loop
+Inv-loop table n start₀ i₀ start i = Unit
+
+abbrev μ-loop : tie.MeasureT-loop
+μ-loop table n start₀ i₀ start i = n - i
+
+loop-holds : tie.Need-loop-holds Inv-loop μ-loop
+loop-holds c = search needs
+
+byte-at-requires : tie.Need-byte-at-requires Inv-loop μ-loop
+byte-at-requires c κs = search needs
+
+line-requires : tie.Need-line-requires Inv-loop μ-loop
+line-requires c κs = search needs
+
+plus-requires : tie.Need-plus-requires Inv-loop μ-loop
+plus-requires c κs = search needs
+
+add-i : tie.Need-add-i Inv-loop μ-loop
+add-i c = search needs
+
+loop-less : tie.Need-loop-less Inv-loop μ-loop
+loop-less c = search needs
+
+loop-again : tie.Need-loop-again Inv-loop μ-loop
+loop-again c = search needs
+
+returns : tie.Need-returns Inv-loop μ-loop
+returns c = search needs
+
+pub table-lines-spec : {M : Type 1} → statement M
+table-lines-spec =
+    tie.close
+    (tie.spec
+    Inv-loop
+    μ-loop
+    loop-holds
+    byte-at-requires
+    line-requires
+    plus-requires
+    add-i
+    loop-less
+    loop-again
+    returns)

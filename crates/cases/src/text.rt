@@ -1,0 +1,118 @@
+// What is printed.
+use crate::arrays::at;
+use crate::arrays::byte_at;
+use crate::arrays::byte_sum;
+use crate::arrays::sum;
+use crate::calls::Outcome;
+
+pub fn say(s: &[u8]) {
+    io::write_all(1, s);
+}
+
+pub fn number(n: usize) {
+    io::print_decimal(1, n as u64);
+}
+
+pub fn number32(n: u32) {
+    io::print_decimal(1, n as u64);
+}
+
+// The line up to a place, and what stands between it and the answer.
+pub fn prefix(s: &[u8], n: usize, what: &[u8]) {
+    if n <= s.len() {
+        say(&s[0..n]);
+        say(what);
+    }
+}
+
+fn spaced_number(n: u32) {
+    say(b" ");
+    number32(n);
+}
+
+fn spaced_byte(b: u8) {
+    say(b" ");
+    io::print_hex(1, b as u64, 2);
+}
+
+fn words(s: &[u32], n: usize) {
+    let mut i = 0;
+    while i < n {
+        spaced_number(at(s, i));
+        i += 1;
+    }
+}
+
+fn bytes(s: &[u8], n: usize) {
+    let mut i = 0;
+    while i < n {
+        spaced_byte(byte_at(s, i));
+        i += 1;
+    }
+}
+
+fn refusal(o: Outcome) {
+    say(b"refused ");
+    number32(o.number);
+    say(b" ");
+    number(o.value);
+}
+
+// Faults are told of only where there are some.
+fn end(o: Outcome) {
+    if o.faults != 0 {
+        say(b", faults ");
+        number(o.faults);
+    }
+    say(b"\n");
+}
+
+// What a reader answered, with all it wrote.
+pub fn words_written(o: Outcome, out: &[u32]) {
+    if o.number == 0 {
+        number(o.value);
+        say(b" words");
+        words(out, o.value);
+    } else {
+        refusal(o);
+    }
+    end(o);
+}
+
+pub fn bytes_written(o: Outcome, out: &[u8]) {
+    if o.number == 0 {
+        number(o.value);
+        say(b" bytes");
+        bytes(out, o.value);
+    } else {
+        refusal(o);
+    }
+    end(o);
+}
+
+// What a reader answered, with the sum of all it wrote.
+pub fn words_summed(name: &[u8], what: &[u8], o: Outcome, out: &[u32]) {
+    say(name);
+    say(what);
+    if o.number == 0 {
+        number(o.value);
+        say(b" words, sum ");
+        number32(sum(out, o.value));
+    } else {
+        refusal(o);
+    }
+    end(o);
+}
+
+pub fn bytes_summed(name: &[u8], what: &[u8], o: Outcome, out: &[u8]) {
+    say(name);
+    say(what);
+    if o.number == 0 {
+        number(o.value);
+        say(b" bytes, sum ");
+        number32(byte_sum(out, o.value));
+    } else {
+        refusal(o);
+    }
+    end(o);
+}

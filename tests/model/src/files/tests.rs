@@ -1,0 +1,303 @@
+use super::*;
+
+const ROOM: usize = 100_000;
+const WORK: usize = WORK_WORDS;
+
+const D: [u8; 8] = [0x20, 0x80, 0x08, 0x86, 0x02, 0x04, 0x26, 0x46];
+const D_FIELDS: [u32; 14] = [4, 4, 0, 1, 2, 3, 0, 1, 0, 2, 1, 3, 2, 3];
+
+const C: [u8; 17] = [
+    0x18, 0x10, 0x20, 0x08, 0x08, 0x18, 0x40, 0x08, 0xc0, 0x44, 0x80, 0x18, 0x40, 0x10, 0xc0, 0x44, 0x80,
+];
+const C_FIELDS: [u32; 25] = [3, 2, 1, 0, 1, 0, 1, 3, 2, 0, 1, 3, 0, 1, 1, 2, 3, 2, 0, 2, 3, 0, 1, 1, 2];
+
+/// Extract 1 of C alone.
+const SLOW: [u8; 6] = [0x18, 0x40, 0x08, 0xc0, 0x44, 0x80];
+/// Extract 0 of C alone, with one link.
+const ONE: [u8; 4] = [0x10, 0x20, 0x08, 0x08];
+
+const K6_SHEET: [u8; 10] = [0x00, 0x04, 0x00, 0x00, 0x04, 0x00, 0x10, 0x01, 0x00, 0x20];
+const K6_SHEET_FIELDS: [u32; 6] = [1, 0, 1, 1, 1, 2];
+
+fn no<T>(number: u32, detail: usize) -> Result<T, Refusal> {
+    refused(number, detail)
+}
+
+/// A pattern's fields, by counts that may be wrong.
+fn pattern_fields(items: u32, kinds: &[u32], links: u32, ends: &[u32]) -> Vec<u32> {
+    let mut fields = vec![items, links];
+    fields.extend(kinds);
+    fields.extend(ends);
+    fields
+}
+
+/// Bytes from fields of the widths given, zero bits up to the byte.
+fn packed(fields: &[(usize, u32)]) -> Vec<u8> {
+    let mut bits = String::new();
+    for &(width, value) in fields {
+        bits += &format!("{value:0width$b}");
+    }
+    while bits.len() % 8 != 0 {
+        bits.push('0');
+    }
+    (0..bits.len() / 8).map(|i| u8::from_str_radix(&bits[8 * i..8 * i + 8], 2).unwrap()).collect()
+}
+
+#[test]
+fn the_known_bytes() {
+    assert_eq!(read_pattern(&D, ROOM, WORK), Ok(D_FIELDS.to_vec()));
+    assert_eq!(write_pattern(&D_FIELDS, ROOM, WORK), Ok(D.to_vec()));
+    assert_eq!(read_catalogue(&C, ROOM, WORK), Ok(C_FIELDS.to_vec()));
+    assert_eq!(write_catalogue(&C_FIELDS, ROOM, WORK), Ok(C.to_vec()));
+    assert_eq!(read_sheet(&SLOW, &K6_SHEET, ROOM, WORK), Ok(K6_SHEET_FIELDS.to_vec()));
+    assert_eq!(write_sheet(&SLOW, &K6_SHEET_FIELDS, ROOM, WORK), Ok(K6_SHEET.to_vec()));
+    assert_eq!(read_sheet(&ONE, &[0, 0], ROOM, WORK), Ok(vec![0]));
+    assert_eq!(write_sheet(&ONE, &[0], ROOM, WORK), Ok(vec![0, 0]));
+}
+
+#[test]
+fn a_record_in_bytes() {
+    let fields = [4, 3, 1, 2, 8, 2, 0, 1, 0, 3, 1, 2];
+    let widths = [13, 14, 32, 32, 32, 32, 12, 12, 12, 12, 12, 12];
+    let pieces: Vec<(usize, u32)> = widths.into_iter().zip(fields).collect();
+    let bytes = packed(&pieces);
+    assert_eq!(bytes.len(), 29);
+    assert_eq!(write_record(&fields, ROOM, WORK), Ok(bytes.clone()));
+    assert_eq!(read_record(&bytes, ROOM, WORK), Ok(fields.to_vec()));
+}
+
+#[test]
+fn a_field_is_read_then_judged() {
+    assert_eq!(read_pattern(&[0x88], ROOM, WORK), no(COUNT, PATTERN));
+    assert_eq!(read_pattern(&[0x08], ROOM, WORK), no(SHORT, PATTERN));
+    assert_eq!(read_pattern(&[], ROOM, WORK), no(SHORT, PATTERN));
+    assert_eq!(read_catalogue(&[], ROOM, WORK), no(SHORT, CATALOGUE));
+    assert_eq!(read_record(&[], ROOM, WORK), no(SHORT, RECORD));
+    assert_eq!(read_sheet(&ONE, &[], ROOM, WORK), no(SHORT, BOOK));
+    // A stray from whose to is cut off: with three items two bits are left for it.
+    let cut = |from| packed(&[(5, 3), (6, 1), (15, 0), (4, from)]);
+    assert_eq!(read_pattern(&cut(3), ROOM, WORK), no(STRAY, PATTERN));
+    assert_eq!(read_pattern(&cut(2), ROOM, WORK), no(SHORT, PATTERN));
+    let record = packed(&[(13, 1), (14, 1), (32, 0), (12, 1)]);
+    assert_eq!(read_record(&record, ROOM, WORK), no(STRAY, RECORD));
+    // A record's counts stand before its kinds: 4,096 items that aren't there, and 8,193 links.
+    assert_eq!(read_record(&packed(&[(13, 4_096), (14, 8_193)]), ROOM, WORK), no(COUNT, RECORD));
+    // A pair's 6 needs its to.
+    assert_eq!(read_sheet(&ONE, &packed(&[(14, 2), (12, 1), (12, 1), (12, 0)]), ROOM, WORK), no(SHORT, BOOK));
+}
+
+#[test]
+fn counts_of_a_pattern() {
+    let kinds = [0; 17];
+    let ends: Vec<u32> = (0..17).flat_map(|i| [i, 0]).collect();
+    assert!(write_pattern(&pattern_fields(16, &kinds[..16], 16, &ends[..32]), ROOM, WORK).is_ok());
+    assert_eq!(write_pattern(&pattern_fields(17, &kinds, 17, &ends), ROOM, WORK), no(COUNT, PATTERN));
+    assert_eq!(write_pattern(&pattern_fields(0, &[], 1, &[0, 0]), ROOM, WORK), no(COUNT, PATTERN));
+    assert_eq!(write_pattern(&pattern_fields(1, &[0], 0, &[]), ROOM, WORK), no(COUNT, PATTERN));
+    assert_eq!(write_pattern(&pattern_fields(1, &[0], 33, &[0, 0]), ROOM, WORK), no(COUNT, PATTERN));
+    assert_eq!(write_pattern(&pattern_fields(1, &[32], 1, &[0, 0]), ROOM, WORK), no(COUNT, PATTERN));
+    assert_eq!(write_pattern(&pattern_fields(1, &[31], 1, &[0, 0]), ROOM, WORK).unwrap().len(), 3);
+    assert_eq!(read_pattern(&packed(&[(5, 16), (6, 0)]), ROOM, WORK), no(COUNT, PATTERN));
+    assert_eq!(read_pattern(&packed(&[(5, 16), (6, 33)]), ROOM, WORK), no(COUNT, PATTERN));
+}
+
+#[test]
+fn links_of_a_pattern() {
+    let kinds = [0, 0, 0];
+    assert_eq!(write_pattern(&pattern_fields(2, &kinds[..2], 1, &[2, 0]), ROOM, WORK), no(STRAY, PATTERN));
+    assert_eq!(write_pattern(&pattern_fields(2, &kinds[..2], 1, &[0, 2]), ROOM, WORK), no(STRAY, PATTERN));
+    assert_eq!(write_pattern(&pattern_fields(2, &kinds[..2], 1, &[0, 1 << 20]), ROOM, WORK), no(STRAY, PATTERN));
+    assert_eq!(write_pattern(&pattern_fields(2, &kinds[..2], 1, &[2]), ROOM, WORK), no(STRAY, PATTERN));
+    assert_eq!(write_pattern(&pattern_fields(2, &kinds[..2], 2, &[0, 1, 0, 1]), ROOM, WORK), no(TWICE, PATTERN));
+    assert_eq!(write_pattern(&pattern_fields(2, &kinds[..2], 2, &[0, 1, 1, 0]), ROOM, WORK).unwrap().len(), 5);
+    assert_eq!(write_pattern(&pattern_fields(3, &kinds, 1, &[0, 1]), ROOM, WORK), no(LOOSE, PATTERN));
+    // 7 stands before the padding and before what follows.
+    let mut loose = packed(&[(5, 3), (6, 1), (5, 0), (5, 0), (5, 0), (4, 0), (4, 1), (6, 1)]);
+    assert_eq!(read_pattern(&loose, ROOM, WORK), no(LOOSE, PATTERN));
+    loose.push(1);
+    assert_eq!(read_pattern(&loose, ROOM, WORK), no(LOOSE, PATTERN));
+}
+
+#[test]
+fn what_follows_a_pattern() {
+    let mut bytes = SLOW.to_vec();
+    bytes[5] |= 1;
+    assert_eq!(read_pattern(&bytes, ROOM, WORK), no(TAIL, PATTERN));
+    let mut bytes = D.to_vec();
+    bytes.push(0);
+    assert_eq!(read_pattern(&bytes, ROOM, WORK), no(TAIL, PATTERN));
+    let mut fields = D_FIELDS.to_vec();
+    fields.push(0);
+    assert_eq!(write_pattern(&fields, ROOM, WORK), no(TAIL, PATTERN));
+    assert_eq!(write_pattern(&D_FIELDS[..13], ROOM, WORK), no(SHORT, PATTERN));
+    assert_eq!(write_pattern(&[], ROOM, WORK), no(SHORT, PATTERN));
+}
+
+#[test]
+fn a_catalogue() {
+    assert_eq!(read_catalogue(&[0], ROOM, WORK), Ok(vec![0]));
+    assert_eq!(write_catalogue(&[0], ROOM, WORK), Ok(vec![0]));
+    assert_eq!(read_catalogue(&[17 << 3], ROOM, WORK), no(COUNT, CATALOGUE));
+    assert_eq!(read_catalogue(&[0, 0], ROOM, WORK), no(TAIL, CATALOGUE));
+    // Its three bits stand before its first extract.
+    assert_eq!(read_catalogue(&[0x09], ROOM, WORK), no(TAIL, CATALOGUE));
+    assert_eq!(read_catalogue(&[0x08], ROOM, WORK), no(SHORT, CATALOGUE));
+    assert_eq!(read_catalogue(&[0x08, 0x88], ROOM, WORK), no(COUNT, CATALOGUE));
+    // An extract's padding stands before the next one.
+    let mut bytes = C.to_vec();
+    bytes[4] |= 1;
+    bytes[5] = 0x88;
+    assert_eq!(read_catalogue(&bytes, ROOM, WORK), no(TAIL, CATALOGUE));
+    bytes[4] &= !1;
+    assert_eq!(read_catalogue(&bytes, ROOM, WORK), no(COUNT, CATALOGUE));
+    assert_eq!(write_catalogue(&[17], ROOM, WORK), no(COUNT, CATALOGUE));
+    assert_eq!(write_catalogue(&[1], ROOM, WORK), no(SHORT, CATALOGUE));
+    assert_eq!(write_catalogue(&[0, 0], ROOM, WORK), no(TAIL, CATALOGUE));
+}
+
+#[test]
+fn a_record() {
+    assert_eq!(write_record(&[0, 0], ROOM, WORK), Ok(vec![0, 0, 0, 0]));
+    assert_eq!(write_record(&[0, 1, 0, 0], ROOM, WORK), no(STRAY, RECORD));
+    assert_eq!(write_record(&[0, 1], ROOM, WORK), no(SHORT, RECORD));
+    assert_eq!(write_record(&[1, 0, u32::MAX], ROOM, WORK).unwrap().len(), 8);
+    assert_eq!(write_record(&[4_097, 0], ROOM, WORK), no(COUNT, RECORD));
+    assert_eq!(write_record(&[0, 8_193], ROOM, WORK), no(COUNT, RECORD));
+    assert_eq!(write_record(&[1, 2, 0, 0, 0, 0, 0], ROOM, WORK), no(TWICE, RECORD));
+    assert_eq!(write_record(&[0], ROOM, WORK), no(SHORT, RECORD));
+    assert_eq!(write_record(&[0, 0, 0], ROOM, WORK), no(TAIL, RECORD));
+}
+
+#[test]
+fn a_sheet() {
+    // The contents of which a value's own fault stands first.
+    assert_eq!(write_sheet(&ONE, &[2, 5, 0, 4, 5_000], ROOM, WORK), no(COUNT, BOOK));
+    assert_eq!(write_sheet(&SLOW, &[0, 1, 0, 5_000], ROOM, WORK), no(COUNT, BOOK));
+    assert_eq!(write_sheet(&ONE, &[2, 5, 0, 4, 4_095], ROOM, WORK), no(ORDER, BOOK));
+    assert_eq!(write_sheet(&ONE, &[2, 5, 0, 5, 0], ROOM, WORK), no(ORDER, BOOK));
+    assert_eq!(write_sheet(&ONE, &[2, 5, 1, 5, 0], ROOM, WORK), no(ORDER, BOOK));
+    assert!(write_sheet(&ONE, &[2, 5, 0, 5, 1], ROOM, WORK).is_ok());
+    assert!(write_sheet(&ONE, &[2, 4, 9, 5, 0], ROOM, WORK).is_ok());
+    assert_eq!(write_sheet(&SLOW, &[0, 1, 0, 0], ROOM, WORK), no(UNEVEN, BOOK));
+    assert_eq!(write_sheet(&SLOW, &[1, 0, 0, 0], ROOM, WORK), no(UNEVEN, BOOK));
+    // A fault in a later list wins over 8.
+    assert_eq!(write_sheet(&SLOW, &[0, 1, 0], ROOM, WORK), no(SHORT, BOOK));
+    assert_eq!(write_sheet(&SLOW, &[0, 8_193], ROOM, WORK), no(COUNT, BOOK));
+    assert_eq!(write_sheet(&SLOW, &[0, 2, 1, 0, 0, 0], ROOM, WORK), no(ORDER, BOOK));
+    // Each list starts anew.
+    assert!(write_sheet(&SLOW, &[1, 5, 5, 1, 0, 0], ROOM, WORK).is_ok());
+    assert_eq!(write_sheet(&ONE, &[], ROOM, WORK), no(SHORT, BOOK));
+    assert_eq!(write_sheet(&ONE, &[0, 0], ROOM, WORK), no(TAIL, BOOK));
+    // 8 stands before the padding.
+    let mut uneven = packed(&[(14, 0), (14, 1), (12, 0), (12, 0), (4, 1)]);
+    assert_eq!(read_sheet(&SLOW, &uneven, ROOM, WORK), no(UNEVEN, BOOK));
+    uneven[2] = 0;
+    uneven[3] = 0;
+    uneven.truncate(4);
+    assert_eq!(read_sheet(&SLOW, &uneven, ROOM, WORK), Ok(vec![0, 0]));
+    assert_eq!(read_sheet(&ONE, &[0, 1], ROOM, WORK), no(TAIL, BOOK));
+    assert_eq!(read_sheet(&ONE, &[0, 0, 0], ROOM, WORK), no(TAIL, BOOK));
+    // The pattern stands first.
+    assert_eq!(read_sheet(&[0x88], &[0; 65_537], ROOM, WORK), no(COUNT, PATTERN));
+    assert_eq!(read_sheet(&[0; 45], &[0, 0], ROOM, WORK), no(LONG, PATTERN));
+    assert_eq!(write_sheet(&[0; 45], &[], ROOM, WORK), no(LONG, PATTERN));
+    assert_eq!(read_sheet(&ONE, &[0; 65_537], ROOM, WORK), no(LONG, BOOK));
+}
+
+#[test]
+fn a_book() {
+    assert_eq!(read_book(&[0], &[], 0, WORK), Ok(vec![]));
+    assert_eq!(write_book(&[0], &[], 0, WORK), Ok(vec![]));
+    assert_eq!(read_book(&[0], &[0], ROOM, WORK), no(TAIL, BOOK));
+    assert_eq!(write_book(&[0], &[0], ROOM, WORK), no(TAIL, BOOK));
+    let fields = [1, 0, 1, 1, 0, 1, 1, 1, 2, 0, 0];
+    let book = write_book(&C, &fields, ROOM, WORK).unwrap();
+    assert_eq!(book.len(), 5 + 10 + 4);
+    assert_eq!(book[5..15], K6_SHEET);
+    assert_eq!(read_book(&C, &book, ROOM, WORK), Ok(fields.to_vec()));
+    // Each sheet's padding stands before the next sheet.
+    let mut torn = book.clone();
+    torn[4] |= 1;
+    torn[5] = 0xff;
+    assert_eq!(read_book(&C, &torn, ROOM, WORK), no(TAIL, BOOK));
+    torn[4] &= !1;
+    assert_eq!(read_book(&C, &torn, ROOM, WORK), no(COUNT, BOOK));
+    assert_eq!(read_book(&[0x88], &book, ROOM, WORK), no(COUNT, CATALOGUE));
+    assert_eq!(read_book(&[0; 706], &book, ROOM, WORK), no(LONG, CATALOGUE));
+    assert_eq!(read_book(&C, &[0; 65_537], ROOM, WORK), no(LONG, BOOK));
+}
+
+/// The catalogue of extract 0 of C, twice.
+fn twice_one() -> Vec<u8> {
+    let mut catalogue = vec![2 << 3];
+    catalogue.extend(ONE);
+    catalogue.extend(ONE);
+    catalogue
+}
+
+/// Two lists of 4,097 pairs that share `shared`.
+fn two_lists(shared: u32) -> Vec<u32> {
+    let mut fields = vec![4_097];
+    for i in 0..4_097 {
+        fields.extend([i / 4_096, i % 4_096]);
+    }
+    fields.push(4_097);
+    for i in 4_097 - shared..8_194 - shared {
+        fields.extend([i / 4_096, i % 4_096]);
+    }
+    fields
+}
+
+#[test]
+fn a_crowded_book() {
+    let catalogue = twice_one();
+    let full = two_lists(2);
+    let crowded = two_lists(1);
+    let bytes = write_book(&catalogue, &full, ROOM, WORK).unwrap();
+    assert_eq!(read_book(&catalogue, &bytes, ROOM, WORK), Ok(full.clone()));
+    assert_eq!(write_book(&catalogue, &crowded, ROOM, WORK), no(CROWDED, BOOK));
+    // 10 stands before 12, and behind what is left over.
+    assert_eq!(write_book(&catalogue, &crowded, 0, WORK), no(CROWDED, BOOK));
+    let mut more = crowded.clone();
+    more.push(0);
+    assert_eq!(write_book(&catalogue, &more, ROOM, WORK), no(TAIL, BOOK));
+    // A lone sheet is never crowded.
+    let lone = write_pattern(&[1, 2, 0, 0, 0, 0, 0], ROOM, WORK);
+    assert_eq!(lone, no(TWICE, PATTERN));
+    let two_links = write_pattern(&[2, 2, 0, 0, 0, 1, 1, 0], ROOM, WORK).unwrap();
+    assert!(write_sheet(&two_links, &crowded, ROOM, WORK).is_ok());
+}
+
+#[test]
+fn room_and_desk() {
+    assert_eq!(read_pattern(&D, 13, WORK), no(NO_FIT, 14));
+    assert!(read_pattern(&D, 14, WORK).is_ok());
+    assert_eq!(write_pattern(&D_FIELDS, 7, WORK), no(NO_FIT, 8));
+    assert!(write_pattern(&D_FIELDS, 8, WORK).is_ok());
+    assert_eq!(read_pattern(&[], 0, WORK - 1), no(DESK, 0));
+    assert_eq!(write_book(&[], &[], 0, 0), no(DESK, 0));
+    // A fault in the file stands before 12.
+    assert_eq!(read_pattern(&[0x88], 0, WORK), no(COUNT, PATTERN));
+    // Over 65,536 bytes are 12 however much is lent: 3 lists of 8,192 pairs, counted exactly.
+    let pattern = write_pattern(&[2, 3, 0, 0, 0, 0, 0, 1, 1, 0], ROOM, WORK).unwrap();
+    let mut fields = Vec::new();
+    for _ in 0..3 {
+        fields.push(8_192);
+        for i in 0..8_192 {
+            fields.extend([i / 4_096, i % 4_096]);
+        }
+    }
+    let length = (14 * 3 + 24 * 3 * 8_192usize).div_ceil(8);
+    assert_eq!(write_sheet(&pattern, &fields, 1_000_000, WORK), no(NO_FIT, length));
+    assert_eq!(length, 73_734);
+}
+
+#[test]
+fn the_most_bytes() {
+    assert_eq!(read_pattern(&[0; 45], ROOM, WORK), no(LONG, PATTERN));
+    assert_eq!(read_pattern(&[0; 44], ROOM, WORK), no(COUNT, PATTERN));
+    assert_eq!(read_catalogue(&[0; 706], ROOM, WORK), no(LONG, CATALOGUE));
+    assert_eq!(read_catalogue(&[0; 705], ROOM, WORK), no(TAIL, CATALOGUE));
+    assert_eq!(read_record(&[0; 40_965], ROOM, WORK), no(LONG, RECORD));
+    assert_eq!(read_record(&[0; 40_964], ROOM, WORK), no(TAIL, RECORD));
+}

@@ -1,0 +1,5 @@
+//! A plain model of the requirements, made apart from the proved crates: slow, and short enough to be held
+//! against the text sentence by sentence. One module for each section.
+
+pub mod cases;
+pub mod files;
