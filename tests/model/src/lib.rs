@@ -2,4 +2,9 @@
 //! against the text sentence by sentence. One module for each section.
 
 pub mod cases;
+pub mod crosscheck;
+mod drawing;
 pub mod files;
+pub mod matching;
+pub mod quotes;
+pub mod quoting;

@@ -1,10 +1,13 @@
-//! `model cases` prints what the program `cases` has to print, from the same table.
+//! `model cases` prints what the program `cases` has to print, from the same table; `model crosscheck` and
+//! `model quotes` what the programs of these names have to print.
 
 const TABLE: &str = concat!(env!("CARGO_MANIFEST_DIR"), "/../../crates/cases/stdin");
 
 fn main() {
     match std::env::args().nth(1).as_deref() {
         Some("cases") => model::cases::print(&std::fs::read_to_string(TABLE).expect(TABLE)),
-        _ => eprintln!("usage: model cases"),
+        Some("crosscheck") => model::crosscheck::print(),
+        Some("quotes") => model::quotes::print(),
+        _ => eprintln!("usage: model cases | crosscheck | quotes"),
     }
 }

@@ -1,0 +1,54 @@
+-- `harness::arrays::byte_differences` is safe and ends, and meets its contract.
+use Prim.Native.Nat.{_-_}
+use borrow.Author.Needs.{needs}
+use Rattle.harness.proofs.arrays.byte_differences.Statement.{statement}
+use Rattle.harness.proofs.arrays.byte_differences.Tie as tie
+
+abbrev Inv-loop : tie.InvT-loop
+Inv-loop a b n count₀ i₀ count i = Unit
+
+abbrev μ-loop : tie.MeasureT-loop
+μ-loop a b n count₀ i₀ count i = n - i
+
+loop-holds : tie.Need-loop-holds Inv-loop μ-loop
+loop-holds c = search needs
+
+byte-at-requires : tie.Need-byte-at-requires Inv-loop μ-loop
+byte-at-requires c κs = search needs
+
+byte-at-requires-2 : tie.Need-byte-at-requires-2 Inv-loop μ-loop
+byte-at-requires-2 c κs = search needs
+
+is-other-byte-requires : tie.Need-is-other-byte-requires Inv-loop μ-loop
+is-other-byte-requires c κs = search needs
+
+plus-requires : tie.Need-plus-requires Inv-loop μ-loop
+plus-requires c κs = search needs
+
+add-i : tie.Need-add-i Inv-loop μ-loop
+add-i c = search needs
+
+loop-less : tie.Need-loop-less Inv-loop μ-loop
+loop-less c = search needs
+
+loop-again : tie.Need-loop-again Inv-loop μ-loop
+loop-again c = search needs
+
+returns : tie.Need-returns Inv-loop μ-loop
+returns c = search needs
+
+pub byte-differences-spec : {M : Type 1} → statement M
+byte-differences-spec =
+    tie.close
+    (tie.spec
+    Inv-loop
+    μ-loop
+    loop-holds
+    byte-at-requires
+    byte-at-requires-2
+    is-other-byte-requires
+    plus-requires
+    add-i
+    loop-less
+    loop-again
+    returns)

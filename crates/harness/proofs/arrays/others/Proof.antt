@@ -1,0 +1,50 @@
+-- `harness::arrays::others` is safe and ends, and meets its contract.
+use Prim.Native.Nat.{_-_}
+use borrow.Author.Needs.{needs}
+use Rattle.harness.proofs.arrays.others.Statement.{statement}
+use Rattle.harness.proofs.arrays.others.Tie as tie
+
+abbrev Inv-loop : tie.InvT-loop
+Inv-loop s from to x count₀ i₀ count i = Unit
+
+abbrev μ-loop : tie.MeasureT-loop
+μ-loop s from to x count₀ i₀ count i = to - i
+
+loop-holds : tie.Need-loop-holds Inv-loop μ-loop
+loop-holds c = search needs
+
+at-requires : tie.Need-at-requires Inv-loop μ-loop
+at-requires c κs = search needs
+
+is-other-requires : tie.Need-is-other-requires Inv-loop μ-loop
+is-other-requires c κs = search needs
+
+plus-requires : tie.Need-plus-requires Inv-loop μ-loop
+plus-requires c κs = search needs
+
+add-i : tie.Need-add-i Inv-loop μ-loop
+add-i c = search needs
+
+loop-less : tie.Need-loop-less Inv-loop μ-loop
+loop-less c = search needs
+
+loop-again : tie.Need-loop-again Inv-loop μ-loop
+loop-again c = search needs
+
+returns : tie.Need-returns Inv-loop μ-loop
+returns c = search needs
+
+pub others-spec : {M : Type 1} → statement M
+others-spec =
+    tie.close
+    (tie.spec
+    Inv-loop
+    μ-loop
+    loop-holds
+    at-requires
+    is-other-requires
+    plus-requires
+    add-i
+    loop-less
+    loop-again
+    returns)

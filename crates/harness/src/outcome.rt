@@ -1,0 +1,80 @@
+// What a call answered, and what it left behind.
+use crate::arrays;
+use packed::reply::Refusal;
+use packed::reply::Reply;
+
+// The number 0 and the written length, or a refusal's number and detail. Beside it, at how many places what was lent is not as it should be.
+pub struct Outcome {
+    pub number: u32,
+    pub value: usize,
+    pub faults: usize,
+}
+
+fn refused(number: u32, detail: u32) -> Outcome {
+    Outcome {
+        number,
+        value: detail as usize,
+        faults: 0,
+    }
+}
+
+pub fn refusal(r: Refusal) -> Outcome {
+    match r {
+        Refusal::TooLong(d) => refused(1, d),
+        Refusal::Truncated(d) => refused(2, d),
+        Refusal::OutOfRange(d) => refused(3, d),
+        Refusal::NoSuchNode(d) => refused(4, d),
+        Refusal::DuplicateEdge(d) => refused(5, d),
+        Refusal::NotAscending(d) => refused(6, d),
+        Refusal::IsolatedNode(d) => refused(7, d),
+        Refusal::MixedCounts(d) => refused(8, d),
+        Refusal::Trailing(d) => refused(9, d),
+        Refusal::TooManyPairs(d) => refused(10, d),
+        Refusal::NotContained(d) => refused(11, d),
+        Refusal::NoRoom(n) => Outcome {
+            number: 12,
+            value: n,
+            faults: 0,
+        },
+        Refusal::Contained => refused(13, 0),
+        Refusal::SmallWorkspace => refused(14, 0),
+    }
+}
+
+pub fn answered(r: Reply) -> Outcome {
+    match r {
+        Reply::Done(n) => Outcome {
+            number: 0,
+            value: n,
+            faults: 0,
+        },
+        Reply::Refused(x) => refusal(x),
+    }
+}
+
+// How much was written.
+pub fn written(o: Outcome) -> usize {
+    if o.number == 0 { o.value } else { 0 }
+}
+
+// The first 16,384 words are zero and those beyond as they came; for 14 all are as they came.
+pub fn work_faults(number: u32, work: &[u32]) -> usize {
+    if number == 14 {
+        return arrays::others(work, 0, work.len(), arrays::MARK);
+    }
+    arrays::plus(
+        arrays::others(work, 0, 16384, 0),
+        arrays::others(work, 16384, work.len(), arrays::MARK),
+    )
+}
+
+// The writers of `packed` that programs make their files with, with words of their own to work in.
+pub fn write_pattern(fields: &[u32], out: &mut [u8]) -> Outcome {
+    let mut work = arrays::work_words();
+    answered(packed::write_pattern(fields, out, &mut work))
+}
+
+pub fn write_catalogue(fields: &[u32], out: &mut [u8]) -> Outcome {
+    let mut work = arrays::work_words();
+    answered(packed::write_catalogue(fields, out, &mut work))
+}

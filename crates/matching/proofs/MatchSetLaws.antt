@@ -1,0 +1,99 @@
+-- The match sets edge by edge, the order of a graph's edges, and what a sheet needs of a list.
+use mathlib.Core.Path.{_≡_, refl, sym, ap, subst, _∙_}
+use mathlib.Core.List.{List, []}
+use Prim.Native.Nat.{ℕ, _^_, _≤_, _<_}
+use native.Mathlib.Omega.{arith}
+use lib.ListN.{length, getD}
+use Rattle.packed.specs.Formats.{code}
+use Rattle.packed.specs.Distinct.{distinct, Increasing}
+use Rattle.matching.specs.Lists.{In, gather, each}
+use Rattle.matching.specs.Simulation.{Pair, Pattern, Graph, sim, total, row, rowOf, ascending, matchSets}
+use Rattle.matching.proofs.ListLaws.{cond-case, keep-length, gather-in, each-in, in-each, each-same, length-each, getD-each, in-at}
+use Rattle.matching.proofs.MatchLaws.{Matches, row-say, row-by, Subgraph, subgraph-fewer}
+use Rattle.matching.proofs.CodeLaws.{ascending-say, ascending-same, ascending-increasing, ascending-length, increasing-at, distinct-fewer}
+
+-- the ends of each edge have 12 bits
+abbrev pub Narrow : Graph → Type 0
+Narrow G = (f : Pair) → In f (G .edges) → (f .0 < 4096) × (f .1 < 4096)
+
+module _ (P : Pattern) (G : Graph) where
+  pub sets-each : matchSets P G ≡ each (λ e. ascending (rowOf P G e)) (P .edges)
+  unfolding matchSets rowOf
+  sets-each = refl
+
+  pub sets-length : length (matchSets P G) ≡ length (P .edges)
+  sets-length = ap length sets-each ∙ length-each (λ e. ascending (rowOf P G e)) (P .edges)
+
+  -- the match set of the edge number i
+  pub set-at : (i : ℕ) → i < length (P .edges) → getD (matchSets P G) i [] ≡ ascending (rowOf P G (getD (P .edges) i (0, 0)))
+  set-at i h = ap (λ ls. getD ls i []) sets-each ∙ getD-each (λ e. ascending (rowOf P G e)) (P .edges) i (0, 0) [] h
+
+  -- each match set is that of an edge
+  pub sets-in : {l : List ℕ} → In l (matchSets P G) → (e : Pair) × In e (P .edges) × (l ≡ ascending (rowOf P G e))
+  sets-in {l} i = each-in _ (P .edges) (subst (λ ls. In l ls) sets-each i)
+
+  pub in-sets : {e : Pair} → In e (P .edges) → In (ascending (rowOf P G e)) (matchSets P G)
+  in-sets {e} i = subst (λ ls. In (ascending (rowOf P G e)) ls) (sym sets-each) (in-each (λ g. ascending (rowOf P G g)) i)
+
+  pub row-length : (e : Pair) → length (rowOf P G e) ≤ length (G .edges)
+  unfolding rowOf row
+  row-length e = cond-case (λ l. length l ≤ length (G .edges)) (total P (sim P G)) (row G (sim P G) e) [] (λ t. keep-length _ (G .edges)) (λ t. omega arith)
+
+-- ---- the same edges in another order
+pub subgraph-matches : (P : Pattern) (G H : Graph) → Subgraph G H → {e f : Pair} → Matches P G e f → Matches P H e f
+subgraph-matches P G H w {e} {f} m = record {
+  whole = λ u l. let p = m .whole u l in (p .0, subgraph-fewer P G H w u (p .0) (p .1));
+  edge = w .more f (m .edge);
+  tail = subgraph-fewer P G H w (e .0) (f .0) (m .tail);
+  head = subgraph-fewer P G H w (e .1) (f .1) (m .head);
+}
+
+-- graphs with the same labels and the same edges, in whatever order, have the same match sets
+pub order-free : (P : Pattern) (G H : Graph) → Subgraph G H → Subgraph H G → matchSets P G ≡ matchSets P H
+order-free P G H a b = sets-each P G ∙ each-same _ _ (P .edges) (λ e i. set e) ∙ sym (sets-each P H)
+  where
+    set : (e : Pair) → ascending (rowOf P G e) ≡ ascending (rowOf P H e)
+    set e =
+        ascending-same (rowOf P G e) (rowOf P H e)
+        (λ f i. row-by P H (subgraph-matches P G H a (row-say P G i)))
+        (λ f i. row-by P G (subgraph-matches P H G b (row-say P H i)))
+
+-- ---- what a sheet needs of a list: its codes rise, have 24 bits, and are at most 8192
+pub record Listable (l : List ℕ) : Type 0 where
+  pub rises : (i j : ℕ) → i < j → j < length l → getD l i 0 < getD l j 0
+  pub small : (i : ℕ) → i < length l → getD l i 0 < 2 ^ 24
+  pub most : length l ≤ 8192
+
+pub listable-by : (l : List ℕ) → Increasing l → ((c : ℕ) → In c l → c < 2 ^ 24) → length l ≤ 8192 → Listable l
+listable-by l n s h = record { rises = increasing-at l n; small = λ i k. s _ (in-at l i 0 k); most = h }
+
+pub sets-listable : (P : Pattern) (G : Graph) → Narrow G → length (G .edges) ≤ 8192 → (l : List ℕ) → In l (matchSets P G) → Listable l
+sets-listable P G n h l i = of-edge (sets-in P G i)
+  where
+    of-edge : (e : Pair) × In e (P .edges) × (l ≡ ascending (rowOf P G e)) → Listable l
+    of-edge (e, j, q) = subst Listable (sym q) (listable-by (ascending (rowOf P G e)) (ascending-increasing (rowOf P G e)) small most)
+      where
+        small : (c : ℕ) → In c (ascending (rowOf P G e)) → c < 2 ^ 24
+        small c k = let r = ascending-say _ k in let z = n (r .0) (row-say P G (r .1) .edge) in omega arith
+
+        most : length (ascending (rowOf P G e)) ≤ 8192
+        most = omega (arith, ascending-length (rowOf P G e), row-length P G e)
+
+-- ---- a book made from a graph has at most as many different pairs as the graph has edges
+pub set-edge : (P : Pattern) (G : Graph) {l : List ℕ} {c : ℕ} → In l (matchSets P G) → In c l → In c (each (λ f. code (f .0) (f .1)) (G .edges))
+set-edge P G {l} {c} i j = of-list (sets-in P G i)
+  where
+    of-edge : (e : Pair) → (f : Pair) × In f (rowOf P G e) × (c ≡ code (f .0) (f .1)) → In c (each (λ f. code (f .0) (f .1)) (G .edges))
+    of-edge e (f, k, q) = subst (λ z. In z (each (λ f. code (f .0) (f .1)) (G .edges))) (sym q) (in-each (λ f. code (f .0) (f .1)) (row-say P G k .edge))
+
+    of-list : (e : Pair) × In e (P .edges) × (l ≡ ascending (rowOf P G e)) → In c (each (λ f. code (f .0) (f .1)) (G .edges))
+    of-list (e, k, q) = of-edge e (ascending-say _ (subst (λ z. In c z) q j))
+
+pub book-pairs : (Ps : List Pattern) (G : Graph) → length (distinct (gather (λ P. gather (λ l. l) (matchSets P G)) Ps)) ≤ length (G .edges)
+book-pairs Ps G =
+    omega (
+      arith,
+      distinct-fewer (gather (λ P. gather (λ l. l) (matchSets P G)) Ps) (each (λ f. code (f .0) (f .1)) (G .edges))
+          (λ c i. let p = gather-in _ Ps i in let r = gather-in (λ l. l) (matchSets (p .0) G) (p .2) in set-edge (p .0) G (r .1) (r .2)),
+      length-each (λ f. code (f .0) (f .1)) (G .edges),
+    )

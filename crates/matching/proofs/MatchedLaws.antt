@@ -1,0 +1,183 @@
+-- From the masks of the edges, which the steps of matching leave, to the match sets.
+use Prim.Native.Nat.{ℕ, zero, suc, _+_, _/_, _%_, _<_}
+use mathlib.Core.Path.{_≡_, refl, sym, ap, ap₂, subst, _∙_}
+use mathlib.Core.Bool.{Bool, true, false}
+use mathlib.Core.List.{List, [], _∷_}
+use lib.ListN.{length, take, drop, getD, length-drop}
+use lib.Seq.{getD-take, getD-drop, length-take-le}
+use lib.Dec.{T}
+use native.Mathlib.Omega.{arith}
+use Rattle.packed.specs.Format.{pick}
+use Rattle.packed.specs.Formats.{code}
+use Rattle.packed.specs.Distinct.{distinct, BelowHead, Increasing}
+use Rattle.packed.specs.Matches.{marks, marked, markedFrom, allOrNone, matchesOf}
+use Rattle.packed.specs.Matches.{Marked as MarkedPairs}
+use Rattle.packed.specs.declared.by_value.Pattern.{Pattern as Given}
+use Rattle.packed.proofs.DistinctLaws.{distinct-own}
+use Rattle.packed.proofs.SheetLaws.{Rising, rising-none, rising-next, Fit, fit-next}
+use Rattle.packed.proofs.MatchLaws.{fit-lists}
+use Rattle.matching.specs.Lists.{_and_, In, each, keep, put}
+use Rattle.matching.specs.Simulation.{Pair, Pattern, Graph, bit, has, sim, row, ascending, matchSets}
+use Rattle.matching.specs.Steps.{upTo, patternIn, graphIn, Fair, Ready, Codes, Edges, Simulated, Marks}
+use Rattle.matching.specs.Matched.{Proper, Rises, Matched}
+use Rattle.matching.proofs.ListLaws.{and-left, and-right, both, same-test}
+use Rattle.matching.proofs.SimLaws.{has-in, in-has}
+use Rattle.matching.proofs.AllOrNone.{sets-all-or-none}
+
+-- ---- lists that masks mark
+below-rising : {c : ℕ} {cs : List ℕ} → Rising (suc c) cs → BelowHead c cs
+unfolding BelowHead
+below-rising rising-none = tt
+below-rising (rising-next h s r) = h
+
+pub rising-increasing : {least : ℕ} {l : List ℕ} → Rising least l → Increasing l
+unfolding Increasing
+rising-increasing rising-none = tt
+rising-increasing (rising-next h s r) = (below-rising r, rising-increasing r)
+
+fit-first : {l : List ℕ} {ls : List (List ℕ)} → Fit (l ∷ ls) → Rising 0 l × Fit ls
+fit-first (fit-next r h f) = (r, f)
+
+-- edges by their codes, in order
+abbrev pub coded : List Pair → List ℕ
+coded l = each (λ f. code (f .0) (f .1)) l
+
+coded-put : (b : Bool) (x : Pair) (l : List Pair) → coded (put b x l) ≡ pick b (code (x .0) (x .1) ∷ coded l) (coded l)
+unfolding each
+coded-put true x l = refl
+coded-put false x l = refl
+
+-- the codes that are marked with e are those of the edges that pass a test which says the same
+marked-kept : (e : ℕ) (ps qs : List ℕ) (h : ℕ → Pair) (t : Pair → Bool) → length ps ≡ length qs
+    → ((i : ℕ) → i < length ps → marks e (getD qs i 0) ≡ t (h i)) → ((i : ℕ) → i < length ps → getD ps i 0 ≡ code (h i .0) (h i .1))
+    → marked e ps qs ≡ coded (keep t (upTo h (length ps)))
+unfolding marked upTo keep
+marked-kept e [] qs h t l m c = unfold each in refl
+marked-kept e (p ∷ ps) [] h t l m c = absurd (omega arith)
+marked-kept e (p ∷ ps) (q ∷ qs) h t l m c =
+    ap (λ (b : Bool). pick b (p ∷ marked e ps qs) (marked e ps qs)) (m 0 (omega arith))
+    ∙ ap₂ (λ (x : ℕ) (l : List ℕ). pick (t (h 0)) (x ∷ l) l) (c 0 (omega arith))
+    (marked-kept e ps qs (λ i. h (suc i)) t (omega arith) (λ i j. m (suc i) (omega arith)) (λ i j. c (suc i) (omega arith)))
+    ∙ sym (coded-put (t (h 0)) (h 0) (keep t (upTo (λ i. h (suc i)) (length ps))))
+
+-- the lists of so many edges of a pattern, each by itself
+from-each : (e k : ℕ) (ps qs : List ℕ) (g : ℕ → Pair) (f : Pair → List ℕ) → Fit (markedFrom e k ps qs)
+    → ((j : ℕ) → j < k → (i : ℕ) → i ≡ e + j → distinct (marked i ps qs) ≡ f (g j)) → markedFrom e k ps qs ≡ each f (upTo g k)
+unfolding markedFrom upTo each
+from-each e zero ps qs g f t h = refl
+from-each e (suc k) ps qs g f t h =
+    let c = fit-first t in
+    ap₂ (λ (l : List ℕ) (ls : List (List ℕ)). l ∷ ls)
+    (sym (distinct-own (marked e ps qs) (rising-increasing (c .0))) ∙ h 0 (omega arith) e (omega arith))
+    (from-each (suc e) k ps qs (λ j. g (suc j)) f (c .1) (λ j l i q. h (suc j) (omega arith) i (omega arith)))
+
+marks-bit : (e q : ℕ) → marks e q ≡ bit q e
+unfolding marks bit
+marks-bit e q = refl
+
+-- ---- what stays in the workspace
+pub edges-twice : {w w₁ w₂ : List ℕ} → Edges w w₁ → Edges w₁ w₂ → Edges w w₂
+edges-twice a b = record { long = b .long ∙ a .long; same = λ k l. b .same k l ∙ a .same k l }
+
+-- the simulation leaves what marking the edges needs
+pub codes-simulated : {p : Given} {s : List ℕ} {n m : ℕ} {w w₁ : List ℕ} → Ready s n m w → Simulated p s n m w w₁ → Codes n m w₁
+codes-simulated {m = m} r t =
+    let e = t .edges .same in
+    let q = r .edges in
+    record {
+      nodes = r .nodes;
+      edges = r .edges;
+      long = t .edges .long ∙ r .long;
+      codes = λ i l. rw (e i l) (r .codes i l);
+      from = λ i l. rw (e i (omega arith)) (r .from i l);
+      to = λ i l. rw (e i (omega arith)) (r .to i l);
+      small = t .means .small;
+    }
+
+-- ---- the match sets
+module _ {p : Given} {s : List ℕ} {n m : ℕ} {w w₁ w₂ : List ℕ} (fair : Fair p) (ready : Ready s n m w) (t : Simulated p s n m w w₁) (k : Marks p n m w₁ w₂) where
+  abbrev P : Pattern
+  P = patternIn p
+
+  abbrev G : Graph
+  G = graphIn s n m w
+
+  abbrev ends : ℕ → Pair
+  ends e = (getD (p .from) e 0, getD (p .to) e 0)
+
+  abbrev edge : ℕ → Pair
+  edge i = (getD w i 0 / 4096, getD w i 0 % 4096)
+
+  abbrev passes : ℕ → Pair → Bool
+  passes e f = has (ends e .0, f .0) (sim P G) and has (ends e .1, f .1) (sim P G)
+
+  abbrev codes : List ℕ
+  codes = take m w₂
+
+  abbrev masks : List ℕ
+  masks = take m (drop 8192 w₂)
+
+  stays : Edges w w₂
+  stays = edges-twice (t .edges) (k .edges)
+
+  long : length w₂ ≡ 16384
+  long = stays .long ∙ ready .long
+
+  -- the mask of an edge names an edge of the pattern exactly if the ends of both are partners
+  test : (e i : ℕ) → e < p .edges → i < m → bit (getD w₂ (8192 + i) 0) e ≡ passes e (edge i)
+  test e i l h = same-test _ _ to from
+    where
+      q : getD w₁ i 0 ≡ getD w i 0
+      q = let b = ready .edges in t .edges .same i (omega arith)
+
+      to : T (bit (getD w₂ (8192 + i) 0) e) → T (passes e (edge i))
+      to z =
+          let f = fair .edges in
+          let r = k .to i e h (omega arith) z in
+          both _ _
+          (in-has (subst (λ x. In (ends e .0, x / 4096) (sim P G)) q (t .means .to _ _ (subst (λ x. x / 4096 < n) (sym q) (ready .from i h)) (r .1))))
+          (in-has (subst (λ x. In (ends e .1, x % 4096) (sim P G)) q (t .means .to _ _ (subst (λ x. x % 4096 < n) (sym q) (ready .to i h)) (r .2))))
+
+      from : T (passes e (edge i)) → T (bit (getD w₂ (8192 + i) 0) e)
+      from z =
+          k .from i e h l
+          (subst (λ x. T (bit (getD w₁ (8192 + x / 4096) 0) (ends e .0))) (sym q) (t .means .from _ _ (has-in _ (and-left _ _ z)) .1))
+          (subst (λ x. T (bit (getD w₁ (8192 + x % 4096) 0) (ends e .1))) (sym q) (t .means .from _ _ (has-in _ (and-right _ _ z)) .1))
+
+  row-marked : (e : ℕ) → e < p .edges → distinct (marked e codes masks) ≡ ascending (row G (sim P G) (ends e))
+  unfolding ascending row graphIn
+  row-marked e l =
+      let b = ready .edges in
+      let o = long in
+      let a : length codes ≡ m = length-take-le m w₂ (omega arith) in
+      let d : length masks ≡ m = length-take-le m (drop 8192 w₂) (omega (arith, length-drop 8192 w₂)) in
+      ap distinct (marked-kept e codes masks edge (passes e) (a ∙ sym d)
+      (λ i h.
+      let j : i < m = omega arith in
+      marks-bit e (getD masks i 0) ∙ ap (λ (x : ℕ). bit x e) (getD-take m (drop 8192 w₂) i 0 j ∙ getD-drop 8192 w₂ i 0) ∙ test e i l j)
+      (λ i h.
+      let j : i < m = omega arith in
+      getD-take m w₂ i 0 j ∙ stays .same i (omega arith) ∙ omega arith)
+      ∙ ap (λ (x : ℕ). coded (keep (passes e) (upTo edge x))) a)
+
+  module _ (proper : Proper p) (rises : Rises m w) where
+    pairs-marked : MarkedPairs m w₂
+    pairs-marked =
+        let b = ready .edges in
+        let o = long in
+        record {
+          long = omega arith;
+          most = ready .edges;
+          small = λ i l. rw (stays .same i (omega arith)) (ready .codes i (omega arith));
+          rises = λ i j l h. rw (stays .same i (omega arith), stays .same j (omega arith)) (rises i j l h);
+        }
+
+    sets-marked : matchesOf m (p .edges) w₂ ≡ matchSets P G
+    unfolding matchesOf patternIn
+    sets-marked =
+        ap allOrNone (from-each 0 (p .edges) codes masks ends (λ e. ascending (row G (sim P G) e)) (fit-lists m (p .edges) w₂ pairs-marked)
+        (λ j l i q. let z : i ≡ j = omega arith in rw z (row-marked j l)))
+        ∙ sym (sets-all-or-none P G (proper .sound))
+
+    pub matches : Matched p s n m w w₂
+    matches = record { edges = stays; marked = pairs-marked; sets = sets-marked }

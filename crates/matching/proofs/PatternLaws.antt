@@ -1,0 +1,149 @@
+-- An accepted pattern by value and as content: the two mean the same pattern.
+use Prim.Native.Nat.{ℕ, zero, suc, _+_, _*_, _/_, _%_, _<_}
+use mathlib.Core.Path.{_≡_, sym, ap, ap₂, subst, _∙_}
+use mathlib.Core.Logic.{_⊎_, inl, inr}
+use mathlib.Core.Bool.{Bool}
+use mathlib.Core.List.{List, _∷_, _++_}
+use lib.ListN.{length, take, drop, getD, List·getD-append}
+use lib.Seq.{getD-take, getD-append-add, length-take-le, take-at, drop-at, ext-getD}
+use lib.Dec.{T}
+use native.Mathlib.Omega.{arith}
+use Rattle.packed.specs.Contents.{nodesOf, edgesOf}
+use Rattle.packed.specs.Plain.{PlainPattern, fromAt, toAt}
+use Rattle.packed.specs.ByValue.{HoldsPattern}
+use Rattle.packed.specs.declared.by_value.Pattern.{Pattern as Given}
+use Rattle.matching.specs.Simulation.{Pair, Pattern, edgesIn, patternOf, sound}
+use Rattle.matching.specs.Steps.{upTo, patternIn, Fair}
+use Rattle.matching.specs.Matched.{Proper}
+use Rattle.matching.proofs.UpToLaws.{upTo-same}
+use Rattle.matching.proofs.MatchLaws.{Sound, sound-by}
+use Rattle.matching.proofs.EdgeLaws.{edgeAt, edgesIn-upTo, edgesIn-length, edgesIn-at, at-edgesIn}
+
+abbrev made : List ℕ → List Pair → Pattern
+made l es = record { labels = l; edges = es }
+
+module _ {ws : List ℕ} {bs : List Bool} (q : PlainPattern ws bs) where
+  abbrev all : List ℕ
+  all = q .nodes ∷ q .number ∷ (q .labels ++ q .ends)
+
+  ends-long : length (q .ends) ≡ 2 * q .number
+  ends-long = q .edges .two-each
+
+  -- the content by its places
+  label-in : (i u : ℕ) → i ≡ suc (suc u) → u < q .nodes → getD ws i 0 ≡ getD (q .labels) u 0
+  label-in i u e h =
+      ap₂ (λ (l : List ℕ) (j : ℕ). getD l j 0) (q .content) e ∙ List·getD-append (q .labels) (q .ends) 0 u (omega (arith, q .label-each))
+
+  end-in : (i j : ℕ) → i ≡ suc (suc (q .nodes + j)) → getD ws i 0 ≡ getD (q .ends) j 0
+  end-in i j e =
+      ap₂ (λ (l : List ℕ) (k : ℕ). getD l k 0) (q .content) (e ∙ ap (λ (k : ℕ). suc (suc (k + j))) (sym (q .label-each)))
+      ∙ getD-append-add (q .labels) (q .ends) j 0
+
+  pub nodes-in : nodesOf ws ≡ q .nodes
+  nodes-in = ap (λ (l : List ℕ). getD l 0 0) (q .content)
+
+  pub edges-in : edgesOf ws ≡ q .number
+  edges-in = ap (λ (l : List ℕ). getD l 1 0) (q .content)
+
+  -- what the content means
+  pub pattern-is : patternOf ws ≡ made (q .labels) (edgesIn (q .ends))
+  unfolding patternOf
+  pattern-is =
+      let z : 2 + q .nodes ≡ suc (suc (q .nodes)) = omega arith in
+      let a : take (nodesOf ws) (drop 2 ws) ≡ q .labels =
+      ap (λ (l : List ℕ). take (getD l 0 0) (drop 2 l)) (q .content) ∙ take-at (q .labels) (q .ends) (q .nodes) (q .label-each) in
+      let b : drop (2 + nodesOf ws) ws ≡ q .ends =
+      ap (λ (l : List ℕ). drop (2 + getD l 0 0) l) (q .content)
+      ∙ ap (λ (k : ℕ). drop k all) z
+      ∙ drop-at (q .labels) (q .ends) (q .nodes) (q .label-each) in
+      ap₂ (λ (l m : List ℕ). made l (edgesIn m)) a b
+
+  -- each end is a node, and each node is an end of an edge
+  sound-made : Sound (made (q .labels) (edgesIn (q .ends)))
+  sound-made =
+      record {
+        ends = λ e i.
+            let r = edgesIn-at (q .ends) (q .number) ends-long i in
+            let l = r .below in
+            let n = q .label-each in
+            let a = q .edges .are-nodes (2 * r .at) (omega (arith, ends-long)) in
+            let b = q .edges .are-nodes (2 * r .at + 1) (omega (arith, ends-long)) in
+            let c : (fromAt (q .ends) (r .at) < length (q .labels)) × (toAt (q .ends) (r .at) < length (q .labels)) = (omega arith, omega arith) in
+            subst (λ f. (f .0 < length (q .labels)) × (f .1 < length (q .labels))) (sym (r .holds)) c;
+        touched = λ u l.
+            let r = q .met u (omega (arith, q .label-each)) in
+            let i : ℕ = r .0 in
+            let j : i / 2 < q .number = omega (arith, r .1, ends-long) in
+            (edgeAt (q .ends) (i / 2), at-edgesIn (q .ends) (q .number) ends-long (i / 2) j, which u i (i % 2) (omega arith) (omega arith) (r .2));
+      }
+    where
+      which : (u i r : ℕ) → r < 2 → i ≡ 2 * (i / 2) + r → getD (q .ends) i 0 ≡ u → (fromAt (q .ends) (i / 2) ≡ u) ⊎ (toAt (q .ends) (i / 2) ≡ u)
+      which u i zero l z e = inl (ap (λ (k : ℕ). getD (q .ends) k 0) (let y : 2 * (i / 2) ≡ i = omega arith in y) ∙ e)
+      which u i (suc zero) l z e = inr (ap (λ (k : ℕ). getD (q .ends) k 0) (let y : 2 * (i / 2) + 1 ≡ i = omega arith in y) ∙ e)
+      which u i (suc (suc r)) l z e = absurd (omega arith)
+
+  pub sound-of : T (sound (patternOf ws))
+  sound-of = subst (λ P. T (sound P)) (sym pattern-is) (sound-by (made (q .labels) (edgesIn (q .ends))) sound-made)
+
+  pub edges-many : length (patternOf ws .edges) ≡ edgesOf ws
+  edges-many = ap (λ (P : Pattern). length (P .edges)) pattern-is ∙ edgesIn-length (q .ends) (q .number) ends-long ∙ sym edges-in
+
+  module _ {p : Given} (h : HoldsPattern ws p) where
+    nodes-are : p .nodes ≡ q .nodes
+    nodes-are = h .nodes ∙ nodes-in
+
+    edges-are : p .edges ≡ q .number
+    edges-are = h .edges ∙ edges-in
+
+    label-at : (u : ℕ) → u < q .nodes → getD (p .labels) u 0 ≡ getD (q .labels) u 0
+    label-at u l = h .labels .each u (omega (arith, nodes-in)) ∙ label-in (2 + 1 * u) u (omega arith) l
+
+    from-at : (e : ℕ) → e < q .number → getD (p .from) e 0 ≡ fromAt (q .ends) e
+    from-at e l = h .from .each e (omega (arith, edges-in)) ∙ end-in (2 + nodesOf ws + 2 * e) (2 * e) (omega (arith, nodes-in))
+
+    to-at : (e : ℕ) → e < q .number → getD (p .to) e 0 ≡ toAt (q .ends) e
+    to-at e l = h .to .each e (omega (arith, edges-in)) ∙ end-in (3 + nodesOf ws + 2 * e) (2 * e + 1) (omega (arith, nodes-in))
+
+    end-below : (j : ℕ) → j < 2 * q .number → getD (q .ends) j 0 < p .nodes
+    end-below j l = omega (arith, nodes-are, q .edges .are-nodes j (omega (arith, ends-long)))
+
+    pub fair-by : Fair p
+    fair-by =
+        record {
+          nodes = omega (arith, nodes-are, q .most-nodes);
+          edges = omega (arith, edges-are, q .most-edges);
+          labels-long = h .labels .long;
+          from-long = h .from .long;
+          to-long = h .to .long;
+          labels = λ u l. let k : u < q .nodes = omega (arith, nodes-are) in rw (label-at u k) (q .are-labels u (omega (arith, q .label-each)));
+          from = λ e l. let k : e < q .number = omega (arith, edges-are) in rw (from-at e k) (end-below (2 * e) (omega arith));
+          to = λ e l. let k : e < q .number = omega (arith, edges-are) in rw (to-at e k) (end-below (2 * e + 1) (omega arith));
+        }
+
+    abbrev labels-front : List ℕ
+    labels-front = take (p .nodes) (p .labels)
+
+    front-long : length labels-front ≡ p .nodes
+    front-long = length-take-le (p .nodes) (p .labels) (omega (arith, fair-by .nodes, h .labels .long))
+
+    labels-same : labels-front ≡ q .labels
+    labels-same =
+        ext-getD 0 labels-front (q .labels) (front-long ∙ nodes-are ∙ sym (q .label-each))
+        (λ i l. getD-take (p .nodes) (p .labels) i 0 (omega (arith, front-long)) ∙ label-at i (omega (arith, front-long, nodes-are)))
+
+    abbrev ends-by : ℕ → Pair
+    ends-by e = (getD (p .from) e 0, getD (p .to) e 0)
+
+    edges-same : upTo ends-by (p .edges) ≡ edgesIn (q .ends)
+    edges-same =
+        ap (upTo ends-by) edges-are
+        ∙ upTo-same ends-by (edgeAt (q .ends)) (q .number) (λ i l. λ z. (from-at i l z, to-at i l z))
+        ∙ sym (edgesIn-upTo (q .ends) (q .number) ends-long)
+
+    -- by value it means the same
+    pub pattern-same : patternIn p ≡ patternOf ws
+    unfolding patternIn
+    pattern-same = ap₂ made labels-same edges-same ∙ sym pattern-is
+
+    pub proper-by : Proper p
+    proper-by = record { some = omega (arith, edges-are, q .some-edges); sound = subst (λ P. T (sound P)) (sym pattern-same) sound-of }

@@ -1,0 +1,88 @@
+-- `sim` is a simulation, and every simulation lies in it.
+use mathlib.Core.Path.{_≡_, sym, subst}
+use mathlib.Core.List.{List}
+use Prim.Native.Nat.{ℕ, _<_}
+use lib.ListN.{length, getD}
+use lib.Dec.{T, eqb→eq, eqb-refl, ltb→lt, lt→ltb}
+use Rattle.matching.specs.Lists.{In, keep}
+use Rattle.matching.specs.Simulation.{Pair, same, has, pairs, bit, Pattern, Graph, fits, follows, sim, IsSim}
+use Rattle.matching.proofs.ListLaws.{and-left, and-right, both, use-if, make-if, in-cast, every-in, in-every, some-in, in-some, keep-in, in-keep, in-gather, in-each, in-below}
+use Rattle.matching.proofs.GreatestLaws.{greatest-part, greatest-ok, greatest-all}
+
+-- pairs
+pub same-eq : (a b : Pair) → T (same a b) → a ≡ b
+unfolding same
+same-eq a b h = λ i. (eqb→eq (a .0) (b .0) (and-left _ _ h) i, eqb→eq (a .1) (b .1) (and-right _ _ h) i)
+
+pub same-refl : (a : Pair) → T (same a a)
+unfolding same
+same-refl a = both _ _ (eqb-refl (a .0)) (eqb-refl (a .1))
+
+pub has-in : (a : Pair) {l : List Pair} → T (has a l) → In a l
+unfolding has
+has-in a {l} h = let r = some-in (same a) l h in in-cast (sym (same-eq a (r .0) (r .2))) (r .1)
+
+pub in-has : {a : Pair} {l : List Pair} → In a l → T (has a l)
+unfolding has
+in-has {a} i = in-some (same a) i (same-refl a)
+
+pub in-pairs : (n m u v : ℕ) → u < n → v < m → In (u, v) (pairs n m)
+unfolding pairs
+in-pairs n m u v hu hv = in-gather _ (in-below n u hu) (in-each _ (in-below m v hv))
+
+-- what a fit says
+pub record Fits (P : Pattern) (G : Graph) (u v : ℕ) : Type 0 where
+  pub left : u < length (P .labels)
+  pub right : v < length (G .labels)
+  pub label : T (bit (getD (G .labels) v 0) (getD (P .labels) u 0))
+
+module _ (P : Pattern) (G : Graph) where
+  pub fits-say : {u v : ℕ} → T (fits P G (u, v)) → Fits P G u v
+  unfolding fits
+  fits-say {u} {v} h = record {
+    left = ltb→lt u _ (and-left _ _ h);
+    right = ltb→lt v _ (and-left _ _ (and-right _ _ h));
+    label = and-right _ _ (and-right _ _ h);
+  }
+
+  pub fits-by : {u v : ℕ} → Fits P G u v → T (fits P G (u, v))
+  unfolding fits
+  fits-by {u} {v} f = both _ _ (lt→ltb u _ (f .left)) (both _ _ (lt→ltb v _ (f .right)) (f .label))
+
+  -- what it is to follow
+  pub follows-say : (l : List Pair) {u v : ℕ} → T (follows P G l (u, v)) → (w : ℕ) → In (u, w) (P .edges) → (z : ℕ) × In (v, z) (G .edges) × In (w, z) l
+  unfolding follows
+  follows-say l {u} {v} t w j =
+      let r = some-in _ (G .edges) (use-if _ _ (every-in _ t j) (eqb-refl u)) in
+      (r .0 .1, subst (λ z. In (z, r .0 .1) (G .edges)) (eqb→eq (r .0 .0) v (and-left _ _ (r .2))) (r .1), has-in _ (and-right _ _ (r .2)))
+
+  pub follows-by : (l : List Pair) {u v : ℕ} → ((w : ℕ) → In (u, w) (P .edges) → (z : ℕ) × In (v, z) (G .edges) × In (w, z) l) → T (follows P G l (u, v))
+  unfolding follows
+  follows-by l {u} {v} f =
+      in-every _ (P .edges) λ e i. make-if _ _ λ t.
+      let j = f (e .1) (subst (λ z. In (z, e .1) (P .edges)) (eqb→eq (e .0) u t) i) in
+      in-some _ (j .1) (both _ _ (eqb-refl v) (in-has (j .2)))
+
+  -- where the search starts
+  pub in-start : {u v : ℕ} → T (fits P G (u, v)) → In (u, v) (keep (fits P G) (pairs (length (P .labels)) (length (G .labels))))
+  in-start {u} {v} t = let f = fits-say {u = u} {v = v} t in in-keep _ (in-pairs _ _ u v (f .left) (f .right)) t
+
+  pub sim-is : IsSim P G (λ u v. In (u, v) (sim P G))
+  unfolding sim
+  sim-is = record {
+    fit = λ u v i. keep-in _ _ (greatest-part _ _ (u, v) i) .1;
+    follow = λ u v i. follows-say _ (greatest-ok (follows P G) _ (u, v) i);
+  }
+
+  pub sim-most : (R : ℕ → ℕ → Type 0) → IsSim P G R → (u v : ℕ) → R u v → In (u, v) (sim P G)
+  unfolding sim
+  sim-most R s u v r =
+      greatest-all (follows P G) (λ x. R (x .0) (x .1))
+      (λ l f x q. follows-by l λ w i. let n = s .follow (x .0) (x .1) q w i in (n .0, n .1, f (w, n .0) (n .2)))
+      _
+      (λ x q. in-start (s .fit (x .0) (x .1) q))
+      (u, v) r
+
+  -- what a program needs that prunes in its own order: it may drop what is not followed, and it may stop at a simulation
+  pub sim-kept : (R : ℕ → ℕ → Type 0) → ((a b : ℕ) → In (a, b) (sim P G) → R a b) → (u v : ℕ) → In (u, v) (sim P G) → (w : ℕ) → In (u, w) (P .edges) → (z : ℕ) × In (v, z) (G .edges) × R w z
+  sim-kept R f u v i w j = let n = sim-is .follow u v i w j in (n .0, n .1, f w (n .0) (n .2))

@@ -1,0 +1,90 @@
+-- `matching::calls::make_book_of` meets its contract.
+use mathlib.Core.Path.{refl}
+use native.Mathlib.Omega.{arith}
+use lib.ListN.{length}
+use Rattle.packed.specs.Formats.{record′}
+use Rattle.packed.specs.Calls.{fitFile}
+use Rattle.packed.proofs.CallLaws.{read-finds, overFile-no, body-over, body-refused}
+use Rattle.matching.specs.Simulation.{graphOf}
+use Rattle.matching.specs.Search.{bookBytes, viewSheets}
+use Rattle.matching.proofs.BookLaws.{bookable-by, sized-filled, sized-again, sized-fits}
+use Rattle.matching.proofs.AnswerFits.{fitted-tight, fitted-given, book-found}
+use borrow.Author.Needs.{needs}
+use Rattle.matching.proofs.calls.make_book_of.Statement.{statement}
+use Rattle.matching.proofs.calls.make_book_of.Tie as tie
+
+returns : tie.Need-returns
+returns c =
+    let a = c .before .before .before .before .before .args in
+    λ cs e. body-over 40964 3 record′ (a .«record» .now) (λ rs. fitFile (length (a .out .now)) (bookBytes (viewSheets cs (graphOf rs)))) (a .out .now) (c .if1 .taken)
+
+load-record-requires : tie.Need-load-record-requires
+load-record-requires c κs = search needs
+
+enum-known-g : tie.Need-enum-known-g
+enum-known-g c = search needs
+
+book-size-requires : tie.Need-book-size-requires
+book-size-requires c κs =
+    let h = rw (c .before .before .g .given .1) at (c .before .before .before .before .before .before .load-record .ensures) in
+    bookable-by (c .before .before .before .before .before .before .before .before .before .before .before .before .before .pre .1) h (omega (arith, c .before .before .before .before .before .before .before .before .if1 .left))
+
+same-length : tie.Need-same-length
+same-length c = search needs
+
+returns-2 : tie.Need-returns-2
+returns-2 c =
+    let a = c .before .before .before .before .before .before .before .before .before .before .before .before .before .before .before .before .before .args in
+    let h = rw (c .before .before .before .before .before .before .g .given .1) at (c .before .before .before .before .before .before .before .before .before .before .load-record .ensures) in
+    λ cs e. fitted-tight (a .out .now) _ (book-found cs (length (a .out .now)) (c .before .before .before .before .before .before .before .before .before .before .before .before .if1 .left) h) (c .before .before .before .book-size .ensures .is cs e) (c .if2 .taken)
+
+write-book-requires : tie.Need-write-book-requires
+write-book-requires c κs =
+    let h = rw (c .before .before .before .before .before .before .before .before .g .given .1) at (c .before .before .before .before .before .before .before .before .before .before .before .before .load-record .ensures) in
+    let z = c .before .before .before .before .before .book-size .ensures in
+    let b = bookable-by (c .before .before .before .before .before .before .before .before .before .before .before .before .before .before .before .before .before .before .before .pre .1) h (omega (arith, c .before .before .before .before .before .before .before .before .before .before .before .before .before .before .if1 .left)) in
+    (sized-again z b, sized-fits z (b .ready .edges) (c .before .before .before .before .before .before .before .before .before .before .before .before .before .before .before .before .before .before .before .args .out .now) (overFile-no (length (c .before .before .before .before .before .before .before .before .before .before .before .before .before .before .before .before .before .before .before .args .out .now)) _ (c .before .before .if2 .left) .0))
+
+enum-known-g-2 : tie.Need-enum-known-g-2
+enum-known-g-2 c = search needs
+
+same-length-2 : tie.Need-same-length-2
+same-length-2 c = search needs
+
+same-length-3 : tie.Need-same-length-3
+same-length-3 c = search needs
+
+returns-3 : tie.Need-returns-3
+returns-3 c =
+    let a = c .before .before .before .before .before .before .before .before .before .before .before .before .before .before .before .before .before .before .before .before .before .before .before .before .args in
+    let h = rw (c .before .before .before .before .before .before .before .before .before .before .before .before .before .g .given .1) at (c .before .before .before .before .before .before .before .before .before .before .before .before .before .before .before .before .before .load-record .ensures) in
+    let z = c .before .before .before .before .before .before .before .before .before .before .book-size .ensures in
+    let b = bookable-by (c .before .before .before .before .before .before .before .before .before .before .before .before .before .before .before .before .before .before .before .before .before .before .before .before .pre .1) h (omega (arith, c .before .before .before .before .before .before .before .before .before .before .before .before .before .before .before .before .before .before .before .if1 .left)) in
+    λ cs e. fitted-given (a .out .now) _ (book-found cs (length (a .out .now)) (c .before .before .before .before .before .before .before .before .before .before .before .before .before .before .before .before .before .before .before .if1 .left) h) (z .is cs e) (c .before .before .before .before .before .before .before .if2 .left) (sized-filled z (b .ready .edges) (a .out .now) (c .before .before .before .before .write-book .ensures) cs e)
+
+same-length-4 : tie.Need-same-length-4
+same-length-4 c = search needs
+
+returns-4 : tie.Need-returns-4
+returns-4 c =
+    let a = c .before .before .before .before .before .before .before .before .before .before .before .before .args in
+    let q = rw (c .before .g2 .given .1) at (c .before .before .before .before .before .load-record .ensures) in
+    λ cs e. body-refused (read-finds 40964 3 record′ (a .«record» .now) (c .before .before .before .before .before .before .before .if1 .left)) (a .out .now) refl (λ rs. fitFile (length (a .out .now)) (bookBytes (viewSheets cs (graphOf rs)))) (c .before .g2 .given .0 .0) q
+
+pub make-book-of-spec : {M : Type 1} → statement M
+make-book-of-spec =
+    tie.close
+    (tie.spec
+    returns
+    load-record-requires
+    enum-known-g
+    book-size-requires
+    same-length
+    returns-2
+    write-book-requires
+    enum-known-g-2
+    same-length-2
+    same-length-3
+    returns-3
+    same-length-4
+    returns-4)

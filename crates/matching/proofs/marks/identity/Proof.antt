@@ -1,0 +1,62 @@
+-- `matching::marks::identity` meets its contract.
+use borrow.Author.Needs.{needs}
+use mathlib.Core.Path.{_≡_, refl, ap, sym}
+use Prim.Native.Nat.{_-_}
+use native.Mathlib.Nat.{zero-add}
+use native.Mathlib.Omega.{arith}
+use lib.ListN.{length}
+use Rattle.matching.proofs.Filling.{Filling, filling-start, filling-more, filling-front}
+use Rattle.matching.proofs.marks.identity.Statement.{statement}
+use Rattle.matching.proofs.marks.identity.Tie as tie
+
+abbrev Inv-loop : tie.InvT-loop
+Inv-loop r₀ e₀ r e = Filling 0 32 (λ j x. x ≡ j) r₀ r e
+
+abbrev μ-loop : tie.MeasureT-loop
+μ-loop r₀ e₀ r e = 32 - e
+
+no-numbers-requires : tie.Need-no-numbers-requires Inv-loop μ-loop
+no-numbers-requires c κs = search needs
+
+loop-holds : tie.Need-loop-holds Inv-loop μ-loop
+loop-holds c =
+    filling-start _ _ _ _
+
+cast-r : tie.Need-cast-r Inv-loop μ-loop
+cast-r c = search needs
+
+mul-r : tie.Need-mul-r Inv-loop μ-loop
+mul-r c = search needs
+
+array-write-r : tie.Need-array-write-r Inv-loop μ-loop
+array-write-r c = search needs
+
+add-e : tie.Need-add-e Inv-loop μ-loop
+add-e c = search needs
+
+loop-less : tie.Need-loop-less Inv-loop μ-loop
+loop-less c = search needs
+
+loop-again : tie.Need-loop-again Inv-loop μ-loop
+loop-again c =
+    filling-more _ _ _ (c .before .loop .inv) _ _ (c .loop-test .taken) (omega (arith, ap length (c .before .before .no-numbers .ensures))) (sym (zero-add _)) refl
+
+returns : tie.Need-returns Inv-loop μ-loop
+returns c =
+    filling-front _ _ (c .before .loop .inv) (c .loop-test .left)
+
+pub identity-spec : {M : Type 1} → statement M
+identity-spec =
+    tie.close
+    (tie.spec
+    Inv-loop
+    μ-loop
+    no-numbers-requires
+    loop-holds
+    cast-r
+    mul-r
+    array-write-r
+    add-e
+    loop-less
+    loop-again
+    returns)

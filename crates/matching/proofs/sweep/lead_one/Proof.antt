@@ -1,0 +1,29 @@
+-- `matching::sweep::lead_one` meets its contract.
+use Prim.Native.Nat.{_^_}
+use native.Mathlib.Nat.{one-mul, mod-eq-of-lt}
+use lib.Pow.{pow-lt}
+use Rattle.matching.proofs.MaskBits.{has-by, has-say, mask-one, mask-none}
+use borrow.Author.Needs.{needs}
+use Rattle.matching.proofs.sweep.lead_one.Statement.{statement}
+use Rattle.matching.proofs.sweep.lead_one.Tie as tie
+
+shr-d : tie.Need-shr-d
+shr-d c = search needs
+
+shl-result : tie.Need-shl-result
+shl-result c = search needs
+
+returns : tie.Need-returns
+returns c =
+    mask-one _ _ (rw (one-mul (2 ^ c .before .before .args .from)) (mod-eq-of-lt (pow-lt {j = 32} (c .before .before .pre .1)))) (record { group = c .before .if1 .taken; member = has-by _ _ (c .if2 .taken) })
+
+returns-2 : tie.Need-returns-2
+returns-2 c =
+    mask-none (λ k h. c .if2 .left (has-say _ _ (h .1 .member)))
+
+returns-3 : tie.Need-returns-3
+returns-3 c =
+    mask-none (λ k h. c .if1 .left (h .1 .group))
+
+pub lead-one-spec : {M : Type 1} → statement M
+lead-one-spec = tie.close (tie.spec shr-d shl-result returns returns-2 returns-3)

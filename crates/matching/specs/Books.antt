@@ -1,0 +1,43 @@
+-- What the loops over the views of an accepted catalogue c need and leave, where the edges of the record s stand in the workspace.
+use Prim.Native.Nat.{ℕ, _≤_}
+use mathlib.Core.Path.{_≡_}
+use mathlib.Core.List.{List}
+use lib.ListN.{length, getD}
+use lib.Seq.{sets}
+use Rattle.packed.specs.Format.{ok, decode}
+use Rattle.packed.specs.Formats.{catalogue}
+use Rattle.packed.specs.Refusals.{Told}
+use Rattle.packed.specs.Calls.{Answered}
+use Rattle.matching.specs.Search.{bookBytes, viewSheets, bookFor}
+use Rattle.matching.specs.Steps.{graphIn, Ready, Edges}
+use Rattle.matching.specs.Matched.{Rises}
+
+-- the catalogue was accepted, and has k views
+pub record Catalogued (c : List ℕ) (k : ℕ) : Type 0 where
+  pub small : length c ≤ 65536
+  pub fields : List ℕ
+  pub is : decode catalogue c ≡ ok fields
+  pub number : k ≡ getD fields 0 0
+
+pub record Bookable (c : List ℕ) (k : ℕ) (s : List ℕ) (n m : ℕ) (w : List ℕ) : Type 0 where
+  pub views : Catalogued c k
+  pub ready : Ready s n m w
+  pub rises : Rises m w
+
+-- the book of a catalogue with the content cs
+abbrev pub bookIn : List ℕ → List ℕ → ℕ → ℕ → List ℕ → List ℕ
+bookIn cs s n m w = bookBytes (viewSheets cs (graphIn s n m w))
+
+pub record Sized (c s : List ℕ) (n m : ℕ) (w : List ℕ) (r : ℕ) (w′ : List ℕ) : Type 0 where
+  pub edges : Edges w w′
+  pub is : (cs : List ℕ) → decode catalogue c ≡ ok cs → r ≡ length (bookIn cs s n m w)
+
+abbrev pub Fits : List ℕ → List ℕ → ℕ → ℕ → List ℕ → List ℕ → Type 0
+Fits c s n m w out = (cs : List ℕ) → decode catalogue c ≡ ok cs → length (bookIn cs s n m w) ≤ length out
+
+abbrev pub Filled : List ℕ → List ℕ → ℕ → ℕ → List ℕ → List ℕ → List ℕ → Type 0
+Filled c s n m w out out′ = (cs : List ℕ) → decode catalogue c ≡ ok cs → out′ ≡ sets out 0 (bookIn cs s n m w)
+
+-- what making a book answers, once the catalogue was accepted
+abbrev pub BookAnswered : List ℕ → List ℕ → Told → List ℕ → List ℕ → Type 0
+BookAnswered c s r out out′ = (cs : List ℕ) → decode catalogue c ≡ ok cs → Answered (bookFor cs s (length out)) r out out′

@@ -1,0 +1,91 @@
+-- Which edges of a query its views match, and the query's answer from the views' sheets.
+use mathlib.Core.Bool.{Bool, cond, not}
+use mathlib.Core.List.{List, [], _∷_, _++_}
+use Prim.Native.Nat.{ℕ, _/_, _%_}
+use lib.Dec.{eqb}
+use Rattle.packed.specs.Formats.{code}
+use Rattle.packed.specs.Order.{member}
+use Rattle.matching.specs.Lists.{_and_, _implies_, every, some, keep, gather, each}
+use Rattle.matching.specs.Greatest.{greatest}
+use Rattle.matching.specs.Simulation.{Pair, same, Pattern, Graph, asGraph, ascending, matchSets}
+
+-- ---- quoting
+
+-- the list of codes has the edge e
+unfoldable pub lists : Pair → List ℕ → Bool
+lists e l = member (code (e .0) (e .1)) l
+
+-- the edge e of the query ("question") Q is matched by an edge of the view ("extract") P: that edge's list, on Q read as a graph, has e
+unfoldable pub matchedBy : Pattern → Pair → Pattern → Bool
+matchedBy Q e P = some (lists e) (matchSets P (asGraph Q))
+
+unfoldable pub matched : Pattern → List Pattern → Pair → Bool
+matched Q Ps e = some (matchedBy Q e) Ps
+
+-- every edge of the query is matched by a view
+unfoldable pub covered : Pattern → List Pattern → Bool
+covered Q Ps = every (matched Q Ps) (Q .edges)
+
+-- ---- answering
+
+-- a view and the lists of its sheet, by codes
+pub record View : Type 0 where
+  pub pattern : Pattern
+  pub sheet : List (List ℕ)
+
+-- a view with its match sets in a graph
+unfoldable pub viewOf : Graph → Pattern → View
+viewOf G P = record { pattern = P; sheet = matchSets P G }
+
+-- the pair of a code
+unfoldable pub pairOf : ℕ → Pair
+pairOf c = (c / 4096, c % 4096)
+
+-- what the second sheet lists under those edges under which the first lists e
+unfoldable pub under : Pair → List (List ℕ) → List (List ℕ) → List ℕ
+under e [] ls = []
+under e (m ∷ ms) [] = []
+under e (m ∷ ms) (l ∷ ls) = cond (lists e m) l [] ++ under e ms ls
+
+-- the candidates for the edge e of Q: the pairs listed under those edges of the views that match e
+unfoldable pub candidates : Pattern → List View → Pair → List Pair
+candidates Q vs e = each pairOf (gather (λ v. under e (matchSets (v .pattern) (asGraph Q)) (v .sheet)) vs)
+
+-- an edge of the query and a pair kept for it
+abbrev pub Kept : Type 0
+Kept = Pair × Pair
+
+-- each edge of Q that leaves an end of the edge k .0 keeps some pair that begins at the same end of the pair k .1
+unfoldable pub supported : Pattern → List Kept → Kept → Bool
+supported Q l k =
+    every
+    (λ g.
+    (eqb (g .0) (k .0 .0) implies some (λ j. same (j .0) g and eqb (j .1 .0) (k .1 .0)) l)
+    and (eqb (g .0) (k .0 .1) implies some (λ j. same (j .0) g and eqb (j .1 .0) (k .1 .1)) l))
+    (Q .edges)
+
+-- the greatest choice of pairs from the candidates that is so supported
+unfoldable pub join : Pattern → List View → List Kept
+join Q vs = greatest (supported Q) (gather (λ e. each (λ f. (e, f)) (candidates Q vs e)) (Q .edges))
+
+-- every edge of Q keeps some pair
+unfoldable pub complete : Pattern → List Kept → Bool
+complete Q ks = every (λ e. some (λ j. same (j .0) e) ks) (Q .edges)
+
+-- the pairs kept for the edge e
+unfoldable pub keptFor : List Kept → Pair → List Pair
+keptFor ks e = each (λ j. j .1) (keep (λ j. same (j .0) e) ks)
+
+-- the same, or none where some edge keeps none
+unfoldable pub answerTo : Pattern → List View → Pair → List Pair
+answerTo Q vs e = cond (complete Q (join Q vs)) (keptFor (join Q vs) e) []
+
+-- the answer to Q from the sheets of views: a list for each edge of Q
+unfoldable pub answerSets : Pattern → List View → List (List ℕ)
+answerSets Q vs = let ks = join Q vs in let b = complete Q ks in each (λ e. ascending (cond b (keptFor ks e) [])) (Q .edges)
+
+-- ---- showing
+
+-- the graph without the edge e
+unfoldable pub without : Pair → Graph → Graph
+without e G = record { labels = G .labels; edges = keep (λ f. not (same e f)) (G .edges) }

@@ -1,0 +1,10 @@
+pub mod Lists
+pub mod Greatest
+pub mod Simulation
+pub mod Search
+pub mod Join
+pub mod Steps
+pub mod Sweeps
+pub mod EdgeMasks
+pub mod Matched
+pub mod Books

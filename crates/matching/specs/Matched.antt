@@ -1,0 +1,36 @@
+-- What matching a pattern leaves in the workspace, and a view of an accepted catalogue by value.
+use Prim.Native.Nat.{ℕ, _*_, _<_, _≤_}
+use mathlib.Core.Path.{_≡_}
+use mathlib.Core.List.{List}
+use lib.ListN.{length, drop, getD}
+use lib.Dec.{T}
+use Rattle.packed.specs.Bits.{bits}
+use Rattle.packed.specs.Format.{whole, got}
+use Rattle.packed.specs.Formats.{pattern}
+use Rattle.packed.specs.ByValue.{HoldsPattern}
+use Rattle.packed.specs.Reading.{from}
+use Rattle.packed.specs.Matches.{matchesOf}
+use Rattle.packed.specs.Matches.{Marked as MarkedPairs}
+use Rattle.packed.specs.declared.by_value.Pattern.{Pattern as Given}
+use Rattle.matching.specs.Simulation.{sound, matchSets}
+use Rattle.matching.specs.Steps.{patternIn, graphIn, Edges}
+use Rattle.matching.specs.declared.views.View.{View}
+
+-- the pattern has edges, and each node is an end of one
+pub record Proper (p : Given) : Type 0 where
+  pub some : 1 ≤ p .edges
+  pub sound : T (sound (patternIn p))
+
+-- the codes of the m edges ascend, each once
+abbrev pub Rises : ℕ → List ℕ → Type 0
+Rises m w = (i j : ℕ) → i < j → j < m → getD w i 0 < getD w j 0
+
+-- the m edges of the record s, at the front of the workspace, are marked with the edges of the pattern that list them
+pub record Matched (p : Given) (s : List ℕ) (n m : ℕ) (w w′ : List ℕ) : Type 0 where
+  pub edges : Edges w w′
+  pub marked : MarkedPairs m w′
+  pub sets : matchesOf m (p .edges) w′ ≡ matchSets (patternIn p) (graphIn s n m w)
+
+-- the pattern from a byte on, if one is there: its fields by value, and the byte after it
+abbrev pub ViewAt : List ℕ → ℕ → View → Type 0
+ViewAt s byte r = (ws : List ℕ) (end : ℕ) → from (whole pattern) s (8 * byte) ≡ got ws (drop end (bits s)) → end ≤ 8 * length s → (HoldsPattern ws (r .pattern)) × (8 * r .next ≡ end)

@@ -1,0 +1,41 @@
+-- What the calls of this crate answer.
+use mathlib.Core.List.{List, [], _∷_, _++_, map}
+use Prim.Native.Nat.{ℕ}
+use lib.ListN.{length}
+use Rattle.packed.specs.Format.{Result, ok, bad, encode}
+use Rattle.packed.specs.Formats.{sheet}
+use Rattle.packed.specs.Contents.{viewsOf}
+use Rattle.packed.specs.Matches.{fieldsOf}
+use Rattle.packed.specs.Calls.{Answer, judged, readPattern, readCatalogue, readRecord, fitFile}
+use Rattle.matching.specs.Simulation.{Pattern, Graph, patternOf, graphOf, matchSets}
+
+abbrev pub bytesIn : Result ℕ → List ℕ
+bytesIn (ok s) = s
+bytesIn (bad e) = []
+
+-- a sheet with these lists, in bytes
+unfoldable pub sheetBytes : List (List ℕ) → List ℕ
+sheetBytes ls = bytesIn (encode (sheet (length ls)) (fieldsOf ls))
+
+-- sheets laid out as a book: each starts on the byte after the one before
+unfoldable pub bookBytes : List (List (List ℕ)) → List ℕ
+bookBytes [] = []
+bookBytes (ls ∷ sheets) = sheetBytes ls ++ bookBytes sheets
+
+-- searching a record for a pattern: the pattern's sheet
+abbrev pub searchFor : Pattern → List ℕ → ℕ → Answer
+searchFor P r room = judged (readRecord r) (λ rs. fitFile room (sheetBytes (matchSets P (graphOf rs))))
+
+unfoldable pub searchAnswer : List ℕ → List ℕ → ℕ → Answer
+searchAnswer p r room = judged (readPattern p) (λ ps. searchFor (patternOf ps) r room)
+
+-- the sheets of a catalogue's views on a record
+unfoldable pub viewSheets : List ℕ → Graph → List (List (List ℕ))
+viewSheets c G = map (λ v. matchSets (patternOf v) G) (viewsOf c)
+
+-- making the book of a catalogue from a record
+abbrev pub bookFor : List ℕ → List ℕ → ℕ → Answer
+bookFor cs r room = judged (readRecord r) (λ rs. fitFile room (bookBytes (viewSheets cs (graphOf rs))))
+
+unfoldable pub makeBookAnswer : List ℕ → List ℕ → ℕ → Answer
+makeBookAnswer c r room = judged (readCatalogue c) (λ cs. bookFor cs r room)

@@ -1,0 +1,146 @@
+// The client calls with room to work in: 16,384 words, which are left in any state.
+ghost use mathlib.Core.Path.{_≡_};
+ghost use lib.ListN.{length};
+ghost use Rattle.packed.specs.Refusals.{replyTold};
+ghost use Rattle.packed.specs.Calls.{Answered};
+ghost use Rattle.matching.specs.Search.{searchFor, searchAnswer, makeBookAnswer};
+ghost use Rattle.matching.specs.Steps.{patternIn, Fair};
+ghost use Rattle.matching.specs.Matched.{Proper};
+ghost use Rattle.matching.specs.Books.{Catalogued, Bookable, Sized, Fits, Filled, BookAnswered};
+use crate::matched;
+use crate::views;
+use packed::by_value;
+use packed::by_value::Pattern;
+use packed::catalogue;
+use packed::graph;
+use packed::graph::Graph;
+use packed::matches;
+use packed::pattern;
+use packed::reply::Part;
+use packed::reply::Refusal;
+use packed::reply::Reply;
+
+// Searches a record for a pattern by value.
+fn search_for(p: Pattern, record: &[u8], out: &mut [u8], work: &mut [u32]) -> Reply
+    requires { ⌜ (length (now work) ≡ 16384) × Fair p × Proper p ⌝ }
+    ensures { λ r. ⌜ Answered (searchFor (patternIn p) (now («record» .entry)) (length (now (out .entry)))) (replyTold r) (now (out .entry)) (now (out .exit)) ⌝ }
+{
+    if 40964 < record.len() {
+        return Reply::Refused(Refusal::TooLong(3));
+    }
+    let g = graph::load_record(record, work);
+    match g {
+        Graph::Of(n, m) => {
+            matched::match_edges(record, n, m, p, work);
+            let edges = p.edges as u32;
+            let size = matches::sheet_size(work, m, edges);
+            if (out.len() < size) | (65536 < size) {
+                return Reply::Refused(Refusal::NoRoom(size));
+            }
+            matches::write_sheet(work, m, edges, out);
+            Reply::Done(size)
+        }
+        Graph::Refused(x) => Reply::Refused(x),
+    }
+}
+
+pub fn search(pattern: &[u8], record: &[u8], out: &mut [u8], work: &mut [u32]) -> Reply
+    requires { ⌜ length (now work) ≡ 16384 ⌝ }
+    ensures { λ r. ⌜ Answered (searchAnswer (now (pattern .entry)) (now («record» .entry)) (length (now (out .entry)))) (replyTold r) (now (out .entry)) (now (out .exit)) ⌝ }
+{
+    if 44 < pattern.len() {
+        return Reply::Refused(Refusal::TooLong(1));
+    }
+    let p = pattern::judge_pattern(pattern, work);
+    match p {
+        Part::Upto(_, n) => {
+            let q = by_value::pattern_of(&work[0..n]);
+            search_for(q, record, out, work)
+        }
+        Part::Refused(x) => Reply::Refused(x),
+    }
+}
+
+// How many bytes the book of the k views of a catalogue takes.
+fn book_size(catalogue: &[u8], k: u32, record: &[u8], n: usize, m: usize, work: &mut [u32]) -> usize
+    requires { ⌜ Bookable (now catalogue) k (now «record») n m (now work) ⌝ }
+    ensures { λ r. ⌜ Sized (now (catalogue .entry)) (now («record» .entry)) n m (now (work .entry)) r (now (work .exit)) ⌝ }
+{
+    let mut size: usize = 0;
+    let mut byte: usize = 1;
+    let mut left = k;
+    while 0 < left {
+        let v = views::view_at(catalogue, byte);
+        let p = v.pattern;
+        matched::match_edges(record, n, m, p, work);
+        size += matches::sheet_size(work, m, p.edges as u32);
+        byte = v.next;
+        left -= 1;
+    }
+    size
+}
+
+// The sheets of the k views, each from the byte after the one before: the rest of the lent book is lent to the sheet's writer.
+fn write_book(
+    catalogue: &[u8],
+    k: u32,
+    record: &[u8],
+    n: usize,
+    m: usize,
+    out: &mut [u8],
+    work: &mut [u32],
+)
+    requires { ⌜ Bookable (now catalogue) k (now «record») n m (now work) × Fits (now catalogue) (now «record») n m (now work) (now out) ⌝ }
+    ensures { λ r. ⌜ Filled (now (catalogue .entry)) (now («record» .entry)) n m (now (work .entry)) (now (out .entry)) (now (out .exit)) ⌝ }
+{
+    let mut at: usize = 0;
+    let mut byte: usize = 1;
+    let mut left = k;
+    while 0 < left {
+        let v = views::view_at(catalogue, byte);
+        let p = v.pattern;
+        matched::match_edges(record, n, m, p, work);
+        at += matches::write_sheet(work, m, p.edges as u32, &mut out[at..]);
+        byte = v.next;
+        left -= 1;
+    }
+}
+
+// Makes the book of the k views of an accepted catalogue.
+fn make_book_of(catalogue: &[u8], k: u32, record: &[u8], out: &mut [u8], work: &mut [u32]) -> Reply
+    requires { ⌜ (length (now work) ≡ 16384) × Catalogued (now catalogue) k ⌝ }
+    ensures { λ r. ⌜ BookAnswered (now (catalogue .entry)) (now («record» .entry)) (replyTold r) (now (out .entry)) (now (out .exit)) ⌝ }
+{
+    if 40964 < record.len() {
+        return Reply::Refused(Refusal::TooLong(3));
+    }
+    let g = graph::load_record(record, work);
+    match g {
+        Graph::Of(n, m) => {
+            let total = book_size(catalogue, k, record, n, m, work);
+            if (out.len() < total) | (65536 < total) {
+                return Reply::Refused(Refusal::NoRoom(total));
+            }
+            write_book(catalogue, k, record, n, m, out, work);
+            Reply::Done(total)
+        }
+        Graph::Refused(x) => Reply::Refused(x),
+    }
+}
+
+pub fn make_book(catalogue: &[u8], record: &[u8], out: &mut [u8], work: &mut [u32]) -> Reply
+    requires { ⌜ length (now work) ≡ 16384 ⌝ }
+    ensures { λ r. ⌜ Answered (makeBookAnswer (now (catalogue .entry)) (now («record» .entry)) (length (now (out .entry)))) (replyTold r) (now (out .entry)) (now (out .exit)) ⌝ }
+{
+    if 705 < catalogue.len() {
+        return Reply::Refused(Refusal::TooLong(2));
+    }
+    let p = catalogue::judge_catalogue(catalogue, work);
+    match p {
+        Part::Upto(_, n) => {
+            let k = catalogue::word_at(&work[0..n], 0);
+            make_book_of(catalogue, k, record, out, work)
+        }
+        Part::Refused(x) => Reply::Refused(x),
+    }
+}

@@ -1,0 +1,39 @@
+// Matching by simulation: searching a record for a pattern, and making the book of a catalogue from a record.
+mod calls;
+mod marks;
+pub mod matched;
+mod sweep;
+pub mod views;
+
+ghost use mathlib.Core.List.{[], _∷_};
+ghost use lib.ListN.{length};
+ghost use Rattle.packed.specs.Refusals.{replyTold};
+ghost use Rattle.packed.specs.Calls.{Settled, desk};
+ghost use Rattle.matching.specs.Search.{searchAnswer, makeBookAnswer};
+use packed::reply::Refusal;
+use packed::reply::Reply;
+use packed::workspace;
+
+// Searches a record for a pattern: writes the pattern's sheet.
+pub fn search(pattern: &[u8], record: &[u8], out: &mut [u8], work: &mut [u32]) -> Reply
+    ensures { λ r. ⌜ Settled [] (desk (length (now (work .entry))) (searchAnswer (now (pattern .entry)) (now («record» .entry)) (length (now (out .entry))))) (replyTold r) (now (out .entry) ∷ []) (now (out .exit) ∷ []) (now (work .entry)) (now (work .exit)) ⌝ }
+{
+    if work.len() < 16384 {
+        return Reply::Refused(Refusal::SmallWorkspace);
+    }
+    let r = calls::search(pattern, record, out, &mut work[0..16384]);
+    workspace::clear(work, 16384);
+    r
+}
+
+// Makes the book of a catalogue from a record: writes a sheet for each view.
+pub fn make_book(catalogue: &[u8], record: &[u8], out: &mut [u8], work: &mut [u32]) -> Reply
+    ensures { λ r. ⌜ Settled [] (desk (length (now (work .entry))) (makeBookAnswer (now (catalogue .entry)) (now («record» .entry)) (length (now (out .entry))))) (replyTold r) (now (out .entry) ∷ []) (now (out .exit) ∷ []) (now (work .entry)) (now (work .exit)) ⌝ }
+{
+    if work.len() < 16384 {
+        return Reply::Refused(Refusal::SmallWorkspace);
+    }
+    let r = calls::make_book(catalogue, record, out, &mut work[0..16384]);
+    workspace::clear(work, 16384);
+    r
+}

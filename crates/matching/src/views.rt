@@ -1,0 +1,50 @@
+// The views of an accepted catalogue, one after the other, by value.
+ghost use Prim.Native.Nat.{_*_};
+ghost use Rattle.packed.specs.Reading.{Stands};
+ghost use Rattle.matching.specs.Matched.{ViewAt};
+use packed::by_value;
+use packed::by_value::Pattern;
+use packed::pattern;
+use packed::reply::Part;
+
+// A view, and the byte after it.
+pub struct View {
+    pub pattern: Pattern,
+    pub next: usize,
+}
+
+fn no_words() -> [u32; 82] {
+    [0u32; 82]
+}
+
+fn no_pattern() -> Pattern {
+    Pattern {
+        labels: [0u32; 16],
+        from: [0u32; 32],
+        to: [0u32; 32],
+        nodes: 0,
+        edges: 0,
+    }
+}
+
+// The view that begins on a byte of a catalogue.
+pub fn view_at(s: &[u8], byte: usize) -> View
+    requires { ⌜ Stands (now s) (8 * byte) 0 ⌝ }
+    ensures { λ r. ⌜ ViewAt (now (s .entry)) byte r ⌝ }
+{
+    let mut words = no_words();
+    let p = pattern::read_pattern(s, byte, 2, &mut words, 0);
+    match p {
+        Part::Upto(next, n) => {
+            let pattern = by_value::pattern_of(&words[0..n]);
+            View { pattern, next }
+        }
+        Part::Refused(_) => {
+            let pattern = no_pattern();
+            View {
+                pattern,
+                next: byte,
+            }
+        }
+    }
+}

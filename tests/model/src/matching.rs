@@ -1,0 +1,204 @@
+//! Matching by simulation: searching a record for a pattern, and making the book of a catalogue from a record.
+
+use crate::files::*;
+
+/// Lent to a reader whose content stays inside.
+const ENOUGH: usize = usize::MAX;
+
+/// A record by its content: two counts, the kinds, the links.
+fn record_of(fields: &[u32]) -> Record {
+    let items = fields[0] as usize;
+    let kinds = fields[2..2 + items].to_vec();
+    let links = fields[2 + items..].chunks(2).map(|ends| (ends[0], ends[1])).collect();
+    Record { kinds, links }
+}
+
+/// The greatest simulation: whether pattern item u and record item v are related stands at `[u][v]`.
+///
+/// It starts with every pair of which v has u's kind, and a pair that lacks what a simulation asks of it is
+/// dropped, until none is. A pair of any simulation is never dropped, so all of them lie in what is left.
+fn greatest_simulation(pattern: &Pattern, record: &Record) -> Vec<Vec<bool>> {
+    let mut leaving = vec![Vec::new(); record.kinds.len()];
+    for &(from, to) in &record.links {
+        leaving[from as usize].push(to as usize);
+    }
+    let has = |v: usize, kind: u32| record.kinds[v] >> kind & 1 == 1;
+    let items = 0..record.kinds.len();
+    let mut related: Vec<Vec<bool>> =
+        pattern.kinds.iter().map(|&kind| items.clone().map(|v| has(v, kind)).collect()).collect();
+    loop {
+        let mut dropped = false;
+        for &(u, next) in &pattern.links {
+            for v in items.clone() {
+                let supported = leaving[v].iter().any(|&w| related[next as usize][w]);
+                if related[u as usize][v] && !supported {
+                    related[u as usize][v] = false;
+                    dropped = true;
+                }
+            }
+        }
+        if !dropped {
+            return related;
+        }
+    }
+}
+
+/// A pattern's sheet from a record.
+pub fn sheet(pattern: &Pattern, record: &Record) -> Sheet {
+    let related = greatest_simulation(pattern, record);
+    if related.iter().any(|partners| !partners.contains(&true)) {
+        return vec![Vec::new(); pattern.links.len()];
+    }
+    let mut links = record.links.clone();
+    links.sort();
+    let listed = |&(u, next): &(u32, u32)| {
+        let both = |v: u32, w: u32| related[u as usize][v as usize] && related[next as usize][w as usize];
+        links.iter().copied().filter(|&(v, w)| both(v, w)).collect()
+    };
+    pattern.links.iter().map(listed).collect()
+}
+
+/// A sheet's content: the count and the pairs of each list.
+fn fields(sheet: &Sheet) -> Vec<u32> {
+    let mut fields = Vec::new();
+    for list in sheet {
+        fields.push(list.len() as u32);
+        for &(from, to) in list {
+            fields.push(from);
+            fields.push(to);
+        }
+    }
+    fields
+}
+
+/// 14, the pattern, the record, then 12.
+pub fn search(pattern: &[u8], record: &[u8], room: usize, work_words: usize) -> Result<Vec<u8>, Refusal> {
+    read_pattern(pattern, ENOUGH, work_words)?;
+    let record = record_of(&read_record(record, ENOUGH, work_words)?);
+    let sheet = sheet(&judge_pattern(pattern)?, &record);
+    write_sheet(pattern, &fields(&sheet), room, work_words)
+}
+
+/// 14, the catalogue, the record, then 12. A book of a record has no more different pairs than the record has
+/// links, so 10 doesn't fall to it.
+pub fn make_book(catalogue: &[u8], record: &[u8], room: usize, work_words: usize) -> Result<Vec<u8>, Refusal> {
+    read_catalogue(catalogue, ENOUGH, work_words)?;
+    let record = record_of(&read_record(record, ENOUGH, work_words)?);
+    let mut book = Vec::new();
+    for extract in judge_catalogue(catalogue)? {
+        book.extend(fields(&sheet(&extract, &record)));
+    }
+    write_book(catalogue, &book, room, work_words)
+}
+
+#[cfg(test)]
+mod tests {
+    use super::*;
+
+    const ROOM: usize = BOOK_BYTES;
+    const WORK: usize = WORK_WORDS;
+
+    const D: [u8; 8] = [0x20, 0x80, 0x08, 0x86, 0x02, 0x04, 0x26, 0x46];
+    const C: [u8; 17] = [
+        0x18, 0x10, 0x20, 0x08, 0x08, 0x18, 0x40, 0x08, 0xc0, 0x44, 0x80, 0x18, 0x40, 0x10, 0xc0, 0x44, 0x80,
+    ];
+    /// Extract 1 of C alone.
+    const SLOW: [u8; 6] = [0x18, 0x40, 0x08, 0xc0, 0x44, 0x80];
+    /// Kind 5 linked to itself.
+    const SELF: [u32; 5] = [1, 1, 5, 0, 0];
+
+    fn pattern(fields: &[u32]) -> Vec<u8> {
+        write_pattern(fields, ROOM, WORK).unwrap()
+    }
+
+    fn record(kinds: &[u32], links: &[(u32, u32)]) -> Vec<u8> {
+        let mut fields = vec![kinds.len() as u32, links.len() as u32];
+        fields.extend(kinds);
+        fields.extend(links.iter().flat_map(|&(from, to)| [from, to]));
+        write_record(&fields, ROOM, WORK).unwrap()
+    }
+
+    fn listed(pattern: &[u8], record: &[u8]) -> Vec<u32> {
+        let sheet = search(pattern, record, ROOM, WORK).unwrap();
+        read_sheet(pattern, &sheet, ROOM, WORK).unwrap()
+    }
+
+    fn k6() -> Vec<u8> {
+        record(&[1, 2, 8, 2], &[(0, 1), (0, 3), (1, 2)])
+    }
+
+    #[test]
+    fn k6_lists_two_of_three() {
+        let bytes = [0x00, 0x04, 0x00, 0x00, 0x04, 0x00, 0x10, 0x01, 0x00, 0x20];
+        assert_eq!(search(&SLOW, &k6(), ROOM, WORK), Ok(bytes.to_vec()));
+        assert_eq!(listed(&SLOW, &k6()), [1, 0, 1, 1, 1, 2]);
+    }
+
+    #[test]
+    fn k7_the_greatest_and_not_the_least() {
+        let both_ways = record(&[32, 32], &[(0, 1), (1, 0)]);
+        assert_eq!(listed(&pattern(&SELF), &both_ways), [2, 0, 1, 1, 0]);
+    }
+
+    #[test]
+    fn k8_a_chain_has_none() {
+        let chain = record(&[32, 32, 32], &[(0, 1), (1, 2)]);
+        assert_eq!(listed(&pattern(&SELF), &chain), [0]);
+    }
+
+    #[test]
+    fn k9_one_item_for_two() {
+        let run = record(&[1, 6, 8], &[(0, 1), (1, 2)]);
+        assert_eq!(listed(&D, &run), [1, 0, 1, 1, 0, 1, 1, 1, 2, 1, 1, 2]);
+    }
+
+    #[test]
+    fn k10_an_empty_record() {
+        let one = pattern(&[2, 1, 0, 1, 0, 1]);
+        assert_eq!(search(&one, &record(&[], &[]), ROOM, WORK), Ok(vec![0, 0]));
+    }
+
+    #[test]
+    fn the_order_of_links_alters_nothing() {
+        let turned = record(&[1, 2, 8, 2], &[(1, 2), (0, 3), (0, 1)]);
+        assert_eq!(make_book(&C, &turned, ROOM, WORK), make_book(&C, &k6(), ROOM, WORK));
+    }
+
+    #[test]
+    fn a_book_has_its_sheets_one_after_the_other() {
+        let mut sheets = Vec::new();
+        for extract in judge_catalogue(&C).unwrap() {
+            let mut fields = vec![extract.kinds.len() as u32, extract.links.len() as u32];
+            fields.extend(&extract.kinds);
+            fields.extend(extract.links.iter().flat_map(|&(from, to)| [from, to]));
+            sheets.extend(search(&pattern(&fields), &k6(), ROOM, WORK).unwrap());
+        }
+        assert_eq!(make_book(&C, &k6(), ROOM, WORK), Ok(sheets));
+        assert_eq!(make_book(&[0], &k6(), 0, WORK), Ok(vec![]));
+    }
+
+    #[test]
+    fn refusals_in_order() {
+        assert_eq!(search(&[], &[], 0, WORK - 1), refused(DESK, 0));
+        assert_eq!(search(&[], &[], 0, WORK), refused(SHORT, PATTERN));
+        assert_eq!(search(&[0; 45], &[], 0, WORK), refused(LONG, PATTERN));
+        assert_eq!(search(&SLOW, &[], 0, WORK), refused(SHORT, RECORD));
+        assert_eq!(search(&SLOW, &k6(), 9, WORK), refused(NO_FIT, 10));
+        assert_eq!(search(&SLOW, &k6(), 10, WORK).map(|sheet| sheet.len()), Ok(10));
+        assert_eq!(make_book(&[], &[], 0, WORK - 1), refused(DESK, 0));
+        assert_eq!(make_book(&[], &[], 0, WORK), refused(SHORT, CATALOGUE));
+        assert_eq!(make_book(&C, &[], 0, WORK), refused(SHORT, RECORD));
+        let length = make_book(&C, &k6(), ROOM, WORK).unwrap().len();
+        assert_eq!(make_book(&C, &k6(), length - 1, WORK), refused(NO_FIT, length));
+    }
+
+    #[test]
+    fn a_sheet_over_its_most_bytes() {
+        // Three lists of 8,192 pairs each.
+        let links: Vec<(u32, u32)> = (0..8_192).map(|link| (link / 2, (link / 2 + link % 2) % 4_096)).collect();
+        let full = record(&vec![1; 4_096], &links);
+        let three = pattern(&[2, 3, 0, 0, 0, 0, 0, 1, 1, 0]);
+        let length = (3 * 14 + 3 * 8_192 * 24usize).div_ceil(8);
+        assert_eq!(search(&three, &full, ENOUGH, WORK), refused(NO_FIT, length));
+    }
+}
