@@ -154,7 +154,10 @@ fn search_view(
     tally: &mut [u64],
 ) -> usize {
     let mut pattern = lent::pattern_bytes();
-    let n = arrays::least(outcome::written(outcome::write_pattern(view, &mut pattern)), 44);
+    let n = arrays::least(
+        outcome::written(outcome::write_pattern(view, &mut pattern)),
+        44,
+    );
     search(&pattern[0..n], view, fields, record, book, start, tally)
 }
 

@@ -180,4 +180,4 @@ module _ {p : Given} {s : List ℕ} {n m : ℕ} {w w₁ w₂ : List ℕ} (fair :
         ∙ sym (sets-all-or-none P G (proper .sound))
 
     pub matches : Matched p s n m w w₂
-    matches = record { edges = stays; marked = pairs-marked; sets = sets-marked }
+    matches = record { edges = stays; marked = pairs-marked; sets = sets-marked; only = λ i e l h z. k .to i e l h z .0 }

@@ -1,5 +1,5 @@
 -- What matching a pattern leaves in the workspace, and a view of an accepted catalogue by value.
-use Prim.Native.Nat.{ℕ, _*_, _<_, _≤_}
+use Prim.Native.Nat.{ℕ, _+_, _*_, _<_, _≤_}
 use mathlib.Core.Path.{_≡_}
 use mathlib.Core.List.{List}
 use lib.ListN.{length, drop, getD}
@@ -12,7 +12,7 @@ use Rattle.packed.specs.Reading.{from}
 use Rattle.packed.specs.Matches.{matchesOf}
 use Rattle.packed.specs.Matches.{Marked as MarkedPairs}
 use Rattle.packed.specs.declared.by_value.Pattern.{Pattern as Given}
-use Rattle.matching.specs.Simulation.{sound, matchSets}
+use Rattle.matching.specs.Simulation.{bit, sound, matchSets}
 use Rattle.matching.specs.Steps.{patternIn, graphIn, Edges}
 use Rattle.matching.specs.declared.views.View.{View}
 
@@ -30,6 +30,7 @@ pub record Matched (p : Given) (s : List ℕ) (n m : ℕ) (w w′ : List ℕ) : 
   pub edges : Edges w w′
   pub marked : MarkedPairs m w′
   pub sets : matchesOf m (p .edges) w′ ≡ matchSets (patternIn p) (graphIn s n m w)
+  pub only : (i e : ℕ) → i < m → e < 32 → T (bit (getD w′ (8192 + i) 0) e) → e < p .edges
 
 -- the pattern from a byte on, if one is there: its fields by value, and the byte after it
 abbrev pub ViewAt : List ℕ → ℕ → View → Type 0

@@ -18,7 +18,6 @@ loop-holds c = search needs
 add-pattern-edge-requires : tie.Need-add-pattern-edge-requires Inv-loop μ-loop
 add-pattern-edge-requires c κs = search needs
 
-
 add-t : tie.Need-add-t Inv-loop μ-loop
 add-t c = search needs
 

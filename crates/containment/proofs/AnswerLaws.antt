@@ -1,0 +1,218 @@
+-- The answers of quoting and of showing, from what their parts found.
+use Prim.Native.Nat.{ℕ, _+_, _-_, _*_, _<_, _≤_}
+use mathlib.Core.Path.{_≡_, refl, sym, ap, subst, _∙_}
+use mathlib.Core.Bool.{Bool, true, false}
+use mathlib.Core.List.{List, [], _∷_, _++_, map}
+use lib.ListN.{length, take, drop, getD, replicate, length-take, length-drop, length-append, length-map}
+use lib.Seq.{sets, drop-at}
+use lib.Dec.{ltb}
+use native.Mathlib.Omega.{arith}
+use borrow.Author.Tests.{lt-ltb, le-ltb}
+use borrow.Rule.Slice.PartMut.{putMid, postOf}
+use Rattle.packed.specs.Format.{Format, Result, ok, bad, pick, decode}
+use Rattle.packed.specs.Formats.{pattern, catalogue}
+use Rattle.packed.specs.Contents.{nodesOf, edgesOf, patternSize, viewsOf}
+use Rattle.packed.specs.ByValue.{HoldsPattern}
+use Rattle.packed.specs.Reading.{Content}
+use Rattle.packed.specs.Refusals.{Told, told, numberOf, detailOf}
+use Rattle.packed.specs.Calls.{Answer, give, refuse, toldOf, fronts, outputsOf, workOf, Settled, desk, Verdict, rejected, inFile, readFile, judged, readCatalogue}
+use Rattle.packed.specs.declared.reply.Refusal.{Refusal}
+use Rattle.packed.specs.declared.by_value.Pattern.{Pattern as Given}
+use Rattle.packed.proofs.Sets.{sets-front}
+use Rattle.packed.proofs.AcceptedBounds.{pattern-bounds, catalogue-views}
+use Rattle.packed.proofs.CallLaws.{Finds, judged-accepted, front-is}
+use Rattle.matching.specs.Simulation.{Pattern, patternOf}
+use Rattle.matching.proofs.PatternLaws.{edges-in, pattern-is}
+use Rattle.matching.proofs.EdgeLaws.{edgesIn-length}
+use Rattle.containment.specs.Choice.{everyView, coversIn, lowestUnmatched, chosen}
+use Rattle.containment.specs.Quote.{blank, mapping, valuesFrom, quoteValues, quoteTold}
+use Rattle.containment.specs.Show.{graphFields, fewerFields, shownFields, recordBytes, fitBoth, showFor}
+use Rattle.containment.specs.Steps.{Query, Views, Answers}
+use Rattle.containment.specs.declared.quote_type.Quote.{Quote}
+use Rattle.containment.specs.declared.quote_type.Coverage.the-variants as coverage-is
+use Rattle.containment.proofs.ChoiceLaws.{chosen-none, lowest-below}
+use Rattle.containment.proofs.QueryLaws.{plain, few-edges, shown-whole}
+
+-- ---- a file's verdict
+
+module _ {none : List ℕ} {r : Told} (k : List ℕ → Answer) where
+  answers-rejected : {v : Verdict} {n d : ℕ} (outs : List (List ℕ)) → v ≡ rejected n d → r ≡ told n (d ∷ none) → Answers none (judged v k) r outs outs
+  unfolding judged toldOf outputsOf
+  answers-rejected outs e q = record {
+    result = q ∙ ap (λ (x : Verdict). toldOf none (judged x k)) (sym e);
+    outputs = ap (λ (x : Verdict). outputsOf (judged x k) outs) (sym e);
+  }
+
+  -- it is too long
+  pub answers-over : (most file : ℕ) (F : Format) (s : List ℕ) (outs : List (List ℕ)) → most < length s → r ≡ told 1 (file ∷ none)
+      → Answers none (judged (readFile most file F s) k) r outs outs
+  unfolding readFile
+  answers-over most file F s outs h q = answers-rejected outs (rw (lt-ltb most (length s) h)) q
+
+  module _ {v : Verdict} {file : ℕ} {x : Result ℕ} (f : Finds v file x) where
+    -- it was refused
+    pub answers-refused : (outs : List (List ℕ)) (y : Refusal) → (x ≡ bad (numberOf y)) × (detailOf y ≡ file) → r ≡ told (numberOf y) (detailOf y ∷ none)
+        → Answers none (judged v k) r outs outs
+    answers-refused outs y q s = answers-rejected outs (f .is ∙ ap (inFile file) (q .0) ∙ ap (rejected (numberOf y)) (sym (q .1))) s
+
+    -- it was accepted, and the call goes on with its content
+    pub answers-on : {ws : List ℕ} {outs outs′ : List (List ℕ)} → x ≡ ok ws → Answers none (k ws) r outs outs′ → Answers none (judged v k) r outs outs′
+    answers-on e b = rw (judged-accepted k f e) b
+
+-- ---- the workspace
+
+-- its first words were lent
+module _ (work ys : List ℕ) (h : 16384 ≤ length work) (n : length ys ≡ length (take (16384 - 0) (drop 0 work))) where
+  lent-number : length ys ≡ 16384
+  lent-number = n ∙ simp length-take (omega arith)
+
+  pub lent-long : length (putMid 0 (16384 - 0) work ys) ≡ length work
+  lent-long =
+      let d : length (postOf 0 (16384 - 0) work) ≡ length work - 16384 = length-drop 16384 work in
+      omega (arith, length-append ys (postOf 0 (16384 - 0) work), lent-number)
+
+module _ (none : List ℕ) (a : Answer) (work : List ℕ) {r : Told} where
+  -- too small
+  pub settles-small : (outs : List (List ℕ)) → length work < 16384 → r ≡ told 14 (0 ∷ none) → Settled none (desk (length work) a) r outs outs work work
+  unfolding desk workOf toldOf outputsOf
+  settles-small outs h q = let e = lt-ltb (length work) 16384 h in record { result = rw e q; outputs = rw e; workspace = rw e }
+
+  -- cleared, once its first words were lent
+  pub settles-lent : {outs outs′ : List (List ℕ)} {work′ : List ℕ} (ys : List ℕ) → 16384 ≤ length work → Answers none a r outs outs′
+      → length ys ≡ length (take (16384 - 0) (drop 0 work)) → work′ ≡ replicate 16384 0 ++ drop 16384 (putMid 0 (16384 - 0) work ys)
+      → Settled none (desk (length work) a) r outs outs′ work work′
+  unfolding desk workOf
+  settles-lent ys h b n q =
+      let e = le-ltb (length work) 16384 h in
+      let c = q ∙ ap (λ (t : List ℕ). replicate 16384 0 ++ t) (drop-at ys (postOf 0 (16384 - 0) work) 16384 (lent-number work ys h n)) in
+      record { result = rw e (b .result); outputs = rw e (b .outputs); workspace = rw e c }
+
+-- ---- what a quote tells
+
+pub refused-told : (x : Refusal) (t : List ℕ) → t ≡ replicate 512 0
+    → quoteTold (record { coverage = coverage-is.Refused x; mapping = t; edges = 0; chosen = 0; lowest = 0 }) ≡ told (numberOf x) (detailOf x ∷ blank)
+unfolding quoteTold
+refused-told x t e = rw e
+
+module _ (t : List ℕ) (m k : ℕ) where
+  pub covered-told : (c : ℕ) → coversIn t everyView k m ≡ true → c ≡ chosen t m k
+      → quoteTold (record { coverage = coverage-is.Covered; mapping = t; edges = m; chosen = c; lowest = 0 }) ≡ told 0 (valuesFrom t m k)
+  unfolding quoteTold valuesFrom
+  covered-told c h e = rw (h, e)
+
+  pub uncovered-told : (e : ℕ) → coversIn t everyView k m ≡ false → e ≡ lowestUnmatched t k m
+      → quoteTold (record { coverage = coverage-is.Uncovered; mapping = t; edges = m; chosen = 0; lowest = e }) ≡ told 0 (valuesFrom t m k)
+  unfolding quoteTold valuesFrom
+  uncovered-told e h q = rw (h, q, chosen-none t m k h)
+
+-- ---- an accepted query and accepted views
+
+-- a pattern that was accepted, by value
+module _ (s : List ℕ) {n : ℕ} {w w′ : List ℕ} (c : Content (decode pattern s) n w w′) (room : n ≤ length w) where
+  abbrev front : List ℕ
+  front = take (n - 0) (drop 0 w′)
+
+  pub query-fits : (nodesOf front ≤ 16) × (edgesOf front ≤ 32) × (2 + (nodesOf front + 2 * edgesOf front) ≤ length front)
+  unfolding patternSize
+  query-fits = let b = pattern-bounds s (c .fields) (c .is) in rw (front-is c room) (b .1, b .3, omega (arith, b .4))
+
+  abbrev pub query-by : {q : Given} → HoldsPattern front q → Query q
+  query-by {q} h = record { bytes = s; content = c .fields; is = c .is; holds = subst (λ l. HoldsPattern l q) (front-is c room) h }
+
+pub query-few : {q : Given} → Query q → q .edges ≤ 32
+query-few t = let h = few-edges t in omega (arith, t .holds .edges)
+
+-- a catalogue that was accepted, and its first word
+abbrev pub views-by : (s : List ℕ) {n k : ℕ} {w w′ : List ℕ} (c : Content (decode catalogue s) n w w′) → n ≤ length w → k ≡ getD (take (n - 0) (drop 0 w′)) 0 0 → Views s k
+views-by s c room e = record { content = c .fields; is = c .is; number = e ∙ ap (λ (l : List ℕ). getD l 0 0) (front-is c room) }
+
+abbrev pub viewPatterns : List ℕ → List Pattern
+viewPatterns cs = map patternOf (viewsOf cs)
+
+-- how the calls go on with an accepted query
+abbrev pub quoteOn : List ℕ → List ℕ → Answer
+quoteOn c qs = judged (readCatalogue c) (λ cs. give (quoteValues (patternOf qs) (viewPatterns cs)) [])
+
+abbrev pub showOn : List ℕ → ℕ → ℕ → List ℕ → Answer
+showOn c room room′ qs = judged (readCatalogue c) (λ cs. showFor qs (viewPatterns cs) room room′)
+
+module _ {s : List ℕ} {k : ℕ} (v : Views s k) where
+  pub views-few : k ≤ 16
+  views-few = let q = catalogue-views s (v .content) (v .is) .most in omega (arith, v .number)
+
+  views-many : length (viewPatterns (v .content)) ≡ k
+  views-many = length-map (viewsOf (v .content)) patternOf ∙ catalogue-views s (v .content) (v .is) .many ∙ sym (v .number)
+
+  module _ {q : Given} (t : Query q) where
+    edges-many : length (patternOf (t .content) .edges) ≡ q .edges
+    edges-many =
+        ap (λ (P : Pattern). length (P .edges)) (pattern-is (plain t))
+        ∙ edgesIn-length (plain t .ends) (plain t .number) (plain t .edges .two-each)
+        ∙ sym (edges-in (plain t))
+        ∙ sym (t .holds .edges)
+
+    module _ {table : List ℕ} (e : table ≡ mapping (patternOf (t .content)) (viewPatterns (v .content))) where
+      pub quote-given : {r : Told} → r ≡ told 0 (valuesFrom table (q .edges) k)
+          → Answers blank (give (quoteValues (patternOf (t .content)) (viewPatterns (v .content))) []) r [] []
+      unfolding quoteValues toldOf outputsOf fronts
+      quote-given h = record { result = rw (edges-many, views-many) (rw e at h); outputs = refl }
+
+      show-by : (room room′ : ℕ)
+          → showFor (t .content) (viewPatterns (v .content)) room room′
+          ≡ pick (coversIn table everyView k (q .edges)) (refuse 13 0)
+          (fitBoth room room′ (recordBytes (graphFields (t .content))) (recordBytes (fewerFields (t .content) (lowestUnmatched table k (q .edges)))))
+      unfolding showFor
+      show-by room room′ = rw (e, views-many, t .holds .edges)
+
+      pub show-covered : {r : Told} (room room′ : ℕ) (outs : List (List ℕ)) → coversIn table everyView k (q .edges) ≡ true → r ≡ told 13 (0 ∷ [])
+          → Answers [] (showFor (t .content) (viewPatterns (v .content)) room room′) r outs outs
+      unfolding toldOf outputsOf
+      show-covered room room′ outs h g =
+          let a : showFor (t .content) (viewPatterns (v .content)) room room′ ≡ refuse 13 0 = show-by room room′ ∙ rw h in
+          record { result = rw a g; outputs = rw a }
+
+      pub show-uncovered : {r : Told} (room room′ n : ℕ) {outs outs′ : List (List ℕ)} → coversIn table everyView k (q .edges) ≡ false
+          → n ≡ lowestUnmatched table k (q .edges)
+          → Answers [] (fitBoth room room′ (recordBytes (shownFields (t .content) 32)) (recordBytes (shownFields (t .content) n))) r outs outs′
+          → Answers [] (showFor (t .content) (viewPatterns (v .content)) room room′) r outs outs′
+      unfolding shownFields
+      show-uncovered {r} room room′ n {outs} {outs′} h g b =
+          let l = lowest-below table k (q .edges) .1 h in
+          let x = le-ltb 32 (edgesOf (t .content)) (few-edges t) in
+          let y = lt-ltb n (edgesOf (t .content)) (omega (arith, t .holds .edges)) in
+          let d : showFor (t .content) (viewPatterns (v .content)) room room′ ≡ fitBoth room room′ (recordBytes (graphFields (t .content))) (recordBytes (fewerFields (t .content) n)) =
+          show-by room room′ ∙ rw (h, g) in
+          subst (λ a. Answers [] a r outs outs′) (sym d) (rw (x, y) at b)
+
+-- ---- two outputs
+
+module _ (first second A B : List ℕ) {a : ℕ} (na : a ≡ length A) where
+  -- the first doesn't fit
+  pub first-tight : {first′ second′ : List ℕ} → length first < a → first′ ≡ first → second′ ≡ second
+      → Answers [] (fitBoth (length first) (length second) A B) (told 12 (a ∷ [])) (first ∷ second ∷ []) (first′ ∷ second′ ∷ [])
+  unfolding fitBoth toldOf outputsOf
+  first-tight h p q = let e = lt-ltb (length first) (length A) (omega (arith, na)) in record { result = rw (e, na); outputs = rw (e, p, q) }
+
+  fits-first : a ≤ length first → ltb (length first) (length A) ≡ false
+  fits-first fits = le-ltb (length first) (length A) (omega (arith, na))
+
+  module _ {b : ℕ} (nb : b ≡ length B) (fits : a ≤ length first) where
+    -- the second doesn't fit
+    pub second-tight : {first′ second′ : List ℕ} → length second < b → first′ ≡ first → second′ ≡ second
+        → Answers [] (fitBoth (length first) (length second) A B) (told 12 (b ∷ [])) (first ∷ second ∷ []) (first′ ∷ second′ ∷ [])
+    unfolding fitBoth toldOf outputsOf
+    second-tight h p q =
+        let d = fits-first fits in
+        let e = lt-ltb (length second) (length B) (omega (arith, nb)) in
+        record { result = rw (d, e, nb); outputs = rw (d, e, p, q) }
+
+    -- both are given
+    pub both-given : {first′ second′ : List ℕ} → b ≤ length second → first′ ≡ sets first 0 A → second′ ≡ sets second 0 B
+        → Answers [] (fitBoth (length first) (length second) A B) (told 0 (a ∷ b ∷ [])) (first ∷ second ∷ []) (first′ ∷ second′ ∷ [])
+    unfolding fitBoth toldOf outputsOf fronts
+    both-given h p q =
+        let d = fits-first fits in
+        let e = le-ltb (length second) (length B) (omega (arith, nb)) in
+        let x = p ∙ sets-front first A (omega (arith, na)) in
+        let y = q ∙ sets-front second B (omega (arith, nb)) in
+        record { result = rw (d, e, na, nb); outputs = rw (d, e, x, y) }

@@ -1,0 +1,13 @@
+pub mod SetBits
+pub mod ChoiceLaws
+pub mod QueryGraph
+pub mod FieldLaws
+pub mod QueryLaws
+pub mod MappingLaws
+pub mod NotingLaws
+pub mod GraphedLaws
+pub mod AnswerLaws
+pub mod QuoteLaws
+pub mod ShowLaws
+pub mod ListingLaws
+pub mod Table

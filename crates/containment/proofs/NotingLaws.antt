@@ -1,0 +1,184 @@
+-- The views of a catalogue noted one by one in the table of a quote.
+use Prim.Native.Nat.{ℕ, suc, _+_, _*_, _<_, _≤_}
+use mathlib.Core.Path.{_≡_, refl, sym, ap, ap₂, subst, _∙_}
+use mathlib.Core.List.{List, [], _∷_, _++_, map}
+use lib.ListN.{length, take, drop, getD, replicate, length-map}
+use lib.Seq.{take-suc, take-all, drop-cons, drop-at, getD-take, length-take-le}
+use native.Mathlib.Omega.{arith}
+use native.Mathlib.Numerals.{add-one}
+use Rattle.packed.specs.Format.{ok, decode}
+use Rattle.packed.specs.Formats.{record′, code}
+use Rattle.packed.specs.Contents.{nodesOf, edgesOf, viewsOf}
+use Rattle.packed.specs.Loading.{codes}
+use Rattle.packed.specs.LoadedGraph.{Holds}
+use Rattle.packed.specs.Distinct.{distinct}
+use Rattle.packed.specs.Matches.{matchesOf}
+use Rattle.packed.specs.declared.by_value.Pattern.{Pattern as Given}
+use Rattle.packed.proofs.DistinctLaws.{member-distinct}
+use Rattle.packed.proofs.AcceptedBounds.{catalogue-views}
+use Rattle.matching.specs.Lists.{In, here, there}
+use Rattle.matching.specs.Simulation.{Pair, Pattern, Graph, edgesIn, patternOf, graphOf, asGraph, matchSets}
+use Rattle.matching.specs.Steps.{patternIn, graphIn, Fair, Ready, Edges}
+use Rattle.matching.specs.Sweeps.{OneOf}
+use Rattle.matching.specs.Matched.{Proper, Rises, Matched, ViewAt}
+use Rattle.matching.specs.declared.views.View.{View}
+use Rattle.matching.proofs.ListLaws.{in-each}
+use Rattle.matching.proofs.CodeLaws.{in-member, member-in}
+use Rattle.matching.proofs.EdgeLaws.{edgeAt, at-edgesIn, codes-each}
+use Rattle.matching.proofs.PatternLaws.{edges-in, pattern-same}
+use Rattle.matching.proofs.RecordLaws.{sets-same, graph-again}
+use Rattle.matching.proofs.ViewLaws.{Ahead, Advanced, advance, all-ahead}
+use Rattle.containment.specs.Quote.{maskIn, matchMask, mapping}
+use Rattle.containment.specs.Show.{graphFields}
+use Rattle.containment.specs.Steps.{Query, Views, Present, Column, codeAt, powers}
+use Rattle.containment.proofs.QueryGraph.{graph-fields, graph-means, powers-length}
+use Rattle.containment.proofs.FieldLaws.{edge-is, number-is}
+use Rattle.containment.proofs.QueryLaws.{plain, some-edges, few-edges, query-number, query-edge}
+use Rattle.containment.proofs.MappingLaws.{column-map, mapping-none, mapping-more, mapping-length, column-clear}
+
+-- ---- the views
+module _ {c : List ℕ} {k : ℕ} (v : Views c k) where
+  pub views-many : length (viewsOf (v .content)) ≡ k
+  views-many = catalogue-views c (v .content) (v .is) .many ∙ sym (v .number)
+
+  pub views-few : k ≤ 16
+  views-few = omega (arith, v .number, catalogue-views c (v .content) (v .is) .most)
+
+-- the table after a views, of which the next begins on the byte
+pub record Noted (q : Given) (c : List ℕ) (k a byte : ℕ) (table : List ℕ) : Type 0 where
+  pub ahead : (v : Views c k) → Ahead c byte (drop a (viewsOf (v .content)))
+  pub is : (t : Query q) (v : Views c k) → table ≡ mapping (patternOf (t .content)) (map patternOf (take a (viewsOf (v .content))))
+
+pub noted-start : {q : Given} {c : List ℕ} {k : ℕ} {table : List ℕ} → table ≡ replicate 512 0 → Noted q c k 0 1 table
+noted-start e = record { ahead = λ v. all-ahead _ _ (v .is); is = λ t v. mapping-none (patternOf (t .content)) e }
+
+pub noted-end : {q : Given} {c : List ℕ} {k a byte : ℕ} {table : List ℕ} → Noted q c k a byte table → a ≡ k
+    → (t : Query q) (v : Views c k) → table ≡ mapping (patternOf (t .content)) (map patternOf (viewsOf (v .content)))
+noted-end {a = a} h e t v =
+    h .is t v ∙ ap (λ (l : List (List ℕ)). mapping (patternOf (t .content)) (map patternOf l)) (take-all a (viewsOf (v .content)) (omega (arith, views-many v)))
+
+module _ {q : Given} {c : List ℕ} {k a byte : ℕ} {table : List ℕ} (h : Noted q c k a byte table) (l : a < k) where
+  -- the next view
+  pub noted-next : {r : View} → ViewAt c byte r → (v : Views c k) → Advanced c (getD (viewsOf (v .content)) a []) (drop (suc a) (viewsOf (v .content))) r
+  noted-next view v =
+      advance (subst (Ahead c byte) (drop-cons (viewsOf (v .content)) a [] (omega (arith, views-many v))) (h .ahead v)) view
+
+  taken-long : (v : Views c k) → length (map patternOf (take a (viewsOf (v .content)))) ≡ a
+  taken-long v =
+      length-map (take a (viewsOf (v .content))) patternOf ∙ length-take-le a (viewsOf (v .content)) (omega (arith, views-many v))
+
+  pub noted-long : Query q → Views c k → length table ≡ 512
+  noted-long t v = ap length (h .is t v) ∙ mapping-length (patternOf (t .content)) (map patternOf (take a (viewsOf (v .content))))
+
+  -- its column is clear
+  pub noted-clear : Query q → Views c k → (e : ℕ) → getD table (16 * e + a) 0 ≡ 0
+  noted-clear t v e =
+      column-clear (patternOf (t .content)) (map patternOf (take a (viewsOf (v .content)))) table a e (omega (arith, taken-long v)) (omega (arith, views-few v)) (h .is t v)
+
+map-snoc : (us : List (List ℕ)) (x : List ℕ) → map patternOf us ++ (patternOf x ∷ []) ≡ map patternOf (us ++ (x ∷ []))
+map-snoc [] x = refl
+map-snoc (u ∷ us) x = ap (λ (m : List Pattern). patternOf u ∷ m) (map-snoc us x)
+
+-- ---- the query's record in the workspace
+in-place : {x : ℕ} {l : List ℕ} → In x l → OneOf (length l) (λ i. getD l i 0 ≡ x)
+in-place (here e) = record { at = 0; below = omega arith; holds = sym e }
+in-place (there i) = let r = in-place i in record { at = suc (r .at); below = omega (arith, r .below); holds = r .holds }
+
+module _ {q : Given} {s : List ℕ} {n m : ℕ} {w : List ℕ} (t : Query q) (h : Holds s n m w) (reads : decode record′ s ≡ ok (graphFields (t .content))) where
+  fields-same : h .fields ≡ graphFields (t .content)
+  fields-same = let e = h .is in cc
+
+  pub number-same : m ≡ q .edges
+  unfolding graphFields
+  number-same = h .edges ∙ ap edgesOf fields-same ∙ sym (t .holds .edges)
+
+  pub number-some : 0 < m
+  number-some = omega (arith, number-same, t .holds .edges, some-edges t)
+
+  pub number-few : m ≤ 32
+  number-few = omega (arith, number-same, t .holds .edges, few-edges t)
+
+  sets-query : (P : Pattern) → matchSets P (graphIn s n m w) ≡ matchSets P (asGraph (patternOf (t .content)))
+  sets-query P = sets-same h P ∙ ap (matchSets P) (ap graphOf fields-same ∙ graph-means (plain t))
+
+  ends-same : drop (2 + nodesOf (h .fields)) (h .fields) ≡ plain t .ends
+  ends-same =
+      let p = plain t in
+      let z : 2 + p .nodes ≡ suc (suc (p .nodes)) = omega arith in
+      ap (λ (l : List ℕ). drop (2 + nodesOf l) l) (fields-same ∙ graph-fields p)
+      ∙ ap (λ (k : ℕ). drop k (p .nodes ∷ p .number ∷ (powers (p .labels) ++ p .ends))) z
+      ∙ drop-at (powers (p .labels)) (p .ends) (p .nodes) (powers-length (p .labels) ∙ p .label-each)
+
+  -- each edge of the query stands there
+  code-in : (e : ℕ) → e < q .edges → In (codeAt q e) (codes (plain t .ends))
+  code-in e l =
+      let p = plain t in
+      let j : e < p .number = omega (arith, number-is p (t .holds)) in
+      subst (λ (x : ℕ). In x (codes (p .ends))) (ap (λ (f : Pair). code (f .0) (f .1)) (sym (edge-is p (t .holds) e j)))
+      (subst (In (code (edgeAt (p .ends) e .0) (edgeAt (p .ends) e .1))) (sym (codes-each (p .ends)))
+      (in-each (λ f. code (f .0) (f .1)) (at-edgesIn (p .ends) (p .number) (p .edges .two-each) e j)))
+
+  front-in : (e : ℕ) → e < q .edges → In (codeAt q e) (take m w)
+  front-in e l =
+      subst (In (codeAt q e)) (sym (h .front ∙ ap (λ (l : List ℕ). distinct (codes l)) ends-same))
+      (member-in _ (member-distinct (codeAt q e) (codes (plain t .ends)) ∙ in-member (code-in e l)))
+
+  pub query-present : {w′ : List ℕ} → Edges w w′ → Present q m w′
+  unfolding Present
+  query-present g e l =
+      let r = in-place (front-in e l) in
+      let b = number-few in
+      let j : r .at < m = omega (arith, r .below, length-take-le m w (omega (arith, h .long))) in
+      record { at = r .at; below = j; holds = g .same (r .at) (omega arith) ∙ sym (getD-take m w (r .at) 0 j) ∙ r .holds }
+
+  -- ---- the next view's column
+  module _ {c : List ℕ} {k a byte : ℕ} {table table′ : List ℕ} (o : Noted q c k a byte table) (l : a < k) (v : Views c k) (r : View) (view : ViewAt c byte r)
+      {w₁ w₂ : List ℕ} (g : Edges w w₁) (d : Matched (r .pattern) s n m w₁ w₂)
+      (col : Column a (q .edges) (λ e x. x ≡ maskIn (codeAt q e) (matchesOf m (r .pattern .edges) w₂)) table table′) where
+    abbrev Q : Pattern
+    Q = patternOf (t .content)
+
+    abbrev vs : List (List ℕ)
+    vs = viewsOf (v .content)
+
+    abbrev here′ : List ℕ
+    here′ = getD vs a []
+
+    abbrev Ps : List Pattern
+    Ps = map patternOf (take a vs)
+
+    sets-view : matchesOf m (r .pattern .edges) w₂ ≡ matchSets (patternOf here′) (asGraph Q)
+    sets-view =
+        let adv = noted-next o l {r = r} view v in
+        let b = number-few in
+        d .sets
+        ∙ ap₂ matchSets (pattern-same (adv .plain) (adv .holds)) (graph-again g s n (omega arith))
+        ∙ sets-query (patternOf here′)
+
+    mask-view : (e : ℕ) → e < q .edges → maskIn (codeAt q e) (matchesOf m (r .pattern .edges) w₂) ≡ matchMask Q (getD (Q .edges) e (0, 0)) (patternOf here′)
+    unfolding matchMask
+    mask-view e j = ap₂ (λ (f : Pair) (ls : List (List ℕ)). maskIn (code (f .0) (f .1)) ls) (sym (query-edge t e j)) sets-view
+
+    column-view : Column (length Ps) (length (Q .edges)) (λ e x. x ≡ matchMask Q (getD (Q .edges) e (0, 0)) (patternOf here′)) table table′
+    column-view =
+        subst (λ (i : ℕ). Column i (length (Q .edges)) (λ e x. x ≡ matchMask Q (getD (Q .edges) e (0, 0)) (patternOf here′)) table table′) (sym (taken-long o l v))
+        (subst (λ (i : ℕ). Column a i (λ e x. x ≡ matchMask Q (getD (Q .edges) e (0, 0)) (patternOf here′)) table table′) (sym (query-number t))
+        (column-map (λ e x j y. y ∙ mask-view e j) col))
+
+    table-more : table′ ≡ mapping Q (map patternOf (take (a + 1) vs))
+    table-more =
+        let few = views-few v in
+        let one : take (a + 1) vs ≡ take a vs ++ (here′ ∷ []) = rw (add-one a) (take-suc vs a [] (omega (arith, views-many v))) in
+        mapping-more Q Ps (patternOf here′) (omega (arith, taken-long o l v)) (o .is t v) column-view
+        ∙ ap (mapping Q) (map-snoc (take a vs) here′)
+        ∙ ap (λ (us : List (List ℕ)). mapping Q (map patternOf us)) (sym one)
+
+pub noted-more : {q : Given} {s : List ℕ} {n m : ℕ} {w : List ℕ} → Holds s n m w → ((t : Query q) → decode record′ s ≡ ok (graphFields (t .content)))
+    → {c : List ℕ} {k a byte : ℕ} {table table′ : List ℕ} → Noted q c k a byte table → a < k → (r : View) → ViewAt c byte r
+    → {w₁ w₂ : List ℕ} → Edges w w₁ → Matched (r .pattern) s n m w₁ w₂
+    → Column a (q .edges) (λ e x. x ≡ maskIn (codeAt q e) (matchesOf m (r .pattern .edges) w₂)) table table′ → Noted q c k (a + 1) (r .next) table′
+noted-more h reads {c} {a = a} o l r view g d col =
+    record {
+      ahead = λ v. subst (λ (i : ℕ). Ahead c (r .next) (drop i (viewsOf (v .content)))) (sym (add-one a)) (noted-next o l {r = r} view v .ahead);
+      is = λ t v. table-more t h (reads t) o l v r view g d col;
+    }

@@ -1,0 +1,264 @@
+-- What the table of a quote says: which edges of a view match an edge of the query, whether the query is covered, and the lowest unmatched edge.
+use Prim.Native.Nat.{ℕ, zero, suc, _+_, _*_, _/_, _%_, _^_, _<_, _≤_}
+use mathlib.Core.Path.{_≡_, refl, sym, ap, subst, _∙_}
+use mathlib.Core.Bool.{Bool, true, false, not}
+use mathlib.Core.Logic.{_↔_, ⊎-elim, Iff·trans}
+use mathlib.Core.List.{List, [], _∷_}
+use lib.ListN.{length, getD}
+use lib.Dec.{T, eqb}
+use lib.Pow.{shr-shr}
+use borrow.Author.Tests.{ne-eqb, lt-ltb}
+use native.Mathlib.Nat.{div-one, pow-suc}
+use native.Mathlib.Omega.{arith}
+use Rattle.packed.specs.Formats.{code}
+use Rattle.packed.specs.Order.{member}
+use Rattle.matching.specs.Lists.{_or_, In, here, there, some}
+use Rattle.matching.specs.Simulation.{Pair, Pattern, bit, asGraph, matchSets}
+use Rattle.matching.specs.Join.{lists, matchedBy, matched, covered}
+use Rattle.matching.specs.Sweeps.{OneOf}
+use Rattle.matching.proofs.ListLaws.{not-in-none, in-cases, in-at, every-in, in-every, some-in, in-some}
+use Rattle.matching.proofs.UpToLaws.{getD-upTo}
+use Rattle.matching.proofs.CodeLaws.{in-member, member-in}
+use Rattle.matching.proofs.MatchLaws.{Sim, Total}
+use Rattle.matching.proofs.MatchSetLaws.{sets-length}
+use Rattle.matching.proofs.Listed.{listed-related, related-matches}
+use Rattle.containment.specs.Choice.{matches, coversIn, everyView, lowestUnmatched}
+use Rattle.containment.specs.Quote.{one, maskIn, matchMask, noPattern, maskAt, mapping}
+use Rattle.containment.proofs.SetBits.{never}
+use Rattle.containment.proofs.ChoiceLaws.{covered-exactly, lowest-below, lowest-unmatched}
+
+-- a test as an equation
+pub test-is : (b : Bool) → (b ≡ true) ↔ T b
+test-is true = (λ _. tt, λ _. refl)
+test-is false = (λ h. never (sym h), λ h. absurd h)
+
+-- a member stands at a place
+pub place-of : {A : Type 0} (d : A) {x : A} {l : List A} → In x l → OneOf (length l) (λ i. x ≡ getD l i d)
+place-of d (here e) = record { at = 0; below = omega arith; holds = e }
+place-of d (there i) = let r = place-of d i in record { at = suc (r .at); below = omega (arith, r .below); holds = r .holds }
+
+-- ---- the mask of a code in lists
+
+-- a mask whose lowest bit is b
+low : (b : Bool) (x : ℕ) → (one b + 2 * x) / 2 ^ 0 % 2 ≡ one b
+low true x = let d = div-one (1 + 2 * x) in omega arith
+low false x = let d = div-one (0 + 2 * x) in omega arith
+
+one-is : (b : Bool) → eqb (one b) 1 ≡ b
+one-is true = refl
+one-is false = refl
+
+first-bit : (b : Bool) (x : ℕ) → bit (one b + 2 * x) 0 ≡ b
+unfolding bit
+first-bit b x = ap (λ (y : ℕ). eqb y 1) (low b x) ∙ one-is b
+
+half : (b : Bool) (x : ℕ) → (one b + 2 * x) / 2 ≡ x
+half true x = omega arith
+half false x = omega arith
+
+later-bit : (b : Bool) (x f : ℕ) → bit (one b + 2 * x) (suc f) ≡ bit x f
+unfolding bit
+later-bit b x f =
+    let z : suc f ≡ 1 + f = omega arith in
+    ap (λ (y : ℕ). eqb (y % 2) 1)
+    (ap (λ (k : ℕ). (one b + 2 * x) / 2 ^ k) z ∙ sym (shr-shr (one b + 2 * x) 1 f) ∙ ap (λ (y : ℕ). y / 2 ^ f) (half b x))
+
+module _ (c : ℕ) where
+  mask-at : (ls : List (List ℕ)) (f : ℕ) → f < length ls → bit (maskIn c ls) f ≡ member c (getD ls f [])
+  unfolding maskIn
+  mask-at [] f h = absurd (omega arith)
+  mask-at (l ∷ ls) zero h = first-bit (member c l) (maskIn c ls)
+  mask-at (l ∷ ls) (suc f) h = later-bit (member c l) (maskIn c ls) f ∙ mask-at ls f (omega arith)
+
+  -- the mask names exactly the lists that have the code
+  pub mask-exactly : (ls : List (List ℕ)) (f : ℕ) → f < length ls → (bit (maskIn c ls) f ≡ true) ↔ (member c (getD ls f []) ≡ true)
+  mask-exactly ls f h = let e = mask-at ls f h in (λ p. sym e ∙ p, λ p. e ∙ p)
+
+  one-small : (b : Bool) → one b ≤ 1
+  one-small true = omega arith
+  one-small false = omega arith
+
+  pub mask-small : (ls : List (List ℕ)) → maskIn c ls < 2 ^ length ls
+  unfolding maskIn
+  mask-small [] = omega arith
+  mask-small (l ∷ ls) = omega (arith, one-small (member c l), mask-small ls, pow-suc 2 (length ls))
+
+  one-or-more : (b : Bool) (x : ℕ) → one b + 2 * x ≡ 0 → (b ≡ false) × (x ≡ 0)
+  one-or-more true x h = absurd (omega arith)
+  one-or-more false x h = (refl, omega arith)
+
+  none-say : (ls : List (List ℕ)) → maskIn c ls ≡ 0 → (l : List ℕ) → In l ls → member c l ≡ false
+  unfolding maskIn
+  none-say [] h l i = absurd (not-in-none i)
+  none-say (m ∷ ls) h l i =
+      let r = one-or-more (member c m) (maskIn c ls) h in
+      ⊎-elim (λ e. ap (member c) e ∙ r .0) (λ j. none-say ls (r .1) l j) (in-cases i)
+
+  none-by : (ls : List (List ℕ)) → ((l : List ℕ) → In l ls → member c l ≡ false) → maskIn c ls ≡ 0
+  unfolding maskIn
+  none-by [] h = refl
+  none-by (l ∷ ls) h = let e = h l (here refl) in let i = none-by ls (λ m j. h m (there j)) in rw (e, i)
+
+  -- it is 0 exactly if none has it
+  pub mask-none : (ls : List (List ℕ)) → (maskIn c ls ≡ 0) ↔ ((l : List ℕ) → In l ls → member c l ≡ false)
+  mask-none ls = (none-say ls, none-by ls)
+
+-- ---- the table
+module _ (e : Pair) where
+  -- the mask of an edge is not 0 exactly if some list has the edge
+  mask-step : (b : Bool) (x : ℕ) (rest : Bool) → not (eqb x 0) ≡ rest → not (eqb (one b + 2 * x) 0) ≡ (b or rest)
+  unfolding _or_
+  mask-step true x rest h = ap not (ne-eqb (1 + 2 * x) 0 (λ (z : 1 + 2 * x ≡ 0). omega arith))
+  mask-step false zero rest h = h
+  mask-step false (suc x) rest h = ap not (ne-eqb (0 + 2 * suc x) 0 (λ (z : 0 + 2 * suc x ≡ 0). omega arith) ∙ sym (ne-eqb (suc x) 0 (λ (z : suc x ≡ 0). omega arith))) ∙ h
+
+  mask-some : (ls : List (List ℕ)) → not (eqb (maskIn (code (e .0) (e .1)) ls) 0) ≡ some (lists e) ls
+  unfolding maskIn some lists
+  mask-some [] = refl
+  mask-some (l ∷ ls) = mask-step (member (code (e .0) (e .1)) l) (maskIn (code (e .0) (e .1)) ls) (some (lists e) ls) (mask-some ls)
+
+module _ (Q : Pattern) (Ps : List Pattern) (few-edges : length (Q .edges) ≤ 32) where
+  abbrev edge : ℕ → Pair
+  edge i = getD (Q .edges) i (0, 0)
+
+  abbrev view : ℕ → Pattern
+  view a = getD Ps a noPattern
+
+  mask-is : (k i a : ℕ) → k / 16 ≡ i → k % 16 ≡ a → i < length (Q .edges) → a < length Ps → maskAt Q Ps k ≡ matchMask Q (edge i) (view a)
+  unfolding maskAt
+  mask-is k i a p q h l = let x = lt-ltb i (length (Q .edges)) h in let y = lt-ltb a (length Ps) l in rw (p, q, x, y)
+
+  -- what stands in the table for the edge i and the view a
+  mapping-at : (i a : ℕ) → i < length (Q .edges) → a < length Ps → a < 16
+      → getD (mapping Q Ps) (16 * i + a) 0 ≡ maskIn (code (edge i .0) (edge i .1)) (matchSets (view a) (asGraph Q))
+  unfolding mapping matchMask
+  mapping-at i a h l few = getD-upTo (maskAt Q Ps) 512 (16 * i + a) 0 (omega arith) ∙ mask-is (16 * i + a) i a (omega arith) (omega arith) h l
+
+  -- the edges of a view that match the edge i, exactly: those whose match sets, on the query read as a graph, have it
+  pub mapping-exactly : (i a : ℕ) → i < length (Q .edges) → a < length Ps → a < 16 → (f : ℕ) → f < length (getD Ps a noPattern .edges)
+      → (bit (getD (mapping Q Ps) (16 * i + a) 0) f ≡ true)
+      ↔ In (code (getD (Q .edges) i (0, 0) .0) (getD (Q .edges) i (0, 0) .1)) (getD (matchSets (getD Ps a noPattern) (asGraph Q)) f [])
+  mapping-exactly i a h l few f k =
+      let e = mapping-at i a h l few in
+      let m = mask-exactly (code (edge i .0) (edge i .1)) (matchSets (view a) (asGraph Q)) f (omega (arith, sets-length (view a) (asGraph Q))) in
+      (λ p. member-in _ (m .0 (rw e at p)), λ p. rw e (m .1 (in-member p)))
+
+  -- and no others
+  pub mapping-small : (i a : ℕ) → i < length (Q .edges) → a < length Ps → a < 16 → getD (mapping Q Ps) (16 * i + a) 0 < 2 ^ length (getD Ps a noPattern .edges)
+  mapping-small i a h l few =
+      rw (mapping-at i a h l few, ← sets-length (view a) (asGraph Q)) (mask-small (code (edge i .0) (edge i .1)) (matchSets (view a) (asGraph Q)))
+
+  matches-is : (i a : ℕ) → i < length (Q .edges) → a < length Ps → a < 16 → matches (mapping Q Ps) i a ≡ matchedBy Q (edge i) (view a)
+  unfolding matches matchedBy
+  matches-is i a h l few = ap (λ (x : ℕ). not (eqb x 0)) (mapping-at i a h l few) ∙ mask-some (edge i) (matchSets (view a) (asGraph Q))
+
+  -- the table says exactly which views match an edge
+  pub matched-exactly : (i a : ℕ) → i < length (Q .edges) → a < length Ps → a < 16
+      → (matches (mapping Q Ps) i a ≡ true) ↔ T (matchedBy Q (getD (Q .edges) i (0, 0)) (getD Ps a noPattern))
+  matched-exactly i a h l few =
+      let e = matches-is i a h l few in
+      let t = test-is (matchedBy Q (edge i) (view a)) in
+      (λ p. t .0 (sym e ∙ p), λ p. e ∙ t .1 p)
+
+  module _ (few : length Ps ≤ 16) where
+    -- an edge is matched exactly if a view matches it
+    pub matched-places : (i : ℕ) → i < length (Q .edges) → T (matched Q Ps (getD (Q .edges) i (0, 0))) ↔ OneOf (length Ps) (λ a. matches (mapping Q Ps) i a ≡ true)
+    unfolding matched
+    matched-places i h = (
+      λ t.
+          let r = some-in (matchedBy Q (edge i)) Ps t in
+          let o = place-of noPattern (r .1) in
+          let l = o .below in
+          record { at = o .at; below = l; holds = matched-exactly i (o .at) h l (omega arith) .1 (subst (λ P. T (matchedBy Q (edge i) P)) (o .holds) (r .2)) },
+      λ o.
+          let l = o .below in
+          in-some (matchedBy Q (edge i)) (in-at Ps (o .at) noPattern l) (matched-exactly i (o .at) h l (omega arith) .0 (o .holds)),
+    )
+
+    every-edge : T (covered Q Ps) ↔ ((i : ℕ) → i < length (Q .edges) → T (matched Q Ps (edge i)))
+    unfolding covered
+    every-edge = (
+      λ t i h. every-in (matched Q Ps) t (in-at (Q .edges) i (0, 0) h),
+      λ f. in-every (matched Q Ps) (Q .edges) (λ e j. let o = place-of (0, 0) j in subst (λ g. T (matched Q Ps g)) (sym (o .holds)) (f (o .at) (o .below))),
+    )
+
+-- ---- coverage
+-- the quote says covered exactly if every edge of the query is matched
+pub quote-covered-exactly : (Q : Pattern) (Ps : List Pattern) → length Ps ≤ 16 → length (Q .edges) ≤ 32
+    → (coversIn (mapping Q Ps) everyView (length Ps) (length (Q .edges)) ≡ true) ↔ T (covered Q Ps)
+quote-covered-exactly Q Ps few few-edges =
+    let c = covered-exactly (mapping Q Ps) (length Ps) (length (Q .edges)) few in
+    let e = every-edge Q Ps few-edges few in
+    let m = matched-places Q Ps few-edges few in (
+      λ h. e .1 (λ i l. m i l .1 (c .0 h i l)),
+      λ t. c .1 (λ i l. m i l .0 (e .0 t i l)),
+    )
+
+-- a view of the list has an edge whose match set, on the query read as a graph, has the edge e
+pub record Listed (Q : Pattern) (Ps : List Pattern) (e : Pair) : Type 0 where
+  pub view : Pattern
+  pub given : In view Ps
+  pub at : ℕ
+  pub below : at < length (view .edges)
+  pub lists : In (code (e .0) (e .1)) (getD (matchSets view (asGraph Q)) at [])
+
+module _ (Q : Pattern) (Ps : List Pattern) where
+  matched-say : (e : Pair) → T (matched Q Ps e) → Listed Q Ps e
+  unfolding matched matchedBy lists
+  matched-say e t =
+      let p = some-in (matchedBy Q e) Ps t in
+      let l = some-in (lists e) (matchSets (p .0) (asGraph Q)) (p .2) in
+      let o = place-of [] (l .1) in
+      record {
+        view = p .0;
+        given = p .1;
+        at = o .at;
+        below = omega (arith, o .below, sets-length (p .0) (asGraph Q));
+        lists = subst (λ m. In (code (e .0) (e .1)) m) (o .holds) (member-in (l .0) (test-is (lists e (l .0)) .1 (l .2)));
+      }
+
+  matched-by : (e : Pair) → Listed Q Ps e → T (matched Q Ps e)
+  unfolding matched matchedBy lists
+  matched-by e o =
+      let ms : List (List ℕ) = matchSets (o .view) (asGraph Q) in
+      let h : o .at < length ms = omega (arith, o .below, sets-length (o .view) (asGraph Q)) in
+      in-some (matchedBy Q e) (o .given) (in-some (lists e) (in-at ms (o .at) [] h) (test-is (lists e (getD ms (o .at) [])) .0 (in-member (o .lists))))
+
+  pub covered-says : T (covered Q Ps) ↔ ((e : Pair) → In e (Q .edges) → Listed Q Ps e)
+  unfolding covered
+  covered-says = (
+    λ t e i. matched-say e (every-in (matched Q Ps) t i),
+    λ f. in-every (matched Q Ps) (Q .edges) (λ e i. matched-by e (f e i)),
+  )
+
+  -- the view then fits the query as a whole: every node of it has a partner
+  pub listed-whole : (e : Pair) (o : Listed Q Ps e) → Total (o .view) (Sim (o .view) (asGraph Q))
+  listed-whole e o =
+      let r = listed-related (o .view) (asGraph Q) (o .at) (o .below) (code (e .0) (e .1)) (o .lists) in
+      related-matches (o .view) (asGraph Q) (r .2) .whole
+
+-- covered exactly if each edge of the query is in the match set of some edge of some view
+pub quote-says-covered : (Q : Pattern) (Ps : List Pattern) → length Ps ≤ 16 → length (Q .edges) ≤ 32
+    → (coversIn (mapping Q Ps) everyView (length Ps) (length (Q .edges)) ≡ true) ↔ ((e : Pair) → In e (Q .edges) → Listed Q Ps e)
+quote-says-covered Q Ps few few-edges = Iff·trans (quote-covered-exactly Q Ps few few-edges) (covered-says Q Ps)
+
+-- ---- the lowest unmatched edge
+-- the edge i of the query is not matched, and each lower one is
+pub record LowestEdge (Q : Pattern) (Ps : List Pattern) (i : ℕ) : Type 0 where
+  pub below : i < length (Q .edges)
+  pub unmatched : T (matched Q Ps (getD (Q .edges) i (0, 0))) → ⊥
+  pub lower : (j : ℕ) → j < i → T (matched Q Ps (getD (Q .edges) j (0, 0)))
+
+pub lowest-is : (Q : Pattern) (Ps : List Pattern) → length Ps ≤ 16 → length (Q .edges) ≤ 32
+    → coversIn (mapping Q Ps) everyView (length Ps) (length (Q .edges)) ≡ false
+    → LowestEdge Q Ps (lowestUnmatched (mapping Q Ps) (length Ps) (length (Q .edges)))
+lowest-is Q Ps few few-edges n =
+    let t = mapping Q Ps in
+    let m = matched-places Q Ps few-edges few in
+    let l = lowest-below t (length Ps) (length (Q .edges)) .1 n in
+    let f = lowest-unmatched t (length Ps) (length (Q .edges)) few l in
+    record {
+      below = l;
+      unmatched = λ y. let o = m (lowestUnmatched t (length Ps) (length (Q .edges))) l .0 y in absurd (never (sym (o .holds) ∙ f .unmatched (o .at) (o .below)));
+      lower = λ j k. m j (omega arith) .1 (f .lower j k);
+    }

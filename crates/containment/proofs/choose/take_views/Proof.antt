@@ -1,0 +1,68 @@
+-- `containment::choose::take_views` meets its contract.
+use borrow.Author.Needs.{needs}
+use mathlib.Core.Path.{_≡_, refl, sym, ap, _∙_}
+use mathlib.Core.Logic.{⊎-elim}
+use Prim.Native.Nat.{ℕ, _≤_, _+_, _-_}
+use native.Mathlib.Omega.{arith}
+use lib.Pow.{pow-lt}
+use Rattle.containment.specs.Choice.{taken}
+use Rattle.containment.proofs.ChoiceLaws.{taken-small, taken-adds, taken-skips, taken-end}
+use Rattle.containment.proofs.choose.take_views.Statement.{statement}
+use Rattle.containment.proofs.choose.take_views.Tie as tie
+
+abbrev Inv-loop : tie.InvT-loop
+Inv-loop mapping k m set₀ a₀ set a = (a ≤ k) × (set ≡ taken mapping m a)
+
+abbrev μ-loop : tie.MeasureT-loop
+μ-loop mapping k m set₀ a₀ set a = k - a
+
+loop-holds : tie.Need-loop-holds Inv-loop μ-loop
+unfolding taken
+loop-holds c = (search needs, refl)
+
+is-added-requires : tie.Need-is-added-requires Inv-loop μ-loop
+is-added-requires c κs = search needs
+
+only-requires : tie.Need-only-requires Inv-loop μ-loop
+only-requires c κs = search needs
+
+add-set : tie.Need-add-set Inv-loop μ-loop
+add-set c =
+    let l = c .before .before .before .before .loop in
+    let s = taken-small (c .before .before .before .before .before .args .mapping .now) (c .before .before .before .before .before .args .m) (l .a) in
+    let p = pow-lt {i = l .a} {j = 16} (omega arith) in
+    omega arith
+
+add-a : tie.Need-add-a Inv-loop μ-loop
+add-a c = search needs
+
+loop-less : tie.Need-loop-less Inv-loop μ-loop
+loop-less c = search needs
+
+loop-again : tie.Need-loop-again Inv-loop μ-loop
+loop-again c =
+    let l = c .before .before .before .loop in
+    let e = c .before .is-added .ensures in (
+      search needs,
+      ⊎-elim (λ w. w .2 ∙ ap (λ (x : ℕ). l .set + x) (w .1 .ensures) ∙ taken-adds _ _ _ _ (l .inv .1) (sym e ∙ w .0 .taken))
+          (λ w. w .1 ∙ taken-skips _ _ _ _ (l .inv .1) (sym e ∙ w .0 .left))
+          (c .if1 .came),
+    )
+
+returns : tie.Need-returns Inv-loop μ-loop
+returns c = taken-end _ _ _ _ _ (c .before .loop .inv .1) (omega arith)
+
+pub take-views-spec : {M : Type 1} → statement M
+take-views-spec =
+    tie.close
+    (tie.spec
+    Inv-loop
+    μ-loop
+    loop-holds
+    is-added-requires
+    only-requires
+    add-set
+    add-a
+    loop-less
+    loop-again
+    returns)

@@ -1,0 +1,53 @@
+-- `containment::quote` meets its contract.
+use mathlib.Core.List.{[]}
+use Rattle.containment.proofs.AnswerLaws.{settles-small, settles-lent}
+use Rattle.containment.specs.Quote.{blank, quoteAnswer}
+use borrow.Author.Needs.{needs}
+use Rattle.containment.proofs.quote.Statement.{statement}
+use Rattle.containment.proofs.quote.Tie as tie
+
+refused-requires : tie.Need-refused-requires
+refused-requires c κs = search needs
+
+returns : tie.Need-returns
+returns c =
+    let a = c .before .before .before .before .before .args in
+    settles-small blank (quoteAnswer (a .question .now) (a .catalogue .now)) (a .work .now) [] (c .before .if1 .taken) (c .refused .ensures)
+
+sub-quote : tie.Need-sub-quote
+sub-quote c = search needs
+
+part-quote-start : tie.Need-part-quote-start
+part-quote-start c = search needs
+
+part-quote-end : tie.Need-part-quote-end
+part-quote-end c = search needs
+
+quote-requires : tie.Need-quote-requires
+quote-requires c κs = search needs
+
+clear-requires : tie.Need-clear-requires
+clear-requires c κs = search needs
+
+same-length : tie.Need-same-length
+same-length c = search needs
+
+returns-2 : tie.Need-returns-2
+returns-2 c =
+    let a = c .before .before .before .before .before .before .before .before .before .before .before .before .args in
+    let k = c .before .before .before .before .before .before .quote in
+    settles-lent blank (quoteAnswer (a .question .now) (a .catalogue .now)) (a .work .now) (k .last .1 .1 .0) (c .before .before .before .before .before .before .before .before .if1 .left) (k .ensures) (k .kept .1 .1 .0) (c .before .before .clear .ensures)
+
+pub quote-spec : {M : Type 1} → statement M
+quote-spec =
+    tie.close
+    (tie.spec
+    refused-requires
+    returns
+    sub-quote
+    part-quote-start
+    part-quote-end
+    quote-requires
+    clear-requires
+    same-length
+    returns-2)

@@ -1,0 +1,61 @@
+-- `containment::show_uncovered` meets its contract.
+use mathlib.Core.Path.{refl, _∙_}
+use mathlib.Core.List.{[], _∷_}
+use lib.ListN.{length}
+use Rattle.containment.proofs.AnswerLaws.{lent-long, settles-small, settles-lent}
+use Rattle.containment.specs.Show.{showAnswer}
+use borrow.Author.Needs.{needs}
+use Rattle.containment.proofs.show_uncovered.Statement.{statement}
+use Rattle.containment.proofs.show_uncovered.Tie as tie
+
+returns : tie.Need-returns
+returns c =
+    let a = c .before .before .before .before .before .before .args in
+    settles-small [] (showAnswer (a .question .now) (a .catalogue .now) (length (a .first .now)) (length (a .second .now))) (a .work .now) (a .first .now ∷ a .second .now ∷ []) (c .if1 .taken) refl
+
+sub-show : tie.Need-sub-show
+sub-show c = search needs
+
+part-show-start : tie.Need-part-show-start
+part-show-start c = search needs
+
+part-show-end : tie.Need-part-show-end
+part-show-end c = search needs
+
+show-requires : tie.Need-show-requires
+show-requires c κs = search needs
+
+clear-requires : tie.Need-clear-requires
+clear-requires c κs = search needs
+
+same-length : tie.Need-same-length
+same-length c = search needs
+
+same-length-2 : tie.Need-same-length-2
+same-length-2 c = search needs
+
+same-length-3 : tie.Need-same-length-3
+same-length-3 c =
+    let k = c .before .before .before .before .before .before .before .before .before .before .show in
+    c .before .before .clear .kept .0 ∙ lent-long (c .before .before .before .before .before .before .before .before .before .before .before .before .before .before .before .before .before .before .before .before .args .work .now) (k .last .1 .1 .1 .1 .0) (c .before .before .before .before .before .before .before .before .before .before .before .before .before .before .if1 .left) (k .kept .1 .1 .1 .1 .0)
+
+returns-2 : tie.Need-returns-2
+returns-2 c =
+    let a = c .before .before .before .before .before .before .before .before .before .before .before .before .before .before .before .before .before .before .before .before .args in
+    let k = c .before .before .before .before .before .before .before .before .before .before .show in
+    settles-lent [] (showAnswer (a .question .now) (a .catalogue .now) (length (a .first .now)) (length (a .second .now))) (a .work .now) (k .last .1 .1 .1 .1 .0) (c .before .before .before .before .before .before .before .before .before .before .before .before .before .before .if1 .left) (k .ensures) (k .kept .1 .1 .1 .1 .0) (c .before .before .clear .ensures)
+
+pub show-uncovered-spec : {M : Type 1} → statement M
+show-uncovered-spec =
+    tie.close
+    (tie.spec
+    returns
+    sub-show
+    part-show-start
+    part-show-end
+    show-requires
+    clear-requires
+    same-length
+    same-length-2
+    same-length-3
+    returns-2)

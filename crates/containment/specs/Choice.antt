@@ -1,0 +1,51 @@
+-- Coverage and the chosen views, from the table of masks: 16 for each edge of the query, one for each view.
+use Prim.Native.Nat.{ℕ, zero, suc, _+_, _-_, _*_, _^_}
+use mathlib.Core.List.{List}
+use mathlib.Core.Bool.{Bool, true, false, not, _&&_, _||_}
+use lib.ListN.{getD}
+use lib.Dec.{eqb, ltb}
+use Rattle.packed.specs.Format.{pick}
+use Rattle.matching.specs.Simulation.{bit}
+
+-- whether the view a matches the edge e: some edge of it does
+unfoldable pub matches : List ℕ → ℕ → ℕ → Bool
+matches t e a = not (eqb (getD t (16 * e + a) 0) 0)
+
+-- whether one of the first k views that are in the set matches the edge e
+unfoldable pub matchedIn : List ℕ → ℕ → ℕ → ℕ → Bool
+matchedIn t set e zero = false
+matchedIn t set e (suc k) = matchedIn t set e k || (bit set k && matches t e k)
+
+-- whether the views in the set, of k, match each of the first m edges
+unfoldable pub coversIn : List ℕ → ℕ → ℕ → ℕ → Bool
+coversIn t set k zero = true
+coversIn t set k (suc m) = coversIn t set k m && matchedIn t set m k
+
+-- all views
+abbrev pub everyView : ℕ
+everyView = 65535
+
+-- the lowest of m edges that no view matches, or m
+unfoldable pub lowestUnmatched : List ℕ → ℕ → ℕ → ℕ
+lowestUnmatched t k zero = 0
+lowestUnmatched t k (suc m) = pick (ltb (lowestUnmatched t k m) m) (lowestUnmatched t k m) (pick (matchedIn t everyView m k) (suc m) m)
+
+-- whether the view a matches one of the first m edges that no view of the set below a does
+unfoldable pub addsTo : List ℕ → ℕ → ℕ → ℕ → Bool
+addsTo t set a zero = false
+addsTo t set a (suc m) = addsTo t set a m || (matches t m a && not (matchedIn t set m a))
+
+-- going up the catalogue: a view is taken if it matches an edge not matched before
+unfoldable pub taken : List ℕ → ℕ → ℕ → ℕ
+taken t m zero = 0
+taken t m (suc a) = pick (addsTo t (taken t m a) a m) (taken t m a + 2 ^ a) (taken t m a)
+
+-- going up again: a view is dropped if those still kept, of k, cover the query without it
+unfoldable pub kept : List ℕ → ℕ → ℕ → ℕ → ℕ → ℕ
+kept t m k set zero = set
+kept t m k set (suc a) =
+    pick (bit (kept t m k set a) a && coversIn t (kept t m k set a - 2 ^ a) k m) (kept t m k set a - 2 ^ a) (kept t m k set a)
+
+-- the chosen set: empty for a query that is not covered
+unfoldable pub chosen : List ℕ → ℕ → ℕ → ℕ
+chosen t m k = pick (coversIn t everyView k m) (kept t m k (taken t m k) k) 0

@@ -1,0 +1,5 @@
+pub mod Choice
+pub mod Quote
+pub mod Show
+pub mod Listing
+pub mod Steps

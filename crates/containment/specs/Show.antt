@@ -1,0 +1,56 @@
+-- Showing why a query is not covered: the query read as a record, and the same without its lowest unmatched edge.
+use Prim.Native.Nat.{ℕ, zero, suc, _+_, _-_, _*_, _^_}
+use mathlib.Core.Path.{_≡_}
+use mathlib.Core.List.{List, [], _∷_, _++_, map}
+use mathlib.Core.Bool.{Bool}
+use lib.ListN.{length, getD, take, drop}
+use lib.Dec.{ltb}
+use Rattle.packed.specs.Format.{pick, encode}
+use Rattle.packed.specs.Formats.{record′}
+use Rattle.packed.specs.Contents.{nodesOf, edgesOf, viewsOf}
+use Rattle.packed.specs.Calls.{Answer, give, refuse, judged, readPattern, readCatalogue}
+use Rattle.packed.specs.Refusals.{Told, told, numberOf, detailOf}
+use Rattle.matching.specs.Search.{bytesIn}
+use Rattle.matching.specs.Simulation.{Pattern, patternOf}
+use Rattle.containment.specs.Choice.{everyView, coversIn, lowestUnmatched}
+use Rattle.containment.specs.Quote.{mapping}
+use Rattle.containment.specs.declared.show.Shown.{Shown}
+use Rattle.containment.specs.declared.show.Shown.the-variants as shown-is
+
+-- the content of the query with content ws read as a record: each node has its own label alone
+unfoldable pub graphFields : List ℕ → List ℕ
+graphFields ws = nodesOf ws ∷ edgesOf ws ∷ (map (λ k. 2 ^ k) (take (nodesOf ws) (drop 2 ws)) ++ drop (2 + nodesOf ws) ws)
+
+-- the same without the edge e
+unfoldable pub fewerFields : List ℕ → ℕ → List ℕ
+fewerFields ws e =
+    nodesOf ws ∷ (edgesOf ws - 1)
+    ∷ (map (λ k. 2 ^ k) (take (nodesOf ws) (drop 2 ws)) ++ (take (2 * e) (drop (2 + nodesOf ws) ws) ++ drop (2 + nodesOf ws + 2 * e + 2) ws))
+
+-- without the edge skip, if there is one
+unfoldable pub shownFields : List ℕ → ℕ → List ℕ
+shownFields ws skip = pick (ltb skip (edgesOf ws)) (fewerFields ws skip) (graphFields ws)
+
+-- a record with this content, in bytes
+unfoldable pub recordBytes : List ℕ → List ℕ
+recordBytes fs = bytesIn (encode record′ fs)
+
+-- two outputs, 12 for the first that doesn't fit
+unfoldable pub fitBoth : ℕ → ℕ → List ℕ → List ℕ → Answer
+fitBoth room room′ a b =
+    pick (ltb room (length a)) (refuse 12 (length a))
+    (pick (ltb room′ (length b)) (refuse 12 (length b)) (give [] (a ∷ b ∷ [])))
+
+-- for the query with content qs and k views: 13 where it is covered
+unfoldable pub showFor : List ℕ → List Pattern → ℕ → ℕ → Answer
+showFor qs Ps room room′ =
+    pick (coversIn (mapping (patternOf qs) Ps) everyView (length Ps) (edgesOf qs)) (refuse 13 0)
+    (fitBoth room room′ (recordBytes (graphFields qs)) (recordBytes (fewerFields qs (lowestUnmatched (mapping (patternOf qs) Ps) (length Ps) (edgesOf qs)))))
+
+unfoldable pub showAnswer : List ℕ → List ℕ → ℕ → ℕ → Answer
+showAnswer q c room room′ = judged (readPattern q) (λ qs. judged (readCatalogue c) (λ cs. showFor qs (map patternOf (viewsOf cs)) room room′))
+
+-- what a showing tells: the lengths of the two outputs, or the refusal with its detail
+abbrev pub shownTold : Shown → Told
+shownTold (shown-is.Done a b) = told 0 (a ∷ b ∷ [])
+shownTold (shown-is.Refused x) = told (numberOf x) (detailOf x ∷ [])

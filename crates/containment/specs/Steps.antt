@@ -1,0 +1,108 @@
+-- What the steps of quoting and of showing promise one another.
+use Prim.Native.Nat.{ℕ, zero, suc, _+_, _-_, _*_, _/_, _%_, _^_, _<_, _≤_}
+use mathlib.Core.Path.{_≡_}
+use mathlib.Core.List.{List, [], _∷_, _++_, map}
+use lib.ListN.{length, getD, take}
+use lib.Seq.{sets}
+use lib.Dec.{eqb, ltb}
+use Rattle.packed.specs.Format.{ok, pick, decode}
+use Rattle.packed.specs.Formats.{pattern, catalogue, code}
+use Rattle.packed.specs.ByValue.{HoldsPattern}
+use Rattle.packed.specs.Calls.{Answer, toldOf, outputsOf}
+use Rattle.packed.specs.Refusals.{Told}
+use Rattle.packed.specs.declared.by_value.Pattern.{Pattern as Given}
+use Rattle.matching.specs.Sweeps.{OneOf, Has}
+use Rattle.containment.specs.Show.{shownFields, recordBytes}
+use Rattle.containment.specs.declared.query.Fields.{Fields}
+
+-- an accepted pattern by value
+pub record Query (q : Given) : Type 0 where
+  pub bytes : List ℕ
+  pub content : List ℕ
+  pub is : decode pattern bytes ≡ ok content
+  pub holds : HoldsPattern content q
+
+-- an accepted catalogue of k views
+pub record Views (c : List ℕ) (k : ℕ) : Type 0 where
+  pub content : List ℕ
+  pub is : decode catalogue c ≡ ok content
+  pub number : k ≡ getD content 0 0
+
+-- with the workspace aside: the result and the outputs
+pub record Answers (blank : List ℕ) (a : Answer) (r : Told) (outs outs′ : List (List ℕ)) : Type 0 where
+  pub result : r ≡ toldOf blank a
+  pub outputs : outs′ ≡ outputsOf a outs
+
+-- ---- a query read as a record
+
+-- the labels of nodes that have one each
+unfoldable pub powers : List ℕ → List ℕ
+powers ls = map (λ k. 2 ^ k) ls
+
+-- how many of m edges are left without the edge skip, if there is one
+unfoldable pub edgesBut : ℕ → ℕ → ℕ
+edgesBut m skip = pick (ltb skip m) (m - 1) m
+
+-- the ends of the first e edges without the edge skip
+unfoldable pub endsBut : List ℕ → List ℕ → ℕ → ℕ → List ℕ
+endsBut from to skip zero = []
+endsBut from to skip (suc e) = endsBut from to skip e ++ pick (eqb e skip) [] (getD from e 0 ∷ getD to e 0 ∷ [])
+
+-- the first n words are these
+pub record Front (words : List ℕ) (n : ℕ) (fs : List ℕ) : Type 0 where
+  pub long : length words ≡ 82
+  pub number : n ≡ length fs
+  pub is : take n words ≡ fs
+
+-- k words more, after the first n
+abbrev pub Extends : ℕ → ℕ → List ℕ → List ℕ → List ℕ → Type 0
+Extends n k more words words′ = (fs : List ℕ) → Front words n fs → Front words′ (n + k) (fs ++ more)
+
+unfoldable pub labelFields : Given → ℕ → List ℕ
+labelFields p left = (p .nodes ∷ left ∷ []) ++ powers (take (p .nodes) (p .labels))
+
+unfoldable pub fieldsBut : Given → ℕ → List ℕ
+fieldsBut p skip = labelFields p (edgesBut (p .edges) skip) ++ endsBut (p .from) (p .to) skip (p .edges)
+
+pub record HoldsFields (fs : List ℕ) (f : Fields) : Type 0 where
+  pub front : Front (f .words) (f .number) fs
+  pub most : f .number ≤ 82
+
+-- the bytes of the query read as a record, without the edge skip, stand at the front of out as far as it goes
+pub record Graphed (content : List ℕ) (skip r : ℕ) (out out′ : List ℕ) : Type 0 where
+  pub number : r ≡ length (recordBytes (shownFields content skip))
+  pub front : out′ ≡ sets out 0 (recordBytes (shownFields content skip))
+
+-- ---- the table of a quote
+
+-- r is the place of x among the first m words, or m
+pub record PlaceOf (w : List ℕ) (m x r : ℕ) : Type 0 where
+  pub within : r ≤ m
+  pub here : r < m → getD w r 0 ≡ x
+  pub lower : (i : ℕ) → i < r → getD w i 0 ≡ x → ⊥
+
+-- the code of an edge of the query
+abbrev pub codeAt : Given → ℕ → ℕ
+codeAt q e = code (getD (q .from) e 0) (getD (q .to) e 0)
+
+-- the edges of the query stand in the workspace
+unfoldable pub Present : Given → ℕ → List ℕ → Type 0
+Present q m w = (e : ℕ) → e < q .edges → OneOf m (λ i. getD w i 0 ≡ codeAt q e)
+
+-- the masks name edges below k alone
+unfoldable pub Within : ℕ → ℕ → List ℕ → Type 0
+Within k m w = (i e : ℕ) → i < m → e < 32 → Has (getD w (8192 + i) 0) e → e < k
+
+-- only the first n of column a may differ, in a table with 16 columns
+pub record Column (a n : ℕ) (g : ℕ → ℕ → Type 0) (t t′ : List ℕ) : Type 0 where
+  pub long : length t′ ≡ length t
+  pub each : (e : ℕ) → e < n → g e (getD t′ (16 * e + a) 0)
+  pub rest : (k : ℕ) → ((k % 16 ≡ a) × (k / 16 < n) → ⊥) → getD t′ k 0 ≡ getD t k 0
+
+-- x is the mask of the code c in the workspace
+pub record MaskOf (w : List ℕ) (m c x : ℕ) : Type 0 where
+  pub at : ℕ
+  pub below : at < m
+  pub code : getD w at 0 ≡ c
+  pub is : x ≡ getD w (8192 + at) 0
+  pub small : x < 2 ^ 32

@@ -1,0 +1,132 @@
+// Coverage and the chosen views, from the masks of a quote.
+ghost use mathlib.Core.Path.{_≡_};
+ghost use Prim.Native.Nat.{_^_, _<_, _≤_};
+ghost use Rattle.matching.specs.Simulation.{bit};
+ghost use Rattle.containment.specs.Choice.{matchedIn, coversIn, lowestUnmatched, addsTo, taken, kept, chosen};
+
+// The set of all views.
+const EVERY_VIEW: u32 = 65535;
+
+// Whether the view a is in the set.
+fn is_in(set: u32, a: usize) -> bool
+    requires { ⌜ a < 16 ⌝ }
+    ensures { λ r. ⌜ r ≡ bit set a ⌝ }
+{
+    let d = set >> a;
+    d % 2 == 1
+}
+
+// The set of the view a alone.
+fn only(a: usize) -> u32
+    requires { ⌜ a < 16 ⌝ }
+    ensures { λ r. ⌜ r ≡ 2 ^ a ⌝ }
+{
+    1 << a
+}
+
+// Whether one of the first k views that are in the set matches the edge e.
+fn is_matched(mapping: &[u32; 512], set: u32, e: usize, k: usize) -> bool
+    requires { ⌜ (e < 32) × (k ≤ 16) ⌝ }
+    ensures { λ r. ⌜ r ≡ matchedIn (now (mapping .entry)) set e k ⌝ }
+{
+    let mut found = false;
+    let mut a: usize = 0;
+    while a < k {
+        let at = 16 * e + a;
+        found = found | (is_in(set, a) & (mapping[at] != 0));
+        a += 1;
+    }
+    found
+}
+
+// Whether the views in the set, of k, match each of the first m edges.
+pub fn is_cover(mapping: &[u32; 512], set: u32, k: usize, m: usize) -> bool
+    requires { ⌜ (m ≤ 32) × (k ≤ 16) ⌝ }
+    ensures { λ r. ⌜ r ≡ coversIn (now (mapping .entry)) set k m ⌝ }
+{
+    let mut all = true;
+    let mut e: usize = 0;
+    while e < m {
+        all = all & is_matched(mapping, set, e, k);
+        e += 1;
+    }
+    all
+}
+
+// The lowest of m edges that none of k views matches, or m.
+pub fn lowest_unmatched(mapping: &[u32; 512], k: usize, m: usize) -> usize
+    requires { ⌜ (m ≤ 32) × (k ≤ 16) ⌝ }
+    ensures { λ r. ⌜ r ≡ lowestUnmatched (now (mapping .entry)) k m ⌝ }
+{
+    let mut e: usize = 0;
+    while e < m {
+        if is_matched(mapping, EVERY_VIEW, e, k) {
+            e += 1;
+        } else {
+            return e;
+        }
+    }
+    m
+}
+
+// Whether the view a matches one of the first m edges that no view of the set below a does.
+fn is_added(mapping: &[u32; 512], set: u32, a: usize, m: usize) -> bool
+    requires { ⌜ (m ≤ 32) × (a < 16) ⌝ }
+    ensures { λ r. ⌜ r ≡ addsTo (now (mapping .entry)) set a m ⌝ }
+{
+    let mut adds = false;
+    let mut e: usize = 0;
+    while e < m {
+        let at = 16 * e + a;
+        let before = is_matched(mapping, set, e, a);
+        adds = adds | ((mapping[at] != 0) & !before);
+        e += 1;
+    }
+    adds
+}
+
+// Going up the catalogue, each view that matches an edge not matched before.
+fn take_views(mapping: &[u32; 512], k: usize, m: usize) -> u32
+    requires { ⌜ (m ≤ 32) × (k ≤ 16) ⌝ }
+    ensures { λ r. ⌜ (r ≡ taken (now (mapping .entry)) m k) × (r < 2 ^ k) ⌝ }
+{
+    let mut set: u32 = 0;
+    let mut a: usize = 0;
+    while a < k {
+        if is_added(mapping, set, a, m) {
+            set = set + only(a);
+        }
+        a += 1;
+    }
+    set
+}
+
+// Going up again, the set without each view that the others can spare.
+fn drop_views(mapping: &[u32; 512], first: u32, k: usize, m: usize) -> u32
+    requires { ⌜ (m ≤ 32) × (k ≤ 16) × (first < 2 ^ k) ⌝ }
+    ensures { λ r. ⌜ (r ≡ kept (now (mapping .entry)) m k first k) × (r < 2 ^ k) ⌝ }
+{
+    let mut set = first;
+    let mut a: usize = 0;
+    while a < k {
+        if is_in(set, a) {
+            let less = set - only(a);
+            if is_cover(mapping, less, k, m) {
+                set = less;
+            }
+        }
+        a += 1;
+    }
+    set
+}
+
+// The chosen views: none for a query that is not covered.
+pub fn choose(mapping: &[u32; 512], k: usize, m: usize) -> u32
+    requires { ⌜ (m ≤ 32) × (k ≤ 16) ⌝ }
+    ensures { λ r. ⌜ r ≡ chosen (now (mapping .entry)) m k ⌝ }
+{
+    if is_cover(mapping, EVERY_VIEW, k, m) {
+        return drop_views(mapping, take_views(mapping, k, m), k, m);
+    }
+    0
+}
