@@ -61,8 +61,9 @@ fn finish(work: &mut [u32], g: Gather) -> usize
     distinct::absorb(work, held, fill)
 }
 
-// The field of n bits at the bit offset at, or 0 where the bits end before it does.
-fn field_or(s: &[u8], at: usize, n: u32) -> u32
+// The field of n bits at the bit offset at, or 0 where the bits end before it does. With 14 bits it is the count of a list, and with 24 bits
+// the code of a pair: so the pairs of a sheet are taken one after the other.
+pub fn field_or(s: &[u8], at: usize, n: u32) -> u32
     requires { ⌜ (n ≤ 32) × (at < 2 ^ 40) × (length (now s) ≤ 65536) ⌝ }
     ensures { λ r. ⌜ (r ≡ fieldOr (now (s .entry)) at n) × (r < 2 ^ n) ⌝ }
 {
