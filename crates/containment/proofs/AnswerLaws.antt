@@ -15,7 +15,7 @@ use Rattle.packed.specs.Contents.{nodesOf, edgesOf, patternSize, viewsOf}
 use Rattle.packed.specs.ByValue.{HoldsPattern}
 use Rattle.packed.specs.Reading.{Content}
 use Rattle.packed.specs.Refusals.{Told, told, numberOf, detailOf}
-use Rattle.packed.specs.Calls.{Answer, give, refuse, toldOf, fronts, outputsOf, workOf, Settled, desk, Verdict, rejected, inFile, readFile, judged, readCatalogue}
+use Rattle.packed.specs.Calls.{Answer, give, refuse, toldOf, fronts, outputsOf, workOf, Settled, withWorkspace, Verdict, rejected, inFile, readFile, judged, readCatalogue}
 use Rattle.packed.specs.declared.reply.Refusal.{Refusal}
 use Rattle.packed.specs.declared.by_value.Pattern.{Pattern as Given}
 use Rattle.packed.proofs.Sets.{sets-front}
@@ -73,15 +73,15 @@ module _ (work ys : List ℕ) (h : 16384 ≤ length work) (n : length ys ≡ len
 
 module _ (none : List ℕ) (a : Answer) (work : List ℕ) {r : Told} where
   -- too small
-  pub settles-small : (outs : List (List ℕ)) → length work < 16384 → r ≡ told 14 (0 ∷ none) → Settled none (desk (length work) a) r outs outs work work
-  unfolding desk workOf toldOf outputsOf
+  pub settles-small : (outs : List (List ℕ)) → length work < 16384 → r ≡ told 14 (0 ∷ none) → Settled none (withWorkspace (length work) a) r outs outs work work
+  unfolding withWorkspace workOf toldOf outputsOf
   settles-small outs h q = let e = lt-ltb (length work) 16384 h in record { result = rw e q; outputs = rw e; workspace = rw e }
 
   -- cleared, once its first words were lent
   pub settles-lent : {outs outs′ : List (List ℕ)} {work′ : List ℕ} (ys : List ℕ) → 16384 ≤ length work → Answers none a r outs outs′
       → length ys ≡ length (take (16384 - 0) (drop 0 work)) → work′ ≡ replicate 16384 0 ++ drop 16384 (putMid 0 (16384 - 0) work ys)
-      → Settled none (desk (length work) a) r outs outs′ work work′
-  unfolding desk workOf
+      → Settled none (withWorkspace (length work) a) r outs outs′ work work′
+  unfolding withWorkspace workOf
   settles-lent ys h b n q =
       let e = le-ltb (length work) 16384 h in
       let c = q ∙ ap (λ (t : List ℕ). replicate 16384 0 ++ t) (drop-at ys (postOf 0 (16384 - 0) work) 16384 (lent-number work ys h n)) in
@@ -140,7 +140,7 @@ module _ {s : List ℕ} {k : ℕ} (v : Views s k) where
   pub views-few : k ≤ 16
   views-few = let q = catalogue-views s (v .content) (v .is) .most in omega (arith, v .number)
 
-  views-many : length (viewPatterns (v .content)) ≡ k
+  pub views-many : length (viewPatterns (v .content)) ≡ k
   views-many = length-map (viewsOf (v .content)) patternOf ∙ catalogue-views s (v .content) (v .is) .many ∙ sym (v .number)
 
   module _ {q : Given} (t : Query q) where

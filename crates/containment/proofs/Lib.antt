@@ -10,4 +10,11 @@ pub mod AnswerLaws
 pub mod QuoteLaws
 pub mod ShowLaws
 pub mod ListingLaws
+pub mod BookLaws
+pub mod CandidateLaws
+pub mod AnsweringLaws
+pub mod CoveredBytes
+pub mod DemandThree
+pub mod Numbered
+pub mod DemandsOneTwo
 pub mod Table

@@ -5,6 +5,7 @@ use mathlib.Core.Logic.{_⊎_, inl, inr, ⊎-elim}
 use Prim.Native.Nat.{ℕ, zero, suc, _+_, _-_, _/_, _%_, _^_, _<_, _≤_}
 use native.Mathlib.Nat.{div-one, div-eq-of-lt, add-div-right, pow-suc}
 use native.Mathlib.Omega.{arith}
+use lib.Dec.{eqb}
 use lib.Pow.{pow-pos, pow-mono, shr-shr}
 use borrow.Author.Tests.{eqb-true, eq-eqb, ne-eqb}
 use Rattle.packed.proofs.OrderCases.{lt-or-ge}
@@ -38,6 +39,11 @@ bit-lacks x k h =
 
 half : (x k : ℕ) → x / 2 ^ suc k ≡ x / 2 / 2 ^ k
 half x k = sym (shr-shr x 1 k ∙ ap (λ (n : ℕ). x / 2 ^ n) (omega arith))
+
+-- the bits of half a mask
+pub bit-half : (x k : ℕ) → bit x (suc k) ≡ bit (x / 2) k
+unfolding bit
+bit-half x k = ap (λ (y : ℕ). eqb (y % 2) 1) (half x k)
 
 -- adding 2 ^ a where its bit is 0 leaves the other bits
 add-other : (a b x : ℕ) → x / 2 ^ a % 2 ≡ 0 → (a ≡ b → ⊥) → (x + 2 ^ a) / 2 ^ b % 2 ≡ x / 2 ^ b % 2

@@ -1,4 +1,4 @@
--- What the steps of quoting and of showing promise one another.
+-- What the steps of quoting, of answering and of showing promise one another.
 use Prim.Native.Nat.{ℕ, zero, suc, _+_, _-_, _*_, _/_, _%_, _^_, _<_, _≤_}
 use mathlib.Core.Path.{_≡_}
 use mathlib.Core.List.{List, [], _∷_, _++_, map}
@@ -7,6 +7,7 @@ use lib.Seq.{sets}
 use lib.Dec.{eqb, ltb}
 use Rattle.packed.specs.Format.{ok, pick, decode}
 use Rattle.packed.specs.Formats.{pattern, catalogue, code}
+use Rattle.packed.specs.Contents.{edgeCounts, Small}
 use Rattle.packed.specs.ByValue.{HoldsPattern}
 use Rattle.packed.specs.Calls.{Answer, toldOf, outputsOf}
 use Rattle.packed.specs.Refusals.{Told}
@@ -27,6 +28,13 @@ pub record Views (c : List ℕ) (k : ℕ) : Type 0 where
   pub content : List ℕ
   pub is : decode catalogue c ≡ ok content
   pub number : k ≡ getD content 0 0
+
+-- the numbers of edges of k views of an accepted catalogue, in a table
+pub record ViewCounts (counts : List ℕ) (k : ℕ) : Type 0 where
+  pub bytes : List ℕ
+  pub views : Views bytes k
+  pub are : take k counts ≡ edgeCounts (views .content)
+  pub small : Small counts
 
 -- with the workspace aside: the result and the outputs
 pub record Answers (blank : List ℕ) (a : Answer) (r : Told) (outs outs′ : List (List ℕ)) : Type 0 where

@@ -1,4 +1,4 @@
-// Containment of a query in views: quotes, and why a query is not covered.
+// Containment of a query in views: quotes, answers from a book, and why a query is not covered.
 mod calls;
 pub mod choose;
 pub mod listing;
@@ -8,22 +8,43 @@ pub mod show;
 
 ghost use mathlib.Core.List.{[], _∷_};
 ghost use lib.ListN.{length};
-ghost use Rattle.packed.specs.Calls.{Settled, desk};
+ghost use Rattle.packed.specs.Calls.{Settled, withWorkspace};
+ghost use Rattle.packed.specs.Refusals.{replyTold};
+ghost use Rattle.containment.specs.Answer.{answerAnswer};
 ghost use Rattle.containment.specs.Quote.{quoteAnswer, quoteTold, blank};
 ghost use Rattle.containment.specs.Show.{showAnswer, shownTold};
 use packed::reply::Refusal;
+use packed::reply::Reply;
 use packed::workspace;
 use quote_type::Quote;
 use show::Shown;
 
 // Quotes a question with a catalogue.
 pub fn quote(question: &[u8], catalogue: &[u8], work: &mut [u32]) -> Quote
-    ensures { λ r. ⌜ Settled blank (desk (length (now (work .entry))) (quoteAnswer (now (question .entry)) (now (catalogue .entry)))) (quoteTold r) [] [] (now (work .entry)) (now (work .exit)) ⌝ }
+    ensures { λ r. ⌜ Settled blank (withWorkspace (length (now (work .entry))) (quoteAnswer (now (question .entry)) (now (catalogue .entry)))) (quoteTold r) [] [] (now (work .entry)) (now (work .exit)) ⌝ }
 {
     if work.len() < 16384 {
         return calls::refused(Refusal::SmallWorkspace);
     }
     let r = calls::quote(question, catalogue, &mut work[0..16384]);
+    workspace::clear(work, 16384);
+    r
+}
+
+// Answers a question from a book: writes the question's sheet.
+pub fn answer(
+    question: &[u8],
+    catalogue: &[u8],
+    book: &[u8],
+    out: &mut [u8],
+    work: &mut [u32],
+) -> Reply
+    ensures { λ r. ⌜ Settled [] (withWorkspace (length (now (work .entry))) (answerAnswer (now (question .entry)) (now (catalogue .entry)) (now (book .entry)) (length (now (out .entry))))) (replyTold r) (now (out .entry) ∷ []) (now (out .exit) ∷ []) (now (work .entry)) (now (work .exit)) ⌝ }
+{
+    if work.len() < 16384 {
+        return Reply::Refused(Refusal::SmallWorkspace);
+    }
+    let r = calls::answer(question, catalogue, book, out, &mut work[0..16384]);
     workspace::clear(work, 16384);
     r
 }
@@ -36,7 +57,7 @@ pub fn show_uncovered(
     second: &mut [u8],
     work: &mut [u32],
 ) -> Shown
-    ensures { λ r. ⌜ Settled [] (desk (length (now (work .entry))) (showAnswer (now (question .entry)) (now (catalogue .entry)) (length (now (first .entry))) (length (now (second .entry))))) (shownTold r) (now (first .entry) ∷ now (second .entry) ∷ []) (now (first .exit) ∷ now (second .exit) ∷ []) (now (work .entry)) (now (work .exit)) ⌝ }
+    ensures { λ r. ⌜ Settled [] (withWorkspace (length (now (work .entry))) (showAnswer (now (question .entry)) (now (catalogue .entry)) (length (now (first .entry))) (length (now (second .entry))))) (shownTold r) (now (first .entry) ∷ now (second .entry) ∷ []) (now (first .exit) ∷ now (second .exit) ∷ []) (now (work .entry)) (now (work .exit)) ⌝ }
 {
     if work.len() < 16384 {
         return Shown::Refused(Refusal::SmallWorkspace);

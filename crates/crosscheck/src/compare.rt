@@ -1,10 +1,11 @@
 // One record and one catalogue: a search for each view and the book, each beside what plain simulation says.
 use crate::calls;
 use crate::counts;
-use crate::lent;
 use harness::arrays;
+use harness::lent;
 use harness::outcome;
 use harness::outcome::Outcome;
+use harness::patterns;
 use harness::tally;
 
 // The first n bytes go to a place of another slice.
@@ -95,7 +96,7 @@ fn agree(
     tally: &mut [u64],
 ) -> bool {
     let mut out = lent::book_bytes();
-    let mut work = arrays::work_words();
+    let mut work = lent::work_words();
     let size = e.value;
     let o = call(
         book,
@@ -123,7 +124,7 @@ fn sheet(
     let mut words = lent::sheet_words();
     let n = arrays::least(plain::sheet(view, fields, &mut words), 524320);
     tally::add_if(tally, counts::LISTING, (arrays::at(view, 1) as usize) < n);
-    calls::write_sheet(pattern, &words[0..n], bytes)
+    outcome::write_sheet(pattern, &words[0..n], bytes)
 }
 
 // One search. The sheet goes to its place in the expected book too: the place after it.
@@ -156,7 +157,7 @@ fn search_view(
     let mut pattern = lent::pattern_bytes();
     let n = arrays::least(
         outcome::written(outcome::write_pattern(view, &mut pattern)),
-        44,
+        48,
     );
     search(&pattern[0..n], view, fields, record, book, start, tally)
 }
@@ -179,13 +180,6 @@ fn search_view_at(
     start
 }
 
-// Where the content of the view at a place ends.
-fn view_end(views: &[u32], at: usize) -> usize {
-    let nodes = arrays::at(views, at) as usize;
-    let edges = arrays::at(views, arrays::plus(at, 1)) as usize;
-    arrays::plus(at, 2 + nodes + 2 * edges)
-}
-
 // A search for each view: how many bytes the expected book has.
 fn search_views(
     views: &[u32],
@@ -199,7 +193,7 @@ fn search_views(
     let mut at: usize = 1;
     let mut i: u32 = 0;
     while i < number {
-        let end = view_end(views, at);
+        let end = patterns::end_of(views, at);
         size = search_view_at(views, at, end, fields, record, book, size, tally);
         at = end;
         i += 1;
@@ -240,7 +234,7 @@ fn contents(views: &[u32], fields: &[u32], tally: &mut [u64]) {
     let mut catalogue = lent::catalogue_bytes();
     let k = outcome::written(outcome::write_catalogue(views, &mut catalogue));
     let mut record = lent::record_bytes();
-    let n = outcome::written(calls::write_record(fields, &mut record));
+    let n = outcome::written(outcome::write_record(fields, &mut record));
     files_upto(views, fields, &catalogue, k, &record, n, tally);
 }
 

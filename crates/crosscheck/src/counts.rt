@@ -23,18 +23,9 @@ const FAULTS: usize = 7;
 
 const DIGEST: usize = 8;
 
-// The digest of an outcome, with the bytes where there are some.
-fn digested(start: u64, o: Outcome, out: &[u8]) -> u64 {
-    let h = digest::step(digest::step(start, o.number as u64), o.value as u64);
-    if o.number == 0 {
-        return digest::over_bytes(h, out, o.value);
-    }
-    h
-}
-
 // Counts a call by what it answered.
 pub fn count(tally: &mut [u64], o: Outcome, out: &[u8]) {
-    let h = digested(tally::at(tally, DIGEST), o, out);
+    let h = digest::over_outcome(tally::at(tally, DIGEST), o, out);
     tally::put(tally, DIGEST, h);
     tally::add(tally, FAULTS, o.faults);
     if o.number == 12 {

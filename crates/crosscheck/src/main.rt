@@ -1,16 +1,15 @@
 // Compares the client calls of `matching` with plain simulation, made apart from them, on graphs that a fixed rule draws: from no nodes to
 // the most that a record can have.
 ghost use Prim.Native.Nat.{_≤_};
-use harness::arrays;
 use harness::digest;
-use harness::draw;
+use harness::graphs;
+use harness::lent;
 use harness::patterns;
 
 mod calls;
 mod compare;
 mod counts;
-mod graphs;
-mod lent;
+mod views;
 
 // How many words the contents of a record and of a catalogue have.
 struct Sizes {
@@ -19,13 +18,13 @@ struct Sizes {
 }
 
 // Of each pair of nodes a bit says whether an edge was drawn: a sheet's words are enough for that.
-fn draw_contents(nodes: usize, state: &mut u32, record: &mut [u32], views: &mut [u32]) -> Sizes
+fn draw_contents(nodes: usize, state: &mut u32, record: &mut [u32], catalogue: &mut [u32]) -> Sizes
     requires { ⌜ nodes ≤ 4096 ⌝ }
 {
     let mut seen = lent::sheet_words();
     let labels = patterns::draw_labels(state);
     let n = graphs::record(nodes, labels, state, record, &mut seen);
-    let k = graphs::catalogue(labels, state, views, &mut seen);
+    let k = views::catalogue(labels, state, catalogue, &mut seen);
     Sizes {
         record: n,
         catalogue: k,
@@ -36,21 +35,9 @@ fn case(nodes: usize, state: &mut u32, tally: &mut [u64])
     requires { ⌜ nodes ≤ 4096 ⌝ }
 {
     let mut record = lent::record_words();
-    let mut views = arrays::catalogue_words();
-    let sizes = draw_contents(nodes, state, &mut record, &mut views);
-    compare::case(&views, sizes.catalogue, &record, sizes.record, tally);
-}
-
-// Every second record of a group may have fewer nodes.
-fn nodes_of(size: usize, i: usize, state: &mut u32) -> usize
-    requires { ⌜ size ≤ 4096 ⌝ }
-    ensures { λ r. ⌜ r ≤ 4096 ⌝ }
-{
-    if i % 2 == 0 {
-        size
-    } else {
-        arrays::less(size, draw::below(state, size / 4 + 1))
-    }
+    let mut catalogue = lent::catalogue_words();
+    let sizes = draw_contents(nodes, state, &mut record, &mut catalogue);
+    compare::case(&catalogue, sizes.catalogue, &record, sizes.record, tally);
 }
 
 // So many records of a size, each with a catalogue. The digest goes on from group to group.
@@ -60,7 +47,7 @@ fn group(size: usize, cases: usize, state: &mut u32, digest: u64) -> u64
     let mut tally = counts::start(digest);
     let mut i: usize = 0;
     while i < cases {
-        let nodes = nodes_of(size, i, state);
+        let nodes = graphs::nodes_of(size, i, state);
         case(nodes, state, &mut tally);
         i += 1;
     }

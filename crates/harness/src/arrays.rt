@@ -1,7 +1,5 @@
 // Plain steps on numbers and slices. A place past the end of a slice is passed over, so that nothing is asked of a caller.
 ghost use Prim.Native.Nat.{_≤_};
-ghost use mathlib.Core.Path.{_≡_};
-ghost use lib.ListN.{length};
 
 // What stands in every word and byte that is lent, so that a change shows.
 pub const MARK: u32 = 0xa5a5_a5a5;
@@ -34,6 +32,11 @@ pub fn least(a: usize, b: usize) -> usize
 // The remainder, 0 where there is none.
 pub fn rest(a: usize, n: usize) -> usize {
     if n == 0 { 0 } else { a % n }
+}
+
+// The quotient, 0 where there is none.
+pub fn quotient(a: usize, n: usize) -> usize {
+    if n == 0 { 0 } else { a / n }
 }
 
 // The low 32 bits of a number.
@@ -136,17 +139,4 @@ pub fn flip(s: &mut [u8], bit: usize) {
     let i = bit / 8;
     let b = byte_at(s, i);
     put_byte(s, i, b ^ bit_mask(bit));
-}
-
-// A few words more to work in than a call asks for.
-pub fn work_words() -> [u32; 16400]
-    ensures { λ r. ⌜ 16400 ≡ length r ⌝ }
-{
-    [0; 16400]
-}
-
-pub fn catalogue_words() -> [u32; 1313]
-    ensures { λ r. ⌜ 1313 ≡ length r ⌝ }
-{
-    [0; 1313]
 }

@@ -1,5 +1,6 @@
 // A digest of numbers and bytes: FNV-1a in 64 bits, a number at a time.
 use crate::arrays;
+use crate::outcome::Outcome;
 
 pub const START: u64 = 0xcbf2_9ce4_8422_2325;
 
@@ -26,6 +27,15 @@ pub fn over_bytes(start: u64, s: &[u8], n: usize) -> u64 {
     while i < n {
         h = step(h, wide(arrays::byte_at(s, i)));
         i += 1;
+    }
+    h
+}
+
+// Over an outcome, with the bytes where there are some.
+pub fn over_outcome(start: u64, o: Outcome, out: &[u8]) -> u64 {
+    let h = step(step(start, o.number as u64), o.value as u64);
+    if o.number == 0 {
+        return over_bytes(h, out, o.value);
     }
     h
 }

@@ -1,5 +1,6 @@
 // What a call answered, and what it left behind.
 use crate::arrays;
+use crate::lent;
 use packed::reply::Refusal;
 use packed::reply::Reply;
 
@@ -68,13 +69,40 @@ pub fn work_faults(number: u32, work: &[u32]) -> usize {
     )
 }
 
+// Marks all that is lent to a call.
+pub fn mark(out: &mut [u8], work: &mut [u32]) {
+    arrays::fill_bytes(out, out.len(), arrays::MARK_BYTE);
+    arrays::fill(work, work.len(), arrays::MARK);
+}
+
+// What a call answered, beside what it left of the marks.
+pub fn left(r: Reply, out: &[u8], work: &[u32]) -> Outcome {
+    let o = answered(r);
+    let kept = arrays::other_bytes(out, written(o), out.len(), arrays::MARK_BYTE);
+    Outcome {
+        number: o.number,
+        value: o.value,
+        faults: arrays::plus(kept, work_faults(o.number, work)),
+    }
+}
+
 // The writers of `packed` that programs make their files with, with words of their own to work in.
 pub fn write_pattern(fields: &[u32], out: &mut [u8]) -> Outcome {
-    let mut work = arrays::work_words();
+    let mut work = lent::work_words();
     answered(packed::write_pattern(fields, out, &mut work))
 }
 
 pub fn write_catalogue(fields: &[u32], out: &mut [u8]) -> Outcome {
-    let mut work = arrays::work_words();
+    let mut work = lent::work_words();
     answered(packed::write_catalogue(fields, out, &mut work))
+}
+
+pub fn write_record(fields: &[u32], out: &mut [u8]) -> Outcome {
+    let mut work = lent::work_words();
+    answered(packed::write_record(fields, out, &mut work))
+}
+
+pub fn write_sheet(pattern: &[u8], fields: &[u32], out: &mut [u8]) -> Outcome {
+    let mut work = lent::work_words();
+    answered(packed::write_sheet(pattern, fields, out, &mut work))
 }

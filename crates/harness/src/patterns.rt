@@ -115,6 +115,13 @@ pub fn put_counts(out: &mut [u32], at: usize, nodes: usize, edges: usize) {
     arrays::put(out, arrays::plus(at, 1), arrays::low(edges));
 }
 
+// Where the content of the pattern at a place ends.
+pub fn end_of(content: &[u32], at: usize) -> usize {
+    let nodes = arrays::at(content, at) as usize;
+    let edges = arrays::at(content, arrays::plus(at, 1)) as usize;
+    arrays::plus(at, 2 + nodes + 2 * edges)
+}
+
 fn pattern_nodes(n: usize, labels: Labels, state: &mut u32, out: &mut [u32], start: usize) {
     let mut u: usize = 0;
     while u < n {

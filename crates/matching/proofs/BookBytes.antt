@@ -17,6 +17,7 @@ use Rattle.packed.specs.Calls.{accepted, readBook, pairsOf}
 use Rattle.packed.specs.Plain.{PlainPattern, PlainSheet, Whole, InTurn}
 use Rattle.packed.proofs.BitsLaws.{bits-append}
 use Rattle.packed.proofs.AcceptedTurns.{no-turns, more-turns}
+use Rattle.packed.proofs.BookSheetLaws.{ends-long, codes-back}
 use Rattle.packed.proofs.Accepted.{sheet-accepted, book-accepted, book-read}
 use Rattle.matching.specs.Lists.{In, here, there, gather}
 use Rattle.matching.specs.Simulation.{Graph, patternOf, graphOf, matchSets}
@@ -71,16 +72,6 @@ book-back sheets f = book-accepted (map length sheets) (bookBytes sheets) (bookF
 abbrev listed : List (List ℕ) → List ℕ
 listed ls = gather (λ l. l) ls
 
-ends-long : (l : List ℕ) → length (ends l) ≡ 2 * length l
-unfolding ends
-ends-long [] = refl
-ends-long (c ∷ cs) = omega (arith, ends-long cs)
-
-codes-back : (l tail : List ℕ) → codesIn (length l) (ends l ++ tail) ≡ l
-unfolding codesIn ends
-codes-back [] tail = refl
-codes-back (c ∷ cs) tail = ap₂ (λ (x : ℕ) (l : List ℕ). x ∷ l) (let z : code (c / 4096) (c % 4096) ≡ c = omega arith in z) (codes-back cs tail)
-
 -- the first list of so many
 first-pairs : (n k : ℕ) (l : List ℕ) → pairsIn (suc n) (k ∷ l) ≡ codesIn k l ++ pairsIn n (drop (2 * k) l)
 unfolding pairsIn
@@ -131,7 +122,8 @@ module _ (c r cs rs : List ℕ) (e : decode catalogue c ≡ ok cs) (f : decode r
   view-plain : (v : List ℕ) → In v (viewsOf cs) → (body : List Bool) × PlainPattern v body
   view-plain v i = in-follow (all-ahead c cs e .follow) i
 
-  counts-are : edgeCounts cs ≡ map length sheets
+  -- the catalogue says how many lists each sheet has
+  pub counts-are : edgeCounts cs ≡ map length sheets
   unfolding edgeCounts viewSheets
   counts-are =
       map-same edgesOf (λ v. length (matchSets (patternOf v) (graphOf rs))) (viewsOf cs)

@@ -10,7 +10,7 @@ use lib.Bits.{bitAnd}
 use Rattle.packed.specs.declared.by_value.Pattern.{Pattern as Given}
 use Rattle.packed.proofs.OrderCases.{lt-or-ge, eq-or-ne}
 use Rattle.matching.specs.Steps.{Fair, Codes, Marks}
-use Rattle.matching.specs.Sweeps.{Has, Mask, Pairs, Tabled, LookedUp}
+use Rattle.matching.specs.Sweeps.{Has, Mask, Leads, Pairs, Tabled, LookedUp}
 use Rattle.matching.specs.EdgeMasks.{highMask, Lifted, InBoth, Marked, Lowered}
 use Rattle.matching.proofs.MaskBits.{mask-cast, mask-and}
 
@@ -98,15 +98,21 @@ pub in-both : {leaving arriving : List ℕ} {x y x′ y′ a b : ℕ} → x ≡ 
 in-both {leaving} {arriving} {a = a} {b = b} ex ey l r =
     record { leave = a; arrive = b; leaves = subst (λ (z : ℕ). LookedUp leaving z a) ex l; arrives = subst (λ (z : ℕ). LookedUp arriving z b) ey r; is = refl }
 
+-- where the firsts of n pairs are their own numbers, e leads to S exactly if its second is in S
+module _ (numbers seconds : List ℕ) (S : ℕ → Type 0) {n : ℕ} (l : n ≤ 32) (id : (e : ℕ) → e < 32 → getD numbers e 0 ≡ e) where
+  pub own-say : {e : ℕ} → Leads numbers seconds n S e → (e < n) × S (getD seconds e 0)
+  own-say {e} o =
+      let q = o .below in
+      let z : o .at ≡ e = sym (id (o .at) (omega arith)) ∙ o .holds .0 in
+      (subst (λ (j : ℕ). j < n) z q, subst (λ (j : ℕ). S (getD seconds j 0)) z (o .holds .1))
+
+  pub own-by : {e : ℕ} → e < n → S (getD seconds e 0) → Leads numbers seconds n S e
+  own-by {e} q h = record { at = e; below = q; holds = (id e (omega arith), h) }
+
 -- a table from numbers to themselves says which seconds are in a mask
 own : {numbers seconds t : List ℕ} {n x r : ℕ} → n ≤ 32 → ((e : ℕ) → e < 32 → getD numbers e 0 ≡ e) → Tabled numbers seconds n t → LookedUp t x r → Mask (λ e. (e < n) × Has x (getD seconds e 0)) r
-own {numbers} {seconds} {t} {n} {x} {r} l id T h =
-    mask-cast
-    (λ e o. let q = o .below in
-    let z : o .at ≡ e = sym (id (o .at) (omega arith)) ∙ o .holds .0 in
-    (subst (λ (j : ℕ). j < n) z q, subst (λ (j : ℕ). Has x (getD seconds j 0)) z (o .holds .1)))
-    (λ e o. let q = o .0 in record { at = e; below = q; holds = (id e (omega arith), o .1) })
-    (h .is numbers seconds n T)
+own {numbers} {seconds} {n = n} {x = x} l id T h =
+    mask-cast (λ e. own-say numbers seconds (Has x) l id) (λ e o. own-by numbers seconds (Has x) l id (o .0) (o .1)) (h .is numbers seconds n T)
 
 pub own-pairs : {numbers seconds : List ℕ} {n : ℕ} → n ≤ 32 → ((e : ℕ) → e < 32 → getD numbers e 0 ≡ e) → ((e : ℕ) → e < n → getD seconds e 0 < 16) → Pairs numbers seconds n
 own-pairs l id s = record { few = l; first = λ e q. (let z = id e (omega arith) in omega arith); second = s }

@@ -27,6 +27,12 @@ pub mod BookLaws
 pub mod AnswerFits
 pub mod Removed
 pub mod JoinLaws
+pub mod Taking
+pub mod TakingSheets
+pub mod Walking
+pub mod SupportTables
+pub mod Keeping
+pub mod JoinedLaws
 pub mod AnswerLaws
 pub mod Covered
 pub mod Uncovered

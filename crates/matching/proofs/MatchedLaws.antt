@@ -75,6 +75,37 @@ marks-bit : (e q : ℕ) → marks e q ≡ bit q e
 unfolding marks bit
 marks-bit e q = refl
 
+-- the lists of n pairs by their masks, each by the edges h i that pass a test, and all or none of them
+module _ {n : ℕ} {w : List ℕ} (k : MarkedPairs n w) where
+  abbrev codes : List ℕ
+  codes = take n w
+
+  abbrev masks : List ℕ
+  masks = take n (drop 8192 w)
+
+  pub row-marked : (e : ℕ) (h : ℕ → Pair) (t : Pair → Bool) → ((i : ℕ) → i < n → bit (getD w (8192 + i) 0) e ≡ t (h i)) → ((i : ℕ) → i < n → getD w i 0 ≡ code (h i .0) (h i .1))
+      → distinct (marked e codes masks) ≡ ascending (keep t (upTo h n))
+  unfolding ascending
+  row-marked e h t m c =
+      let b = k .most in
+      let o = k .long in
+      let x : length codes ≡ n = length-take-le n w (omega arith) in
+      let y : length masks ≡ n = length-take-le n (drop 8192 w) (omega (arith, length-drop 8192 w)) in
+      ap distinct (marked-kept e codes masks h t (x ∙ sym y)
+      (λ i l.
+      let j : i < n = omega arith in
+      marks-bit e (getD masks i 0) ∙ ap (λ (z : ℕ). bit z e) (getD-take n (drop 8192 w) i 0 j ∙ getD-drop 8192 w i 0) ∙ m i j)
+      (λ i l.
+      let j : i < n = omega arith in
+      getD-take n w i 0 j ∙ c i j)
+      ∙ ap (λ (z : ℕ). coded (keep t (upTo h z))) x)
+
+  pub sets-marked : (m : ℕ) (g : ℕ → Pair) (f : Pair → List Pair) → ((e : ℕ) → e < m → distinct (marked e codes masks) ≡ ascending (f (g e)))
+      → matchesOf n m w ≡ allOrNone (each (λ e. ascending (f e)) (upTo g m))
+  unfolding matchesOf
+  sets-marked m g f r =
+      ap allOrNone (from-each 0 m codes masks g (λ e. ascending (f e)) (fit-lists n m w k) (λ j l i q. let z : i ≡ j = omega arith in rw z (r j l)))
+
 -- ---- what stays in the workspace
 pub edges-twice : {w w₁ w₂ : List ℕ} → Edges w w₁ → Edges w₁ w₂ → Edges w w₂
 edges-twice a b = record { long = b .long ∙ a .long; same = λ k l. b .same k l ∙ a .same k l }
@@ -111,12 +142,6 @@ module _ {p : Given} {s : List ℕ} {n m : ℕ} {w w₁ w₂ : List ℕ} (fair :
   abbrev passes : ℕ → Pair → Bool
   passes e f = has (ends e .0, f .0) (sim P G) and has (ends e .1, f .1) (sim P G)
 
-  abbrev codes : List ℕ
-  codes = take m w₂
-
-  abbrev masks : List ℕ
-  masks = take m (drop 8192 w₂)
-
   stays : Edges w w₂
   stays = edges-twice (t .edges) (k .edges)
 
@@ -144,22 +169,6 @@ module _ {p : Given} {s : List ℕ} {n m : ℕ} {w w₁ w₂ : List ℕ} (fair :
           (subst (λ x. T (bit (getD w₁ (8192 + x / 4096) 0) (ends e .0))) (sym q) (t .means .from _ _ (has-in _ (and-left _ _ z)) .1))
           (subst (λ x. T (bit (getD w₁ (8192 + x % 4096) 0) (ends e .1))) (sym q) (t .means .from _ _ (has-in _ (and-right _ _ z)) .1))
 
-  row-marked : (e : ℕ) → e < p .edges → distinct (marked e codes masks) ≡ ascending (row G (sim P G) (ends e))
-  unfolding ascending row graphIn
-  row-marked e l =
-      let b = ready .edges in
-      let o = long in
-      let a : length codes ≡ m = length-take-le m w₂ (omega arith) in
-      let d : length masks ≡ m = length-take-le m (drop 8192 w₂) (omega (arith, length-drop 8192 w₂)) in
-      ap distinct (marked-kept e codes masks edge (passes e) (a ∙ sym d)
-      (λ i h.
-      let j : i < m = omega arith in
-      marks-bit e (getD masks i 0) ∙ ap (λ (x : ℕ). bit x e) (getD-take m (drop 8192 w₂) i 0 j ∙ getD-drop 8192 w₂ i 0) ∙ test e i l j)
-      (λ i h.
-      let j : i < m = omega arith in
-      getD-take m w₂ i 0 j ∙ stays .same i (omega arith) ∙ omega arith)
-      ∙ ap (λ (x : ℕ). coded (keep (passes e) (upTo edge x))) a)
-
   module _ (proper : Proper p) (rises : Rises m w) where
     pairs-marked : MarkedPairs m w₂
     pairs-marked =
@@ -172,12 +181,15 @@ module _ {p : Given} {s : List ℕ} {n m : ℕ} {w w₁ w₂ : List ℕ} (fair :
           rises = λ i j l h. rw (stays .same i (omega arith), stays .same j (omega arith)) (rises i j l h);
         }
 
-    sets-marked : matchesOf m (p .edges) w₂ ≡ matchSets P G
-    unfolding matchesOf patternIn
-    sets-marked =
-        ap allOrNone (from-each 0 (p .edges) codes masks ends (λ e. ascending (row G (sim P G) e)) (fit-lists m (p .edges) w₂ pairs-marked)
-        (λ j l i q. let z : i ≡ j = omega arith in rw z (row-marked j l)))
-        ∙ sym (sets-all-or-none P G (proper .sound))
+    edge-row : (e : ℕ) → e < p .edges → distinct (marked e (take m w₂) (take m (drop 8192 w₂))) ≡ ascending (row G (sim P G) (ends e))
+    unfolding row graphIn
+    edge-row e l =
+        row-marked pairs-marked e edge (passes e) (λ i h. test e i l h)
+        (λ i h. let b = ready .edges in stays .same i (omega arith) ∙ omega arith)
+
+    edge-sets : matchesOf m (p .edges) w₂ ≡ matchSets P G
+    unfolding patternIn
+    edge-sets = sets-marked pairs-marked (p .edges) ends (row G (sim P G)) edge-row ∙ sym (sets-all-or-none P G (proper .sound))
 
     pub matches : Matched p s n m w w₂
-    matches = record { edges = stays; marked = pairs-marked; sets = sets-marked; only = λ i e l h z. k .to i e l h z .0 }
+    matches = record { edges = stays; marked = pairs-marked; sets = edge-sets; only = λ i e l h z. k .to i e l h z .0 }

@@ -35,7 +35,7 @@ sheet-by m ls e x =
     let b : sheetBytes ls ≡ x .bytes = sheet-is m ls (x .bytes) e (x .is) in
     record { back = rw (e, b) (x .back); size = rw (e, b) (x .number) }
 
-fit-by : (ls : List (List ℕ)) → ((l : List ℕ) → In l ls → Listable l) → Fit ls
+pub fit-by : (ls : List (List ℕ)) → ((l : List ℕ) → In l ls → Listable l) → Fit ls
 fit-by [] f = fit-none
 fit-by (l ∷ ls) f =
     let r = f l (here refl) in

@@ -8,7 +8,7 @@ use Rattle.packed.specs.Formats.{linked, edges, isEnd, allEnds, label, joined, 
 use Rattle.packed.specs.Contents.{patternSize, patternsIn, viewsOf}
 use Rattle.packed.specs.Distinct.{insert, distinct}
 use Rattle.packed.specs.Matches.{ends, fieldsOf}
-use Rattle.packed.specs.Calls.{give, desk, readFile, writeFile, judged, fit, fitFile, patternRead, patternWritten}
+use Rattle.packed.specs.Calls.{give, withWorkspace, readFile, writeFile, judged, fit, fitFile, patternRead, patternWritten}
 use Rattle.packed.proofs.Table.{Case, case, Agree, d, dFields}
 use Rattle.matching.specs.Lists.{_and_, _or_, _implies_, every, some, keep, gather, each, below}
 use Rattle.matching.specs.Greatest.{settle, greatest}
@@ -54,25 +54,25 @@ r10 = 0x00 ∷ 0x00 ∷ 0x00 ∷ 0x00 ∷ []
 unfoldable pub table : List Case
 table =
     -- K1, both directions
-    case (desk 16384 (patternRead d 14)) (give [] (dFields ∷ []))
-    ∷ case (desk 16384 (patternWritten dFields 8)) (give [] (d ∷ []))
+    case (withWorkspace 16384 (patternRead d 14)) (give [] (dFields ∷ []))
+    ∷ case (withWorkspace 16384 (patternWritten dFields 8)) (give [] (d ∷ []))
     -- K6, the sheet of extract 1 of C, and the book of C
-    ∷ case (desk 16384 (searchAnswer extract1 r6 10)) (give [] ((0x00 ∷ 0x04 ∷ 0x00 ∷ 0x00 ∷ 0x04 ∷ 0x00 ∷ 0x10 ∷ 0x01 ∷ 0x00 ∷ 0x20 ∷ []) ∷ []))
-    ∷ case (desk 16384 (makeBookAnswer c r6 22))
+    ∷ case (withWorkspace 16384 (searchAnswer extract1 r6 10)) (give [] ((0x00 ∷ 0x04 ∷ 0x00 ∷ 0x00 ∷ 0x04 ∷ 0x00 ∷ 0x10 ∷ 0x01 ∷ 0x00 ∷ 0x20 ∷ []) ∷ []))
+    ∷ case (withWorkspace 16384 (makeBookAnswer c r6 22))
     (give []
     ((0x00 ∷ 0x08 ∷ 0x00 ∷ 0x00 ∷ 0x04 ∷ 0x00 ∷ 0x00 ∷ 0x0c ∷ 0x00 ∷ 0x04 ∷ 0x00 ∷ 0x00 ∷ 0x04 ∷ 0x00 ∷ 0x10 ∷ 0x01 ∷ 0x00 ∷ 0x20 ∷ 0x00 ∷ 0x00
     ∷ 0x00 ∷ 0x00 ∷ [])
     ∷ []))
     -- K7 to K10
-    ∷ case (desk 16384 (searchAnswer selfLoop r7 8)) (give [] ((0x00 ∷ 0x08 ∷ 0x00 ∷ 0x00 ∷ 0x04 ∷ 0x00 ∷ 0x40 ∷ 0x00 ∷ []) ∷ []))
-    ∷ case (desk 16384 (searchAnswer selfLoop r8 2)) (give [] ((0x00 ∷ 0x00 ∷ []) ∷ []))
-    ∷ case (desk 16384 (searchAnswer d r9 19))
+    ∷ case (withWorkspace 16384 (searchAnswer selfLoop r7 8)) (give [] ((0x00 ∷ 0x08 ∷ 0x00 ∷ 0x00 ∷ 0x04 ∷ 0x00 ∷ 0x40 ∷ 0x00 ∷ []) ∷ []))
+    ∷ case (withWorkspace 16384 (searchAnswer selfLoop r8 2)) (give [] ((0x00 ∷ 0x00 ∷ []) ∷ []))
+    ∷ case (withWorkspace 16384 (searchAnswer d r9 19))
     (give []
     ((0x00 ∷ 0x04 ∷ 0x00 ∷ 0x00 ∷ 0x04 ∷ 0x00 ∷ 0x10 ∷ 0x00 ∷ 0x00 ∷ 0x10 ∷ 0x00 ∷ 0x40 ∷ 0x04 ∷ 0x00 ∷ 0x80 ∷ 0x01 ∷ 0x00 ∷ 0x10 ∷ 0x02 ∷ [])
     ∷ []))
-    ∷ case (desk 16384 (searchAnswer oneLink r10 2)) (give [] ((0x00 ∷ 0x00 ∷ []) ∷ []))
+    ∷ case (withWorkspace 16384 (searchAnswer oneLink r10 2)) (give [] ((0x00 ∷ 0x00 ∷ []) ∷ []))
     ∷ []
 
 pub cases : Agree table
-unfolding Agree table bitsOf num numFrom bits field zeros gap then times whole within scan lay bytesOf decode encode linked edges isEnd allEnds label joined pattern catalogue labels record′ pairs lists sheet book patternSize patternsIn viewsOf insert distinct ends fieldsOf desk readFile writeFile judged fit fitFile patternRead patternWritten _and_ _or_ _implies_ every some keep gather each below settle greatest same has allPairs bit edgesIn patternOf graphOf fits follows sim total row ascending matchSets sheetBytes bookBytes searchAnswer viewSheets makeBookAnswer
+unfolding Agree table bitsOf num numFrom bits field zeros gap then times whole within scan lay bytesOf decode encode linked edges isEnd allEnds label joined pattern catalogue labels record′ pairs lists sheet book patternSize patternsIn viewsOf insert distinct ends fieldsOf withWorkspace readFile writeFile judged fit fitFile patternRead patternWritten _and_ _or_ _implies_ every some keep gather each below settle greatest same has allPairs bit edgesIn patternOf graphOf fits follows sim total row ascending matchSets sheetBytes bookBytes searchAnswer viewSheets makeBookAnswer
 cases = (refl, (refl, (refl, (refl, (refl, (refl, (refl, (refl, tt))))))))

@@ -8,3 +8,6 @@ pub mod Sweeps
 pub mod EdgeMasks
 pub mod Matched
 pub mod Books
+pub mod Candidates
+pub mod Support
+pub mod Joining

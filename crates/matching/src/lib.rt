@@ -1,14 +1,17 @@
 // Matching by simulation: searching a record for a pattern, and making the book of a catalogue from a record.
 mod calls;
+mod candidates;
+pub mod join;
 mod marks;
 pub mod matched;
+mod support;
 mod sweep;
 pub mod views;
 
 ghost use mathlib.Core.List.{[], _∷_};
 ghost use lib.ListN.{length};
 ghost use Rattle.packed.specs.Refusals.{replyTold};
-ghost use Rattle.packed.specs.Calls.{Settled, desk};
+ghost use Rattle.packed.specs.Calls.{Settled, withWorkspace};
 ghost use Rattle.matching.specs.Search.{searchAnswer, makeBookAnswer};
 use packed::reply::Refusal;
 use packed::reply::Reply;
@@ -16,7 +19,7 @@ use packed::workspace;
 
 // Searches a record for a pattern: writes the pattern's sheet.
 pub fn search(pattern: &[u8], record: &[u8], out: &mut [u8], work: &mut [u32]) -> Reply
-    ensures { λ r. ⌜ Settled [] (desk (length (now (work .entry))) (searchAnswer (now (pattern .entry)) (now («record» .entry)) (length (now (out .entry))))) (replyTold r) (now (out .entry) ∷ []) (now (out .exit) ∷ []) (now (work .entry)) (now (work .exit)) ⌝ }
+    ensures { λ r. ⌜ Settled [] (withWorkspace (length (now (work .entry))) (searchAnswer (now (pattern .entry)) (now («record» .entry)) (length (now (out .entry))))) (replyTold r) (now (out .entry) ∷ []) (now (out .exit) ∷ []) (now (work .entry)) (now (work .exit)) ⌝ }
 {
     if work.len() < 16384 {
         return Reply::Refused(Refusal::SmallWorkspace);
@@ -28,7 +31,7 @@ pub fn search(pattern: &[u8], record: &[u8], out: &mut [u8], work: &mut [u32]) -
 
 // Makes the book of a catalogue from a record: writes a sheet for each view.
 pub fn make_book(catalogue: &[u8], record: &[u8], out: &mut [u8], work: &mut [u32]) -> Reply
-    ensures { λ r. ⌜ Settled [] (desk (length (now (work .entry))) (makeBookAnswer (now (catalogue .entry)) (now («record» .entry)) (length (now (out .entry))))) (replyTold r) (now (out .entry) ∷ []) (now (out .exit) ∷ []) (now (work .entry)) (now (work .exit)) ⌝ }
+    ensures { λ r. ⌜ Settled [] (withWorkspace (length (now (work .entry))) (makeBookAnswer (now (catalogue .entry)) (now («record» .entry)) (length (now (out .entry))))) (replyTold r) (now (out .entry) ∷ []) (now (out .exit) ∷ []) (now (work .entry)) (now (work .exit)) ⌝ }
 {
     if work.len() < 16384 {
         return Reply::Refused(Refusal::SmallWorkspace);

@@ -67,14 +67,14 @@ fn lower(work: &mut [u32])
     }
 }
 
-fn no_numbers() -> [u32; 32]
+pub fn no_numbers() -> [u32; 32]
     ensures { λ r. ⌜ r ≡ replicate 32 0 ⌝ }
 {
     [0u32; 32]
 }
 
 // The numbers below 32.
-fn identity() -> [u32; 32]
+pub fn identity() -> [u32; 32]
     ensures { λ r. ⌜ ((e : ℕ) → e < 32 → getD r e 0 ≡ e) ⌝ }
 {
     let mut r = no_numbers();

@@ -9,7 +9,7 @@ use packed::by_value;
 use packed::by_value::Pattern;
 
 // Bit u, where the labels x have the label.
-fn fit_one(x: u32, label: u32, u: u32) -> u32
+pub fn fit_one(x: u32, label: u32, u: u32) -> u32
     requires { ⌜ (label < 32) × (u < 32) ⌝ }
     ensures { λ r. ⌜ Mask (λ k. (u ≡ k) × Has x label) r ⌝ }
 {
@@ -153,7 +153,7 @@ pub fn look_up(t: &[u32; 64], x: u32) -> u32
 }
 
 // k without the nodes that lead to one that g lacks.
-fn drop_by(t: &[u32; 64], g: u32, k: u32) -> u32
+pub fn drop_by(t: &[u32; 64], g: u32, k: u32) -> u32
     ensures { λ r. ⌜ Dropped (now (t .entry)) g k r ⌝ }
 {
     let gone = look_up(t, !g);

@@ -17,7 +17,7 @@ use Rattle.packed.specs.Refusals.{Told, numberOf, detailOf, replyTold}
 use Rattle.packed.specs.Reading.{Content, Judges}
 use Rattle.packed.specs.Writing.{JudgesFields}
 use Rattle.packed.specs.Walks.{Different}
-use Rattle.packed.specs.Calls.{Answer, give, refuse, toldOf, fronts, outputsOf, workOf, Settled, desk, Verdict, rejected, inFile, readFile, writeFile, judged, pairsOf, uncrowdedBy, fit, fitFile, Answered}
+use Rattle.packed.specs.Calls.{Answer, give, refuse, toldOf, fronts, outputsOf, workOf, Settled, withWorkspace, Verdict, rejected, inFile, readFile, writeFile, judged, pairsOf, uncrowdedBy, fit, fitFile, Answered}
 use Rattle.packed.specs.declared.reply.Refusal.{Refusal}
 use Rattle.packed.specs.declared.reply.Refusal.the-variants.{TooLong, NoRoom, SmallWorkspace}
 use Rattle.packed.specs.declared.reply.Reply.the-variants as reply-is
@@ -221,23 +221,23 @@ sum-more l j = rw add-one (sum-suc l j)
 
 module _ (a : Answer) (out work : List ℕ) where
   -- too small
-  pub settles-small : length work < 16384 → Settled [] (desk (length work) a) (replyTold (reply-is.Refused SmallWorkspace)) (out ∷ []) (out ∷ []) work work
-  unfolding desk workOf toldOf outputsOf
+  pub settles-small : length work < 16384 → Settled [] (withWorkspace (length work) a) (replyTold (reply-is.Refused SmallWorkspace)) (out ∷ []) (out ∷ []) work work
+  unfolding withWorkspace workOf toldOf outputsOf
   settles-small h =
       let e = lt-ltb (length work) 16384 h in
       record { result = rw e; outputs = rw e; workspace = rw e }
 
   -- cleared
   pub settles : {r : Told} {out′ work′ : List ℕ} → 16384 ≤ length work → Answered a r out out′ → work′ ≡ replicate 16384 0 ++ drop 16384 work
-      → Settled [] (desk (length work) a) r (out ∷ []) (out′ ∷ []) work work′
-  unfolding desk workOf
+      → Settled [] (withWorkspace (length work) a) r (out ∷ []) (out′ ∷ []) work work′
+  unfolding withWorkspace workOf
   settles h b q =
       let e = le-ltb (length work) 16384 h in
       record { result = rw e (b .result); outputs = rw e (b .output); workspace = rw e q }
 
   -- cleared, once its first words were lent
   pub settles-lent : {r : Told} {out′ work′ : List ℕ} (ys : List ℕ) → 16384 ≤ length work → Answered a r out out′ → length ys ≡ length (take (16384 - 0) (drop 0 work))
-      → work′ ≡ replicate 16384 0 ++ drop 16384 (putMid 0 (16384 - 0) work ys) → Settled [] (desk (length work) a) r (out ∷ []) (out′ ∷ []) work work′
+      → work′ ≡ replicate 16384 0 ++ drop 16384 (putMid 0 (16384 - 0) work ys) → Settled [] (withWorkspace (length work) a) r (out ∷ []) (out′ ∷ []) work work′
   settles-lent ys h b n q =
       let l : length ys ≡ 16384 = n ∙ simp length-take (omega arith) in
       settles h b (q ∙ ap (λ (t : List ℕ). replicate 16384 0 ++ t) (drop-at ys (postOf 0 (16384 - 0) work) 16384 l))

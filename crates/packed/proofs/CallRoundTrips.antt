@@ -10,7 +10,7 @@ use borrow.Author.Tests.{ltb-false, le-ltb}
 use Rattle.packed.specs.Format.{Format, Result, ok, bad, pick, decode, encode}
 use Rattle.packed.specs.Formats.{pattern, catalogue, record′, sheet, book}
 use Rattle.packed.specs.Contents.{edgesOf, edgeCounts}
-use Rattle.packed.specs.Calls.{Answer, give, refuse, desk, rejected, inFile, readFile, writeFile, judged, pairsOf, uncrowdedBy, fit, fitFile, patternRead, catalogueRead, recordRead, sheetRead, bookRead, patternWritten, catalogueWritten, recordWritten, sheetWritten, bookWritten}
+use Rattle.packed.specs.Calls.{Answer, give, refuse, withWorkspace, rejected, inFile, readFile, writeFile, judged, pairsOf, uncrowdedBy, fit, fitFile, patternRead, catalogueRead, recordRead, sheetRead, bookRead, patternWritten, catalogueWritten, recordWritten, sheetWritten, bookWritten}
 use Rattle.packed.proofs.RoundTrip.{Bytes, decode-encode, encode-decode}
 use Rattle.packed.proofs.Most.{pattern-bytes, catalogue-bytes, record-bytes}
 use Rattle.packed.proofs.CallLaws.{read-finds, write-finds, judged-accepted, overFile, overFile-no}
@@ -23,9 +23,9 @@ passed true n d a o e = absurd (let z : _≡_ {A = ℕ} 0 1 = cc in omega arith)
 passed false n d a o e = (refl, e)
 
 -- so it passes with any answer
-desk-given : (words : ℕ) (a : Answer) (o : List ℕ) → desk words a ≡ give [] (o ∷ []) → (a ≡ give [] (o ∷ [])) × ((b : Answer) → desk words b ≡ b)
-unfolding desk
-desk-given words a o e = let p = passed (ltb words 16384) 14 0 a o e in (p .1, λ b. rw (p .0))
+withWorkspace-given : (words : ℕ) (a : Answer) (o : List ℕ) → withWorkspace words a ≡ give [] (o ∷ []) → (a ≡ give [] (o ∷ [])) × ((b : Answer) → withWorkspace words b ≡ b)
+unfolding withWorkspace
+withWorkspace-given words a o e = let p = passed (ltb words 16384) 14 0 a o e in (p .1, λ b. rw (p .0))
 
 uncrowded-given : (ms ws : List ℕ) (a : Answer) (o : List ℕ) → uncrowdedBy ms ws a ≡ give [] (o ∷ []) → (a ≡ give [] (o ∷ [])) × ((b : Answer) → uncrowdedBy ms ws b ≡ b)
 unfolding uncrowdedBy
@@ -94,8 +94,8 @@ beside most file F p k k′ o o′ e g =
     judged-accepted k′ (read-finds most file F p (r .1)) (r .2) ∙ g (r .0) (r .3)
 
 -- the call, with the workspace
-at-desk : (words : ℕ) (a b : Answer) (o o′ : List ℕ) → desk words a ≡ give [] (o ∷ []) → (a ≡ give [] (o ∷ []) → b ≡ give [] (o′ ∷ [])) → desk words b ≡ give [] (o′ ∷ [])
-at-desk words a b o o′ e g = let p = desk-given words a o e in p .1 b ∙ g (p .0)
+at-withWorkspace : (words : ℕ) (a b : Answer) (o o′ : List ℕ) → withWorkspace words a ≡ give [] (o ∷ []) → (a ≡ give [] (o ∷ []) → b ≡ give [] (o′ ∷ [])) → withWorkspace words b ≡ give [] (o′ ∷ [])
+at-withWorkspace words a b o o′ e g = let p = withWorkspace-given words a o e in p .1 b ∙ g (p .0)
 
 fit-given : (room : ℕ) (o : List ℕ) → length o ≤ room → fit room o ≡ give [] (o ∷ [])
 unfolding fit
@@ -108,41 +108,41 @@ fitFile-given room o h l = rw (le-ltb room (length o) h, le-ltb 65536 (length o)
 -- ---- patterns, catalogues and records
 
 module _ (most file : ℕ) (F : Format) (s ws : List ℕ) (room room′ words : ℕ) where
-  plain-back : Bytes s → desk words (judged (readFile most file F s) (fit room)) ≡ give [] (ws ∷ []) → length s ≤ room′
-      → desk words (judged (writeFile file F ws) (fit room′)) ≡ give [] (s ∷ [])
+  plain-back : Bytes s → withWorkspace words (judged (readFile most file F s) (fit room)) ≡ give [] (ws ∷ []) → length s ≤ room′
+      → withWorkspace words (judged (writeFile file F ws) (fit room′)) ≡ give [] (s ∷ [])
   plain-back y e h =
-      at-desk words (judged (readFile most file F s) (fit room)) (judged (writeFile file F ws) (fit room′)) ws s e
+      at-withWorkspace words (judged (readFile most file F s) (fit room)) (judged (writeFile file F ws) (fit room′)) ws s e
       (λ d. file-back most file F s ws (fit room) (fit room′) y d (λ o q l. (fit-gave room o ws q, fit-given room′ s h)))
 
-  plain-again : ((ws s : List ℕ) → encode F ws ≡ ok s → length s ≤ most) → desk words (judged (writeFile file F ws) (fit room)) ≡ give [] (s ∷ []) → length ws ≤ room′
-      → desk words (judged (readFile most file F s) (fit room′)) ≡ give [] (ws ∷ [])
+  plain-again : ((ws s : List ℕ) → encode F ws ≡ ok s → length s ≤ most) → withWorkspace words (judged (writeFile file F ws) (fit room)) ≡ give [] (s ∷ []) → length ws ≤ room′
+      → withWorkspace words (judged (readFile most file F s) (fit room′)) ≡ give [] (ws ∷ [])
   plain-again bound e h =
-      at-desk words (judged (writeFile file F ws) (fit room)) (judged (readFile most file F s) (fit room′)) s ws e
+      at-withWorkspace words (judged (writeFile file F ws) (fit room)) (judged (readFile most file F s) (fit room′)) s ws e
       (λ d. file-again most file F s ws (fit room′) (fit room) d
       (λ o q w. let g = fit-gave room o s q in (g, bound ws s (w ∙ ap ok g), fit-given room′ ws h)))
 
 module _ (s ws : List ℕ) (room room′ words : ℕ) where
-  pub pattern-back : Bytes s → desk words (patternRead s room) ≡ give [] (ws ∷ []) → length s ≤ room′ → desk words (patternWritten ws room′) ≡ give [] (s ∷ [])
+  pub pattern-back : Bytes s → withWorkspace words (patternRead s room) ≡ give [] (ws ∷ []) → length s ≤ room′ → withWorkspace words (patternWritten ws room′) ≡ give [] (s ∷ [])
   unfolding patternRead patternWritten
   pattern-back = plain-back 44 1 pattern s ws room room′ words
 
-  pub pattern-again : desk words (patternWritten ws room) ≡ give [] (s ∷ []) → length ws ≤ room′ → desk words (patternRead s room′) ≡ give [] (ws ∷ [])
+  pub pattern-again : withWorkspace words (patternWritten ws room) ≡ give [] (s ∷ []) → length ws ≤ room′ → withWorkspace words (patternRead s room′) ≡ give [] (ws ∷ [])
   unfolding patternRead patternWritten
   pattern-again = plain-again 44 1 pattern s ws room room′ words pattern-bytes
 
-  pub catalogue-back : Bytes s → desk words (catalogueRead s room) ≡ give [] (ws ∷ []) → length s ≤ room′ → desk words (catalogueWritten ws room′) ≡ give [] (s ∷ [])
+  pub catalogue-back : Bytes s → withWorkspace words (catalogueRead s room) ≡ give [] (ws ∷ []) → length s ≤ room′ → withWorkspace words (catalogueWritten ws room′) ≡ give [] (s ∷ [])
   unfolding catalogueRead catalogueWritten
   catalogue-back = plain-back 705 2 catalogue s ws room room′ words
 
-  pub catalogue-again : desk words (catalogueWritten ws room) ≡ give [] (s ∷ []) → length ws ≤ room′ → desk words (catalogueRead s room′) ≡ give [] (ws ∷ [])
+  pub catalogue-again : withWorkspace words (catalogueWritten ws room) ≡ give [] (s ∷ []) → length ws ≤ room′ → withWorkspace words (catalogueRead s room′) ≡ give [] (ws ∷ [])
   unfolding catalogueRead catalogueWritten
   catalogue-again = plain-again 705 2 catalogue s ws room room′ words catalogue-bytes
 
-  pub record-back : Bytes s → desk words (recordRead s room) ≡ give [] (ws ∷ []) → length s ≤ room′ → desk words (recordWritten ws room′) ≡ give [] (s ∷ [])
+  pub record-back : Bytes s → withWorkspace words (recordRead s room) ≡ give [] (ws ∷ []) → length s ≤ room′ → withWorkspace words (recordWritten ws room′) ≡ give [] (s ∷ [])
   unfolding recordRead recordWritten
   record-back = plain-back 40964 3 record′ s ws room room′ words
 
-  pub record-again : desk words (recordWritten ws room) ≡ give [] (s ∷ []) → length ws ≤ room′ → desk words (recordRead s room′) ≡ give [] (ws ∷ [])
+  pub record-again : withWorkspace words (recordWritten ws room) ≡ give [] (s ∷ []) → length ws ≤ room′ → withWorkspace words (recordRead s room′) ≡ give [] (ws ∷ [])
   unfolding recordRead recordWritten
   record-again = plain-again 40964 3 record′ s ws room room′ words record-bytes
 
@@ -158,20 +158,20 @@ module _ (most file : ℕ) (P : Format) (F : List ℕ → Format) (test : List �
   abbrev writing : ℕ → List ℕ → Answer
   writing room ps = judged (writeFile 4 (F ps) ws) (λ o. test ps ws (fitFile room o))
 
-  paired-back : (room room′ : ℕ) → Bytes s → desk words (judged (readFile most file P p) (reading room)) ≡ give [] (ws ∷ []) → length s ≤ room′
-      → desk words (judged (readFile most file P p) (writing room′)) ≡ give [] (s ∷ [])
+  paired-back : (room room′ : ℕ) → Bytes s → withWorkspace words (judged (readFile most file P p) (reading room)) ≡ give [] (ws ∷ []) → length s ≤ room′
+      → withWorkspace words (judged (readFile most file P p) (writing room′)) ≡ give [] (s ∷ [])
   paired-back room room′ y e h =
-      at-desk words (judged (readFile most file P p) (reading room)) (judged (readFile most file P p) (writing room′)) ws s e
+      at-withWorkspace words (judged (readFile most file P p) (reading room)) (judged (readFile most file P p) (writing room′)) ws s e
       (λ d. beside most file P p (reading room) (writing room′) ws s d
       (λ ps b. file-back 65536 4 (F ps) s ws (λ o. test ps o (fit room o)) (λ o. test ps ws (fitFile room′ o)) y b
       (λ o q l. let u = passes ps o (fit room o) ws q in
       let g : o ≡ ws = fit-gave room o ws (u .0) in
       (g, (rw g at (u .1)) (fitFile room′ s) ∙ fitFile-given room′ s h l))))
 
-  paired-again : (room room′ : ℕ) → desk words (judged (readFile most file P p) (writing room)) ≡ give [] (s ∷ []) → length ws ≤ room′
-      → desk words (judged (readFile most file P p) (reading room′)) ≡ give [] (ws ∷ [])
+  paired-again : (room room′ : ℕ) → withWorkspace words (judged (readFile most file P p) (writing room)) ≡ give [] (s ∷ []) → length ws ≤ room′
+      → withWorkspace words (judged (readFile most file P p) (reading room′)) ≡ give [] (ws ∷ [])
   paired-again room room′ e h =
-      at-desk words (judged (readFile most file P p) (writing room)) (judged (readFile most file P p) (reading room′)) s ws e
+      at-withWorkspace words (judged (readFile most file P p) (writing room)) (judged (readFile most file P p) (reading room′)) s ws e
       (λ d. beside most file P p (writing room) (reading room′) s ws d
       (λ ps b. file-again 65536 4 (F ps) s ws (λ o. test ps o (fit room′ o)) (λ o. test ps ws (fitFile room o)) b
       (λ o q w. let u = passes ps ws (fitFile room o) s q in
@@ -179,18 +179,18 @@ module _ (most file : ℕ) (P : Format) (F : List ℕ → Format) (test : List �
       (g .0, rw (g .0) at (g .1), u .1 (fit room′ ws) ∙ fit-given room′ ws h))))
 
 module _ (p s ws : List ℕ) (room room′ words : ℕ) where
-  pub sheet-back : Bytes s → desk words (sheetRead p s room) ≡ give [] (ws ∷ []) → length s ≤ room′ → desk words (sheetWritten p ws room′) ≡ give [] (s ∷ [])
+  pub sheet-back : Bytes s → withWorkspace words (sheetRead p s room) ≡ give [] (ws ∷ []) → length s ≤ room′ → withWorkspace words (sheetWritten p ws room′) ≡ give [] (s ∷ [])
   unfolding sheetRead sheetWritten
   sheet-back = paired-back 44 1 pattern (λ ps. sheet (edgesOf ps)) (λ ps o a. a) (λ ps o a q e. (e, λ b. refl)) p s ws words room room′
 
-  pub sheet-again : desk words (sheetWritten p ws room) ≡ give [] (s ∷ []) → length ws ≤ room′ → desk words (sheetRead p s room′) ≡ give [] (ws ∷ [])
+  pub sheet-again : withWorkspace words (sheetWritten p ws room) ≡ give [] (s ∷ []) → length ws ≤ room′ → withWorkspace words (sheetRead p s room′) ≡ give [] (ws ∷ [])
   unfolding sheetRead sheetWritten
   sheet-again = paired-again 44 1 pattern (λ ps. sheet (edgesOf ps)) (λ ps o a. a) (λ ps o a q e. (e, λ b. refl)) p s ws words room room′
 
-  pub book-back : Bytes s → desk words (bookRead p s room) ≡ give [] (ws ∷ []) → length s ≤ room′ → desk words (bookWritten p ws room′) ≡ give [] (s ∷ [])
+  pub book-back : Bytes s → withWorkspace words (bookRead p s room) ≡ give [] (ws ∷ []) → length s ≤ room′ → withWorkspace words (bookWritten p ws room′) ≡ give [] (s ∷ [])
   unfolding bookRead bookWritten
   book-back = paired-back 705 2 catalogue (λ cs. book (edgeCounts cs)) (λ cs. uncrowdedBy (edgeCounts cs)) (λ cs. uncrowded-given (edgeCounts cs)) p s ws words room room′
 
-  pub book-again : desk words (bookWritten p ws room) ≡ give [] (s ∷ []) → length ws ≤ room′ → desk words (bookRead p s room′) ≡ give [] (ws ∷ [])
+  pub book-again : withWorkspace words (bookWritten p ws room) ≡ give [] (s ∷ []) → length ws ≤ room′ → withWorkspace words (bookRead p s room′) ≡ give [] (ws ∷ [])
   unfolding bookRead bookWritten
   book-again = paired-again 705 2 catalogue (λ cs. book (edgeCounts cs)) (λ cs. uncrowdedBy (edgeCounts cs)) (λ cs. uncrowded-given (edgeCounts cs)) p s ws words room room′

@@ -29,6 +29,7 @@ pub mod AcceptedBounds
 pub mod Gathering
 pub mod Walks
 pub mod WalkLaws
+pub mod BookSheetLaws
 pub mod Records
 pub mod LoadingLaws
 pub mod Times

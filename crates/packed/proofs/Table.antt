@@ -6,7 +6,7 @@ use mathlib.Core.Bool.{_&&_, _||_}
 use Rattle.packed.specs.Bits.{bitsOf, num, numFrom, bits, field, zeros, gap}
 use Rattle.packed.specs.Format.{then, times, whole, within, scan, lay, bytesOf, decode, encode}
 use Rattle.packed.specs.Formats.{linked, edges, isEnd, allEnds, label, joined, pattern, catalogue, labels, record′, pairs, lists, sheet, book}
-use Rattle.packed.specs.Calls.{Answer, give, refuse, desk, readFile, writeFile, judged, fit, fitFile, patternRead, patternWritten}
+use Rattle.packed.specs.Calls.{Answer, give, refuse, withWorkspace, readFile, writeFile, judged, fit, fitFile, patternRead, patternWritten}
 
 pub data Case : Type 0 where
   case : Answer → Answer → Case
@@ -25,10 +25,10 @@ dFields = 4 ∷ 4 ∷ 0 ∷ 1 ∷ 2 ∷ 3 ∷ 0 ∷ 1 ∷ 0 ∷ 2 ∷ 1 ∷ 3 �
 unfoldable pub table : List Case
 table =
     -- K1, both directions
-    case (desk 16384 (patternRead d 14)) (give [] (dFields ∷ []))
-    ∷ case (desk 16384 (patternWritten dFields 8)) (give [] (d ∷ []))
+    case (withWorkspace 16384 (patternRead d 14)) (give [] (dFields ∷ []))
+    ∷ case (withWorkspace 16384 (patternWritten dFields 8)) (give [] (d ∷ []))
     ∷ []
 
 pub cases : Agree table
-unfolding Agree table bitsOf num numFrom bits field zeros gap then times whole within scan lay bytesOf decode encode linked edges isEnd allEnds label joined pattern catalogue labels record′ pairs lists sheet book desk readFile writeFile judged fit fitFile patternRead patternWritten
+unfolding Agree table bitsOf num numFrom bits field zeros gap then times whole within scan lay bytesOf decode encode linked edges isEnd allEnds label joined pattern catalogue labels record′ pairs lists sheet book withWorkspace readFile writeFile judged fit fitFile patternRead patternWritten
 cases = (refl, (refl, tt))

@@ -1,4 +1,4 @@
--- For an accepted book, the walks over its bits and over its fields find the pairs of its content.
+-- For an accepted book, the walks over its bits and over its fields find the pairs of its content, list by list.
 use mathlib.Core.Path.{_≡_, refl, ap, ap₂, _∙_, sym, subst}
 use mathlib.Core.Bool.{Bool, true, false, not, _&&_, _||_}
 use mathlib.Core.List.{List, [], _∷_, _++_, append-nil, append-assoc}
@@ -14,7 +14,9 @@ use Rattle.packed.specs.Bits.{bits, num, field, zeros, gap}
 use Rattle.packed.specs.Format.{Format, done, ask, pad, then, whole, Got, got, fault, within, scan, ok, decode, encode}
 use Rattle.packed.specs.Formats.{code, pairs, lists, sheet, book}
 use Rattle.packed.specs.Contents.{codesIn, pairsIn, sum}
+use Rattle.packed.specs.Distinct.{BelowHead, Increasing}
 use Rattle.packed.specs.Walks.{fieldOr, codesAt, listEnd, pairsAt, listsEnd, sheetEnd, bookPairs, codesFrom, pairsFrom}
+use Rattle.packed.specs.BookSheets.{listsIn, afterLists, sheetsIn, sheetAt}
 use Rattle.packed.proofs.BitsLaws.{length-bits, field-add}
 use Rattle.packed.proofs.RoundTrip.{push-got, pick-got, and-yes, ended-ok, onward, scan-done, scan-test, scan-then, encode-decode}
 use Rattle.packed.proofs.ReadingLaws.{gap-of, gap-in}
@@ -150,11 +152,38 @@ both-fields m n ws codes us others a b =
           rw (add-assoc m n k, a .from (n + k) l i (us ++ more) f, b .from k l (i + length ws) more r, z) (sym (append-assoc codes others (pairsFrom l (i + length (ws ++ us)) k))));
     }
 
+-- ws are the fields of these m lists, and what follows stands after them
+pub record ListsOf (m : ℕ) (ws : List ℕ) (ls : List (List ℕ)) : Type 0 where
+  pub within : (more : List ℕ) → listsIn m (ws ++ more) ≡ ls
+  pub after : (more : List ℕ) → afterLists m (ws ++ more) ≡ more
+
+pub none-of : ListsOf 0 [] []
+unfolding listsIn afterLists
+none-of = record { within = λ more. refl; after = λ more. refl }
+
+-- one list more, in front
+pub more-of : (m n : ℕ) (ps codes ws : List ℕ) (ls : List (List ℕ)) → length ps ≡ 2 * n → ((more : List ℕ) → codesIn n (ps ++ more) ≡ codes) → ListsOf m ws ls
+    → ListsOf (suc m) (n ∷ (ps ++ ws)) (codes ∷ ls)
+unfolding listsIn afterLists
+more-of m n ps codes ws ls long is t =
+    record {
+      within = λ more. rw (append-assoc ps ws more, one-add, drop-at ps (ws ++ more) (2 * n) long, is (ws ++ more), t .within more);
+      after = λ more. rw (append-assoc ps ws more, one-add, drop-at ps (ws ++ more) (2 * n) long, t .after more);
+    }
+
+-- a sheet, and then the others
+pub sheets-more : (m : ℕ) (ms ws us : List ℕ) (ls : List (List ℕ)) → ListsOf m ws ls → sheetsIn (m ∷ ms) (ws ++ us) ≡ ls ∷ sheetsIn ms us
+unfolding sheetsIn
+sheets-more m ms ws us ls t = rw (t .within us, t .after us)
+
 -- ---- what a pass reads
-record PairsRead (s : List ℕ) (at k : ℕ) (ps : List ℕ) (rest : List Bool) : Type 0 where
+-- the codes ascend, from least on
+record PairsRead (s : List ℕ) (at k least : ℕ) (ps : List ℕ) (rest : List Bool) : Type 0 where
   ends : rest ≡ drop (at + 24 * k) (bits s)
   fits : at + 24 * k ≤ 8 * length s
   fields : PairFields k ps (codesAt s at k)
+  above : (b : ℕ) → b < least → BelowHead b (codesAt s at k)
+  rises : Increasing (codesAt s at k)
 
 -- two fields of 12 bits are one of 24
 pair-code : (s : List ℕ) (at : ℕ) → at + 12 + 12 ≤ 8 * length s → fieldOr s at 24 ≡ code (fieldOr s at 12) (fieldOr s (at + 12) 12)
@@ -164,14 +193,14 @@ pair-code s at h =
     ∙ ap₂ code (sym (field-or-in s at 12 (omega arith))) (sym (field-or-in s (at + 12) 12 h))
 
 read-pairs : (s : List ℕ) (k least at : ℕ) (ps : List ℕ) (rest : List Bool) → at ≤ 8 * length s → scan (pairs k least) (drop at (bits s)) ≡ got ps rest
-    → PairsRead s at k ps rest
-unfolding pairs codesAt
+    → PairsRead s at k least ps rest
+unfolding pairs codesAt BelowHead Increasing
 read-pairs s zero least at ps rest h e =
     let q : got [] (drop at (bits s)) ≡ got ps rest = sym (scan-done (drop at (bits s))) ∙ e in
     let p : [] ≡ ps = cc in
     let r : drop at (bits s) ≡ rest = cc in
     let z : at + 24 * 0 ≡ at = omega arith in
-    record { ends = rw z (sym r); fits = omega arith; fields = rw (← p) no-pairs }
+    record { ends = rw z (sym r); fits = omega arith; fields = rw (← p) no-pairs; above = λ b l. tt; rises = tt }
 read-pairs s (suc k) least at ps rest h e =
     let a = took s at 12 0 4096 3 _ ps rest h e in
     let b = took s (at + 12) 12 0 4096 3 _ (a .next) rest (a .fits) (a .goes) in
@@ -180,18 +209,40 @@ read-pairs s (suc k) least at ps rest h e =
     let c = pick-got (leb least (code x y)) _ 6 (b .next) rest (sym (scan-test _ _ _ _) ∙ b .goes) in
     let r = read-pairs s k (suc (code x y)) (at + 12 + 12) (b .next) rest (b .fits) (c .1) in
     let w : ps ≡ x ∷ y ∷ b .next = a .splits ∙ ap (λ (l : List ℕ). x ∷ l) (b .splits) in
+    let i : fieldOr s at 24 ≡ code x y = pair-code s at (b .fits) in
+    let o : least ≤ code x y = leb-true least (code x y) (c .0) in
     let z : at + 12 + 12 ≡ at + 24 = omega arith in
     let v : at + 24 * suc k ≡ at + 12 + 12 + 24 * k = omega arith in
     record {
       ends = rw v (r .ends);
       fits = rw v (r .fits);
-      fields = rw (w, pair-code s at (b .fits), ← z) (pair-fields k x y (b .next) (codesAt s (at + 12 + 12) k) (a .small) (b .small) (r .fields));
+      fields = rw (w, i, ← z) (pair-fields k x y (b .next) (codesAt s (at + 12 + 12) k) (a .small) (b .small) (r .fields));
+      above = λ j l. omega arith;
+      rises = rw (i, ← z) (r .above (code x y) (omega arith), r .rises);
     }
+
+-- the list at the bit offset at
+pub record ListRead (s : List ℕ) (at : ℕ) : Type 0 where
+  pub fits : at + 14 + 24 * fieldOr s at 14 ≤ 8 * length s
+  pub rises : Increasing (codesAt s (at + 14) (fieldOr s at 14))
+
+-- the lists at the bit offset at, each by itself
+unfoldable pub listsAt : List ℕ → ℕ → ℕ → List (List ℕ)
+listsAt s at zero = []
+listsAt s at (suc m) = codesAt s (at + 14) (fieldOr s at 14) ∷ listsAt s (listEnd s at) m
 
 record ListsRead (s : List ℕ) (at m : ℕ) (ws : List ℕ) (rest : List Bool) : Type 0 where
   ends : rest ≡ drop (listsEnd s at m) (bits s)
   fits : listsEnd s at m ≤ 8 * length s
   fields : ListFields m ws (pairsAt s at m)
+  lists : ListsOf m ws (listsAt s at m)
+  each : (f : ℕ) → f < m → ListRead s (listsEnd s at f)
+
+-- the first list, and then the others
+lists-each : (s : List ℕ) (at m : ℕ) → ListRead s at → ((f : ℕ) → f < m → ListRead s (listsEnd s (listEnd s at) f)) → (f : ℕ) → f < suc m → ListRead s (listsEnd s at f)
+unfolding listsEnd
+lists-each s at m a g zero h = a
+lists-each s at m a g (suc f) h = g f (omega arith)
 
 list-end : (s : List ℕ) (at : ℕ) → at + 14 + 24 * fieldOr s at 14 ≡ listEnd s at
 unfolding listEnd
@@ -199,13 +250,13 @@ list-end s at = omega arith
 
 read-lists : (s : List ℕ) (m : ℕ) (none some : Bool) (at : ℕ) (ws : List ℕ) (rest : List Bool) → at ≤ 8 * length s
     → scan (lists m none some) (drop at (bits s)) ≡ got ws rest → ListsRead s at m ws rest
-unfolding lists listsEnd pairsAt
+unfolding lists listsEnd pairsAt listsAt
 read-lists s zero none some at ws rest h e =
     let c = pick-got (not (none && some)) (scan done (drop at (bits s))) 8 ws rest (sym (scan-test _ _ _ _) ∙ e) in
     let q : got [] (drop at (bits s)) ≡ got ws rest = sym (scan-done (drop at (bits s))) ∙ c .1 in
     let p : [] ≡ ws = cc in
     let r : drop at (bits s) ≡ rest = cc in
-    record { ends = sym r; fits = h; fields = rw (← p) no-lists }
+    record { ends = sym r; fits = h; fields = rw (← p) no-lists; lists = rw (← p) none-of; each = λ f l. absurd (omega arith) }
 read-lists s (suc m) none some at ws rest h e =
     let n : ℕ = fieldOr s at 14 in
     let a = took s at 14 0 8193 3 _ ws rest h e in
@@ -220,6 +271,8 @@ read-lists s (suc m) none some at ws rest h e =
       ends = r .ends;
       fits = r .fits;
       fields = rw w (list-fields m n (q .front) (codesAt s (at + 14) n) (q .back) (pairsAt s (listEnd s at) m) (let y = a .small in omega arith) (p .fields) (r .fields));
+      lists = rw w (more-of m n (q .front) (codesAt s (at + 14) n) (q .back) (listsAt s (listEnd s at) m) (p .fields .long) (p .fields .within) (r .lists));
+      each = lists-each s at m (record { fits = p .fits; rises = p .rises }) (r .each);
     }
 
 -- a sheet, and zero bits up to a whole byte
@@ -227,6 +280,8 @@ record SheetRead (s : List ℕ) (at m : ℕ) (ws : List ℕ) (rest : List Bool) 
   ends : rest ≡ drop (sheetEnd s at m) (bits s)
   fits : sheetEnd s at m ≤ 8 * length s
   fields : ListFields m ws (pairsAt s at m)
+  lists : ListsOf m ws (listsAt s at m)
+  each : (f : ℕ) → f < m → ListRead s (listsEnd s at f)
 
 -- what is before the padding is all
 before-padding : {f : Format} {bs : List Bool} {ws : List ℕ} {rest : List Bool} (p : Parts f (pad done) bs ws rest) → ws ≡ p .front
@@ -252,22 +307,46 @@ read-sheet s m at ws rest h e =
       ends = pad-got (p .left) (p .back) rest (p .second) .1 ∙ ap₂ (λ (n : ℕ) (x : List Bool). drop n x) g (l .ends) ∙ drop-drop (gap end) end (bits s);
       fits = gap-in end (length s) (l .fits);
       fields = rw (before-padding p) (l .fields);
+      lists = rw (before-padding p) (l .lists);
+      each = l .each;
     }
 
+-- the sheets of a book from the bit offset at on
+unfoldable pub sheetsAt : List ℕ → ℕ → List ℕ → List (List (List ℕ))
+sheetsAt s at [] = []
+sheetsAt s at (m ∷ ms) = listsAt s at m ∷ sheetsAt s (sheetEnd s at m) ms
+
+pub record BookRead (s : List ℕ) (at : ℕ) (ms ws : List ℕ) : Type 0 where
+  fields : ListFields (sum ms) ws (bookPairs s at ms)
+  pub sheets : sheetsIn ms ws ≡ sheetsAt s at ms
+  pub each : (a f : ℕ) → a < length ms → f < getD ms a 0 → ListRead s (listsEnd s (sheetAt s at ms a) f)
+
+-- the first sheet, and then the others
+sheets-each : (s : List ℕ) (at m : ℕ) (ms : List ℕ) → ((f : ℕ) → f < m → ListRead s (listsEnd s at f))
+    → ((a f : ℕ) → a < length ms → f < getD ms a 0 → ListRead s (listsEnd s (sheetAt s (sheetEnd s at m) ms a) f))
+    → (a f : ℕ) → a < length (m ∷ ms) → f < getD (m ∷ ms) a 0 → ListRead s (listsEnd s (sheetAt s at (m ∷ ms) a) f)
+unfolding sheetAt
+sheets-each s at m ms here more zero f h l = here f l
+sheets-each s at m ms here more (suc a) f h l = more a f (omega arith) l
+
 read-book : (s ms : List ℕ) (at : ℕ) (ws : List ℕ) (rest : List Bool) → at ≤ 8 * length s → scan (book ms) (drop at (bits s)) ≡ got ws rest
-    → ListFields (sum ms) ws (bookPairs s at ms)
-unfolding book sum bookPairs
+    → BookRead s at ms ws
+unfolding book sum bookPairs sheetsAt
 read-book s [] at ws rest h e =
     let q : got [] (drop at (bits s)) ≡ got ws rest = sym (scan-done (drop at (bits s))) ∙ e in
     let p : [] ≡ ws = cc in
-    rw (← p) no-lists
+    record { fields = rw (← p) no-lists; sheets = unfold sheetsIn in refl; each = λ a f l. absurd (omega arith) }
 read-book s (m ∷ ms) at ws rest h e =
     let p = parts (whole (sheet m)) (book ms) (drop at (bits s)) ws rest e in
     let l = read-sheet s m at (p .front) (p .left) h (p .first) in
     let r = read-book s ms (sheetEnd s at m) (p .back) rest (l .fits) (ap (scan (book ms)) (sym (l .ends)) ∙ p .second) in
-    rw (p .splits) (both-fields m (sum ms) (p .front) (pairsAt s at m) (p .back) (bookPairs s (sheetEnd s at m) ms) (l .fields) r)
+    record {
+      fields = rw (p .splits) (both-fields m (sum ms) (p .front) (pairsAt s at m) (p .back) (bookPairs s (sheetEnd s at m) ms) (l .fields) (r .fields));
+      sheets = rw (p .splits, sheets-more m ms (p .front) (p .back) (listsAt s at m) (l .lists), r .sheets);
+      each = sheets-each s at m ms (l .each) (r .each);
+    }
 
-read-whole : (ms s ws : List ℕ) → decode (book ms) s ≡ ok ws → ListFields (sum ms) ws (bookPairs s 0 ms)
+pub read-whole : (ms s ws : List ℕ) → decode (book ms) s ≡ ok ws → BookRead s 0 ms ws
 unfolding decode
 read-whole ms s ws e =
     let p = whole-parts (book ms) (bits s) ws [] (ended-ok (scan (whole (book ms)) (bits s)) ws e) in
@@ -285,9 +364,9 @@ module _ (m : ℕ) (ws codes : List ℕ) (t : ListFields m ws codes) where
 
 -- ---- the walks
 pub book-pairs : (ms s ws : List ℕ) → decode (book ms) s ≡ ok ws → bookPairs s 0 ms ≡ pairsIn (sum ms) ws
-book-pairs ms s ws e = sym (content-pairs (sum ms) ws (bookPairs s 0 ms) (read-whole ms s ws e))
+book-pairs ms s ws e = sym (content-pairs (sum ms) ws (bookPairs s 0 ms) (read-whole ms s ws e .fields))
 
 pub field-pairs : (ms ws s : List ℕ) → encode (book ms) ws ≡ ok s → pairsFrom ws 0 (sum ms) ≡ pairsIn (sum ms) ws
 field-pairs ms ws s e =
-    let t = read-whole ms s ws (encode-decode (book ms) ws s e) in
+    let t = read-whole ms s ws (encode-decode (book ms) ws s e) .fields in
     walked-pairs (sum ms) ws (bookPairs s 0 ms) t ∙ sym (content-pairs (sum ms) ws (bookPairs s 0 ms) t)

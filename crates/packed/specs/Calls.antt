@@ -48,8 +48,8 @@ pub record Settled (blank : List ℕ) (a : Answer) (r : Told) (outs outs′ : Li
   pub workspace : work′ ≡ workOf work
 
 -- a call refuses with 14 where it is lent too few words to work in
-unfoldable pub desk : ℕ → Answer → Answer
-desk words a = pick (ltb words workspace) (refuse 14 0) a
+unfoldable pub withWorkspace : ℕ → Answer → Answer
+withWorkspace words a = pick (ltb words workspace) (refuse 14 0) a
 
 -- ---- files
 

@@ -10,6 +10,7 @@ pub mod Reading
 pub mod Writing
 pub mod Loading
 pub mod Walks
+pub mod BookSheets
 pub mod Matches
 pub mod ByValue
 pub mod LoadedGraph

@@ -8,6 +8,7 @@ use containment::quote_type::Quote;
 use containment::show::Shown;
 use harness::arrays;
 use harness::digest;
+use harness::lent;
 use harness::outcome;
 use harness::outcome::Outcome;
 use harness::tally;
@@ -222,7 +223,7 @@ pub fn calls(
     words: usize,
     tally: &mut [u64],
 ) {
-    let mut work = arrays::work_words();
+    let mut work = lent::work_words();
     let q = arrays::least(n, question.len());
     let c = arrays::least(k, catalogue.len());
     let w = arrays::least(words, 16400);

@@ -2,9 +2,9 @@
 ghost use mathlib.Core.Path.{_≡_};
 ghost use lib.ListN.{length};
 use crate::calls::Showing;
-use harness::arrays;
 use harness::digest;
 use harness::outcome::Outcome;
+use harness::refusals;
 use harness::tally;
 use harness::text;
 
@@ -21,36 +21,24 @@ pub const QUOTES: usize = 4;
 
 const SHOWINGS: usize = 5;
 
-// From here on the refusals, each at 3 * number + detail.
-const QUOTES_REFUSED: usize = 16;
+// From here on the refusals.
+const QUOTES_REFUSED: usize = 6;
 
-const SHOWINGS_REFUSED: usize = 64;
+const SHOWINGS_REFUSED: usize = 81;
 
-// The cell of 12, whose detail is a length and isn't counted apart.
-const NO_ROOM: usize = 36;
-
-fn empty() -> [u64; 112]
-    ensures { λ r. ⌜ 112 ≡ length r ⌝ }
+fn empty() -> [u64; 156]
+    ensures { λ r. ⌜ 156 ≡ length r ⌝ }
 {
-    [0; 112]
+    [0; 156]
 }
 
-pub fn start() -> [u64; 112]
-    ensures { λ r. ⌜ 112 ≡ length r ⌝ }
+pub fn start() -> [u64; 156]
+    ensures { λ r. ⌜ 156 ≡ length r ⌝ }
 {
     let mut tally = empty();
     tally[4] = digest::START;
     tally[5] = digest::START;
     tally
-}
-
-fn count_refusal(tally: &mut [u64], cells: usize, number: u32, detail: usize) {
-    let cell = if number == 12 {
-        NO_ROOM
-    } else {
-        number as usize * 3 + detail % 3
-    };
-    tally::add(tally, arrays::plus(cells, cell), 1);
 }
 
 fn step(tally: &mut [u64], i: usize, x: u64) {
@@ -62,7 +50,7 @@ pub fn quote(tally: &mut [u64], o: Outcome, chosen: u32, lowest: u32) {
     step(tally, QUOTES, chosen as u64);
     step(tally, QUOTES, lowest as u64);
     if o.number != 0 {
-        count_refusal(tally, QUOTES_REFUSED, o.number, o.value);
+        refusals::count(tally, QUOTES_REFUSED, o.number, o.value);
     } else {
         tally::add_if(tally, COVERED, o.value == 1);
         tally::add_if(tally, UNCOVERED, o.value == 0);
@@ -79,7 +67,7 @@ pub fn showing(tally: &mut [u64], s: Showing, first: &[u8], second: &[u8]) {
     if s.number != 0 {
         step(tally, SHOWINGS, s.number as u64);
         step(tally, SHOWINGS, s.detail as u64);
-        count_refusal(tally, SHOWINGS_REFUSED, s.number, s.detail);
+        refusals::count(tally, SHOWINGS_REFUSED, s.number, s.detail);
     } else {
         showing_bytes(tally, first, s.first);
         showing_bytes(tally, second, s.second);
@@ -89,26 +77,6 @@ pub fn showing(tally: &mut [u64], s: Showing, first: &[u8], second: &[u8]) {
 
 pub fn print_faults(tally: &[u64]) {
     tally::say(tally, FAULTS, b" faults\n");
-}
-
-fn print_refusal(tally: &[u64], cells: usize, cell: usize) {
-    if tally::at(tally, arrays::plus(cells, cell)) != 0 {
-        text::say(b", ");
-        tally::say(tally, arrays::plus(cells, cell), b" refused ");
-        text::number(cell / 3);
-        if cell != NO_ROOM {
-            text::say(b" ");
-            text::number(cell % 3);
-        }
-    }
-}
-
-fn print_refusals(tally: &[u64], cells: usize) {
-    let mut cell: usize = 0;
-    while cell < 45 {
-        print_refusal(tally, cells, cell);
-        cell += 1;
-    }
 }
 
 fn print_digest(tally: &[u64], i: usize) {
@@ -130,10 +98,10 @@ pub fn print(size: usize, full: bool, cases: usize, tally: &[u64]) {
     text::say(b"quotes: ");
     tally::say(tally, COVERED, b" covered, ");
     tally::say(tally, UNCOVERED, b" uncovered");
-    print_refusals(tally, QUOTES_REFUSED);
+    refusals::print(tally, QUOTES_REFUSED);
     print_digest(tally, QUOTES);
     text::say(b"showings: ");
     tally::say(tally, SHOWN, b" shown");
-    print_refusals(tally, SHOWINGS_REFUSED);
+    refusals::print(tally, SHOWINGS_REFUSED);
     print_digest(tally, SHOWINGS);
 }

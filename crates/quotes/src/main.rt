@@ -1,13 +1,14 @@
 // Runs the client calls of `containment` on the worked cases and on questions and catalogues that a fixed rule draws, as they are and
 // damaged: lists what quotes and showings answer, and at how many places what was lent is not as it should be.
 ghost use Prim.Native.Nat.{_≤_};
-use harness::arrays;
-use harness::draw;
+use harness::damage;
+use harness::lent;
+use harness::patterns;
+use harness::questions;
 use harness::text;
 
 mod calls;
 mod counts;
-mod drawn;
 
 // The question D of the worked cases.
 const D: [u8; 8] = [0x20, 0x80, 0x08, 0x86, 0x02, 0x04, 0x26, 0x46];
@@ -15,7 +16,7 @@ const D: [u8; 8] = [0x20, 0x80, 0x08, 0x86, 0x02, 0x04, 0x26, 0x46];
 // D with a catalogue, printed whole.
 fn worked(name: &[u8], catalogue: &[u8], tally: &mut [u64]) {
     let question = D;
-    let mut work = arrays::work_words();
+    let mut work = lent::work_words();
     let mut first = calls::record_bytes();
     let mut second = calls::record_bytes();
     text::say(name);
@@ -31,36 +32,20 @@ fn worked(name: &[u8], catalogue: &[u8], tally: &mut [u64]) {
     calls::print_showing(s, &first, &second);
 }
 
-// A byte less, a byte more, more than the most, fewer bytes, or one bit turned: how many bytes there are.
-fn damage(file: &mut [u8], n: usize, state: &mut u32) -> usize {
-    match draw::below(state, 8) {
-        0 => arrays::less(n, 1),
-        1 => arrays::plus(n, 1),
-        2 => file.len(),
-        3 => draw::below(state, n),
-        _ => turn_a_bit(file, n, state),
-    }
-}
-
-fn turn_a_bit(file: &mut [u8], n: usize, state: &mut u32) -> usize {
-    let bit = draw::below(state, arrays::least(n, 65536) * 8);
-    arrays::flip(file, bit);
-    n
-}
-
 // Good files, then with the catalogue damaged, then with both damaged, then these with too few words to work in.
 fn case(size: usize, full: bool, state: &mut u32, tally: &mut [u64])
     requires { ⌜ size ≤ 16 ⌝ }
 {
-    let mut question = [0u8; 48];
-    let mut catalogue = drawn::catalogue_bytes();
-    let sizes = drawn::files(size, full, state, &mut question, &mut catalogue);
+    let mut question = lent::pattern_bytes();
+    let mut catalogue = lent::catalogue_bytes();
+    let labels = patterns::draw_labels(state);
+    let sizes = questions::files(size, full, labels, state, &mut question, &mut catalogue);
     let n = sizes.question;
     let k = sizes.catalogue;
     calls::calls(&question, n, &catalogue, k, 16400, tally);
-    let c = damage(&mut catalogue, k, state);
+    let c = damage::damage(&mut catalogue, k, state);
     calls::calls(&question, n, &catalogue, c, 16400, tally);
-    let q = damage(&mut question, n, state);
+    let q = damage::damage(&mut question, n, state);
     calls::calls(&question, q, &catalogue, c, 16400, tally);
     calls::calls(&question, q, &catalogue, c, 16383, tally);
 }

@@ -1,4 +1,7 @@
-//! The rule by which the programs draw their graphs, and the digest of what is answered.
+//! The rule by which the programs draw their files.
+
+use crate::files::*;
+use std::collections::BTreeSet;
 
 pub struct Rule {
     state: u32,
@@ -84,23 +87,213 @@ pub fn draw_pattern(rule: &mut Rule, kinds: Kinds) -> Vec<u32> {
     draw_pattern_of(rule, n, n + more, kinds)
 }
 
-/// FNV-1a, a number at a time.
-pub struct Digest(u64);
+// Questions and catalogues.
 
-impl Digest {
-    pub fn new() -> Digest {
-        Digest(0xcbf2_9ce4_8422_2325)
+/// A question of at most so many items, or of that many and as full as can be.
+fn draw_question(rule: &mut Rule, size: u32, full: bool, kinds: Kinds) -> Pattern {
+    let fields = if full {
+        draw_pattern_of(rule, size, 128, kinds)
+    } else {
+        let n = 1 + rule.draw(size);
+        let more = rule.draw(n + 1);
+        draw_pattern_of(rule, n, n + more, kinds)
+    };
+    judge_pattern(&write_pattern(&fields, PATTERN_BYTES, WORK_WORDS).unwrap()).unwrap()
+}
+
+/// Some of m links, but not the spared one; if that leaves none, any one.
+fn draw_links(rule: &mut Rule, m: u32, spared: u32) -> Vec<u32> {
+    let one_in = 1 + rule.draw(4);
+    let mut links = Vec::new();
+    for e in 0..m {
+        if rule.draw(one_in) == 0 && e != spared {
+            links.push(e);
+        }
     }
-
-    pub fn step(&mut self, value: u64) {
-        self.0 = (self.0 ^ value).wrapping_mul(0x100_0000_01b3);
+    if links.is_empty() {
+        links.push(rule.draw(m));
     }
+    links
+}
 
-    pub fn bytes(&mut self, bytes: &[u8]) {
-        bytes.iter().for_each(|&byte| self.step(byte.into()));
+/// The content of the part of a question that has these links and their ends.
+fn part(question: &Pattern, links: &[u32]) -> Vec<u32> {
+    let links: Vec<(u32, u32)> = links.iter().map(|&e| question.links[e as usize]).collect();
+    let is_end = |u: &u32| links.iter().any(|&(from, to)| from == *u || to == *u);
+    let items: Vec<u32> = (0..question.kinds.len() as u32).filter(is_end).collect();
+    let number = |u: u32| items.iter().position(|&item| item == u).unwrap() as u32;
+    let kinds: Vec<u32> = items.iter().map(|&u| question.kinds[u as usize]).collect();
+    let links: Vec<(u32, u32)> = links.iter().map(|&(from, to)| (number(from), number(to))).collect();
+    content(&kinds, &links)
+}
+
+/// An extract: a pattern of its own, a part of the question in which one item has any kind, or a part of it.
+fn draw_extract(rule: &mut Rule, question: &Pattern, spared: u32, kinds: Kinds) -> Vec<u32> {
+    let form = rule.draw(8);
+    if form == 0 {
+        return draw_pattern(rule, kinds);
     }
+    let mut fields = part(question, &draw_links(rule, question.links.len() as u32, spared));
+    if form == 1 {
+        let item = rule.draw(fields[0]);
+        fields[2 + item as usize] = kind(rule, kinds);
+    }
+    fields
+}
 
-    pub fn value(&self) -> u64 {
-        self.0
+fn draw_catalogue(rule: &mut Rule, question: &Pattern, full: bool, kinds: Kinds) -> Vec<u8> {
+    let links = question.links.len() as u32;
+    let spared = if rule.draw(2) == 0 { links } else { rule.draw(links) };
+    let most = rule.draw(17);
+    let number = if full { 16 } else { rule.draw(1 + most) };
+    let mut fields = vec![number];
+    for _ in 0..number {
+        fields.extend(draw_extract(rule, question, spared, kinds));
+    }
+    write_catalogue(&fields, CATALOGUE_BYTES, WORK_WORDS).unwrap()
+}
+
+pub fn pattern_file(pattern: &Pattern) -> Vec<u8> {
+    write_pattern(&content(&pattern.kinds, &pattern.links), PATTERN_BYTES, WORK_WORDS).unwrap()
+}
+
+/// The files of a question and a catalogue.
+pub fn draw_files(rule: &mut Rule, size: u32, full: bool, kinds: Kinds) -> (Vec<u8>, Vec<u8>) {
+    let question = draw_question(rule, size, full, kinds);
+    let catalogue = draw_catalogue(rule, &question, full, kinds);
+    (pattern_file(&question), catalogue)
+}
+
+// Records.
+
+fn bit(rule: &mut Rule, kinds: Kinds) -> u32 {
+    1 << kind(rule, kinds)
+}
+
+/// The kinds of a record's item: one; up to three; none, all or one; any.
+fn item(rule: &mut Rule, kinds: Kinds, form: u32) -> u32 {
+    match form {
+        0 => bit(rule, kinds),
+        1 => bit(rule, kinds) | bit(rule, kinds) | bit(rule, kinds),
+        2 => match rule.draw(4) {
+            0 => 0,
+            1 => u32::MAX,
+            _ => bit(rule, kinds),
+        },
+        _ => rule.draw(65_536) * 65_536 + rule.draw(65_536),
+    }
+}
+
+/// The link t of a record with n items: any; to an item near by; chains of 64; rings; at one of four items; forward.
+/// An end that is no item makes no link.
+fn record_link(rule: &mut Rule, form: u32, t: u32, n: u32) -> (u32, u32) {
+    match form {
+        0 => (rule.draw(n), rule.draw(n)),
+        1 => {
+            let from = rule.draw(n);
+            (from, (from + rule.draw(4)) % n)
+        }
+        2 => {
+            let from = t % n;
+            (from, if from % 64 == 63 { n } else { from + 1 })
+        }
+        3 => (t % n, (t + 1) % n),
+        4 => {
+            let other = rule.draw(n);
+            let hub = rule.draw(4);
+            if rule.draw(2) == 0 {
+                (hub, other)
+            } else {
+                (other, hub)
+            }
+        }
+        _ => {
+            let a = rule.draw(n);
+            let b = rule.draw(n);
+            (a.min(b), a.max(b))
+        }
+    }
+}
+
+/// The number of items of a record. Every second record of a group may have fewer.
+pub fn draw_items(rule: &mut Rule, size: u32, case: u32) -> u32 {
+    if case % 2 == 0 {
+        return size;
+    }
+    size - rule.draw(size / 4 + 1)
+}
+
+/// The content of a record with n items.
+pub fn draw_record(rule: &mut Rule, n: u32, kinds: Kinds) -> Vec<u32> {
+    let form = rule.draw(4);
+    let items: Vec<u32> = (0..n).map(|_| item(rule, kinds, form)).collect();
+    let form = rule.draw(6);
+    let want = rule.draw(4 * n + 1).min(8_192);
+    let mut links = Vec::new();
+    let mut seen = BTreeSet::new();
+    for t in 0..4 * want {
+        if links.len() < want as usize {
+            let (from, to) = record_link(rule, form, t, n);
+            if from < n && to < n && seen.insert((from, to)) {
+                links.push((from, to));
+            }
+        }
+    }
+    content(&items, &links)
+}
+
+// Books of no record.
+
+/// A list of some pairs of items below a number, ascending.
+fn draw_list(rule: &mut Rule, most: u32, items: u32) -> Vec<(u32, u32)> {
+    let count = 1 + rule.draw(most);
+    let codes = items * items;
+    let gap = (2 * codes / count).clamp(1, codes);
+    let mut list = Vec::new();
+    let mut code = rule.draw(gap);
+    for _ in 0..count {
+        if code < codes {
+            list.push((code / items, code % items));
+        }
+        code += 1 + rule.draw(gap);
+    }
+    list
+}
+
+/// A book that may belong to no record: one sheet in eight has no pairs.
+pub fn draw_book(rule: &mut Rule, catalogue: &Catalogue) -> Book {
+    let lists: usize = catalogue.iter().map(|extract| extract.links.len()).sum();
+    let pairs = [64, 512, 4_096, 21_000][rule.draw(4) as usize];
+    let most = (1 + pairs / lists.max(1) as u32).min(8_192);
+    let items = [2, 4, 8, 16, 64, 256, 1_024, 4_096][rule.draw(8) as usize];
+    let mut book = Vec::new();
+    for extract in catalogue {
+        let empty = rule.draw(8) == 0;
+        let list = |_| if empty { Vec::new() } else { draw_list(rule, most, items) };
+        book.push(extract.links.iter().map(list).collect());
+    }
+    book
+}
+
+// Files that are wrong.
+
+/// The programs keep these files in so many bytes, which is over their most.
+pub const QUESTION_ROOM: usize = 48;
+pub const CATALOGUE_ROOM: usize = 720;
+
+/// A byte less, a byte more, more than the most, fewer bytes, or one bit turned.
+pub fn damage(rule: &mut Rule, file: &mut Vec<u8>, room: usize) {
+    let length = file.len();
+    match rule.draw(8) {
+        0 => file.truncate(length.saturating_sub(1)),
+        1 => file.resize(length + 1, 0),
+        2 => file.resize(room, 0),
+        3 => file.truncate(rule.draw(length as u32) as usize),
+        _ => {
+            let bit = rule.draw(8 * length as u32) as usize;
+            if let Some(byte) = file.get_mut(bit / 8) {
+                *byte ^= 128 >> (bit % 8);
+            }
+        }
     }
 }

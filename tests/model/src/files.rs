@@ -356,6 +356,13 @@ fn judge_pairs(book: &Book) -> Result<(), Refusal> {
     Ok(())
 }
 
+/// The last of a call's files, with 10.
+pub fn judge_book(catalogue: &Catalogue, bytes: &[u8]) -> Result<Book, Refusal> {
+    let (book, _) = read(bytes, BOOK_BYTES, BOOK, |walk| walk_book(walk, catalogue))?;
+    judge_pairs(&book)?;
+    Ok(book)
+}
+
 /// 12, at the end: by words for a reader, by bytes for a writer.
 fn give<T>(output: Vec<T>, room: usize) -> Result<Vec<T>, Refusal> {
     if output.len() > room {

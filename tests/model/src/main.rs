@@ -1,5 +1,5 @@
-//! `model cases` prints what the program `cases` has to print, from the same table; `model crosscheck` and
-//! `model quotes` what the programs of these names have to print.
+//! `model cases` prints what the program `cases` has to print, from the same table; `model crosscheck`, `model quotes`
+//! and `model answers` what the programs of these names have to print.
 
 const TABLE: &str = concat!(env!("CARGO_MANIFEST_DIR"), "/../../crates/cases/stdin");
 
@@ -8,6 +8,7 @@ fn main() {
         Some("cases") => model::cases::print(&std::fs::read_to_string(TABLE).expect(TABLE)),
         Some("crosscheck") => model::crosscheck::print(),
         Some("quotes") => model::quotes::print(),
-        _ => eprintln!("usage: model cases | crosscheck | quotes"),
+        Some("answers") => model::answers::print(),
+        _ => eprintln!("usage: model cases | crosscheck | quotes | answers"),
     }
 }

@@ -59,7 +59,7 @@ pub fn sheet(pattern: &Pattern, record: &Record) -> Sheet {
 }
 
 /// A sheet's content: the count and the pairs of each list.
-fn fields(sheet: &Sheet) -> Vec<u32> {
+pub fn fields(sheet: &Sheet) -> Vec<u32> {
     let mut fields = Vec::new();
     for list in sheet {
         fields.push(list.len() as u32);

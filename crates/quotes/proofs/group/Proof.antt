@@ -7,7 +7,7 @@ use Rattle.quotes.proofs.group.Statement.{statement}
 use Rattle.quotes.proofs.group.Tie as tie
 
 abbrev Inv-loop : tie.InvT-loop
-Inv-loop size full cases state₀ tally₀ i₀ state tally i = 112 ≡ length tally
+Inv-loop size full cases state₀ tally₀ i₀ state tally i = 156 ≡ length tally
 
 abbrev μ-loop : tie.MeasureT-loop
 μ-loop size full cases state₀ tally₀ i₀ state tally i = cases - i

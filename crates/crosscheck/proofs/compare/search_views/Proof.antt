@@ -18,8 +18,8 @@ at-requires c κs = search needs
 loop-holds : tie.Need-loop-holds Inv-loop μ-loop
 loop-holds c = search needs
 
-view-end-requires : tie.Need-view-end-requires Inv-loop μ-loop
-view-end-requires c κs = search needs
+end-of-requires : tie.Need-end-of-requires Inv-loop μ-loop
+end-of-requires c κs = search needs
 
 search-view-at-requires : tie.Need-search-view-at-requires Inv-loop μ-loop
 search-view-at-requires c κs = search needs
@@ -50,7 +50,7 @@ search-views-spec =
     μ-loop
     at-requires
     loop-holds
-    view-end-requires
+    end-of-requires
     search-view-at-requires
     add-i
     loop-less

@@ -1,0 +1,150 @@
+-- The answers of answering a query from a book, from what their parts found.
+use Prim.Native.Nat.{ℕ, _+_, _-_, _*_, _/_, _<_, _≤_}
+use mathlib.Core.Path.{_≡_, refl, sym, ap, subst, _∙_}
+use mathlib.Core.Bool.{Bool, true, false}
+use mathlib.Core.List.{List}
+use lib.ListN.{length, take, drop, getD}
+use native.Mathlib.Omega.{arith}
+use Rattle.packed.specs.Format.{pick, decode}
+use Rattle.packed.specs.Formats.{catalogue, book}
+use Rattle.packed.specs.Contents.{edgeCounts, pairsIn, sum, Counted}
+use Rattle.packed.specs.Reading.{Content}
+use Rattle.packed.specs.Refusals.{Told, numberOf, detailOf, replyTold}
+use Rattle.packed.specs.Matches.{matchesOf, total, Marked, Written}
+use Rattle.packed.specs.Walks.{bookPairs, Different}
+use Rattle.packed.specs.BookSheets.{sheetsIn}
+use Rattle.packed.specs.Calls.{Answer, refuse, judged, readCatalogue, readBook, uncrowded, fitFile, Answered}
+use Rattle.packed.specs.declared.reply.Refusal.{Refusal}
+use Rattle.packed.specs.declared.reply.Refusal.the-variants.{TooManyPairs, NotContained}
+use Rattle.packed.specs.declared.reply.Reply.the-variants as reply-is
+use Rattle.packed.specs.declared.by_value.Pattern.{Pattern as Given}
+use Rattle.packed.proofs.AcceptedBounds.{catalogue-bounds}
+use Rattle.packed.proofs.WalkLaws.{book-pairs}
+use Rattle.packed.proofs.CallLaws.{read-finds, front-is, counts-are, counts-small, gathered-many, gathered-few, body-declined, body-goes-on}
+use Rattle.packed.proofs.MatchLaws.{matches-encode}
+use Rattle.matching.specs.Simulation.{patternOf, ascending}
+use Rattle.matching.specs.Search.{sheetBytes}
+use Rattle.matching.specs.Join.{View, answerTo, answerSets}
+use Rattle.matching.specs.Steps.{patternIn}
+use Rattle.matching.specs.Candidates.{Pool, Booked}
+use Rattle.matching.specs.Joining.{Agrees, Joined}
+use Rattle.matching.proofs.ListLaws.{length-each}
+use Rattle.matching.proofs.UpToLaws.{length-upTo}
+use Rattle.matching.proofs.JoinLaws.{answer-each}
+use Rattle.matching.proofs.PatternLaws.{pattern-same}
+use Rattle.matching.proofs.SheetBytes.{sheet-is, sheet-by}
+use Rattle.containment.specs.Choice.{everyView, coversIn, lowestUnmatched, chosen}
+use Rattle.containment.specs.Quote.{mapping}
+use Rattle.containment.specs.Answer.{viewsIn, answerBytes, answerFor}
+use Rattle.containment.specs.Steps.{Query, Views, ViewCounts}
+use Rattle.containment.proofs.QueryLaws.{plain}
+use Rattle.containment.proofs.AnswerLaws.{viewPatterns, views-many, views-by}
+use Rattle.containment.proofs.BookLaws.{booked-by}
+use Rattle.containment.proofs.CandidateLaws.{agrees-by}
+
+-- ---- the sheet of what the join kept
+module _ {q : Given} {table : List ℕ} {set : ℕ} {s counts : List ℕ} {k d : ℕ} {w w′ : List ℕ} (j : Joined q table set s counts k d w w′) (p : Pool d w) where
+  -- the pairs of the book, marked
+  pub joined-marked : Marked d w′
+  joined-marked =
+      let same = j .edges .same in
+      let most = p .most in
+      record {
+        long = omega (arith, j .edges .long, p .long);
+        most = most;
+        small = λ i h. rw (same i (omega arith)) (p .small i h);
+        rises = λ a b h l. rw (same a (omega arith), same b (omega arith)) (p .rises a b h l);
+      }
+
+  module _ (vs : List View) (g : Agrees q table set s counts k vs) where
+    abbrev kept : List (List ℕ)
+    kept = matchesOf d (q .edges) w′
+
+    kept-long : length kept ≡ q .edges
+    unfolding patternIn
+    kept-long =
+        ap length (j .sets vs g ∙ answer-each (patternIn q) vs)
+        ∙ length-each (λ e. ascending (answerTo (patternIn q) vs e)) (patternIn q .edges)
+        ∙ length-upTo _ (q .edges)
+
+    -- the bytes that are counted
+    pub answer-size : (14 * q .edges + 24 * total kept + 7) / 8 ≡ length (sheetBytes (answerSets (patternIn q) vs))
+    answer-size =
+        let x = sheet-by (q .edges) kept kept-long (matches-encode d (q .edges) w′ joined-marked) in
+        let y = rw kept-long at (x .size) in
+        sym y ∙ ap (λ (ls : List (List ℕ)). length (sheetBytes ls)) (j .sets vs g)
+
+    -- the bytes that are written
+    pub answer-bytes : {out out′ : List ℕ} {r : ℕ} (x : Written d (q .edges) w′ out r out′) → x .bytes ≡ sheetBytes (answerSets (patternIn q) vs)
+    answer-bytes x = sym (sheet-is (q .edges) kept (x .bytes) kept-long (x .is)) ∙ ap sheetBytes (j .sets vs g)
+
+-- ---- how the call goes on, once the files before were accepted
+abbrev pub bookOn : List ℕ → List ℕ → ℕ → List ℕ → Answer
+bookOn qs b room cs = judged (readBook cs b) (λ bs. answerFor chosen qs cs bs room)
+
+abbrev pub answerOn : List ℕ → List ℕ → ℕ → List ℕ → Answer
+answerOn c b room qs = judged (readCatalogue c) (bookOn qs b room)
+
+-- a catalogue that was accepted, and the numbers of its views' edges
+abbrev pub counts-by : (s : List ℕ) {n k : ℕ} {w w′ counts : List ℕ} (c : Content (decode catalogue s) n w w′) → n ≤ length w → k ≡ getD (take (n - 0) (drop 0 w′)) 0 0
+    → Counted (take (n - 0) (drop 0 w′)) counts → ViewCounts counts k
+counts-by s {k = k} c room e m =
+    let v = views-by s c room e in
+    let b = catalogue-bounds s (c .fields) (c .is) in
+    let f = rw (front-is c room) at m in
+    record { bytes = s; views = v; are = counts-are f (b .0) k (b .1) (v .number); small = counts-small f (b .0) (b .2) }
+
+-- ---- what is answered from an accepted book
+
+-- the answer by the views in a set
+abbrev bySet : Given → List ℕ → List ℕ → ℕ → ℕ → Answer
+bySet q cs bs room set = fitFile room (sheetBytes (answerSets (patternIn q) (viewsIn set (viewPatterns cs) (sheetsIn (edgeCounts cs) bs))))
+
+module _ {q : Given} (t : Query q) {c : List ℕ} {k : ℕ} (v : Views c k) {table : List ℕ} (is : table ≡ mapping (patternOf (t .content)) (viewPatterns (v .content)))
+    (bs : List ℕ) (room : ℕ) where
+  answer-by : answerFor chosen (t .content) (v .content) bs room
+      ≡ uncrowded (v .content) bs (pick (coversIn table everyView k (q .edges)) (bySet q (v .content) bs room (chosen table (q .edges) k)) (refuse 11 (lowestUnmatched table k (q .edges))))
+  unfolding answerFor answerBytes
+  answer-by = rw (pattern-same (plain t) (t .holds), is, views-many v, t .holds .edges)
+
+-- the book was judged, and its pairs were gathered
+module _ {q : Given} (t : Query q) {counts : List ℕ} {k : ℕ} (v : ViewCounts counts k) (s : List ℕ) (short : length s ≤ 65536)
+    {n : ℕ} {w₀ w₁ : List ℕ} (r : Content (decode (book (take k counts)) s) n w₀ w₁) where
+  abbrev cs : List ℕ
+  cs = v .views .content
+
+  content : Content (decode (book (edgeCounts cs)) s) n w₀ w₁
+  content = rw (v .are) at r
+
+  module _ {d : ℕ} {w : List ℕ} (g : Different (bookPairs s 0 (take k counts)) d w) where
+    pub book-booked : d ≤ 8192 → Booked s counts k d w
+    book-booked few = booked-by (v .views) counts s (content .fields) (v .are) (content .is) g few short (v .small)
+
+    module _ {table : List ℕ} (is : table ≡ mapping (patternOf (t .content)) (viewPatterns (v .views .content))) (out : List ℕ) where
+      pairs : bookPairs s 0 (take k counts) ≡ pairsIn (sum (edgeCounts cs)) (content .fields)
+      pairs = ap (bookPairs s 0) (v .are) ∙ book-pairs (edgeCounts cs) s (content .fields) (content .is)
+
+      answer-is : answerFor chosen (t .content) cs (content .fields) (length out)
+          ≡ uncrowded cs (content .fields) (pick (coversIn table everyView k (q .edges)) (bySet q cs (content .fields) (length out) (chosen table (q .edges) k)) (refuse 11 (lowestUnmatched table k (q .edges))))
+      answer-is = answer-by t (v .views) is (content .fields) (length out)
+
+      declined : (x : Refusal) → answerFor chosen (t .content) cs (content .fields) (length out) ≡ refuse (numberOf x) (detailOf x)
+          → Answered (bookOn (t .content) s (length out) cs) (replyTold (reply-is.Refused x)) out out
+      declined x e = body-declined (read-finds 65536 4 (book (edgeCounts cs)) s short) out refl content (λ bs. answerFor chosen (t .content) cs bs (length out)) x e
+
+      pub crowded-answered : 8192 < d → Answered (bookOn (t .content) s (length out) (v .views .content)) (replyTold (reply-is.Refused (TooManyPairs 4))) out out
+      crowded-answered h = declined (TooManyPairs 4) (answer-is ∙ gathered-many (edgeCounts cs) (content .fields) g pairs _ h)
+
+      module _ (few : d ≤ 8192) where
+        pub uncovered-answered : {b : Bool} {e : ℕ} → b ≡ coversIn table everyView k (q .edges) → b ≡ false → e ≡ lowestUnmatched table k (q .edges)
+            → Answered (bookOn (t .content) s (length out) (v .views .content)) (replyTold (reply-is.Refused (NotContained e))) out out
+        uncovered-answered {e = e} b h l = declined (NotContained e) (answer-is ∙ gathered-few (edgeCounts cs) (content .fields) g pairs _ few ∙ rw (← b, h, l))
+
+        pub covered-answered : {b : Bool} {set : ℕ} {x : Told} {out′ : List ℕ} → b ≡ coversIn table everyView k (q .edges) → b ≡ true → set ≡ chosen table (q .edges) k
+            → ((vs : List View) → Agrees q table set s counts k vs → Answered (fitFile (length out) (sheetBytes (answerSets (patternIn q) vs))) x out out′)
+            → Answered (bookOn (t .content) s (length out) (v .views .content)) x out out′
+        covered-answered {set = set} {x} {out′} b h l f =
+            let a : answerFor chosen (t .content) cs (content .fields) (length out) ≡ bySet q cs (content .fields) (length out) set =
+            answer-is ∙ gathered-few (edgeCounts cs) (content .fields) g pairs _ few ∙ rw (← b, h, l) in
+            body-goes-on (read-finds 65536 4 (book (edgeCounts cs)) s short) content (λ bs. answerFor chosen (t .content) cs bs (length out))
+            (subst (λ y. Answered y x out out′) (sym a) (f _ (agrees-by t (v .views) counts s (content .fields) (v .are) (content .is) is set)))

@@ -1,0 +1,218 @@
+-- The candidates that the sheets of the views in a set give are those that a book's lists, by the query's table, have.
+use Prim.Native.Nat.{ℕ, zero, suc, _+_, _*_, _/_, _<_}
+use mathlib.Core.Path.{_≡_, refl, sym, ap, subst, _∙_}
+use mathlib.Core.Bool.{Bool, true, false, cond}
+use mathlib.Core.Logic.{_⊎_, inl, inr, ⊎-elim, _↔_}
+use mathlib.Core.List.{List, [], _∷_}
+use lib.ListN.{length, take, drop, getD, List·getD-map}
+use lib.Dec.{T}
+use native.Mathlib.Omega.{arith}
+use Rattle.packed.specs.Format.{ok, pick, decode}
+use Rattle.packed.specs.Formats.{code, book}
+use Rattle.packed.specs.Contents.{viewsOf, edgeCounts}
+use Rattle.packed.specs.Order.{member}
+use Rattle.packed.specs.BookSheets.{sheetsIn, sheetAt}
+use Rattle.packed.specs.declared.by_value.Pattern.{Pattern as Given}
+use Rattle.packed.proofs.AcceptedBounds.{catalogue-views}
+use Rattle.matching.specs.Lists.{In, here, there, gather}
+use Rattle.matching.specs.Simulation.{Pair, Pattern, bit, edgesIn, patternOf, asGraph, matchSets}
+use Rattle.matching.specs.Join.{lists, View, pairOf, under, candidates}
+use Rattle.matching.specs.Sweeps.{Has, OneOf}
+use Rattle.matching.specs.Candidates.{SheetListing, BookListing}
+use Rattle.matching.specs.Joining.{edgeAt, Agrees}
+use Rattle.matching.proofs.ListLaws.{cond-case, not-in-none, in-cast, in-at, append-in, in-append-left, in-append-right, gather-in, in-gather, each-in, in-each}
+use Rattle.matching.proofs.CodeLaws.{member-in}
+use Rattle.matching.proofs.JoinLaws.{lists-by}
+use Rattle.matching.proofs.MatchSetLaws.{sets-length}
+use Rattle.matching.proofs.PatternLaws.{edges-many, pattern-same}
+use Rattle.matching.proofs.ViewLaws.{all-ahead, in-follow}
+use Rattle.containment.specs.Quote.{noPattern, mapping}
+use Rattle.containment.specs.Answer.{viewsIn}
+use Rattle.containment.specs.Steps.{Query, Views, codeAt}
+use Rattle.containment.proofs.SetBits.{bit-half}
+use Rattle.containment.proofs.QueryLaws.{plain, few-edges, query-number, query-edge}
+use Rattle.containment.proofs.AnswerLaws.{viewPatterns, views-few, views-many}
+use Rattle.containment.proofs.QuoteLaws.{test-is, mapping-exactly}
+use Rattle.containment.proofs.BookLaws.{count-is, sheet-long, list-same}
+
+-- ---- the views in a set, by their numbers
+abbrev pub viewAt : List Pattern → List (List (List ℕ)) → ℕ → View
+viewAt Ps sheets a = record { pattern = getD Ps a noPattern; sheet = getD sheets a [] }
+
+rest-at : {A : Type 0} (l : List A) (a : ℕ) (d : A) → getD (drop 1 l) a d ≡ getD l (suc a) d
+rest-at [] a d = refl
+rest-at (x ∷ l) a d = refl
+
+view-after : (P : Pattern) (Ps : List Pattern) (sheets : List (List (List ℕ))) (a : ℕ) → viewAt Ps (drop 1 sheets) a ≡ viewAt (P ∷ Ps) sheets (suc a)
+view-after P Ps sheets a = ap (λ (l : List (List ℕ)). record { pattern = getD Ps a noPattern; sheet = l }) (rest-at sheets a [])
+
+pick-say : (b : Bool) (x : View) (l : List View) {y : View} → In y (pick b (x ∷ l) l) → (T b × (y ≡ x)) ⊎ In y l
+pick-say true x l (here e) = inl (tt, e)
+pick-say true x l (there i) = inr i
+pick-say false x l i = inr i
+
+pick-first : (b : Bool) (x : View) (l : List View) → T b → In x (pick b (x ∷ l) l)
+pick-first true x l t = here refl
+pick-first false x l t = absurd t
+
+pick-rest : (b : Bool) (x : View) (l : List View) {y : View} → In y l → In y (pick b (x ∷ l) l)
+pick-rest true x l i = there i
+pick-rest false x l i = i
+
+pub views-say : (set : ℕ) (Ps : List Pattern) (sheets : List (List (List ℕ))) {v : View} → In v (viewsIn set Ps sheets)
+    → OneOf (length Ps) (λ a. Has set a × (v ≡ viewAt Ps sheets a))
+unfolding viewsIn
+views-say set [] sheets i = absurd (not-in-none i)
+views-say set (P ∷ Ps) sheets {v} i =
+    ⊎-elim
+    (λ x. record { at = 0; below = omega arith; holds = x })
+    (λ j. let r = views-say (set / 2) Ps (drop 1 sheets) {v = v} j in record {
+      at = suc (r .at);
+      below = omega (arith, r .below);
+      holds = (subst T (sym (bit-half set (r .at))) (r .holds .0), r .holds .1 ∙ view-after P Ps sheets (r .at));
+    })
+    (pick-say (bit set 0) (viewAt (P ∷ Ps) sheets 0) (viewsIn (set / 2) Ps (drop 1 sheets)) i)
+
+pub views-by : (set : ℕ) (Ps : List Pattern) (sheets : List (List (List ℕ))) (a : ℕ) → a < length Ps → Has set a → In (viewAt Ps sheets a) (viewsIn set Ps sheets)
+unfolding viewsIn
+views-by set [] sheets a h b = absurd (omega arith)
+views-by set (P ∷ Ps) sheets zero h b = pick-first (bit set 0) _ _ b
+views-by set (P ∷ Ps) sheets (suc a) h b =
+    pick-rest (bit set 0) _ _ (in-cast (view-after P Ps sheets a) (views-by (set / 2) Ps (drop 1 sheets) a (omega arith) (subst T (bit-half set a) b)))
+
+-- ---- what a sheet lists under the edges that match an edge, by their numbers
+lists-say : (e : Pair) (l : List ℕ) → T (lists e l) → In (code (e .0) (e .1)) l
+unfolding lists
+lists-say e l t = member-in l (test-is (member (code (e .0) (e .1)) l) .1 t)
+
+module _ (e : Pair) where
+  abbrev Under : List (List ℕ) → List (List ℕ) → ℕ → Type 0
+  Under ms ls c = OneOf (length ls) (λ f. In (code (e .0) (e .1)) (getD ms f []) × In c (getD ls f []))
+
+  pub under-say : (ms ls : List (List ℕ)) {c : ℕ} → In c (under e ms ls) → Under ms ls c
+  unfolding under
+  under-say [] ls i = absurd (not-in-none i)
+  under-say (m ∷ ms) [] i = absurd (not-in-none i)
+  under-say (m ∷ ms) (l ∷ ls) {c} i =
+      ⊎-elim
+      (cond-case (λ k. In c k → Under (m ∷ ms) (l ∷ ls) c) (lists e m) l []
+      (λ t j. record { at = 0; below = omega arith; holds = (lists-say e m t, j) })
+      (λ t j. absurd (not-in-none j)))
+      (λ j. let r = under-say ms ls {c = c} j in record { at = suc (r .at); below = omega (arith, r .below); holds = r .holds })
+      (append-in (cond (lists e m) l []) i)
+
+  pub under-by : (ms ls : List (List ℕ)) (f : ℕ) {c : ℕ} → f < length ms → f < length ls → In (code (e .0) (e .1)) (getD ms f []) → In c (getD ls f []) → In c (under e ms ls)
+  unfolding under
+  under-by [] ls f h k i j = absurd (omega arith)
+  under-by (m ∷ ms) [] f h k i j = absurd (omega arith)
+  under-by (m ∷ ms) (l ∷ ls) zero {c} h k i j =
+      in-append-left (under e ms ls) (cond-case (λ x. In c x) (lists e m) l [] (λ t. j) (λ n. absurd (n (lists-by e i))))
+  under-by (m ∷ ms) (l ∷ ls) (suc f) h k i j = in-append-right (cond (lists e m) l []) (under-by ms ls f (omega arith) (omega arith) i j)
+
+-- ---- candidates by the numbers of a view in the set and of its edge
+module _ (Q : Pattern) (set : ℕ) (Ps : List Pattern) (sheets : List (List (List ℕ))) (e : Pair) where
+  -- the code c is listed under an edge f of a view a in the set, and f matches e
+  pub record Offered (c : ℕ) : Type 0 where
+    pub view : ℕ
+    pub given : view < length Ps
+    pub chosen : Has set view
+    pub edge : ℕ
+    pub below : edge < length (getD sheets view [])
+    pub matches : In (code (e .0) (e .1)) (getD (matchSets (getD Ps view noPattern) (asGraph Q)) edge [])
+    pub lists : In c (getD (getD sheets view []) edge [])
+
+  abbrev vs : List View
+  vs = viewsIn set Ps sheets
+
+  abbrev of-view : View → List ℕ
+  of-view v = under e (matchSets (v .pattern) (asGraph Q)) (v .sheet)
+
+  pub offered-say : {f : Pair} → In f (candidates Q vs e) → (c : ℕ) × (f ≡ pairOf c) × Offered c
+  unfolding candidates
+  offered-say {f} i =
+      let r = each-in pairOf (gather of-view vs) i in
+      let c : ℕ = r .0 in
+      let g = gather-in of-view vs (r .1) in
+      let o = views-say set Ps sheets (g .1) in
+      let u = under-say e (matchSets (getD Ps (o .at) noPattern) (asGraph Q)) (getD sheets (o .at) []) {c = c} (subst (λ v. In c (of-view v)) (o .holds .1) (g .2)) in
+      (c, r .2, record { view = o .at; given = o .below; chosen = o .holds .0; edge = u .at; below = u .below; matches = u .holds .0; lists = u .holds .1 })
+
+  pub offered-by : {c : ℕ} (o : Offered c) → o .edge < length (getD Ps (o .view) noPattern .edges) → In (pairOf c) (candidates Q vs e)
+  unfolding candidates
+  offered-by {c} o h =
+      let P : Pattern = getD Ps (o .view) noPattern in
+      in-each pairOf (in-gather of-view (views-by set Ps sheets (o .view) (o .given) (o .chosen))
+      (under-by e (matchSets P (asGraph Q)) (getD sheets (o .view) []) (o .edge) (omega (arith, sets-length P (asGraph Q))) (o .below) (o .matches) (o .lists)))
+
+-- ---- an accepted query, and a book that was accepted for the views of a catalogue
+module _ {q : Given} (t : Query q) {c : List ℕ} {k : ℕ} (v : Views c k) (counts s bs : List ℕ) (same : take k counts ≡ edgeCounts (v .content))
+    (e : decode (book (edgeCounts (v .content))) s ≡ ok bs) {table : List ℕ} (is : table ≡ mapping (patternOf (t .content)) (viewPatterns (v .content))) where
+  abbrev Q : Pattern
+  Q = patternOf (t .content)
+
+  abbrev Ps : List Pattern
+  Ps = viewPatterns (v .content)
+
+  abbrev sheets : List (List (List ℕ))
+  sheets = sheetsIn (edgeCounts (v .content)) bs
+
+  contents-many : length (viewsOf (v .content)) ≡ k
+  contents-many = catalogue-views c (v .content) (v .is) .many ∙ sym (v .number)
+
+  view-edges : (a : ℕ) → a < k → length (getD Ps a noPattern .edges) ≡ getD counts a 0
+  unfolding patternOf edgesIn
+  view-edges a h =
+      let p = in-follow (all-ahead c (v .content) (v .is) .follow) (in-at (viewsOf (v .content)) a [] (omega (arith, contents-many))) in
+      ap (λ (P : Pattern). length (P .edges)) (List·getD-map patternOf (viewsOf (v .content)) a [])
+      ∙ edges-many (p .1)
+      ∙ sym (count-is v counts s bs same e a h)
+
+  -- the table says which edges of a view match
+  matches-exactly : (i a f : ℕ) → i < q .edges → a < k → f < getD counts a 0
+      → Has (getD table (16 * i + a) 0) f ↔ In (codeAt q i) (getD (matchSets (getD Ps a noPattern) (asGraph Q)) f [])
+  matches-exactly i a f h l j =
+      let m = mapping-exactly Q Ps (omega (arith, query-number t, t .holds .edges, few-edges t)) i a (omega (arith, query-number t)) (omega (arith, views-many v)) (omega (arith, views-few v)) f (omega (arith, view-edges a l)) in
+      let n = rw (← is, query-edge t i h) at m in
+      let b = test-is (bit (getD table (16 * i + a) 0) f) in
+      (λ x. n .0 (b .1 x), λ x. b .0 (n .1 x))
+
+  module _ (set : ℕ) where
+    abbrev Listing : ℕ → ℕ → Type 0
+    Listing x i = BookListing s counts k table set (q .edges) x i
+
+    offered : (i x : ℕ) → i < q .edges → Listing x i → In (pairOf x) (candidates Q (viewsIn set Ps sheets) (edgeAt q i))
+    offered i x h o =
+        let a : ℕ = o .at in
+        let l = o .below in
+        let u = o .holds .1 .under in
+        let f : ℕ = u .at in
+        let j = u .below in
+        offered-by Q set Ps sheets (edgeAt q i)
+        (record {
+          view = a;
+          given = omega (arith, views-many v);
+          chosen = o .holds .0;
+          edge = f;
+          below = omega (arith, sheet-long v counts s bs same e a l);
+          matches = matches-exactly i a f h l j .0 (u .holds .1);
+          lists = rw (← list-same v counts s bs same e a f l j) (u .holds .0);
+        })
+        (omega (arith, view-edges a l))
+
+    listing : (i x : ℕ) → i < q .edges → Offered Q set Ps sheets (edgeAt q i) x → Listing x i
+    listing i x h o =
+        let a : ℕ = o .view in
+        let f : ℕ = o .edge in
+        let l : a < k = omega (arith, o .given, views-many v) in
+        let j : f < getD counts a 0 = omega (arith, o .below, sheet-long v counts s bs same e a l) in
+        let u : SheetListing s (sheetAt s 0 (take k counts) a) (getD counts a 0) table a (q .edges) x i =
+        record { edge = h; under = record { at = f; below = j; holds = (rw (list-same v counts s bs same e a f l j) (o .lists), matches-exactly i a f h l j .1 (o .matches)) } } in
+        record { at = a; below = l; holds = (o .chosen, u) }
+
+    pub agrees-by : Agrees q table set s counts k (viewsIn set (viewPatterns (v .content)) (sheetsIn (edgeCounts (v .content)) bs))
+    agrees-by =
+        let p = pattern-same (plain t) (t .holds) in
+        record {
+          to = λ i x h o. rw p (offered i x h o);
+          from = λ i f h j. let r = offered-say Q set Ps sheets (edgeAt q i) (rw p at j) in (r .0, r .1, listing i (r .0) h (r .2));
+        }

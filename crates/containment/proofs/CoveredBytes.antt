@@ -1,0 +1,287 @@
+-- Answering from a book: the views in a set and their sheets, the book that is made from a record, and that every answer is a sheet.
+use Prim.Native.Nat.{ℕ, zero, suc, _+_, _/_, _%_, _^_, _<_, _≤_}
+use mathlib.Core.Path.{_≡_, refl, sym, ap, ap₂, subst, _∙_}
+use mathlib.Core.Bool.{Bool, true, false}
+use mathlib.Core.Logic.{⊎-elim}
+use mathlib.Core.List.{List, [], _∷_, map}
+use lib.ListN.{length, drop, getD, length-map}
+use lib.Seq.{getD-drop}
+use lib.Dec.{T, eqb, ltb, ltb→lt, lt→ltb}
+use lib.Pow.{shr-shr}
+use borrow.Author.Tests.{le-ltb}
+use native.Mathlib.Omega.{arith}
+use Rattle.packed.specs.Format.{ok, pick, decode}
+use Rattle.packed.specs.Formats.{pattern, catalogue, record′, book}
+use Rattle.packed.specs.Contents.{edgesOf, viewsOf, edgeCounts}
+use Rattle.packed.specs.BookSheets.{sheetsIn, listAt, sheetAt}
+use Rattle.packed.specs.Matches.{allOrNone, fieldsOf}
+use Rattle.packed.specs.Order.{member}
+use Rattle.packed.specs.Plain.{PlainPattern}
+use Rattle.packed.specs.Calls.{give, refuse, accepted, judged, readSheet, pairsOf, uncrowdedBy, fitFile}
+use Rattle.packed.proofs.DistinctLaws.{member-distinct}
+use Rattle.packed.proofs.SheetLaws.{all-twice, sheet-encodes}
+use Rattle.packed.proofs.Accepted.{pattern-accepted, catalogue-accepted, record-accepted, sheet-accepted, book-accepted, pattern-read, catalogue-read, record-read, sheet-read, book-read}
+use Rattle.packed.proofs.AcceptedBounds.{catalogue-views}
+use Rattle.packed.proofs.WalkLaws.{book-pairs}
+use Rattle.packed.proofs.BookSheetLaws.{sheets-back, sheet-many, list-is, list-small, list-in-book}
+use Rattle.packed.proofs.CallLaws.{overFile, overFile-no, fitFile-fits}
+use Rattle.matching.specs.Lists.{In, here, there, keep, each}
+use Rattle.matching.specs.Simulation.{Pattern, Graph, bit, patternOf, graphOf, sound, matchSets}
+use Rattle.matching.specs.Join.{matchedBy, matched, covered, View, viewOf, answerSets}
+use Rattle.matching.specs.Search.{sheetBytes, viewSheets, searchAnswer}
+use Rattle.matching.specs.Sweeps.{OneOf}
+use Rattle.matching.proofs.ListLaws.{not-in-none, in-cases, in-every, in-some, keep-in, in-keep, keep-length, length-each}
+use Rattle.matching.proofs.CodeLaws.{in-member, member-in}
+use Rattle.matching.proofs.MatchSetLaws.{sets-length}
+use Rattle.matching.proofs.PatternLaws.{pattern-is, edges-in, edges-many, sound-of}
+use Rattle.matching.proofs.RecordLaws.{graph-narrow}
+use Rattle.matching.proofs.ViewLaws.{all-ahead, in-follow}
+use Rattle.matching.proofs.SheetBytes.{Sheet, sheet-by, fit-by}
+use Rattle.matching.proofs.BookBytes.{bookFields, counts-are, made-back, made-few}
+use Rattle.matching.proofs.JoinLaws.{answer-each}
+use Rattle.matching.proofs.AnswerLaws.{Stands, answer-all-or-none, answer-listable}
+use Rattle.matching.proofs.Covered.{covered-answer}
+use Rattle.containment.specs.Choice.{everyView, coversIn}
+use Rattle.containment.specs.Quote.{noPattern, mapping}
+use Rattle.containment.specs.Answer.{viewsIn, answerBytes, Choose, answerFor, answerBy}
+use Rattle.containment.specs.Demands.{Question, Catalogue, Record, Book, extracts, Covers, Covered, Uncovered, bookOf, lacking}
+use Rattle.containment.proofs.CandidateLaws.{views-say}
+use Rattle.containment.proofs.ChoiceLaws.{covers-say, covered-exactly}
+use Rattle.containment.proofs.QuoteLaws.{place-of, matched-exactly}
+
+-- ---- the views in a set
+
+-- those of the views that are in the set
+unfoldable pub chosenFrom : ℕ → List Pattern → List Pattern
+chosenFrom set [] = []
+chosenFrom set (P ∷ Ps) = pick (bit set 0) (P ∷ chosenFrom (set / 2) Ps) (chosenFrom (set / 2) Ps)
+
+-- the numbers of the set from 1 on, each one lower
+next-bit : (set a : ℕ) → bit set (1 + a) ≡ bit (set / 2) a
+unfolding bit
+next-bit set a = ap (λ (x : ℕ). eqb (x % 2) 1) (sym (shr-shr set 1 a))
+
+pub chosen-in : (set : ℕ) (Ps : List Pattern) (a : ℕ) → a < length Ps → bit set a ≡ true → In (getD Ps a noPattern) (chosenFrom set Ps)
+unfolding chosenFrom
+chosen-in set [] a l h = absurd (omega arith)
+chosen-in set (P ∷ Ps) zero l h = rw h (here refl)
+chosen-in set (P ∷ Ps) (suc a) l h =
+    let z : suc a ≡ 1 + a = omega arith in
+    later (bit set 0) (chosen-in (set / 2) Ps a (omega arith) (sym (next-bit set a) ∙ ap (bit set) (sym z) ∙ h))
+  where
+    later : (b : Bool) {x : Pattern} {l : List Pattern} → In x l → In x (pick b (P ∷ l) l)
+    later true i = there i
+    later false i = i
+
+-- with their match sets in a graph
+pub sets-chosen : (set : ℕ) (G : Graph) (vs : List (List ℕ))
+    → viewsIn set (map patternOf vs) (map (λ v. matchSets (patternOf v) G) vs) ≡ each (viewOf G) (chosenFrom set (map patternOf vs))
+unfolding viewsIn chosenFrom each viewOf
+sets-chosen set G [] = refl
+sets-chosen set G (v ∷ vs) = step (bit set 0) (chosenFrom (set / 2) (map patternOf vs)) (sets-chosen (set / 2) G vs)
+  where
+    step : (b : Bool) {x : List View} (l : List Pattern) → x ≡ each (viewOf G) l
+        → pick b (viewOf G (patternOf v) ∷ x) x ≡ each (viewOf G) (pick b (patternOf v ∷ l) l)
+    step true l e = ap (λ (t : List View). viewOf G (patternOf v) ∷ t) e
+    step false l e = e
+
+abbrev with-sheet : Pattern → List (List ℕ) → View
+with-sheet P ls = record { pattern = P; sheet = ls }
+
+-- only the sheets of the views in the set count
+pub views-same : (set : ℕ) (Ps : List Pattern) (xs ys : List (List (List ℕ))) → ((a : ℕ) → T (bit set a) → getD xs a [] ≡ getD ys a [])
+    → viewsIn set Ps xs ≡ viewsIn set Ps ys
+unfolding viewsIn
+views-same set [] xs ys h = refl
+views-same set (P ∷ Ps) xs ys h =
+    step (bit set 0) (h 0)
+    (views-same (set / 2) Ps (drop 1 xs) (drop 1 ys) (λ a t. getD-drop 1 xs a [] ∙ h (1 + a) (subst T (sym (next-bit set a)) t) ∙ sym (getD-drop 1 ys a [])))
+  where
+    step : (b : Bool) {x y : List (List ℕ)} {s t : List View} → (T b → x ≡ y) → s ≡ t → pick b (with-sheet P x ∷ s) s ≡ pick b (with-sheet P y ∷ t) t
+    step true f e = ap₂ (λ (m : List (List ℕ)) (l : List View). with-sheet P m ∷ l) (f tt) e
+    step false f e = e
+
+-- ---- covering
+
+-- what the views in a set cover, all views cover
+pub all-cover : (t : List ℕ) (set k m : ℕ) → k ≤ 16 → coversIn t set k m ≡ true → coversIn t everyView k m ≡ true
+all-cover t set k m few h = covered-exactly t k m few .1 (λ e l. let o = covers-say t set k m h e l in record { at = o .at; below = o .below; holds = o .holds .1 })
+
+-- where the table says that the views in a set cover the query, they do
+pub set-covers : (Q : Pattern) (Ps : List Pattern) (set : ℕ) → length Ps ≤ 16 → length (Q .edges) ≤ 32
+    → coversIn (mapping Q Ps) set (length Ps) (length (Q .edges)) ≡ true → T (covered Q (chosenFrom set Ps))
+unfolding covered matched
+set-covers Q Ps set few few-edges h =
+    in-every (matched Q (chosenFrom set Ps)) (Q .edges)
+    (λ e i.
+    let p = place-of (0, 0) i in
+    let o = covers-say (mapping Q Ps) set (length Ps) (length (Q .edges)) h (p .at) (p .below) in
+    let l = o .below in
+    let m = matched-exactly Q Ps few-edges (p .at) (o .at) (p .below) l (omega arith) .0 (o .holds .1) in
+    in-some (matchedBy Q e) (chosen-in set Ps (o .at) l (o .holds .0)) (subst (λ g. T (matchedBy Q g (getD Ps (o .at) noPattern))) (sym (p .holds)) m))
+
+-- ---- accepted files
+pub question-is : (q qs : List ℕ) → Question q qs → decode pattern q ≡ ok qs
+question-is q qs h = pattern-accepted q qs .1 (pattern-read q qs .0 h .1)
+
+pub catalogue-is : (c cs : List ℕ) → Catalogue c cs → decode catalogue c ≡ ok cs
+catalogue-is c cs h = catalogue-accepted c cs .1 (catalogue-read c cs .0 h .1)
+
+pub record-is : (r rs : List ℕ) → Record r rs → decode record′ r ≡ ok rs
+record-is r rs h = record-accepted r rs .1 (record-read r rs .0 h .1)
+
+pub book-is : (cs b bs : List ℕ) → Book cs b bs → decode (book (edgeCounts cs)) b ≡ ok bs
+book-is cs b bs h = book-accepted (edgeCounts cs) b bs .1 (book-read cs b bs .0 (h .read) .1)
+
+-- what a query keeps
+pub record QueryBounds (qs : List ℕ) : Type 0 where
+  pub sound : T (sound (patternOf qs))
+  pub few-nodes : length (patternOf qs .labels) ≤ 4096
+  pub few-edges : length (patternOf qs .edges) ≤ 32
+  pub many : length (patternOf qs .edges) ≡ edgesOf qs
+
+plain-bounds : {qs : List ℕ} {bs : List Bool} → PlainPattern qs bs → QueryBounds qs
+plain-bounds q = record {
+  sound = sound-of q;
+  few-nodes = omega (arith, ap (λ (P : Pattern). length (P .labels)) (pattern-is q), q .label-each, q .most-nodes);
+  few-edges = omega (arith, edges-many q, edges-in q, q .most-edges);
+  many = edges-many q;
+}
+
+pub question-bounds : (q qs : List ℕ) → Question q qs → QueryBounds qs
+question-bounds q qs h = plain-bounds (pattern-read q qs .0 h .1 .laid)
+
+pub few-views : (c cs : List ℕ) → Catalogue c cs → length (extracts cs) ≤ 16
+few-views c cs h = let v = catalogue-views c cs (catalogue-is c cs h) in omega (arith, length-map (viewsOf cs) patternOf, v .many, v .most)
+
+-- ---- the book that is made from a record
+
+module _ (c r cs rs : List ℕ) (d : Catalogue c cs) (f : Record r rs) where
+  -- its sheets are the views' match sets
+  pub made-sheets : sheetsIn (edgeCounts cs) (bookFields (viewSheets cs (graphOf rs))) ≡ viewSheets cs (graphOf rs)
+  made-sheets = rw (counts-are c r cs rs (catalogue-is c cs d) (record-is r rs f)) (sheets-back (viewSheets cs (graphOf rs)))
+
+  -- it is accepted, and not crowded
+  pub made-book : length (bookOf cs rs) ≤ 65536 → Book cs (bookOf cs rs) (bookFields (viewSheets cs (graphOf rs)))
+  made-book h = record {
+    read = made-back c r cs rs (catalogue-is c cs d) (record-is r rs f) h;
+    few = made-few c r cs rs (catalogue-is c cs d) (record-is r rs f);
+  }
+
+-- ---- what is answered from an accepted book
+
+-- whether the views cover the query, and the chosen set
+abbrev pub coveredBy : List ℕ → List ℕ → Bool
+coveredBy qs cs = coversIn (mapping (patternOf qs) (extracts cs)) everyView (length (extracts cs)) (edgesOf qs)
+
+abbrev pub setOf : Choose → List ℕ → List ℕ → ℕ
+setOf choose qs cs = choose (mapping (patternOf qs) (extracts cs)) (edgesOf qs) (length (extracts cs))
+
+module _ (q c qs cs : List ℕ) (p : Question q qs) (d : Catalogue c cs) where
+  module _ (b bs : List ℕ) (k : Book cs b bs) where
+    pub answer-by : (choose : Choose) (room : ℕ)
+        → answerBy choose q c b room
+        ≡ pick (coveredBy qs cs) (fitFile room (answerBytes qs (setOf choose qs cs) (extracts cs) (sheetsIn (edgeCounts cs) bs))) (refuse 11 (lacking qs cs))
+    unfolding answerBy answerFor uncrowdedBy judged
+    answer-by choose room = rw (p, d, k .read, le-ltb 8192 (length (pairsOf (edgeCounts cs) bs)) (k .few))
+
+    -- where the views cover the query it is the sheet, fitted
+    pub answer-covered : (choose : Choose) (room : ℕ) → Covered qs cs
+        → answerBy choose q c b room ≡ fitFile room (answerBytes qs (setOf choose qs cs) (extracts cs) (sheetsIn (edgeCounts cs) bs))
+    answer-covered choose room h = answer-by choose room ∙ rw h
+
+    -- else 11 with the lowest unmatched edge
+    pub answer-uncovered : (choose : Choose) (room : ℕ) → Uncovered qs cs → answerBy choose q c b room ≡ refuse 11 (lacking qs cs)
+    answer-uncovered choose room h = answer-by choose room ∙ rw h
+
+  -- ---- from the book of a record
+  module _ (r rs : List ℕ) (f : Record r rs) where
+    pub search-found : (room : ℕ) → searchAnswer q r room ≡ fitFile room (sheetBytes (matchSets (patternOf qs) (graphOf rs)))
+    unfolding searchAnswer judged
+    search-found room = rw (p, f)
+
+    -- by the views in a set that covers the query: the sheet that a search gives
+    pub covered-bytes : (set : ℕ) → Covers set qs cs → answerBytes qs set (extracts cs) (viewSheets cs (graphOf rs)) ≡ sheetBytes (matchSets (patternOf qs) (graphOf rs))
+    unfolding answerBytes viewSheets
+    covered-bytes set h =
+        let Q = patternOf qs in
+        let z = question-bounds q qs p in
+        let k : T (covered Q (chosenFrom set (extracts cs))) = set-covers Q (extracts cs) set (few-views c cs d) (z .few-edges) (rw (z .many) h) in
+        ap sheetBytes
+        (ap (answerSets Q) (sets-chosen set (graphOf rs) (viewsOf cs))
+        ∙ covered-answer Q (chosenFrom set (extracts cs)) (z .sound) (z .few-nodes) k (graphOf rs) (graph-narrow r rs (record-is r rs f)))
+
+    pub answer-search : (choose : Choose) → Covers (setOf choose qs cs) qs cs → length (bookOf cs rs) ≤ 65536 → (room : ℕ)
+        → answerBy choose q c (bookOf cs rs) room ≡ searchAnswer q r room
+    answer-search choose h l room =
+        answer-covered (bookOf cs rs) (bookFields (viewSheets cs (graphOf rs))) (made-book c r cs rs d f l) choose room
+        (all-cover (mapping (patternOf qs) (extracts cs)) (setOf choose qs cs) (length (extracts cs)) (edgesOf qs) (few-views c cs d) h)
+        ∙ ap (λ (sheets : List (List (List ℕ))). fitFile room (answerBytes qs (setOf choose qs cs) (extracts cs) sheets)) (made-sheets c r cs rs d f)
+        ∙ ap (fitFile room) (covered-bytes (setOf choose qs cs) h)
+        ∙ sym (search-found room)
+
+-- ---- an answer from any accepted book is a sheet
+
+module _ (cs b bs : List ℕ) (k : Book cs b bs) where
+  abbrev counts : List ℕ
+  counts = edgeCounts cs
+
+  abbrev sheets : List (List (List ℕ))
+  sheets = sheetsIn counts bs
+
+  decoded : decode (book counts) b ≡ ok bs
+  decoded = book-is cs b bs k
+
+  -- those pairs of the book that 24 bits hold, among them all that its lists have
+  pool : List ℕ
+  pool = keep (λ x. ltb x (2 ^ 24)) (pairsOf counts bs)
+
+  -- the pairs of a sheet's list are in it
+  list-pool : (a f x : ℕ) → a < length counts → f < getD counts a 0 → In x (getD (getD sheets a []) f []) → In x pool
+  unfolding pool pairsOf
+  list-pool a f x h l i =
+      let m : member x (listAt b (sheetAt b 0 counts a) f) ≡ true = ap (member x) (list-is counts b bs decoded a f h l) ∙ in-member i in
+      in-keep (λ y. ltb y (2 ^ 24))
+      (member-in _ (member-distinct x _ ∙ ap (member x) (sym (book-pairs counts b bs decoded)) ∙ list-in-book counts b bs decoded a f h l x m))
+      (lt→ltb x (2 ^ 24) (list-small counts b bs decoded a f h l x m))
+
+  stands-pool : (set : ℕ) (x : ℕ) → Stands (viewsIn set (extracts cs) sheets) x → In x pool
+  unfolding edgeCounts
+  stands-pool set x s =
+      let v = views-say set (extracts cs) sheets (s .given) in
+      let sheet : s .view .sheet ≡ getD sheets (v .at) [] = ap (λ (w : View). w .sheet) (v .holds .1) in
+      let h : v .at < length counts = omega (arith, v .below, length-map (viewsOf cs) patternOf, length-map (viewsOf cs) edgesOf) in
+      let o = place-of [] (s .of-view) in
+      let n : length (s .view .sheet) ≡ getD counts (v .at) 0 = ap length sheet ∙ sheet-many counts b bs decoded (v .at) h in
+      list-pool (v .at) (o .at) x h (omega (arith, o .below))
+      (subst (λ l. In x l) (o .holds ∙ ap (λ (ls : List (List ℕ)). getD ls (o .at) []) sheet) (s .here))
+
+  pub answer-sheet : (Q : Pattern) (set : ℕ) → Sheet (answerSets Q (viewsIn set (extracts cs) sheets))
+  unfolding pool
+  answer-sheet Q set =
+      let vs = viewsIn set (extracts cs) sheets in
+      let ls = answerSets Q vs in
+      let e = answer-all-or-none Q vs in
+      let few : length pool ≤ 8192 = omega (arith, keep-length (λ x. ltb x (2 ^ 24)) (pairsOf counts bs), k .few) in
+      let small : (x : ℕ) → In x pool → x < 2 ^ 24 = λ x i. ltb→lt x (2 ^ 24) (keep-in (λ y. ltb y (2 ^ 24)) (pairsOf counts bs) i .1) in
+      sheet-by (length ls) ls refl
+      (sheet-encodes (length ls) ls refl (fit-by ls (answer-listable Q vs pool few small (stands-pool set))) (ap allOrNone e ∙ all-twice _ ∙ sym e))
+
+  -- it is read back beside its query
+  pub answer-back : (q qs : List ℕ) → Question q qs → (set : ℕ) → length (answerBytes qs set (extracts cs) sheets) ≤ 65536
+      → readSheet qs (answerBytes qs set (extracts cs) sheets) ≡ accepted (fieldsOf (answerSets (patternOf qs) (viewsIn set (extracts cs) sheets)))
+  unfolding answerBytes
+  answer-back q qs p set h =
+      let Q = patternOf qs in
+      let vs = viewsIn set (extracts cs) sheets in
+      let ls = answerSets Q vs in
+      let n : length ls ≡ edgesOf qs = ap length (answer-each Q vs) ∙ length-each _ (Q .edges) ∙ question-bounds q qs p .many in
+      sheet-read qs (sheetBytes ls) (fieldsOf ls) .1 (h, sheet-accepted (edgesOf qs) (sheetBytes ls) (fieldsOf ls) .0 (rw n at (answer-sheet Q set .back)))
+
+-- what is given, of a file, is the file, and it isn't too long
+pub given-file : (room : ℕ) (o out : List ℕ) → fitFile room o ≡ give [] (out ∷ []) → (out ≡ o) × (length o ≤ 65536)
+given-file room o out e = step (overFile room (length o)) refl (sym (fitFile-fits .is room o) ∙ e)
+  where
+    step : (t : Bool) → overFile room (length o) ≡ t → pick t (refuse 12 (length o)) (give [] (o ∷ [])) ≡ give [] (out ∷ []) → (out ≡ o) × (length o ≤ 65536)
+    step true h g = absurd (let z : _≡_ {A = ℕ} 0 1 = cc in omega arith)
+    step false h g = (cc, overFile-no room (length o) h .1)

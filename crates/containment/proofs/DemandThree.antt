@@ -1,0 +1,129 @@
+-- The third demand, and what else holds of answers.
+use Prim.Native.Nat.{ℕ, _≤_}
+use mathlib.Core.Path.{_≡_, refl, sym, ap, ap₂, _∙_}
+use mathlib.Core.Logic.{⊎-elim}
+use mathlib.Core.List.{List, [], _∷_, map}
+use lib.ListN.{length, getD}
+use lib.Dec.{T}
+use native.Mathlib.Omega.{arith}
+use Rattle.packed.specs.Contents.{edgesOf, edgeCounts, viewsOf}
+use Rattle.packed.specs.BookSheets.{sheetsIn}
+use Rattle.packed.specs.Matches.{fieldsOf}
+use Rattle.packed.specs.Calls.{give, refuse, withWorkspace, accepted, judged, readSheet, fitFile}
+use Rattle.matching.specs.Lists.{In, here, there}
+use Rattle.matching.specs.Simulation.{Pattern, Graph, bit, patternOf, graphOf, matchSets}
+use Rattle.matching.specs.Join.{without, answerSets}
+use Rattle.matching.specs.Search.{sheetBytes, viewSheets, searchAnswer}
+use Rattle.matching.proofs.BookBytes.{bookFields}
+use Rattle.matching.proofs.Uncovered.{uncovered-views}
+use Rattle.containment.specs.Choice.{chosen}
+use Rattle.containment.specs.Quote.{mapping}
+use Rattle.containment.specs.Answer.{viewsIn, answerBytes, answerAnswer}
+use Rattle.containment.specs.Show.{recordBytes, fitBoth, showFor, showAnswer}
+use Rattle.containment.specs.Demands.{Question, Catalogue, Record, Book, extracts, Covered, Uncovered, bookOf, lacking, linkOf, firstOf, secondOf, Shown, Demand3, chosenOf, Answers}
+use Rattle.containment.proofs.SetBits.{test-cases}
+use Rattle.containment.proofs.ChoiceLaws.{chosen-covers}
+use Rattle.containment.proofs.ShowLaws.{lowest-of, shows, shows-book}
+use Rattle.containment.proofs.CoveredBytes.{views-same, question-is, catalogue-is, made-sheets, made-book, coveredBy, answer-covered, answer-uncovered, answer-search, answer-back, given-file}
+
+module _ (q c qs cs : List ℕ) (p : Question q qs) (d : Catalogue c cs) where
+  -- ---- a covered query
+  from-book : (r rs : List ℕ) → Record r rs → Covered qs cs → length (bookOf cs rs) ≤ 65536 → (room : ℕ) → answerAnswer q c (bookOf cs rs) room ≡ searchAnswer q r room
+  unfolding answerAnswer
+  from-book r rs f h l room =
+      answer-search q c qs cs p d r rs f chosen (chosen-covers (mapping (patternOf qs) (extracts cs)) (edgesOf qs) (length (extracts cs)) h) l room
+
+  -- ---- an uncovered query
+  shown-both : Uncovered qs cs → (room room′ : ℕ) → showAnswer q c room room′ ≡ fitBoth room room′ (recordBytes (firstOf qs)) (recordBytes (secondOf qs cs))
+  unfolding showAnswer showFor judged
+  shown-both n room room′ = rw (p, d, n)
+
+  shown-by : Uncovered qs cs → Shown qs cs
+  shown-by n =
+      let s = shows q c qs cs (question-is q qs p) (catalogue-is c cs d) n in
+      record {
+        first-accepted = s .first-read;
+        second-accepted = s .second-read;
+        question = s .means;
+        lacks = s .lacks;
+        in-first = s .in-first;
+        not-in-second = s .not-second;
+        equal = s .same;
+        equal-books = shows-book q c qs cs (question-is q qs p) (catalogue-is c cs d) n;
+        differ = s .differs;
+      }
+
+  -- the two shown records have the same lists
+  same-lists : Uncovered qs cs → (P : Pattern) → In P (extracts cs) → matchSets P (graphOf (firstOf qs)) ≡ matchSets P (graphOf (secondOf qs cs))
+  same-lists n P i =
+      let s = shown-by n in
+      let e = linkOf qs (lacking qs cs) in
+      ap (matchSets P) (s .question)
+      ∙ uncovered-views (patternOf qs) (extracts cs) e (lowest-of q c qs cs (question-is q qs p) (catalogue-is c cs d) n .unmatched) P i
+      ∙ ap (matchSets P) (sym (s .lacks ∙ ap (without e) (s .question)))
+
+  -- ---- accepted books
+  module _ (b bs : List ℕ) (k : Book cs b bs) where
+    refused-by : Uncovered qs cs → (room : ℕ) → answerAnswer q c b room ≡ refuse 11 (lacking qs cs)
+    unfolding answerAnswer
+    refused-by n room = answer-uncovered q c qs cs p d b bs k chosen room n
+
+    given-by : Covered qs cs → (room : ℕ) → answerAnswer q c b room ≡ fitFile room (answerBytes qs (chosenOf qs cs) (extracts cs) (sheetsIn (edgeCounts cs) bs))
+    unfolding answerAnswer
+    given-by h room = answer-covered q c qs cs p d b bs k chosen room h
+
+    read-back : (out : List ℕ) (room : ℕ) → answerAnswer q c b room ≡ give [] (out ∷ [])
+        → readSheet qs out ≡ accepted (fieldsOf (answerSets (patternOf qs) (viewsIn (chosenOf qs cs) (extracts cs) (sheetsIn (edgeCounts cs) bs))))
+    read-back out room e =
+        ⊎-elim
+        (λ h.
+        let g = given-file room _ out (sym (given-by h room) ∙ e) in
+        ap (readSheet qs) (g .0) ∙ answer-back cs b bs k q qs p (chosenOf qs cs) (g .1))
+        (λ n. absurd (let r = refused-by n room in let z : _≡_ {A = ℕ} 0 1 = cc in omega arith))
+        (test-cases (coveredBy qs cs))
+
+-- the sheets of views whose lists are the same in two graphs
+same-sheets : (G H : Graph) (vs : List (List ℕ)) → ((P : Pattern) → In P (map patternOf vs) → matchSets P G ≡ matchSets P H)
+    → map (λ v. matchSets (patternOf v) G) vs ≡ map (λ v. matchSets (patternOf v) H) vs
+same-sheets G H [] h = refl
+same-sheets G H (v ∷ vs) h = ap₂ (λ (x : List (List ℕ)) (l : List (List (List ℕ))). x ∷ l) (h (patternOf v) (here refl)) (same-sheets G H vs (λ P i. h P (there i)))
+
+same-answer : (q c qs cs b b′ bs bs′ : List ℕ) → Question q qs → Catalogue c cs → Book cs b bs → Book cs b′ bs′
+    → ((a : ℕ) → T (bit (chosenOf qs cs) a) → getD (sheetsIn (edgeCounts cs) bs) a [] ≡ getD (sheetsIn (edgeCounts cs) bs′) a [])
+    → (room : ℕ) → answerAnswer q c b room ≡ answerAnswer q c b′ room
+unfolding answerBytes
+same-answer q c qs cs b b′ bs bs′ p d k k′ s room =
+    ⊎-elim
+    (λ h.
+    given-by q c qs cs p d b bs k h room
+    ∙ ap (λ vs. fitFile room (sheetBytes (answerSets (patternOf qs) vs))) (views-same (chosenOf qs cs) (extracts cs) (sheetsIn (edgeCounts cs) bs) (sheetsIn (edgeCounts cs) bs′) s)
+    ∙ sym (given-by q c qs cs p d b′ bs′ k′ h room))
+    (λ n. refused-by q c qs cs p d b bs k n room ∙ sym (refused-by q c qs cs p d b′ bs′ k′ n room))
+    (test-cases (coveredBy qs cs))
+
+no-function : (q c qs cs : List ℕ) → Question q qs → Catalogue c cs → Uncovered qs cs → (F : List (List (List ℕ)) → List ℕ)
+    → ((r rs : List ℕ) → Record r rs → F (viewSheets cs (graphOf rs)) ≡ sheetBytes (matchSets (patternOf qs) (graphOf rs))) → ⊥
+unfolding viewSheets
+no-function q c qs cs p d n F h =
+    let s = shown-by q c qs cs p d n in
+    s .differ
+    (sym (h (recordBytes (firstOf qs)) (firstOf qs) (s .first-accepted))
+    ∙ ap F (same-sheets (graphOf (firstOf qs)) (graphOf (secondOf qs cs)) (viewsOf cs) (same-lists q c qs cs p d n))
+    ∙ h (recordBytes (secondOf qs cs)) (secondOf qs cs) (s .second-accepted))
+
+pub demand-3 : Demand3
+demand-3 = record {
+  covered-by = λ q c r qs cs rs p d f set h l room words. ap (withWorkspace words) (answer-search q c qs cs p d r rs f (λ t m k. set) h l room);
+  covered = λ q c r qs cs rs p d f h l room words. ap (withWorkspace words) (from-book q c qs cs p d r rs f h l room);
+  fits = λ c r cs rs d f l. (bookFields (viewSheets cs (graphOf rs)), made-book c r cs rs d f l, made-sheets c r cs rs d f);
+  shows = λ q c qs cs p d n room room′ words. ap (withWorkspace words) (shown-both q c qs cs p d n room room′);
+  uncovered = λ q c qs cs p d n. shown-by q c qs cs p d n;
+  refused = λ q c b qs cs bs p d n k room. refused-by q c qs cs p d b bs k n room;
+}
+
+pub answers : Answers
+answers = record {
+  same = same-answer;
+  back = λ q c b qs cs bs out p d k room e. read-back q c qs cs p d b bs k out room e;
+  no-other-way = no-function;
+}

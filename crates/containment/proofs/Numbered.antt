@@ -1,0 +1,203 @@
+-- Every refusal has a number from 1 to 14: a file's by its format, and the others by the calls that give them.
+use Prim.Native.Nat.{ℕ, zero, suc, _+_, _%_, _^_, _≤_}
+use mathlib.Core.Path.{_≡_, refl}
+use mathlib.Core.Logic.{inl, inr}
+use mathlib.Core.List.{List, [], _∷_, _++_}
+use mathlib.Core.Bool.{Bool, true, false, not, _&&_, _||_}
+use lib.ListN.{length, take, drop}
+use lib.Dec.{eqb, leb, ltb}
+use borrow.Author.Tests.{leb-true}
+use Rattle.packed.specs.Bits.{bitsOf, num, bits, zeros, gap}
+use Rattle.packed.specs.Format.{Format, done, ask, test, pad, then, times, whole, Got, got, fault, pick, push, within, scan, lay, Result, ok, bad, ended, inBytes, decode, encode}
+use Rattle.packed.specs.Formats.{code, edges, label, joined, pattern, catalogue, labels, record′, pairs, lists, sheet, book}
+use Rattle.packed.specs.Calls.{Answer, give, refuse, withWorkspace, rejected, inFile, readFile, writeFile, judged, pairsOf, uncrowdedBy, fit, fitFile}
+use Rattle.containment.specs.Show.{fitBoth}
+use Rattle.containment.specs.Demands.{Settles}
+
+pub record Numbered (n : ℕ) : Type 0 where
+  pub least : 1 ≤ n
+  pub most : n ≤ 14
+
+pub numbered : (n : ℕ) → leb 1 n ≡ true → leb n 14 ≡ true → Numbered n
+numbered n p q = record { least = leb-true 1 n p; most = leb-true n 14 q }
+
+-- ---- formats
+
+-- the format's own faults are such numbers, whatever its fields hold
+pub data Faults : Format → Type 0 where
+  ends : Faults done
+  asks : {w low bound n : ℕ} {f : ℕ → Format} → Numbered n → ((v : ℕ) → Faults (f v)) → Faults (ask w low bound n f)
+  tests : {b : Bool} {n : ℕ} {f : Format} → Numbered n → Faults f → Faults (test b n f)
+  pads : {f : Format} → Faults f → Faults (pad f)
+
+pub then-faults : {f g : Format} → Faults f → Faults g → Faults (then f g)
+unfolding then
+then-faults ends h = h
+then-faults (asks n k) h = asks n (λ v. then-faults (k v) h)
+then-faults (tests n k) h = tests n (then-faults k h)
+then-faults (pads k) h = pads (then-faults k h)
+
+pub times-faults : (n : ℕ) {f : Format} → Faults f → Faults (times n f)
+unfolding times
+times-faults zero h = ends
+times-faults (suc n) h = then-faults h (times-faults n h)
+
+pub whole-faults : {f : Format} → Faults f → Faults (whole f)
+unfolding whole
+whole-faults h = then-faults h (pads ends)
+
+-- ---- one pass
+
+-- what it gives, if it is a fault, is such a number
+data Passes {A B : Type 0} : Got A B → Type 0 where
+  gets : {xs : List A} {r : List B} → Passes (got xs r)
+  faults : {n : ℕ} → Numbered n → Passes (fault n)
+
+module _ {A B : Type 0} where
+  picked : (b : Bool) {r : Got A B} {n : ℕ} → Passes r → Numbered n → Passes (pick b r (fault n))
+  picked true h n = h
+  picked false h n = faults n
+
+  pushed : (xs : List A) {r : Got A B} → Passes r → Passes (push xs r)
+  pushed xs gets = gets
+  pushed xs (faults n) = faults n
+
+scan-passes : {f : Format} → Faults f → (bs : List Bool) → Passes (scan f bs)
+unfolding scan
+scan-passes ends bs = gets
+scan-passes (asks {w} {low} {bound} n k) bs =
+    let v : ℕ = num (take w bs) in
+    picked (leb w (length bs)) (picked (within low bound v) (pushed (v ∷ []) (scan-passes (k v) (drop w bs))) n) (numbered 2 refl refl)
+scan-passes (tests {b} n k) bs = picked b (scan-passes k bs) n
+scan-passes (pads k) bs = let j : ℕ = length bs % 8 in picked (zeros (take j bs)) (scan-passes k (drop j bs)) (numbered 9 refl refl)
+
+lay-passes : {f : Format} → Faults f → (at : ℕ) (ws : List ℕ) → Passes (lay f at ws)
+unfolding lay
+lay-passes ends at ws = gets
+lay-passes (asks n k) at [] = faults (numbered 2 refl refl)
+lay-passes (asks {w} {low} {bound} n k) at (v ∷ ws) = picked (within low bound v && ltb v (2 ^ w)) (pushed (bitsOf w v) (lay-passes (k v) (at + w) ws)) n
+lay-passes (tests {b} n k) at ws = picked b (lay-passes k at ws) n
+lay-passes (pads k) at ws = pushed _ (lay-passes k (at + gap at) ws)
+
+-- ---- a whole file
+
+pub data Results {A : Type 0} : Result A → Type 0 where
+  is-ok : {xs : List A} → Results (ok xs)
+  is-bad : {n : ℕ} → Numbered n → Results (bad n)
+
+ended-results : {A B : Type 0} {r : Got A B} → Passes r → Results (ended r)
+ended-results (gets {r = []}) = is-ok
+ended-results (gets {r = y ∷ ys}) = is-bad (numbered 9 refl refl)
+ended-results (faults n) = is-bad n
+
+in-bytes : {r : Result Bool} → Results r → Results (inBytes r)
+in-bytes is-ok = is-ok
+in-bytes (is-bad n) = is-bad n
+
+pub decode-results : {f : Format} → Faults f → (s : List ℕ) → Results (decode f s)
+unfolding decode
+decode-results h s = ended-results (scan-passes (whole-faults h) (bits s))
+
+pub encode-results : {f : Format} → Faults f → (ws : List ℕ) → Results (encode f ws)
+unfolding encode
+encode-results h ws = in-bytes (ended-results (lay-passes (whole-faults h) 0 ws))
+
+-- ---- the five formats
+
+three : Numbered 3
+three = numbered 3 refl refl
+
+edges-faults : (w nodes : ℕ) (last : List ℕ → Format) → ((ends : List ℕ) → Faults (last ends)) → (more : ℕ) (ends : List ℕ) → Faults (edges w nodes last more ends)
+unfolding edges
+edges-faults w nodes last h zero es = h es
+edges-faults w nodes last h (suc more) es =
+    asks (numbered 4 refl refl) (λ from. asks (numbered 4 refl refl) (λ to.
+    tests (numbered 5 refl refl) (edges-faults w nodes last h more (es ++ (from ∷ to ∷ [])))))
+
+pub pattern-faults : Faults pattern
+unfolding pattern label joined
+pattern-faults =
+    asks three (λ nodes. asks three (λ number.
+    then-faults (times-faults nodes (asks three (λ v. ends))) (edges-faults 4 nodes (joined nodes) (λ es. tests (numbered 7 refl refl) ends) number [])))
+
+pub catalogue-faults : Faults catalogue
+unfolding catalogue
+catalogue-faults = asks three (λ number. pads (times-faults number (whole-faults pattern-faults)))
+
+pub record-faults : Faults record′
+unfolding record′ labels
+record-faults =
+    asks three (λ nodes. asks three (λ number.
+    then-faults (times-faults nodes (asks three (λ v. ends))) (edges-faults 12 nodes (λ es. done) (λ es. ends) number [])))
+
+pairs-faults : (k least : ℕ) → Faults (pairs k least)
+unfolding pairs
+pairs-faults zero least = ends
+pairs-faults (suc k) least = asks three (λ a. asks three (λ b. tests (numbered 6 refl refl) (pairs-faults k (suc (code a b)))))
+
+lists-faults : (m : ℕ) (none some : Bool) → Faults (lists m none some)
+unfolding lists
+lists-faults zero none some = tests (numbered 8 refl refl) ends
+lists-faults (suc m) none some = asks three (λ n. then-faults (pairs-faults n 0) (lists-faults m (none || eqb n 0) (some || not (eqb n 0))))
+
+pub sheet-faults : (m : ℕ) → Faults (sheet m)
+unfolding sheet
+sheet-faults m = lists-faults m false false
+
+pub book-faults : (ms : List ℕ) → Faults (book ms)
+unfolding book
+book-faults [] = ends
+book-faults (m ∷ ms) = then-faults (whole-faults (sheet-faults m)) (book-faults ms)
+
+-- ---- answers
+
+pub gives : (vs : List ℕ) (os : List (List ℕ)) → Settles (give vs os)
+gives vs os = inl (record { values = vs; outputs = os; is = refl })
+
+pub refuses : {n : ℕ} (d : ℕ) → Numbered n → Settles (refuse n d)
+refuses {n} d h = inr (record { number = n; detail = d; is = refl; least = h .least; most = h .most })
+
+pub either : (b : Bool) {x y : Answer} → Settles x → Settles y → Settles (pick b x y)
+either true p q = p
+either false p q = q
+
+pub workspace-settles : (words : ℕ) {a : Answer} → Settles a → Settles (withWorkspace words a)
+unfolding withWorkspace
+workspace-settles words h = either (ltb words 16384) (refuses 0 (numbered 14 refl refl)) h
+
+pub uncrowded-settles : (ms ws : List ℕ) {a : Answer} → Settles a → Settles (uncrowdedBy ms ws a)
+unfolding uncrowdedBy
+uncrowded-settles ms ws h = either (ltb 8192 (length (pairsOf ms ws))) (refuses 4 (numbered 10 refl refl)) h
+
+pub fit-settles : (room : ℕ) (o : List ℕ) → Settles (fit room o)
+unfolding fit
+fit-settles room o = either (ltb room (length o)) (refuses (length o) (numbered 12 refl refl)) (gives [] (o ∷ []))
+
+pub fitFile-settles : (room : ℕ) (o : List ℕ) → Settles (fitFile room o)
+unfolding fitFile
+fitFile-settles room o = either (ltb room (length o) || ltb 65536 (length o)) (refuses (length o) (numbered 12 refl refl)) (gives [] (o ∷ []))
+
+pub fitBoth-settles : (room room′ : ℕ) (a b : List ℕ) → Settles (fitBoth room room′ a b)
+unfolding fitBoth
+fitBoth-settles room room′ a b =
+    either (ltb room (length a)) (refuses (length a) (numbered 12 refl refl))
+    (either (ltb room′ (length b)) (refuses (length b) (numbered 12 refl refl)) (gives [] (a ∷ b ∷ [])))
+
+-- ---- files: what is accepted goes on, what is refused has the fault's number
+
+pub read-settles : (most file : ℕ) {F : Format} → Faults F → (s : List ℕ) {k : List ℕ → Answer} → ((ws : List ℕ) → Settles (k ws)) → Settles (judged (readFile most file F s) k)
+unfolding readFile judged
+read-settles most file {F} f s {k} h = go (ltb most (length s)) (decode-results f s)
+  where
+    go : (b : Bool) {r : Result ℕ} → Results r → Settles (judged (pick b (rejected 1 file) (inFile file r)) k)
+    go true q = refuses file (numbered 1 refl refl)
+    go false (is-ok {xs}) = h xs
+    go false (is-bad n) = refuses file n
+
+pub write-settles : (file : ℕ) {F : Format} → Faults F → (ws : List ℕ) {k : List ℕ → Answer} → ((s : List ℕ) → Settles (k s)) → Settles (judged (writeFile file F ws) k)
+unfolding writeFile judged
+write-settles file {F} f ws {k} h = go (encode-results f ws)
+  where
+    go : {r : Result ℕ} → Results r → Settles (judged (inFile file r) k)
+    go (is-ok {xs}) = h xs
+    go (is-bad n) = refuses file n

@@ -1,0 +1,54 @@
+-- `containment::answer` meets its contract.
+use lib.ListN.{length}
+use Rattle.packed.proofs.CallLaws.{settles-small, settles-lent}
+use Rattle.containment.specs.Answer.{answerAnswer}
+use borrow.Author.Needs.{needs}
+use Rattle.containment.proofs.answer.Statement.{statement}
+use Rattle.containment.proofs.answer.Tie as tie
+
+returns : tie.Need-returns
+returns c =
+    let a = c .before .before .before .before .before .before .args in
+    settles-small (answerAnswer (a .question .now) (a .catalogue .now) (a .book .now) (length (a .out .now))) (a .out .now) (a .work .now) (c .if1 .taken)
+
+sub-answer : tie.Need-sub-answer
+sub-answer c = search needs
+
+part-answer-start : tie.Need-part-answer-start
+part-answer-start c = search needs
+
+part-answer-end : tie.Need-part-answer-end
+part-answer-end c = search needs
+
+answer-requires : tie.Need-answer-requires
+answer-requires c κs = search needs
+
+clear-requires : tie.Need-clear-requires
+clear-requires c κs = search needs
+
+same-length : tie.Need-same-length
+same-length c = search needs
+
+same-length-2 : tie.Need-same-length-2
+same-length-2 c = search needs
+
+returns-2 : tie.Need-returns-2
+returns-2 c =
+    let a = c .before .before .before .before .before .before .before .before .before .before .before .before .before .before .before .before .before .args in
+    let k = c .before .before .before .before .before .before .before .before .answer in
+    settles-lent (answerAnswer (a .question .now) (a .catalogue .now) (a .book .now) (length (a .out .now))) (a .out .now) (a .work .now) (k .last .1 .1 .1 .1 .0) (c .before .before .before .before .before .before .before .before .before .before .before .if1 .left)
+    (k .ensures) (k .kept .1 .1 .1 .1 .0) (c .before .before .clear .ensures)
+
+pub answer-spec : {M : Type 1} → statement M
+answer-spec =
+    tie.close
+    (tie.spec
+    returns
+    sub-answer
+    part-answer-start
+    part-answer-end
+    answer-requires
+    clear-requires
+    same-length
+    same-length-2
+    returns-2)

@@ -1,0 +1,45 @@
+-- Answering a query from a book: the chosen views, each with its sheet, are joined.
+use Prim.Native.Nat.{ℕ, _/_}
+use mathlib.Core.List.{List, [], _∷_, map}
+use lib.ListN.{length, drop, getD}
+use Rattle.packed.specs.Format.{pick}
+use Rattle.packed.specs.Contents.{edgesOf, edgeCounts, viewsOf}
+use Rattle.packed.specs.BookSheets.{sheetsIn}
+use Rattle.packed.specs.Calls.{Answer, refuse, judged, readPattern, readCatalogue, readBook, uncrowded, fitFile}
+use Rattle.matching.specs.Simulation.{Pattern, bit, patternOf}
+use Rattle.matching.specs.Join.{View, answerSets}
+use Rattle.matching.specs.Search.{sheetBytes}
+use Rattle.containment.specs.Choice.{everyView, coversIn, lowestUnmatched, chosen}
+use Rattle.containment.specs.Quote.{mapping}
+
+-- those of the views that are in the set, each with its sheet
+unfoldable pub viewsIn : ℕ → List Pattern → List (List (List ℕ)) → List View
+viewsIn set [] sheets = []
+viewsIn set (P ∷ Ps) sheets =
+    pick (bit set 0) (record { pattern = P; sheet = getD sheets 0 [] } ∷ viewsIn (set / 2) Ps (drop 1 sheets)) (viewsIn (set / 2) Ps (drop 1 sheets))
+
+-- the answer to the query with content qs from the sheets of the views in the set, as a sheet
+unfoldable pub answerBytes : List ℕ → ℕ → List Pattern → List (List (List ℕ)) → List ℕ
+answerBytes qs set Ps sheets = sheetBytes (answerSets (patternOf qs) (viewsIn set Ps sheets))
+
+-- a set of views, from the table, the number of edges and the number of views
+abbrev pub Choose : Type 0
+Choose = List ℕ → ℕ → ℕ → ℕ
+
+-- answering by the views in a set: 10, 11 with the lowest unmatched edge, 12
+unfoldable pub answerFor : Choose → List ℕ → List ℕ → List ℕ → ℕ → Answer
+answerFor choose qs cs bs room =
+    let Ps = map patternOf (viewsOf cs) in
+    let t = mapping (patternOf qs) Ps in
+    uncrowded cs bs
+    (pick (coversIn t everyView (length Ps) (edgesOf qs))
+    (fitFile room (answerBytes qs (choose t (edgesOf qs) (length Ps)) Ps (sheetsIn (edgeCounts cs) bs)))
+    (refuse 11 (lowestUnmatched t (length Ps) (edgesOf qs))))
+
+-- the files are judged first: the question, the catalogue, the book
+unfoldable pub answerBy : Choose → List ℕ → List ℕ → List ℕ → ℕ → Answer
+answerBy choose q c b room = judged (readPattern q) (λ qs. judged (readCatalogue c) (λ cs. judged (readBook cs b) (λ bs. answerFor choose qs cs bs room)))
+
+-- answering, by the chosen set
+unfoldable pub answerAnswer : List ℕ → List ℕ → List ℕ → ℕ → Answer
+answerAnswer q c b room = answerBy chosen q c b room

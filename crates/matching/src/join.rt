@@ -1,0 +1,36 @@
+// The join: which of the pairs that the sheets of views list a query keeps for each of its edges.
+ghost use Rattle.matching.specs.Steps.{Fair};
+ghost use Rattle.matching.specs.Candidates.{Booked};
+ghost use Rattle.matching.specs.Joining.{Joined};
+use crate::candidates;
+use crate::marks;
+use crate::support;
+use crate::sweep;
+use packed::by_value::Pattern;
+
+// The masks of the d pairs of a book, for the k views of which those in the set are asked: the edges of the query that keep them.
+pub fn join(
+    q: Pattern,
+    t: &[u32; 512],
+    set: u32,
+    s: &[u8],
+    counts: [u32; 16],
+    k: usize,
+    d: usize,
+    work: &mut [u32],
+)
+    requires { ⌜ Fair q × Booked (now s) counts k d (now work) ⌝ }
+    ensures { λ r. ⌜ Joined q (now (t .entry)) set (now (s .entry)) counts k d (now (work .entry)) (now (work .exit)) ⌝ }
+{
+    let m = q.edges;
+    candidates::clear_masks(work, d);
+    candidates::take_book(s, counts, k, t, set, m, work, d);
+    let mut ok = support::every_node();
+    support::settle(work, d, &mut ok, q);
+    let each = marks::identity();
+    let from = q.from;
+    let to = q.to;
+    let leaving = sweep::table(each, from, m);
+    let arriving = sweep::table(each, to, m);
+    support::keep(work, d, &ok, &leaving, &arriving);
+}

@@ -1,0 +1,145 @@
+//! Answering a question from a book.
+
+use crate::files::*;
+use crate::matching::fields;
+use crate::quoting::{quote, Quote};
+use std::collections::BTreeSet;
+
+/// The number of the refusal of an answer to an uncovered question.
+pub const UNCOVERED: u32 = 11;
+
+/// For each question link the pairs of a choice.
+type Choice = Vec<BTreeSet<(u32, u32)>>;
+
+/// For each question link the pairs listed under those links of chosen extracts that match it.
+fn candidates(quote: &Quote, book: &Book) -> Choice {
+    let mut candidates = Choice::new();
+    for matches in &quote.mapping {
+        let chosen = matches.iter().filter(|(a, _)| quote.chosen.contains(a));
+        candidates.push(chosen.flat_map(|&(a, b)| &book[a][b]).copied().collect());
+    }
+    candidates
+}
+
+/// The greatest choice. A pair that lacks what is asked of it is dropped, until none is; a pair of any choice that
+/// has what is asked is never dropped.
+fn greatest_choice(question: &Pattern, candidates: Choice) -> Choice {
+    let mut kept = candidates;
+    loop {
+        let begins: Vec<BTreeSet<u32>> = kept.iter().map(|pairs| pairs.iter().map(|pair| pair.0).collect()).collect();
+        // Each question link that leaves u keeps some pair that begins at v.
+        let supported = |u: u32, v: u32| {
+            let mut leaving = question.links.iter().zip(&begins).filter(|(link, _)| link.0 == u);
+            leaving.all(|(_, begins)| begins.contains(&v))
+        };
+        let mut dropped = false;
+        for (&(u, next), pairs) in question.links.iter().zip(&mut kept) {
+            let before = pairs.len();
+            pairs.retain(|&(v, w)| supported(u, v) && supported(next, w));
+            dropped |= pairs.len() < before;
+        }
+        if !dropped {
+            return kept;
+        }
+    }
+}
+
+/// The answer as a sheet. If any link keeps none, all are empty.
+fn sheet(choice: Choice) -> Sheet {
+    if choice.iter().any(|pairs| pairs.is_empty()) {
+        return vec![Vec::new(); choice.len()];
+    }
+    choice.into_iter().map(|pairs| pairs.into_iter().collect()).collect()
+}
+
+/// 14, the question, the catalogue, the book, then 10, 11 and 12.
+pub fn answer(
+    question: &[u8],
+    catalogue: &[u8],
+    book: &[u8],
+    room: usize,
+    work_words: usize,
+) -> Result<Vec<u8>, Refusal> {
+    let quote = quote(question, catalogue, work_words)?;
+    let book = judge_book(&judge_catalogue(catalogue)?, book)?;
+    if let Some(lowest) = quote.lowest_unmatched {
+        return refused(UNCOVERED, lowest);
+    }
+    let choice = greatest_choice(&judge_pattern(question)?, candidates(&quote, &book));
+    write_sheet(question, &fields(&sheet(choice)), room, work_words)
+}
+
+#[cfg(test)]
+mod tests {
+    use super::*;
+    use crate::matching::{make_book, search};
+
+    const ROOM: usize = BOOK_BYTES;
+    const WORK: usize = WORK_WORDS;
+    const D: [u8; 8] = [0x20, 0x80, 0x08, 0x86, 0x02, 0x04, 0x26, 0x46];
+    const C: [u8; 17] = [
+        0x18, 0x10, 0x20, 0x08, 0x08, 0x18, 0x40, 0x08, 0xc0, 0x44, 0x80, 0x18, 0x40, 0x10, 0xc0, 0x44, 0x80,
+    ];
+    /// Only extract 1 of C.
+    const SLOW: [u8; 7] = [0x08, 0x18, 0x40, 0x08, 0xc0, 0x44, 0x80];
+
+    fn book(fields: &[u32]) -> Vec<u8> {
+        write_book(&C, fields, ROOM, WORK).unwrap()
+    }
+
+    fn answered(book: &[u8]) -> Vec<u32> {
+        let sheet = answer(&D, &C, book, ROOM, WORK).unwrap();
+        read_sheet(&D, &sheet, ROOM, WORK).unwrap()
+    }
+
+    #[test]
+    fn k9_as_the_search() {
+        let k9 = write_record(&[3, 2, 1, 6, 8, 0, 1, 1, 2], ROOM, WORK).unwrap();
+        let book = make_book(&C, &k9, ROOM, WORK).unwrap();
+        assert_eq!(answered(&book), [1, 0, 1, 1, 0, 1, 1, 1, 2, 1, 1, 2]);
+        assert_eq!(answer(&D, &C, &book, ROOM, WORK), search(&D, &k9, ROOM, WORK));
+    }
+
+    #[test]
+    fn a_book_of_no_record() {
+        // The slow run (0, 3) has no reading, so it is dropped.
+        let sheets = [1, 7, 7, 2, 0, 1, 0, 3, 1, 1, 2, 1, 0, 1, 1, 1, 5];
+        assert_eq!(answered(&book(&sheets)), [1, 0, 1, 1, 0, 1, 1, 1, 2, 1, 1, 5]);
+        // Sheets that aren't chosen alter nothing.
+        let others = [2, 0, 0, 7, 8, 2, 0, 1, 0, 3, 1, 1, 2, 1, 0, 1, 1, 1, 5];
+        assert_eq!(answered(&book(&others)), answered(&book(&sheets)));
+    }
+
+    #[test]
+    fn all_or_none() {
+        // No section has both runs. The readings could stand by themselves.
+        let sheets = [0, 1, 0, 1, 1, 1, 2, 1, 3, 4, 1, 4, 5];
+        assert_eq!(answered(&book(&sheets)), [0, 0, 0, 0]);
+    }
+
+    #[test]
+    fn refusals_in_order() {
+        let mut crowd = vec![8_192];
+        crowd.extend((0..8_192).flat_map(|i| [i / 2, i % 2]));
+        let one = write_pattern(&[2, 1, 0, 1, 0, 1], ROOM, WORK).unwrap();
+        let mut full = write_sheet(&one, &crowd, ROOM, WORK).unwrap();
+        full.extend(write_sheet(&one, &[1, 0, 2], ROOM, WORK).unwrap());
+        let twice = write_catalogue(&[2, 2, 1, 0, 1, 0, 1, 2, 1, 0, 1, 0, 1], ROOM, WORK).unwrap();
+        for (question, catalogue, book, work, number, detail) in [
+            (&D[..7], &C[..16], &[][..], WORK - 1, DESK, 0),
+            (&D[..7], &C[..16], &[], WORK, SHORT, PATTERN),
+            (&D, &C[..16], &[], WORK, SHORT, CATALOGUE),
+            (&D, &C, &[], WORK, SHORT, BOOK),
+            (&D, &C, &[0; BOOK_BYTES + 1], WORK, LONG, BOOK),
+            (&D, &SLOW, &[0; 5], WORK, TAIL, BOOK),
+            (&D, &SLOW, &[0; 4], WORK, UNCOVERED, 1),
+            (&D, &twice, &full, WORK, CROWDED, BOOK),
+            (&one, &twice, &full, WORK, CROWDED, BOOK),
+            (&D, &C, &[0; 10], WORK, NO_FIT, 7),
+        ] {
+            assert_eq!(answer(question, catalogue, book, 0, work), refused(number, detail));
+        }
+        assert_eq!(answer(&D, &C, &[0; 10], 6, WORK), refused(NO_FIT, 7));
+        assert_eq!(answer(&D, &C, &[0; 10], 7, WORK), Ok(vec![0; 7]));
+    }
+}
