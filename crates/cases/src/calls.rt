@@ -1,14 +1,17 @@
 // The ten calls under two names, and what each left behind.
-use crate::arrays::MARK;
-use crate::arrays::MARK_BYTE;
-use crate::arrays::byte_differences;
-use crate::arrays::differences;
-use crate::arrays::fill;
-use crate::arrays::fill_bytes;
-use crate::arrays::other_bytes;
-use crate::arrays::others;
-use crate::arrays::plus;
-use packed::reply::Refusal;
+use harness::arrays::MARK;
+use harness::arrays::at;
+use harness::arrays::byte_differences;
+use harness::arrays::fill;
+use harness::arrays::is_other;
+use harness::arrays::others;
+use harness::arrays::plus;
+use harness::outcome::Outcome;
+use harness::outcome::answered;
+use harness::outcome::left;
+use harness::outcome::mark;
+use harness::outcome::work_faults;
+use harness::outcome::written;
 use packed::reply::Reply;
 
 // The kinds of file. A sheet is read beside a pattern and a book beside a catalogue.
@@ -33,60 +36,6 @@ pub fn kind_of(letter: u8) -> u32 {
     }
 }
 
-// What a call answered: the number 0 and the written length, or a refusal's number and detail. Beside it, at how many places
-// what was lent is not as it should be.
-pub struct Outcome {
-    pub number: u32,
-    pub value: usize,
-    pub faults: usize,
-}
-
-fn refused(number: u32, detail: u32) -> Outcome {
-    Outcome {
-        number: number,
-        value: detail as usize,
-        faults: 0,
-    }
-}
-
-fn refusal(r: Refusal) -> Outcome {
-    match r {
-        Refusal::TooLong(d) => refused(1, d),
-        Refusal::Truncated(d) => refused(2, d),
-        Refusal::OutOfRange(d) => refused(3, d),
-        Refusal::NoSuchNode(d) => refused(4, d),
-        Refusal::DuplicateEdge(d) => refused(5, d),
-        Refusal::NotAscending(d) => refused(6, d),
-        Refusal::IsolatedNode(d) => refused(7, d),
-        Refusal::MixedCounts(d) => refused(8, d),
-        Refusal::Trailing(d) => refused(9, d),
-        Refusal::TooManyPairs(d) => refused(10, d),
-        Refusal::NotContained(d) => refused(11, d),
-        Refusal::NoRoom(n) => Outcome {
-            number: 12,
-            value: n,
-            faults: 0,
-        },
-        Refusal::Contained => refused(13, 0),
-        Refusal::SmallWorkspace => refused(14, 0),
-    }
-}
-
-fn answered(r: Reply) -> Outcome {
-    match r {
-        Reply::Done(n) => Outcome {
-            number: 0,
-            value: n,
-            faults: 0,
-        },
-        Reply::Refused(e) => refusal(e),
-    }
-}
-
-pub fn written(o: Outcome) -> usize {
-    if o.number == 0 { o.value } else { 0 }
-}
-
 fn with_faults(o: Outcome, faults: usize) -> Outcome {
     Outcome {
         number: o.number,
@@ -95,15 +44,15 @@ fn with_faults(o: Outcome, faults: usize) -> Outcome {
     }
 }
 
-// The first 16,384 words are zero and those beyond as they came; for 14 all are as they came.
-fn work_faults(number: u32, work: &[u32]) -> usize {
-    if number == 14 {
-        return others(work, 0, work.len(), MARK);
+// At how many places the first n words differ.
+fn differences(a: &[u32], b: &[u32], n: usize) -> usize {
+    let mut count = 0;
+    let mut i = 0;
+    while i < n {
+        count = plus(count, is_other(at(a, i), at(b, i)));
+        i += 1;
     }
-    plus(
-        others(work, 0, 16384, 0),
-        others(work, 16384, work.len(), MARK),
-    )
+    count
 }
 
 fn read_file(kind: u32, beside: &[u8], file: &[u8], out: &mut [u32], work: &mut [u32]) -> Reply {
@@ -139,8 +88,8 @@ fn write_file(kind: u32, beside: &[u8], fields: &[u32], out: &mut [u8], work: &m
 }
 
 pub fn read(kind: u32, beside: &[u8], file: &[u8], out: &mut [u32], work: &mut [u32]) -> Outcome {
-    fill(out, MARK);
-    fill(work, MARK);
+    fill(out, out.len(), MARK);
+    fill(work, work.len(), MARK);
     let o = answered(read_file(kind, beside, file, out, work));
     let kept = others(out, written(o), out.len(), MARK);
     with_faults(o, plus(kept, work_faults(o.number, work)))
@@ -153,11 +102,9 @@ pub fn write(
     out: &mut [u8],
     work: &mut [u32],
 ) -> Outcome {
-    fill_bytes(out, MARK_BYTE);
-    fill(work, MARK);
-    let o = answered(write_file(kind, beside, fields, out, work));
-    let kept = other_bytes(out, written(o), out.len(), MARK_BYTE);
-    with_faults(o, plus(kept, work_faults(o.number, work)))
+    mark(out, work);
+    let r = write_file(kind, beside, fields, out, work);
+    left(r, out, work)
 }
 
 // Writes the first n fields, which were read from the file: the same bytes have to come out.

@@ -1,22 +1,31 @@
 // The contents that are too long to write out, each by a plain rule, and what they stand beside. A function that writes fields
 // does so from a place on and answers the place after.
-use crate::arrays::byte_at;
-use crate::arrays::parts;
-use crate::arrays::plus;
-use crate::arrays::put;
-use crate::arrays::put_byte;
-use crate::arrays::rest;
-use crate::arrays::word;
+ghost use mathlib.Core.Path.{_≡_};
+ghost use lib.ListN.{length};
 use crate::calls::BOOK;
 use crate::calls::CATALOGUE;
 use crate::calls::PATTERN;
 use crate::calls::RECORD;
 use crate::calls::SHEET;
-use crate::calls::write;
+use harness::arrays::byte_at;
+use harness::arrays::low;
+use harness::arrays::plus;
+use harness::arrays::put;
+use harness::arrays::put_byte;
+use harness::arrays::quotient;
+use harness::arrays::rest;
+use harness::outcome::write_catalogue;
+
+// As many fields as a file of 65,536 bytes has at most.
+pub fn many_words() -> [u32; 45000]
+    ensures { λ r. ⌜ 45000 ≡ length r ⌝ }
+{
+    [0; 45000]
+}
 
 fn put_two(s: &mut [u32], at: usize, a: usize, b: usize) -> usize {
-    put(s, at, word(a));
-    put(s, plus(at, 1), word(b));
+    put(s, at, low(a));
+    put(s, plus(at, 1), low(b));
     plus(at, 2)
 }
 
@@ -24,7 +33,7 @@ fn pattern_kinds(s: &mut [u32], start: usize, items: usize) -> usize {
     let mut at = start;
     let mut i = 0;
     while i < items {
-        put(s, at, word(i % 32 * 3 % 32));
+        put(s, at, low(i % 32 * 3 % 32));
         at = plus(at, 1);
         i += 1;
     }
@@ -32,7 +41,12 @@ fn pattern_kinds(s: &mut [u32], start: usize, items: usize) -> usize {
 }
 
 fn pattern_link(s: &mut [u32], at: usize, items: usize, i: usize) -> usize {
-    put_two(s, at, rest(i, items), rest(plus(i, parts(i, items)), items))
+    put_two(
+        s,
+        at,
+        rest(i, items),
+        rest(plus(i, quotient(i, items)), items),
+    )
 }
 
 fn pattern_links(s: &mut [u32], start: usize, items: usize, links: usize) -> usize {
@@ -54,7 +68,7 @@ fn pattern(s: &mut [u32], start: usize, items: usize, links: usize) -> usize {
 
 // A catalogue of full patterns.
 fn catalogue(s: &mut [u32], number: usize) -> usize {
-    put(s, 0, word(number));
+    put(s, 0, low(number));
     let mut at = 1;
     let mut i = 0;
     while i < number {
@@ -68,7 +82,7 @@ fn record_kinds(s: &mut [u32], start: usize, items: usize) -> usize {
     let mut at = start;
     let mut i = 0;
     while i < items {
-        put(s, at, word(i % 65536 * 1048573 % 4294967291));
+        put(s, at, low(i % 65536 * 1048573 % 4294967291));
         at = plus(at, 1);
         i += 1;
     }
@@ -81,7 +95,7 @@ fn record_link(s: &mut [u32], at: usize, items: usize, i: usize) -> usize {
         s,
         at,
         from,
-        rest(plus(from % 65536 * 7, parts(i, items)), items),
+        rest(plus(from % 65536 * 7, quotient(i, items)), items),
     )
 }
 
@@ -104,7 +118,7 @@ fn record(s: &mut [u32], items: usize, links: usize) -> usize {
 
 // A list of a sheet: the numbers from `first` on, each by `step` more, as pairs.
 fn list(s: &mut [u32], start: usize, count: usize, first: usize, step: usize) -> usize {
-    put(s, start, word(count));
+    put(s, start, low(count));
     let mut at = plus(start, 1);
     let mut n = first;
     let mut i = 0;
@@ -203,17 +217,17 @@ fn copy(from: &[u8], to: &mut [u8]) -> usize {
     n
 }
 
-fn full_catalogue(fields: &mut [u32], beside: &mut [u8], work: &mut [u32]) -> usize {
+fn full_catalogue(fields: &mut [u32], beside: &mut [u8]) -> usize {
     let n = catalogue(fields, 16);
     if n > fields.len() {
         return 0;
     }
-    let o = write(CATALOGUE, b"", &fields[0..n], beside, work);
+    let o = write_catalogue(&fields[0..n], beside);
     o.value
 }
 
 // What a content stands beside, and how many bytes it has: a pattern of one link, D, C, a full catalogue, an empty one.
-pub fn beside_of(content: u8, fields: &mut [u32], beside: &mut [u8], work: &mut [u32]) -> usize {
+pub fn beside_of(content: u8, fields: &mut [u32], beside: &mut [u8]) -> usize {
     match content {
         b'l' => copy(b"\x10\x20\x08\x08", beside),
         b's' => copy(b"\x20\x80\x08\x86\x02\x04\x26\x46", beside),
@@ -225,7 +239,7 @@ pub fn beside_of(content: u8, fields: &mut [u32], beside: &mut [u8], work: &mut 
             b"\x18\x10\x20\x08\x08\x18\x40\x08\xc0\x44\x80\x18\x40\x10\xc0\x44\x80",
             beside,
         ),
-        b'w' => full_catalogue(fields, beside, work),
+        b'w' => full_catalogue(fields, beside),
         b'n' => copy(b"\x00", beside),
         _ => 0,
     }

@@ -1,32 +1,34 @@
 // Damaged files, and files beside a damaged one: cut at places, and one bit turned at places.
 ghost use Prim.Native.Nat.{_<_};
-use crate::arrays::at;
-use crate::arrays::flip;
-use crate::arrays::least;
-use crate::arrays::many_bytes;
-use crate::arrays::many_words;
-use crate::arrays::plus;
-use crate::arrays::step;
-use crate::arrays::sum;
-use crate::arrays::word;
-use crate::arrays::work_words;
-use crate::calls::Outcome;
 use crate::calls::kind_of;
 use crate::calls::read_and_write;
 use crate::calls::write;
 use crate::content::beside_of;
 use crate::content::fields_of;
 use crate::content::kind_of_content;
+use crate::content::many_words;
 use crate::lines::bytes;
 use crate::lines::find;
 use crate::lines::letter;
 use crate::lines::numbers;
-use crate::text::number;
+use crate::sums::step;
+use crate::sums::sum;
 use crate::text::prefix;
-use crate::text::say;
+use harness::arrays::at;
+use harness::arrays::flip;
+use harness::arrays::least;
+use harness::arrays::low;
+use harness::arrays::plus;
+use harness::lent::book_bytes;
+use harness::lent::work_words;
+use harness::outcome::Outcome;
+use harness::refusals;
+use harness::tally;
+use harness::text::number;
+use harness::text::say;
 
-// A tally: how often each number and detail came, at 5 * number + detail, then how many were tried, the sum and the faults.
-const CELLS: usize = 75;
+// A tally: the accepted, then how often each refusal came, then how many were tried, the sum and the faults.
+const ACCEPTED: usize = 0;
 
 const TRIED: usize = 75;
 
@@ -34,51 +36,28 @@ const SUM: usize = 76;
 
 const FAULTS: usize = 77;
 
-fn cell(o: Outcome) -> usize {
+fn count(tally: &mut [u64], o: Outcome) {
+    tally::add(tally, TRIED, 1);
+    tally::add(tally, FAULTS, o.faults);
     if o.number == 0 {
-        return 0;
+        tally::add(tally, ACCEPTED, 1);
+    } else {
+        refusals::count(tally, 0, o.number, o.value);
     }
-    if o.number > 14 {
-        return 0;
-    }
-    let first = o.number as usize * 5;
-    if o.value > 4 {
-        return first;
-    }
-    first + o.value
-}
-
-fn add(tally: &mut [usize], i: usize, n: usize) {
-    if i < tally.len() {
-        let old = tally[i];
-        tally[i] = plus(old, n);
-    }
-}
-
-fn cell_at(tally: &[usize], i: usize) -> usize {
-    if i < tally.len() { tally[i] } else { 0 }
 }
 
 // The sum goes on by the number, the value and, where the file was accepted, the sum of its content.
-fn next_sum(old: usize, o: Outcome, content: u32) -> usize {
-    let by_answer = step(step(word(old), o.number), word(o.value));
+fn next_sum(old: u64, o: Outcome, content: u32) -> u64 {
+    let by_answer = step(step((old % 0x1_0000_0000) as u32, o.number), low(o.value));
     if o.number == 0 {
-        return step(by_answer, content) as usize;
+        return step(by_answer, content) as u64;
     }
-    by_answer as usize
+    by_answer as u64
 }
 
-fn mix(tally: &mut [usize], o: Outcome, content: u32) {
-    if SUM < tally.len() {
-        let old = tally[SUM];
-        tally[SUM] = next_sum(old, o, content);
-    }
-}
-
-fn count(tally: &mut [usize], o: Outcome) {
-    add(tally, TRIED, 1);
-    add(tally, FAULTS, o.faults);
-    add(tally, cell(o), 1);
+fn mix(tally: &mut [u64], o: Outcome, content: u32) {
+    let old = tally::at(tally, SUM);
+    tally::put(tally, SUM, next_sum(old, o, content));
 }
 
 fn tried(
@@ -88,7 +67,7 @@ fn tried(
     out: &mut [u32],
     back: &mut [u8],
     work: &mut [u32],
-    tally: &mut [usize],
+    tally: &mut [u64],
 ) {
     let o = read_and_write(kind, beside, file, out, back, work);
     count(tally, o);
@@ -112,7 +91,7 @@ fn cut(
     out: &mut [u32],
     back: &mut [u8],
     work: &mut [u32],
-    tally: &mut [usize],
+    tally: &mut [u64],
 ) {
     if n <= file.len() {
         tried(kind, beside, &file[0..n], out, back, work, tally);
@@ -127,7 +106,7 @@ fn cut_beside(
     out: &mut [u32],
     back: &mut [u8],
     work: &mut [u32],
-    tally: &mut [usize],
+    tally: &mut [u64],
 ) {
     if n <= beside.len() {
         tried(kind, &beside[0..n], file, out, back, work, tally);
@@ -142,7 +121,7 @@ fn flipped(
     out: &mut [u32],
     back: &mut [u8],
     work: &mut [u32],
-    tally: &mut [usize],
+    tally: &mut [u64],
 ) {
     flip(file, bit);
     tried(kind, beside, file, out, back, work, tally);
@@ -157,7 +136,7 @@ fn flipped_beside(
     out: &mut [u32],
     back: &mut [u8],
     work: &mut [u32],
-    tally: &mut [usize],
+    tally: &mut [u64],
 ) {
     flip(beside, bit);
     tried(kind, beside, file, out, back, work, tally);
@@ -173,7 +152,7 @@ fn damaged(
     out: &mut [u32],
     back: &mut [u8],
     work: &mut [u32],
-    tally: &mut [usize],
+    tally: &mut [u64],
 ) {
     match way {
         CUT => cut(kind, beside, file, place, out, back, work, tally),
@@ -194,7 +173,7 @@ fn sweep(
     out: &mut [u32],
     back: &mut [u8],
     work: &mut [u32],
-    tally: &mut [usize],
+    tally: &mut [u64],
 )
     requires { ⌜ 0 < stride ⌝ }
 {
@@ -208,38 +187,33 @@ fn sweep(
     }
 }
 
-fn refused_times(i: usize, n: usize) {
-    if n == 0 {
-        return;
-    }
-    say(b", refused ");
-    number(i / 5);
-    say(b" ");
-    number(i % 5);
-    say(b" ");
-    number(n);
-    say(b" times");
-}
-
-fn refusals(tally: &[usize]) {
-    let mut i = 5;
-    while i < CELLS {
-        refused_times(i, cell_at(tally, i));
-        i += 1;
+fn refused_times(tally: &[u64], cell: usize) {
+    if tally::at(tally, cell) != 0 {
+        say(b", refused ");
+        number(cell / 5);
+        say(b" ");
+        number(cell % 5);
+        say(b" ");
+        tally::say(tally, cell, b" times");
     }
 }
 
-fn say_tally(tally: &[usize]) {
+fn say_refusals(tally: &[u64]) {
+    let mut cell = 5;
+    while cell < 75 {
+        refused_times(tally, cell);
+        cell += 1;
+    }
+}
+
+fn say_tally(tally: &[u64]) {
     say(b"tried ");
-    number(cell_at(tally, TRIED));
-    say(b", accepted ");
-    number(cell_at(tally, 0));
-    refusals(tally);
+    tally::say(tally, TRIED, b", accepted ");
+    tally::say(tally, ACCEPTED, b"");
+    say_refusals(tally);
     say(b", sum ");
-    number(cell_at(tally, SUM));
-    say(b", faults ");
-    number(cell_at(tally, FAULTS));
-    say(b"\n");
+    tally::say(tally, SUM, b", faults ");
+    tally::say(tally, FAULTS, b"\n");
 }
 
 fn positive(n: usize) -> usize
@@ -259,8 +233,8 @@ fn swept(
     back: &mut [u8],
     work: &mut [u32],
 ) {
-    let mut tally = [0usize; 78];
-    add(&mut tally, SUM, 1);
+    let mut tally = [0u64; 78];
+    tally::put(&mut tally, SUM, 1);
     sweep(
         kind,
         way,
@@ -441,9 +415,9 @@ fn damage_written(
     work: &mut [u32],
 ) {
     let mut out = many_words();
-    let mut back = many_bytes();
+    let mut back = book_bytes();
     let words = least(plus(plus(n, n), 4), 45000);
-    let bytes = least(plus(n, 4), 65540);
+    let bytes = least(plus(n, 4), 98304);
     if m <= beside.len() {
         if n <= file.len() {
             damage_large(
@@ -488,7 +462,7 @@ fn sample(
     file: &mut [u8],
     work: &mut [u32],
 ) {
-    let m = beside_of(content, fields, beside, work);
+    let m = beside_of(content, fields, beside);
     let n = fields_of(
         content,
         at(counts, 0) as usize,
@@ -504,8 +478,8 @@ pub fn sample_line(s: &[u8]) {
     let mut counts = [0u32; 64];
     numbers(s, 0, s.len(), &mut counts);
     let mut fields = many_words();
-    let mut beside = many_bytes();
-    let mut file = many_bytes();
+    let mut beside = book_bytes();
+    let mut file = book_bytes();
     let mut work = work_words();
     sample(
         s,

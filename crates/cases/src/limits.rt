@@ -1,25 +1,25 @@
 // The limits: the largest files, one more of each, too little room, too few words to work in.
-use crate::arrays::at;
-use crate::arrays::many_bytes;
-use crate::arrays::many_words;
-use crate::arrays::plus;
-use crate::arrays::put_byte;
-use crate::arrays::work_words;
 use crate::calls::BOOK;
-use crate::calls::SHEET;
 use crate::calls::read;
 use crate::calls::write;
-use crate::calls::written;
 use crate::content::beside_of;
 use crate::content::distinct_first;
 use crate::content::distinct_second;
 use crate::content::distinct_third;
 use crate::content::fields_of;
 use crate::content::kind_of_content;
+use crate::content::many_words;
 use crate::lines::letter;
 use crate::lines::numbers;
 use crate::text::bytes_summed;
 use crate::text::words_summed;
+use harness::arrays::at;
+use harness::arrays::plus;
+use harness::arrays::put_byte;
+use harness::lent::book_bytes;
+use harness::lent::work_words;
+use harness::outcome::write_sheet;
+use harness::outcome::written;
 
 fn read_with_less_room(
     s: &[u8],
@@ -175,7 +175,7 @@ fn limit_of(
     n: usize,
     work: &mut [u32],
 ) {
-    let mut file = many_bytes();
+    let mut file = book_bytes();
     let mut out = many_words();
     if m <= beside.len() {
         if n <= fields.len() {
@@ -194,9 +194,9 @@ fn limit_of(
 
 fn made(s: &[u8], content: u8, a: usize, b: usize) {
     let mut fields = many_words();
-    let mut beside = many_bytes();
+    let mut beside = book_bytes();
     let mut work = work_words();
-    let m = beside_of(content, &mut fields, &mut beside, &mut work);
+    let m = beside_of(content, &mut fields, &mut beside);
     let n = fields_of(content, a, b, &mut fields);
     limit_of(
         s,
@@ -210,53 +210,25 @@ fn made(s: &[u8], content: u8, a: usize, b: usize) {
 }
 
 // Writes the first n fields as a sheet from a place on, and answers the place after.
-fn append(
-    pattern: &[u8],
-    fields: &[u32],
-    n: usize,
-    file: &mut [u8],
-    start: usize,
-    work: &mut [u32],
-) -> usize {
+fn append(pattern: &[u8], fields: &[u32], n: usize, file: &mut [u8], start: usize) -> usize {
     if n > fields.len() {
         return start;
     }
     if start > file.len() {
         return start;
     }
-    let o = write(SHEET, pattern, &fields[0..n], &mut file[start..], work);
-    if o.number != 0 {
-        return start;
-    }
-    plus(start, o.value)
-}
-
-fn first_sheet(fields: &mut [u32], file: &mut [u8], work: &mut [u32]) -> usize {
-    let n = distinct_first(fields, 0);
-    append(b"\x10\x20\x08\x08", fields, n, file, 0, work)
-}
-
-fn second_sheet(fields: &mut [u32], file: &mut [u8], start: usize, work: &mut [u32]) -> usize {
-    let n = distinct_second(fields, 0);
-    append(b"\x18\x40\x08\xc0\x44\x80", fields, n, file, start, work)
-}
-
-fn third_sheet(
-    last: usize,
-    fields: &mut [u32],
-    file: &mut [u8],
-    start: usize,
-    work: &mut [u32],
-) -> usize {
-    let n = distinct_third(fields, 0, last);
-    append(b"\x18\x40\x10\xc0\x44\x80", fields, n, file, start, work)
+    let o = write_sheet(pattern, &fields[0..n], &mut file[start..]);
+    plus(start, written(o))
 }
 
 // The three sheets of a book of C, written one by one, so that the book can hold too many pairs.
-fn sheets(last: usize, fields: &mut [u32], file: &mut [u8], work: &mut [u32]) -> usize {
-    let one = first_sheet(fields, file, work);
-    let two = second_sheet(fields, file, one, work);
-    third_sheet(last, fields, file, two, work)
+fn sheets(last: usize, fields: &mut [u32], file: &mut [u8]) -> usize {
+    let first = distinct_first(fields, 0);
+    let one = append(b"\x10\x20\x08\x08", fields, first, file, 0);
+    let second = distinct_second(fields, 0);
+    let two = append(b"\x18\x40\x08\xc0\x44\x80", fields, second, file, one);
+    let third = distinct_third(fields, 0, last);
+    append(b"\x18\x40\x10\xc0\x44\x80", fields, third, file, two)
 }
 
 fn read_joined(s: &[u8], beside: &[u8], m: usize, file: &[u8], n: usize, work: &mut [u32]) {
@@ -268,11 +240,11 @@ fn read_joined(s: &[u8], beside: &[u8], m: usize, file: &[u8], n: usize, work: &
 
 fn joined(s: &[u8], last: usize) {
     let mut fields = many_words();
-    let mut beside = many_bytes();
-    let mut file = many_bytes();
+    let mut beside = book_bytes();
+    let mut file = book_bytes();
     let mut work = work_words();
-    let m = beside_of(b'b', &mut fields, &mut beside, &mut work);
-    let n = sheets(last, &mut fields, &mut file, &mut work);
+    let m = beside_of(b'b', &mut fields, &mut beside);
+    let n = sheets(last, &mut fields, &mut file);
     put_byte(&mut file, n, 0);
     read_joined(s, &beside, m, &file, n, &mut work);
 }

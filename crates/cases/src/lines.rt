@@ -1,10 +1,10 @@
 // A line of the table: its words, its bytes in hexadecimal and its numbers.
-use crate::arrays::at;
-use crate::arrays::byte_at;
-use crate::arrays::least;
-use crate::arrays::plus;
-use crate::arrays::put;
-use crate::arrays::put_byte;
+use harness::arrays::at;
+use harness::arrays::byte_at;
+use harness::arrays::least;
+use harness::arrays::plus;
+use harness::arrays::put;
+use harness::arrays::put_byte;
 
 // The place of the first such byte, or the length.
 pub fn find(s: &[u8], b: u8) -> usize {

@@ -1,13 +1,16 @@
 // Runs the client calls of `packed` by the lines of a table, on small files, at the limits and on damaged files, and lists what
 // they answer.
-mod arrays;
 mod calls;
 mod content;
 mod damage;
 mod limits;
 mod lines;
 mod small;
+mod sums;
 mod text;
+
+use harness::arrays;
+use harness::lent;
 
 fn command(s: &[u8]) {
     match arrays::byte_at(s, 0) {
@@ -42,7 +45,7 @@ fn table_lines(table: &[u8], n: usize) {
 }
 
 fn main() {
-    let mut table = arrays::many_bytes();
+    let mut table = lent::book_bytes();
     let n = io::read_full(0, &mut table);
     table_lines(&table, n);
 }

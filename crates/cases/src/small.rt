@@ -1,7 +1,4 @@
 // Files and contents that are written out, one for each rule.
-use crate::arrays::at;
-use crate::arrays::many_bytes;
-use crate::arrays::work_words;
 use crate::calls::kind_of;
 use crate::calls::read;
 use crate::calls::read_and_write;
@@ -13,6 +10,9 @@ use crate::lines::numbers;
 use crate::text::bytes_written;
 use crate::text::prefix;
 use crate::text::words_written;
+use harness::arrays::at;
+use harness::lent::book_bytes;
+use harness::lent::work_words;
 
 fn read_case(kind: u32, beside: &[u8], file: &[u8]) {
     let mut out = [0u32; 64];
@@ -91,6 +91,6 @@ pub fn zeros_line(s: &[u8]) {
     let n = at(&counts, 0) as usize;
     let zero = at(&counts, 1) as usize;
     prefix(s, colon, b": ");
-    let file = many_bytes();
+    let file = book_bytes();
     zeros_beside(kind_of(letter(s)), &beside, m, &file, zero, n);
 }

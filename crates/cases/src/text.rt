@@ -1,21 +1,13 @@
 // What is printed.
-use crate::arrays::at;
-use crate::arrays::byte_at;
-use crate::arrays::byte_sum;
-use crate::arrays::sum;
-use crate::calls::Outcome;
-
-pub fn say(s: &[u8]) {
-    io::write_all(1, s);
-}
-
-pub fn number(n: usize) {
-    io::print_decimal(1, n as u64);
-}
-
-pub fn number32(n: u32) {
-    io::print_decimal(1, n as u64);
-}
+use crate::sums::byte_sum;
+use crate::sums::sum;
+use harness::arrays::at;
+use harness::outcome::Outcome;
+use harness::text::bytes;
+use harness::text::number;
+use harness::text::number32;
+use harness::text::refusal;
+use harness::text::say;
 
 // The line up to a place, and what stands between it and the answer.
 pub fn prefix(s: &[u8], n: usize, what: &[u8]) {
@@ -30,32 +22,12 @@ fn spaced_number(n: u32) {
     number32(n);
 }
 
-fn spaced_byte(b: u8) {
-    say(b" ");
-    io::print_hex(1, b as u64, 2);
-}
-
 fn words(s: &[u32], n: usize) {
     let mut i = 0;
     while i < n {
         spaced_number(at(s, i));
         i += 1;
     }
-}
-
-fn bytes(s: &[u8], n: usize) {
-    let mut i = 0;
-    while i < n {
-        spaced_byte(byte_at(s, i));
-        i += 1;
-    }
-}
-
-fn refusal(o: Outcome) {
-    say(b"refused ");
-    number32(o.number);
-    say(b" ");
-    number(o.value);
 }
 
 // Faults are told of only where there are some.

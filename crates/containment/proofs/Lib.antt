@@ -9,7 +9,6 @@ pub mod GraphedLaws
 pub mod AnswerLaws
 pub mod QuoteLaws
 pub mod ShowLaws
-pub mod ListingLaws
 pub mod BookLaws
 pub mod CandidateLaws
 pub mod AnsweringLaws

@@ -1,6 +1,7 @@
 // What a call answered, and what it left behind.
 use crate::arrays;
 use crate::lent;
+use packed::reply;
 use packed::reply::Refusal;
 use packed::reply::Reply;
 
@@ -11,34 +12,11 @@ pub struct Outcome {
     pub faults: usize,
 }
 
-fn refused(number: u32, detail: u32) -> Outcome {
-    Outcome {
-        number,
-        value: detail as usize,
-        faults: 0,
-    }
-}
-
 pub fn refusal(r: Refusal) -> Outcome {
-    match r {
-        Refusal::TooLong(d) => refused(1, d),
-        Refusal::Truncated(d) => refused(2, d),
-        Refusal::OutOfRange(d) => refused(3, d),
-        Refusal::NoSuchNode(d) => refused(4, d),
-        Refusal::DuplicateEdge(d) => refused(5, d),
-        Refusal::NotAscending(d) => refused(6, d),
-        Refusal::IsolatedNode(d) => refused(7, d),
-        Refusal::MixedCounts(d) => refused(8, d),
-        Refusal::Trailing(d) => refused(9, d),
-        Refusal::TooManyPairs(d) => refused(10, d),
-        Refusal::NotContained(d) => refused(11, d),
-        Refusal::NoRoom(n) => Outcome {
-            number: 12,
-            value: n,
-            faults: 0,
-        },
-        Refusal::Contained => refused(13, 0),
-        Refusal::SmallWorkspace => refused(14, 0),
+    Outcome {
+        number: arrays::low(reply::number_of(r)),
+        value: reply::detail_of(r),
+        faults: 0,
     }
 }
 

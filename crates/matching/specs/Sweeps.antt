@@ -27,9 +27,13 @@ pub record OneOf (n : ℕ) (Q : ℕ → Type 0) : Type 0 where
   pub holds : Q at
 
 -- ---- the first candidates
+-- the nodes below n whose label is among the labels x
+abbrev pub FittingOf : List ℕ → ℕ → ℕ → ℕ → Type 0
+FittingOf labels n x k = OneOf n (λ u. (u ≡ k) × Has x (getD labels u 0))
+
 -- the nodes of the pattern whose label is among the labels x
 abbrev pub Fitting : Given → ℕ → ℕ → Type 0
-Fitting p x k = OneOf (p .nodes) (λ u. (u ≡ k) × Has x (getD (p .labels) u 0))
+Fitting p x = FittingOf (p .labels) (p .nodes) x
 
 -- the masks of n nodes of the record s hold the nodes of the pattern that fit
 pub record Started (p : Given) (s : List ℕ) (n : ℕ) (w w′ : List ℕ) : Type 0 where

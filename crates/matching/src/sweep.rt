@@ -1,10 +1,10 @@
 // The greatest simulation by sweeps over the workspace: the codes of the edges from word 0 on, the candidate masks of the nodes from 8192
 // on, and from 12288 on what a sweep gathers at each node.
 ghost use mathlib.Core.Path.{_≡_};
-ghost use Prim.Native.Nat.{_+_, _*_, _<_, _≤_};
-ghost use lib.ListN.{length, replicate};
+ghost use Prim.Native.Nat.{ℕ, _+_, _*_, _<_, _≤_};
+ghost use lib.ListN.{length, getD, replicate};
 ghost use Rattle.matching.specs.Steps.{Fair, Ready, Simulated};
-ghost use Rattle.matching.specs.Sweeps.{Has, Mask, Fitting, Started, Leads, Names, Pairs, Tabled, LookedUp, Dropped, Shaped, Clear, Cleared, Gathered, Settled, Swept, Pruned};
+ghost use Rattle.matching.specs.Sweeps.{Has, Mask, FittingOf, Started, Leads, Names, Pairs, Tabled, LookedUp, Dropped, Shaped, Clear, Cleared, Gathered, Settled, Swept, Pruned};
 use packed::by_value;
 use packed::by_value::Pattern;
 
@@ -21,16 +21,15 @@ pub fn fit_one(x: u32, label: u32, u: u32) -> u32
     0
 }
 
-// The nodes of the pattern whose label is among the labels x.
-fn fit(p: Pattern, x: u32) -> u32
-    requires { ⌜ Fair p ⌝ }
-    ensures { λ r. ⌜ Mask (Fitting p x) r ⌝ }
+// The nodes below n whose label is among the labels x.
+fn fit(labels: &[u32; 16], n: usize, x: u32) -> u32
+    requires { ⌜ (n ≤ 16) × ((u : ℕ) → u < n → getD (now labels) u 0 < 32) ⌝ }
+    ensures { λ r. ⌜ Mask (FittingOf (now (labels .entry)) n x) r ⌝ }
 {
     let mut r: u32 = 0;
-    let n = p.nodes;
     let mut u: usize = 0;
     while u < n {
-        r = r | fit_one(x, p.labels[u], u as u32);
+        r = r | fit_one(x, labels[u], u as u32);
         u += 1;
     }
     r
@@ -41,10 +40,11 @@ fn start(s: &[u8], n: usize, p: Pattern, work: &mut [u32])
     requires { ⌜ Fair p × (n ≤ 4096) × (length (now s) ≤ 65536) × (27 + 32 * n ≤ 8 * length (now s)) × (length (now work) ≡ 16384) ⌝ }
     ensures { λ r. ⌜ Started p (now (s .entry)) n (now (work .entry)) (now (work .exit)) ⌝ }
 {
+    let labels = p.labels;
     let mut v: usize = 0;
     while v < n {
         let at = 8192 + v;
-        work[at] = fit(p, by_value::labels_at(s, v));
+        work[at] = fit(&labels, p.nodes, by_value::labels_at(s, v));
         v += 1;
     }
 }

@@ -70,12 +70,37 @@ fn sum(c: [u32; 32], m: u32) -> u32
     s
 }
 
+// How many of the pairs are listed, and how many of those each list has.
+struct Listing {
+    pairs: usize,
+    counts: [u32; 32],
+}
+
+// What m lists take of the n pairs: none, where one of them would be empty.
+fn listing_of(work: &[u32], n: usize, m: u32) -> Listing
+    requires { ⌜ (m ≤ 32) × (n ≤ 8192) × (16384 ≤ length (now work)) ⌝ }
+    ensures { λ r. ⌜ Listed n m (now (work .entry)) (r .pairs) × Counts (r .pairs) (now (work .entry)) (r .counts) ⌝ }
+{
+    let c = counts(work, n);
+    if is_none(c, m) {
+        return Listing {
+            pairs: 0,
+            counts: no_counts(),
+        };
+    }
+    Listing {
+        pairs: n,
+        counts: c,
+    }
+}
+
 // How many of the n pairs are listed: none, where one of the m lists would be empty.
 pub fn listed(work: &[u32], n: usize, m: u32) -> usize
     requires { ⌜ (m ≤ 32) × (n ≤ 8192) × (16384 ≤ length (now work)) ⌝ }
     ensures { λ r. ⌜ Listed n m (now (work .entry)) r ⌝ }
 {
-    if is_none(counts(work, n), m) { 0 } else { n }
+    let l = listing_of(work, n, m);
+    l.pairs
 }
 
 // How many bytes the sheet for m edges takes.
@@ -83,8 +108,9 @@ pub fn sheet_size(work: &[u32], n: usize, m: u32) -> usize
     requires { ⌜ (m ≤ 32) × (n ≤ 8192) × (16384 ≤ length (now work)) ⌝ }
     ensures { λ r. ⌜ r ≡ (14 * m + 24 * total (matchesOf n m (now (work .entry))) + 7) / 8 ⌝ }
 {
-    let k = listed(work, n, m);
-    let t = sum(counts(work, k), m);
+    let l = listing_of(work, n, m);
+    let c = l.counts;
+    let t = sum(c, m);
     (14 * m as usize + 24 * t as usize + 7) / 8
 }
 
@@ -108,11 +134,10 @@ fn write_list(work: &[u32], n: usize, e: u32, out: &mut [u8], start: usize) -> u
 }
 
 // The first m lists, each a count and its pairs; the result is the bit offset after them.
-fn write_lists(work: &[u32], n: usize, m: u32, out: &mut [u8]) -> usize
-    requires { ⌜ Marked n (now work) × (m ≤ 32) ⌝ }
+fn write_lists(work: &[u32], n: usize, c: [u32; 32], m: u32, out: &mut [u8]) -> usize
+    requires { ⌜ Marked n (now work) × Counts n (now work) c × (m ≤ 32) ⌝ }
     ensures { λ r. ⌜ ListsWritten n m (now (work .entry)) (now (out .entry)) r (now (out .exit)) ⌝ }
 {
-    let c = counts(work, n);
     let mut at: usize = 0;
     let mut e: u32 = 0;
     while e < m {
@@ -129,7 +154,8 @@ pub fn write_sheet(work: &[u32], n: usize, m: u32, out: &mut [u8]) -> usize
     requires { ⌜ Marked n (now work) × (m ≤ 32) ⌝ }
     ensures { λ r. ⌜ Written n m (now (work .entry)) (now (out .entry)) r (now (out .exit)) ⌝ }
 {
-    let k = listed(work, n, m);
-    let at = write_lists(work, k, m, out);
+    let l = listing_of(work, n, m);
+    let c = l.counts;
+    let at = write_lists(work, l.pairs, c, m, out);
     field::write_padding(out, at)
 }

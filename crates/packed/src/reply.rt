@@ -1,4 +1,6 @@
 // What calls and their parts answer.
+ghost use mathlib.Core.Path.{_≡_};
+ghost use Rattle.packed.specs.Refusals.{numberOf, detailOf};
 
 // Why a call refuses. The word and the number of each are those of the requirements; specs/Refusals.antt has the numbers and details.
 pub enum Refusal {
@@ -60,4 +62,48 @@ pub enum Two {
 pub struct Loaded {
     pub part: Part,
     pub edges: usize,
+}
+
+// The number of a refusal.
+pub fn number_of(x: Refusal) -> usize
+    ensures { λ r. ⌜ r ≡ numberOf x ⌝ }
+{
+    match x {
+        Refusal::TooLong(_) => 1,
+        Refusal::Truncated(_) => 2,
+        Refusal::OutOfRange(_) => 3,
+        Refusal::NoSuchNode(_) => 4,
+        Refusal::DuplicateEdge(_) => 5,
+        Refusal::NotAscending(_) => 6,
+        Refusal::IsolatedNode(_) => 7,
+        Refusal::MixedCounts(_) => 8,
+        Refusal::Trailing(_) => 9,
+        Refusal::TooManyPairs(_) => 10,
+        Refusal::NotContained(_) => 11,
+        Refusal::NoRoom(_) => 12,
+        Refusal::Contained => 13,
+        Refusal::SmallWorkspace => 14,
+    }
+}
+
+// The detail of a refusal.
+pub fn detail_of(x: Refusal) -> usize
+    ensures { λ r. ⌜ r ≡ detailOf x ⌝ }
+{
+    match x {
+        Refusal::TooLong(d) => d as usize,
+        Refusal::Truncated(d) => d as usize,
+        Refusal::OutOfRange(d) => d as usize,
+        Refusal::NoSuchNode(d) => d as usize,
+        Refusal::DuplicateEdge(d) => d as usize,
+        Refusal::NotAscending(d) => d as usize,
+        Refusal::IsolatedNode(d) => d as usize,
+        Refusal::MixedCounts(d) => d as usize,
+        Refusal::Trailing(d) => d as usize,
+        Refusal::TooManyPairs(d) => d as usize,
+        Refusal::NotContained(d) => d as usize,
+        Refusal::NoRoom(d) => d,
+        Refusal::Contained => 0,
+        Refusal::SmallWorkspace => 0,
+    }
 }

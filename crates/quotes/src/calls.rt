@@ -2,7 +2,6 @@
 ghost use mathlib.Core.Path.{_≡_};
 ghost use lib.ListN.{length};
 use crate::counts;
-use containment::listing;
 use containment::quote_type::Coverage;
 use containment::quote_type::Quote;
 use containment::show::Shown;
@@ -13,6 +12,7 @@ use harness::outcome;
 use harness::outcome::Outcome;
 use harness::tally;
 use harness::text;
+use listing::lines;
 
 // What a showing answered: the number 0 and the lengths of two records, or a refusal.
 pub struct Showing {
@@ -33,7 +33,7 @@ pub fn record_bytes() -> [u8; 180]
 fn line(q: Quote, k: usize, aloud: bool, tally: &mut [u64]) -> bool {
     let mut buf = io::buffer();
     arrays::fill_bytes(&mut buf, 4096, arrays::MARK_BYTE);
-    let n = arrays::least(listing::line(q, k, &mut buf), 4096);
+    let n = arrays::least(lines::line(q, k, &mut buf), 4096);
     tally::add(
         tally,
         counts::FAULTS,

@@ -12,8 +12,8 @@ Inv-loop s₀ number at₀ i₀ s at i = length s ≡ length s₀
 abbrev μ-loop : tie.MeasureT-loop
 μ-loop s₀ number at₀ i₀ s at i = number - i
 
-word-requires : tie.Need-word-requires Inv-loop μ-loop
-word-requires c κs = search needs
+low-requires : tie.Need-low-requires Inv-loop μ-loop
+low-requires c κs = search needs
 
 put-requires : tie.Need-put-requires Inv-loop μ-loop
 put-requires c κs = search needs
@@ -45,7 +45,7 @@ catalogue-spec =
     (tie.spec
     Inv-loop
     μ-loop
-    word-requires
+    low-requires
     put-requires
     loop-holds
     pattern-requires

@@ -12,8 +12,8 @@ Inv-loop s₀ start count first step at₀ n₀ i₀ s at n i = length s ≡ len
 abbrev μ-loop : tie.MeasureT-loop
 μ-loop s₀ start count first step at₀ n₀ i₀ s at n i = count - i
 
-word-requires : tie.Need-word-requires Inv-loop μ-loop
-word-requires c κs = search needs
+low-requires : tie.Need-low-requires Inv-loop μ-loop
+low-requires c κs = search needs
 
 put-requires : tie.Need-put-requires Inv-loop μ-loop
 put-requires c κs = search needs
@@ -51,7 +51,7 @@ list-spec =
     (tie.spec
     Inv-loop
     μ-loop
-    word-requires
+    low-requires
     put-requires
     plus-requires
     loop-holds

@@ -15,11 +15,11 @@ abbrev μ-loop : tie.MeasureT-loop
 loop-holds : tie.Need-loop-holds Inv-loop μ-loop
 loop-holds c = search needs
 
-mul-word : tie.Need-mul-word Inv-loop μ-loop
-mul-word c = search needs
+mul-low : tie.Need-mul-low Inv-loop μ-loop
+mul-low c = search needs
 
-word-requires : tie.Need-word-requires Inv-loop μ-loop
-word-requires c κs = search needs
+low-requires : tie.Need-low-requires Inv-loop μ-loop
+low-requires c κs = search needs
 
 put-requires : tie.Need-put-requires Inv-loop μ-loop
 put-requires c κs = search needs
@@ -49,8 +49,8 @@ pattern-kinds-spec =
     Inv-loop
     μ-loop
     loop-holds
-    mul-word
-    word-requires
+    mul-low
+    low-requires
     put-requires
     plus-requires
     add-i

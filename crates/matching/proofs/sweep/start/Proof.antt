@@ -10,10 +10,10 @@ use Rattle.matching.proofs.sweep.start.Statement.{statement}
 use Rattle.matching.proofs.sweep.start.Tie as tie
 
 abbrev Inv-loop : tie.InvT-loop
-Inv-loop s n p work₀ v₀ work v = Filling 8192 n (λ j x. Mask (Fitting p (field s (27 + 32 * j) 32)) x) work₀ work v
+Inv-loop s n p work₀ labels v₀ work v = Filling 8192 n (λ j x. Mask (Fitting p (field s (27 + 32 * j) 32)) x) work₀ work v
 
 abbrev μ-loop : tie.MeasureT-loop
-μ-loop s n p work₀ v₀ work v = n - v
+μ-loop s n p work₀ labels v₀ work v = n - v
 
 loop-holds : tie.Need-loop-holds Inv-loop μ-loop
 loop-holds c =
@@ -42,8 +42,8 @@ loop-less c = search needs
 
 loop-again : tie.Need-loop-again Inv-loop μ-loop
 loop-again c =
-    filling-more _ _ _ (c .before .before .before .loop .inv) _ _ (c .before .before .loop-test .taken) (omega (arith, c .before .before .before .before .before .before .pre .1, c .before .before .before .before .before .before .pre .4)) refl
-    (subst (λ (x : ℕ). Mask (Fitting (c .before .before .before .before .before .before .args .p) x) (c .fit .result)) (c .before .labels-at .ensures) (c .fit .ensures))
+    filling-more _ _ _ (c .before .before .before .before .loop .inv) _ _ (c .before .before .before .loop-test .taken) (omega (arith, c .before .before .before .before .before .before .before .before .pre .1, c .before .before .before .before .before .before .before .before .pre .4)) refl
+    (subst (λ (x : ℕ). Mask (Fitting (c .before .before .before .before .before .before .before .before .args .p) x) (c .fit .result)) (c .before .labels-at .ensures) (c .fit .ensures))
 
 same-length : tie.Need-same-length Inv-loop μ-loop
 same-length c =

@@ -7,18 +7,14 @@ use Rattle.packed.proofs.MatchLaws.{listed-most, counts-few, sum-listed
 use Rattle.packed.proofs.matches.sheet_size.Statement.{statement}
 use Rattle.packed.proofs.matches.sheet_size.Tie as tie
 
-listed-requires : tie.Need-listed-requires
-listed-requires c κs = search needs
-
-counts-requires : tie.Need-counts-requires
-counts-requires c κs =
-    let h = listed-most _ _ _ _ (c .listed .ensures) in
-    (omega (arith, h), c .before .before .pre .2)
+listing-of-requires : tie.Need-listing-of-requires
+listing-of-requires c κs = search needs
 
 sum-requires : tie.Need-sum-requires
 sum-requires c κs =
-    let h = listed-most _ _ _ _ (c .before .listed .ensures) in
-    (c .before .before .before .pre .0, counts-few _ _ _ (c .counts .ensures) (omega (arith, h)))
+    let l = c .before .listing-of .ensures in
+    let h = listed-most _ _ _ _ (l .0) in
+    (c .before .before .before .pre .0, counts-few _ _ _ (l .1) (omega (arith, h)))
 
 mul-result : tie.Need-mul-result
 mul-result c = search needs
@@ -38,14 +34,14 @@ add-result-2 c = search needs
 returns : tie.Need-returns
 returns c =
     let m = c .before .before .before .before .args .m in
-    ap (λ (t : ℕ). (14 * m + 24 * t + 7) / 8) (c .sum .ensures .0 ∙ sum-listed _ _ _ _ _ (c .before .before .listed .ensures) (c .before .counts .ensures) (c .before .before .before .before .pre .0))
+    let l = c .before .before .listing-of .ensures in
+    ap (λ (t : ℕ). (14 * m + 24 * t + 7) / 8) (c .sum .ensures .0 ∙ sum-listed _ _ _ _ _ (l .0) (l .1) (c .before .before .before .before .pre .0))
 
 pub sheet-size-spec : {M : Type 1} → statement M
 sheet-size-spec =
     tie.close
     (tie.spec
-    listed-requires
-    counts-requires
+    listing-of-requires
     sum-requires
     mul-result
     cast-result

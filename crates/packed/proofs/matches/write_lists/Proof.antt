@@ -15,9 +15,6 @@ Inv-loop work n m out₀ c at₀ e₀ out at e = (e ≤ m) × (length out ≡ le
 abbrev μ-loop : tie.MeasureT-loop
 μ-loop work n m out₀ c at₀ e₀ out at e = m - e
 
-counts-requires : tie.Need-counts-requires Inv-loop μ-loop
-counts-requires c κs = search needs
-
 loop-holds : tie.Need-loop-holds Inv-loop μ-loop
 loop-holds c = (omega arith, refl, lists-start _ _ _)
 
@@ -33,8 +30,8 @@ array-read-put-bits c = search needs
 put-bits-requires : tie.Need-put-bits-requires Inv-loop μ-loop
 put-bits-requires c κs =
     let l = c .before .before .loop in
-    let p = c .before .before .before .before .before .before .pre .0 .most in
-    let h = counts-most _ _ _ (c .before .before .before .counts .ensures) (l .e) (omega arith) in
+    let p = c .before .before .before .before .before .pre .0 .most in
+    let h = counts-most _ _ _ (c .before .before .before .before .before .pre .1) (l .e) (omega arith) in
     (omega arith, omega (arith, l .inv .2 .most), omega (arith, h))
 
 add-write-list : tie.Need-add-write-list Inv-loop μ-loop
@@ -43,7 +40,7 @@ add-write-list c = search needs
 write-list-requires : tie.Need-write-list-requires Inv-loop μ-loop
 write-list-requires c κs =
     let l = c .before .before .before .before .before .before .loop in
-    (c .before .before .before .before .before .before .before .before .before .before .pre .0, omega (arith, c .before .before .before .before .before .loop-test .taken), omega (arith, l .inv .2 .most))
+    (c .before .before .before .before .before .before .before .before .before .pre .0, omega (arith, c .before .before .before .before .before .loop-test .taken), omega (arith, l .inv .2 .most))
 
 add-e : tie.Need-add-e Inv-loop μ-loop
 add-e c = search needs
@@ -54,14 +51,14 @@ loop-less c = search needs
 loop-again : tie.Need-loop-again Inv-loop μ-loop
 loop-again c =
     let l = c .before .before .before .before .before .before .before .before .before .loop in
-    (omega arith, omega (arith, c .before .before .before .before .before .before .put-bits .kept, c .before .before .write-list .kept, l .inv .1), lists-put _ _ (l .inv .2) (c .before .before .before .before .before .before .before .before .before .before .before .before .before .pre .0 .most) (c .before .before .before .before .before .before .before .before .before .before .counts .ensures .each (l .e) (omega arith)) (c .before .before .before .before .before .before .put-bits .ensures) (c .before .before .write-list .ensures))
+    (omega arith, omega (arith, c .before .before .before .before .before .before .put-bits .kept, c .before .before .write-list .kept, l .inv .1), lists-put _ _ (l .inv .2) (c .before .before .before .before .before .before .before .before .before .before .before .before .pre .0 .most) (c .before .before .before .before .before .before .before .before .before .before .before .before .pre .1 .each (l .e) (omega arith)) (c .before .before .before .before .before .before .put-bits .ensures) (c .before .before .write-list .ensures))
 
 same-length : tie.Need-same-length Inv-loop μ-loop
 same-length c = search needs
 
 returns : tie.Need-returns Inv-loop μ-loop
 returns c =
-    let e : c .before .loop .e ≡ c .before .before .before .before .before .args .m = omega arith in
+    let e : c .before .loop .e ≡ c .before .before .before .before .args .m = omega arith in
     rw (← e) (c .before .loop .inv .2)
 
 pub write-lists-spec : {M : Type 1} → statement M
@@ -70,7 +67,6 @@ write-lists-spec =
     (tie.spec
     Inv-loop
     μ-loop
-    counts-requires
     loop-holds
     cast-k
     mul-put-bits

@@ -1,0 +1,50 @@
+-- `cases::sums::byte_sum` is safe and ends: the measure is what is left to pass.
+use Prim.Native.Nat.{_-_}
+use borrow.Author.Needs.{needs}
+use Rattle.cases.proofs.sums.byte_sum.Statement.{statement}
+use Rattle.cases.proofs.sums.byte_sum.Tie as tie
+
+abbrev Inv-loop : tie.InvT-loop
+Inv-loop s n total₀ i₀ total i = Unit
+
+abbrev μ-loop : tie.MeasureT-loop
+μ-loop s n total₀ i₀ total i = n - i
+
+loop-holds : tie.Need-loop-holds Inv-loop μ-loop
+loop-holds c = search needs
+
+byte-at-requires : tie.Need-byte-at-requires Inv-loop μ-loop
+byte-at-requires c κs = search needs
+
+wide-requires : tie.Need-wide-requires Inv-loop μ-loop
+wide-requires c κs = search needs
+
+step-requires : tie.Need-step-requires Inv-loop μ-loop
+step-requires c κs = search needs
+
+add-i : tie.Need-add-i Inv-loop μ-loop
+add-i c = search needs
+
+loop-less : tie.Need-loop-less Inv-loop μ-loop
+loop-less c = search needs
+
+loop-again : tie.Need-loop-again Inv-loop μ-loop
+loop-again c = search needs
+
+returns : tie.Need-returns Inv-loop μ-loop
+returns c = search needs
+
+pub byte-sum-spec : {M : Type 1} → statement M
+byte-sum-spec =
+    tie.close
+    (tie.spec
+    Inv-loop
+    μ-loop
+    loop-holds
+    byte-at-requires
+    wide-requires
+    step-requires
+    add-i
+    loop-less
+    loop-again
+    returns)

@@ -1,0 +1,58 @@
+-- `listing::put_link` meets its contract.
+use native.Mathlib.Omega.{arith}
+use Rattle.listing.specs.Listing.{viewsText, linkLine}
+use Rattle.listing.proofs.ListingLaws.{written-then, or-none, decimal-length, views-length}
+use borrow.Author.Needs.{needs}
+use Rattle.listing.proofs.lines.put_link.Statement.{statement}
+use Rattle.listing.proofs.lines.put_link.Tie as tie
+
+slice-aggregate-put : tie.Need-slice-aggregate-put
+slice-aggregate-put c = search needs
+
+put-requires : tie.Need-put-requires
+put-requires c κs = search needs
+
+put-number-requires : tie.Need-put-number-requires
+put-number-requires c κs = search needs
+
+slice-aggregate-put-2 : tie.Need-slice-aggregate-put-2
+slice-aggregate-put-2 c = search needs
+
+put-requires-2 : tie.Need-put-requires-2
+put-requires-2 c κs = omega (arith, c .before .before .before .before .before .before .before .before .put .ensures .end, c .before .before .before .before .put-number .ensures .end, decimal-length (c .before .before .before .before .before .before .before .before .before .before .before .before .before .args .e))
+
+slice-aggregate-put-views : tie.Need-slice-aggregate-put-views
+slice-aggregate-put-views c = search needs
+
+put-views-requires : tie.Need-put-views-requires
+put-views-requires c κs = omega (arith, c .before .before .before .before .before .before .before .before .before .before .before .before .before .put .ensures .end, c .before .before .before .before .before .before .before .before .before .put-number .ensures .end, c .before .before .before .before .put2 .ensures .end, decimal-length (c .before .before .before .before .before .before .before .before .before .before .before .before .before .before .before .before .before .before .args .e))
+
+put-end-requires : tie.Need-put-end-requires
+put-end-requires c κs = omega (arith, c .before .before .before .before .before .before .before .before .before .before .before .before .before .before .before .before .before .put .ensures .end, c .before .before .before .before .before .before .before .before .before .before .before .before .before .put-number .ensures .end, c .before .before .before .before .before .before .before .before .put2 .ensures .end, c .before .before .before .put-views .ensures .end, decimal-length (c .before .before .before .before .before .before .before .before .before .before .before .before .before .before .before .before .before .before .before .before .before .before .args .e), views-length (c .before .before .before .before .before .before .before .before .before .before .before .before .before .before .before .before .before .before .before .before .before .before .args .q .mapping) (c .before .before .before .before .before .before .before .before .before .before .before .before .before .before .before .before .before .before .before .before .before .before .args .e))
+
+same-length : tie.Need-same-length
+same-length c = search needs
+
+returns : tie.Need-returns
+unfolding linkLine
+returns c =
+    rw (or-none (viewsText (c .before .before .before .before .before .before .before .before .before .before .before .before .before .before .before .before .before .before .before .before .before .before .before .before .before .args .q .mapping) (c .before .before .before .before .before .before .before .before .before .before .before .before .before .before .before .before .before .before .before .before .before .before .before .before .before .args .e)) (c .before .before .before .before .before .before .before .before .before .before .before .put2 .result) (c .before .before .before .before .before .before .put-views .result) (c .before .before .before .before .before .before .put-views .ensures .end))
+    (written-then (c .before .before .before .before .before .before .before .before .before .before .before .before .before .before .before .before .before .before .before .before .put .ensures)
+    (written-then (c .before .before .before .before .before .before .before .before .before .before .before .before .before .before .before .before .put-number .ensures)
+    (written-then (c .before .before .before .before .before .before .before .before .before .before .before .put2 .ensures)
+    (written-then (c .before .before .before .before .before .before .put-views .ensures) (c .before .before .put-end .ensures)))))
+
+pub put-link-spec : {M : Type 1} → statement M
+put-link-spec =
+    tie.close
+    (tie.spec
+    slice-aggregate-put
+    put-requires
+    put-number-requires
+    slice-aggregate-put-2
+    put-requires-2
+    slice-aggregate-put-views
+    put-views-requires
+    put-end-requires
+    same-length
+    returns)

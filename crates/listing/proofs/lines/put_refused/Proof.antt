@@ -1,0 +1,66 @@
+-- `listing::put_refused` meets its contract.
+use native.Mathlib.Omega.{arith}
+use Rattle.listing.specs.Listing.{refusedLine}
+use Rattle.listing.proofs.ListingLaws.{written-then, decimal-length}
+use borrow.Author.Needs.{needs}
+use Rattle.listing.proofs.lines.put_refused.Statement.{statement}
+use Rattle.listing.proofs.lines.put_refused.Tie as tie
+
+slice-aggregate-put : tie.Need-slice-aggregate-put
+slice-aggregate-put c = search needs
+
+put-requires : tie.Need-put-requires
+put-requires c κs = search needs
+
+number-of-requires : tie.Need-number-of-requires
+number-of-requires c κs = search needs
+
+put-number-requires : tie.Need-put-number-requires
+put-number-requires c κs = search needs
+
+slice-aggregate-put-2 : tie.Need-slice-aggregate-put-2
+slice-aggregate-put-2 c = search needs
+
+put-requires-2 : tie.Need-put-requires-2
+put-requires-2 c κs = omega (arith, c .before .before .before .before .before .before .before .before .before .put .ensures .end, c .before .before .before .before .put-number .ensures .end, decimal-length (c .before .before .before .before .before .number-of .result))
+
+detail-of-requires : tie.Need-detail-of-requires
+detail-of-requires c κs = search needs
+
+put-number-requires-2 : tie.Need-put-number-requires-2
+put-number-requires-2 c κs = omega (arith, c .before .before .before .before .before .before .before .before .before .before .before .before .before .before .put .ensures .end, c .before .before .before .before .before .before .before .before .before .put-number .ensures .end, c .before .before .before .before .put2 .ensures .end, decimal-length (c .before .before .before .before .before .before .before .before .before .before .number-of .result))
+
+slice-aggregate-put-3 : tie.Need-slice-aggregate-put-3
+slice-aggregate-put-3 c = search needs
+
+put-requires-3 : tie.Need-put-requires-3
+put-requires-3 c κs = omega (arith, c .before .before .before .before .before .before .before .before .before .before .before .before .before .before .before .before .before .before .before .put .ensures .end, c .before .before .before .before .before .before .before .before .before .before .before .before .before .before .put-number .ensures .end, c .before .before .before .before .before .before .before .before .before .put2 .ensures .end, c .before .before .before .before .put-number2 .ensures .end, decimal-length (c .before .before .before .before .before .before .before .before .before .before .before .before .before .before .before .number-of .result), decimal-length (c .before .before .before .before .before .detail-of .result))
+
+same-length : tie.Need-same-length
+same-length c = search needs
+
+returns : tie.Need-returns
+unfolding refusedLine
+returns c =
+    rw (← c .before .before .before .before .before .before .before .before .before .before .before .before .before .before .before .before .before .before .number-of .ensures, ← c .before .before .before .before .before .before .before .before .detail-of .ensures)
+    (written-then (c .before .before .before .before .before .before .before .before .before .before .before .before .before .before .before .before .before .before .before .before .before .before .put .ensures)
+    (written-then (c .before .before .before .before .before .before .before .before .before .before .before .before .before .before .before .before .before .put-number .ensures)
+    (written-then (c .before .before .before .before .before .before .before .before .before .before .before .before .put2 .ensures)
+    (written-then (c .before .before .before .before .before .before .before .put-number2 .ensures) (c .before .before .put3 .ensures)))))
+
+pub put-refused-spec : {M : Type 1} → statement M
+put-refused-spec =
+    tie.close
+    (tie.spec
+    slice-aggregate-put
+    put-requires
+    number-of-requires
+    put-number-requires
+    slice-aggregate-put-2
+    put-requires-2
+    detail-of-requires
+    put-number-requires-2
+    slice-aggregate-put-3
+    put-requires-3
+    same-length
+    returns)

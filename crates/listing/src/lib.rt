@@ -1,0 +1,2 @@
+// The listing of a quote, as the quoting program prints it, line by line.
+pub mod lines;
