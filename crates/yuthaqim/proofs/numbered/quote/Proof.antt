@@ -1,0 +1,49 @@
+-- `numbered::quote` meets its contract.
+use mathlib.Core.List.{append-nil}
+use Rattle.containment.specs.Quote.{quoteTold}
+use Rattle.yuthaqim.specs.Numbered.{unlessZero, toldBy, numberedQuoteTold}
+use Rattle.yuthaqim.proofs.NumberedLaws.{refused-told}
+use borrow.Author.Needs.{needs}
+use Rattle.yuthaqim.proofs.numbered.quote.Statement.{statement}
+use Rattle.yuthaqim.proofs.numbered.quote.Tie as tie
+
+enum-told : tie.Need-enum-told
+enum-told c = search needs
+
+enum-told-2 : tie.Need-enum-told-2
+enum-told-2 c = search needs
+
+enum-known-coverage : tie.Need-enum-known-coverage
+enum-known-coverage c = search needs
+
+number-of-requires : tie.Need-number-of-requires
+number-of-requires c κs = search needs
+
+detail-of-requires : tie.Need-detail-of-requires
+detail-of-requires c κs = search needs
+
+returns : tie.Need-returns
+unfolding quoteTold numberedQuoteTold toldBy unlessZero
+returns c = rw (c .enum-told .given .1, append-nil)
+
+returns-2 : tie.Need-returns-2
+unfolding quoteTold numberedQuoteTold toldBy unlessZero
+returns-2 c = rw (c .enum-told2 .given .1, append-nil)
+
+returns-3 : tie.Need-returns-3
+unfolding quoteTold numberedQuoteTold unlessZero
+returns-3 c =
+    rw (c .before .before .before .coverage .given .1, c .before .number-of .ensures, c .detail-of .ensures, refused-told, append-nil)
+
+pub quote-spec : {M : Type 1} → statement M
+quote-spec =
+    tie.close
+    (tie.spec
+    enum-told
+    enum-told-2
+    enum-known-coverage
+    number-of-requires
+    detail-of-requires
+    returns
+    returns-2
+    returns-3)

@@ -1,0 +1,26 @@
+-- `yuthaqim::yuthaqim_show_uncovered` meets its contract.
+use Rattle.yuthaqim.proofs.NumberedLaws.{settled-as}
+use borrow.Author.Needs.{needs}
+use Rattle.yuthaqim.proofs.yuthaqim_show_uncovered.Statement.{statement}
+use Rattle.yuthaqim.proofs.yuthaqim_show_uncovered.Tie as tie
+
+show-uncovered-requires : tie.Need-show-uncovered-requires
+show-uncovered-requires c κs = search needs
+
+shown-requires : tie.Need-shown-requires
+shown-requires c κs = search needs
+
+same-length : tie.Need-same-length
+same-length c = search needs
+
+same-length-2 : tie.Need-same-length-2
+same-length-2 c = search needs
+
+same-length-3 : tie.Need-same-length-3
+same-length-3 c = search needs
+
+returns : tie.Need-returns
+returns c = settled-as (c .shown .ensures) (c .before .before .before .before .before .before .before .show-uncovered .ensures)
+
+pub yuthaqim-show-uncovered-spec : {M : Type 1} → statement M
+yuthaqim-show-uncovered-spec = tie.close (tie.spec show-uncovered-requires shown-requires same-length same-length-2 same-length-3 returns)

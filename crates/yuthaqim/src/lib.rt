@@ -1,0 +1,204 @@
+// The client calls for C and Rust to link. Each is the call of the same name in the crate that has it, and answers in numbers.
+mod numbered;
+
+ghost use mathlib.Core.List.{[], _∷_};
+ghost use lib.ListN.{length};
+ghost use Rattle.packed.specs.Calls.{Settled, withWorkspace, patternRead, catalogueRead, recordRead, sheetRead, bookRead, patternWritten, catalogueWritten, recordWritten, sheetWritten, bookWritten};
+ghost use Rattle.matching.specs.Search.{searchAnswer, makeBookAnswer};
+ghost use Rattle.containment.specs.Quote.{quoteAnswer, blank};
+ghost use Rattle.containment.specs.Answer.{answerAnswer};
+ghost use Rattle.containment.specs.Show.{showAnswer};
+ghost use Rattle.yuthaqim.specs.Numbered.{numberedReplyTold, numberedQuoteTold, numberedShownTold};
+use numbered::NumberedQuote;
+use numbered::NumberedReply;
+use numbered::NumberedShown;
+
+// Reads a pattern.
+#[no_mangle]
+pub extern "C" fn yuthaqim_read_pattern(
+    bytes: &[u8],
+    out: &mut [u32],
+    work: &mut [u32],
+) -> NumberedReply
+    ensures { λ r. ⌜ Settled [] (withWorkspace (length (now (work .entry))) (patternRead (now (bytes .entry)) (length (now (out .entry))))) (numberedReplyTold r) (now (out .entry) ∷ []) (now (out .exit) ∷ []) (now (work .entry)) (now (work .exit)) ⌝ }
+{
+    numbered::reply(packed::read_pattern(bytes, out, work))
+}
+
+// Reads a catalogue.
+#[no_mangle]
+pub extern "C" fn yuthaqim_read_catalogue(
+    bytes: &[u8],
+    out: &mut [u32],
+    work: &mut [u32],
+) -> NumberedReply
+    ensures { λ r. ⌜ Settled [] (withWorkspace (length (now (work .entry))) (catalogueRead (now (bytes .entry)) (length (now (out .entry))))) (numberedReplyTold r) (now (out .entry) ∷ []) (now (out .exit) ∷ []) (now (work .entry)) (now (work .exit)) ⌝ }
+{
+    numbered::reply(packed::read_catalogue(bytes, out, work))
+}
+
+// Reads a record.
+#[no_mangle]
+pub extern "C" fn yuthaqim_read_record(
+    bytes: &[u8],
+    out: &mut [u32],
+    work: &mut [u32],
+) -> NumberedReply
+    ensures { λ r. ⌜ Settled [] (withWorkspace (length (now (work .entry))) (recordRead (now (bytes .entry)) (length (now (out .entry))))) (numberedReplyTold r) (now (out .entry) ∷ []) (now (out .exit) ∷ []) (now (work .entry)) (now (work .exit)) ⌝ }
+{
+    numbered::reply(packed::read_record(bytes, out, work))
+}
+
+// Reads a sheet beside its pattern.
+#[no_mangle]
+pub extern "C" fn yuthaqim_read_sheet(
+    pattern: &[u8],
+    bytes: &[u8],
+    out: &mut [u32],
+    work: &mut [u32],
+) -> NumberedReply
+    ensures { λ r. ⌜ Settled [] (withWorkspace (length (now (work .entry))) (sheetRead (now (pattern .entry)) (now (bytes .entry)) (length (now (out .entry))))) (numberedReplyTold r) (now (out .entry) ∷ []) (now (out .exit) ∷ []) (now (work .entry)) (now (work .exit)) ⌝ }
+{
+    numbered::reply(packed::read_sheet(pattern, bytes, out, work))
+}
+
+// Reads a book beside its catalogue.
+#[no_mangle]
+pub extern "C" fn yuthaqim_read_book(
+    catalogue: &[u8],
+    bytes: &[u8],
+    out: &mut [u32],
+    work: &mut [u32],
+) -> NumberedReply
+    ensures { λ r. ⌜ Settled [] (withWorkspace (length (now (work .entry))) (bookRead (now (catalogue .entry)) (now (bytes .entry)) (length (now (out .entry))))) (numberedReplyTold r) (now (out .entry) ∷ []) (now (out .exit) ∷ []) (now (work .entry)) (now (work .exit)) ⌝ }
+{
+    numbered::reply(packed::read_book(catalogue, bytes, out, work))
+}
+
+// Writes a pattern.
+#[no_mangle]
+pub extern "C" fn yuthaqim_write_pattern(
+    fields: &[u32],
+    out: &mut [u8],
+    work: &mut [u32],
+) -> NumberedReply
+    ensures { λ r. ⌜ Settled [] (withWorkspace (length (now (work .entry))) (patternWritten (now (fields .entry)) (length (now (out .entry))))) (numberedReplyTold r) (now (out .entry) ∷ []) (now (out .exit) ∷ []) (now (work .entry)) (now (work .exit)) ⌝ }
+{
+    numbered::reply(packed::write_pattern(fields, out, work))
+}
+
+// Writes a catalogue.
+#[no_mangle]
+pub extern "C" fn yuthaqim_write_catalogue(
+    fields: &[u32],
+    out: &mut [u8],
+    work: &mut [u32],
+) -> NumberedReply
+    ensures { λ r. ⌜ Settled [] (withWorkspace (length (now (work .entry))) (catalogueWritten (now (fields .entry)) (length (now (out .entry))))) (numberedReplyTold r) (now (out .entry) ∷ []) (now (out .exit) ∷ []) (now (work .entry)) (now (work .exit)) ⌝ }
+{
+    numbered::reply(packed::write_catalogue(fields, out, work))
+}
+
+// Writes a record.
+#[no_mangle]
+pub extern "C" fn yuthaqim_write_record(
+    fields: &[u32],
+    out: &mut [u8],
+    work: &mut [u32],
+) -> NumberedReply
+    ensures { λ r. ⌜ Settled [] (withWorkspace (length (now (work .entry))) (recordWritten (now (fields .entry)) (length (now (out .entry))))) (numberedReplyTold r) (now (out .entry) ∷ []) (now (out .exit) ∷ []) (now (work .entry)) (now (work .exit)) ⌝ }
+{
+    numbered::reply(packed::write_record(fields, out, work))
+}
+
+// Writes a sheet beside its pattern.
+#[no_mangle]
+pub extern "C" fn yuthaqim_write_sheet(
+    pattern: &[u8],
+    fields: &[u32],
+    out: &mut [u8],
+    work: &mut [u32],
+) -> NumberedReply
+    ensures { λ r. ⌜ Settled [] (withWorkspace (length (now (work .entry))) (sheetWritten (now (pattern .entry)) (now (fields .entry)) (length (now (out .entry))))) (numberedReplyTold r) (now (out .entry) ∷ []) (now (out .exit) ∷ []) (now (work .entry)) (now (work .exit)) ⌝ }
+{
+    numbered::reply(packed::write_sheet(pattern, fields, out, work))
+}
+
+// Writes a book beside its catalogue.
+#[no_mangle]
+pub extern "C" fn yuthaqim_write_book(
+    catalogue: &[u8],
+    fields: &[u32],
+    out: &mut [u8],
+    work: &mut [u32],
+) -> NumberedReply
+    ensures { λ r. ⌜ Settled [] (withWorkspace (length (now (work .entry))) (bookWritten (now (catalogue .entry)) (now (fields .entry)) (length (now (out .entry))))) (numberedReplyTold r) (now (out .entry) ∷ []) (now (out .exit) ∷ []) (now (work .entry)) (now (work .exit)) ⌝ }
+{
+    numbered::reply(packed::write_book(catalogue, fields, out, work))
+}
+
+// Searches a record for a pattern: writes the pattern's sheet.
+#[no_mangle]
+pub extern "C" fn yuthaqim_search(
+    pattern: &[u8],
+    record: &[u8],
+    out: &mut [u8],
+    work: &mut [u32],
+) -> NumberedReply
+    ensures { λ r. ⌜ Settled [] (withWorkspace (length (now (work .entry))) (searchAnswer (now (pattern .entry)) (now («record» .entry)) (length (now (out .entry))))) (numberedReplyTold r) (now (out .entry) ∷ []) (now (out .exit) ∷ []) (now (work .entry)) (now (work .exit)) ⌝ }
+{
+    numbered::reply(matching::search(pattern, record, out, work))
+}
+
+// Makes the book of a catalogue from a record: writes a sheet for each view.
+#[no_mangle]
+pub extern "C" fn yuthaqim_make_book(
+    catalogue: &[u8],
+    record: &[u8],
+    out: &mut [u8],
+    work: &mut [u32],
+) -> NumberedReply
+    ensures { λ r. ⌜ Settled [] (withWorkspace (length (now (work .entry))) (makeBookAnswer (now (catalogue .entry)) (now («record» .entry)) (length (now (out .entry))))) (numberedReplyTold r) (now (out .entry) ∷ []) (now (out .exit) ∷ []) (now (work .entry)) (now (work .exit)) ⌝ }
+{
+    numbered::reply(matching::make_book(catalogue, record, out, work))
+}
+
+// Quotes a question with a catalogue.
+#[no_mangle]
+pub extern "C" fn yuthaqim_quote(
+    question: &[u8],
+    catalogue: &[u8],
+    work: &mut [u32],
+) -> NumberedQuote
+    ensures { λ r. ⌜ Settled blank (withWorkspace (length (now (work .entry))) (quoteAnswer (now (question .entry)) (now (catalogue .entry)))) (numberedQuoteTold r) [] [] (now (work .entry)) (now (work .exit)) ⌝ }
+{
+    numbered::quote(containment::quote(question, catalogue, work))
+}
+
+// Answers a question from a book: writes the question's sheet.
+#[no_mangle]
+pub extern "C" fn yuthaqim_answer(
+    question: &[u8],
+    catalogue: &[u8],
+    book: &[u8],
+    out: &mut [u8],
+    work: &mut [u32],
+) -> NumberedReply
+    ensures { λ r. ⌜ Settled [] (withWorkspace (length (now (work .entry))) (answerAnswer (now (question .entry)) (now (catalogue .entry)) (now (book .entry)) (length (now (out .entry))))) (numberedReplyTold r) (now (out .entry) ∷ []) (now (out .exit) ∷ []) (now (work .entry)) (now (work .exit)) ⌝ }
+{
+    numbered::reply(containment::answer(question, catalogue, book, out, work))
+}
+
+// Shows why a question is not covered: writes it as a record, and the same without its lowest unmatched link.
+#[no_mangle]
+pub extern "C" fn yuthaqim_show_uncovered(
+    question: &[u8],
+    catalogue: &[u8],
+    first: &mut [u8],
+    second: &mut [u8],
+    work: &mut [u32],
+) -> NumberedShown
+    ensures { λ r. ⌜ Settled [] (withWorkspace (length (now (work .entry))) (showAnswer (now (question .entry)) (now (catalogue .entry)) (length (now (first .entry))) (length (now (second .entry))))) (numberedShownTold r) (now (first .entry) ∷ now (second .entry) ∷ []) (now (first .exit) ∷ now (second .exit) ∷ []) (now (work .entry)) (now (work .exit)) ⌝ }
+{
+    numbered::shown(containment::show_uncovered(question, catalogue, first, second, work))
+}

@@ -1,0 +1,109 @@
+// Answers in numbers: an enum doesn't cross to C.
+ghost use mathlib.Core.Path.{_≡_};
+ghost use Rattle.packed.specs.Refusals.{replyTold};
+ghost use Rattle.containment.specs.Quote.{quoteTold};
+ghost use Rattle.containment.specs.Show.{shownTold};
+ghost use Rattle.yuthaqim.specs.Numbered.{numberedReplyTold, numberedQuoteTold, numberedShownTold};
+use containment::quote_type::Coverage;
+use containment::quote_type::Quote;
+use containment::show::Shown;
+use packed::reply;
+use packed::reply::Reply;
+
+// 0 and how much of the output was written, or a refusal's number and detail.
+#[repr(C)]
+pub struct NumberedReply {
+    pub number: usize,
+    pub value: usize,
+}
+
+// 0 and the quote, or a refusal's number and detail. What has no meaning is zero.
+#[repr(C)]
+pub struct NumberedQuote {
+    pub number: usize,
+    pub detail: usize,
+    pub covered: u32,
+    pub edges: u32,
+    pub chosen: u32,
+    pub lowest: u32,
+    pub mapping: [u32; 512],
+}
+
+// 0 and the lengths of the two records, or a refusal's number and detail. What has no meaning is zero.
+#[repr(C)]
+pub struct NumberedShown {
+    pub number: usize,
+    pub detail: usize,
+    pub first: usize,
+    pub second: usize,
+}
+
+pub fn reply(r: Reply) -> NumberedReply
+    ensures { λ n. ⌜ numberedReplyTold n ≡ replyTold r ⌝ }
+{
+    match r {
+        Reply::Done(size) => NumberedReply {
+            number: 0,
+            value: size,
+        },
+        Reply::Refused(x) => NumberedReply {
+            number: reply::number_of(x),
+            value: reply::detail_of(x),
+        },
+    }
+}
+
+pub fn quote(q: Quote) -> NumberedQuote
+    ensures { λ n. ⌜ numberedQuoteTold n ≡ quoteTold q ⌝ }
+{
+    let coverage = q.coverage;
+    let mapping = q.mapping;
+    match coverage {
+        Coverage::Covered => NumberedQuote {
+            number: 0,
+            detail: 0,
+            covered: 1,
+            edges: q.edges,
+            chosen: q.chosen,
+            lowest: q.lowest,
+            mapping,
+        },
+        Coverage::Uncovered => NumberedQuote {
+            number: 0,
+            detail: 0,
+            covered: 0,
+            edges: q.edges,
+            chosen: q.chosen,
+            lowest: q.lowest,
+            mapping,
+        },
+        Coverage::Refused(x) => NumberedQuote {
+            number: reply::number_of(x),
+            detail: reply::detail_of(x),
+            covered: 0,
+            edges: q.edges,
+            chosen: q.chosen,
+            lowest: q.lowest,
+            mapping,
+        },
+    }
+}
+
+pub fn shown(s: Shown) -> NumberedShown
+    ensures { λ n. ⌜ numberedShownTold n ≡ shownTold s ⌝ }
+{
+    match s {
+        Shown::Done(first, second) => NumberedShown {
+            number: 0,
+            detail: 0,
+            first,
+            second,
+        },
+        Shown::Refused(x) => NumberedShown {
+            number: reply::number_of(x),
+            detail: reply::detail_of(x),
+            first: 0,
+            second: 0,
+        },
+    }
+}

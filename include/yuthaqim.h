@@ -1,0 +1,177 @@
+/*
+ * Yuthaqim from C: files of patterns, catalogues, records, sheets and books; searching a record, quoting a question,
+ * answering it from a book, and showing why it is uncovered.
+ *
+ * Every function of this header is proved to meet its contract for every input: see crates/yuthaqim/src/lib.rt.
+ *
+ * What is lent. A call is lent its inputs, its outputs and words to work in, each as a pointer and a length. Lengths of
+ * bytes count bytes, lengths of words count words of 32 bits. There is no heap and no state between calls: calls that
+ * are lent different memory may run at the same time.
+ *
+ *  - No pointer may be null, not even one with the length 0: nothing is read or written behind that one, and any
+ *    aligned address serves.
+ *  - A pointer to words is aligned to 4, as a uint32_t is. A pointer to bytes may be any.
+ *  - What is lent for writing, an output or the words to work in, overlaps nothing else that the call is lent.
+ *
+ * What is left in it. Inputs are only read. Where a call answers the number 0 its output begins with what was written
+ * and keeps its bytes or words beyond that; on a refusal it keeps all of them. The words to work in may hold anything
+ * before a call. Afterwards the first YUTHAQIM_WORK_WORDS of them are zero and those beyond are as they were; on
+ * YUTHAQIM_DESK all of them are as they were.
+ *
+ * Content is a file's fields in order, one word each, padding left out.
+ */
+#ifndef YUTHAQIM_H
+#define YUTHAQIM_H
+
+#include <stddef.h>
+#include <stdint.h>
+
+#ifdef __cplusplus
+extern "C" {
+#endif
+
+/* The words that every call has to be lent to work in. */
+#define YUTHAQIM_WORK_WORDS 16384
+
+/* The most bytes of each file; an answer is a sheet. */
+#define YUTHAQIM_PATTERN_BYTES 44
+#define YUTHAQIM_CATALOGUE_BYTES 705
+#define YUTHAQIM_RECORD_BYTES 40964
+#define YUTHAQIM_SHEET_BYTES 65536
+#define YUTHAQIM_BOOK_BYTES 65536
+
+/* The most words of its content: who lends a reader so many never meets YUTHAQIM_NO_FIT. */
+#define YUTHAQIM_PATTERN_WORDS 82
+#define YUTHAQIM_CATALOGUE_WORDS 1313
+#define YUTHAQIM_RECORD_WORDS 20482
+#define YUTHAQIM_SHEET_WORDS 43690
+#define YUTHAQIM_BOOK_WORDS 43690
+
+/* The refusals. Where several would fall, YUTHAQIM_DESK comes first, then the faults of the files in the order of a
+ * function's parameters, each file front to back, then 10, 11 or 13, and 12. */
+enum {
+    YUTHAQIM_LONG = 1,       /* long: a file is over its most bytes */
+    YUTHAQIM_SHORT = 2,      /* short: its bits, or a writer's words, end before a field does */
+    YUTHAQIM_COUNT = 3,      /* count: a count lies outside its range; for a writer also a kind or a pair's number */
+    YUTHAQIM_STRAY = 4,      /* stray: a link's end is not an item of its file */
+    YUTHAQIM_TWICE = 5,      /* twice: a pattern or record link repeats an earlier one */
+    YUTHAQIM_ORDER = 6,      /* order: a sheet's pair doesn't exceed the one before */
+    YUTHAQIM_LOOSE = 7,      /* loose: a pattern item is at no link */
+    YUTHAQIM_UNEVEN = 8,     /* uneven: a sheet has zero and nonzero counts */
+    YUTHAQIM_TAIL = 9,       /* tail: a padding bit isn't zero, or bytes or words follow */
+    YUTHAQIM_CROWDED = 10,   /* crowded: over 8,192 different pairs stand in a book */
+    YUTHAQIM_UNCOVERED = 11, /* uncovered: an answer was wanted and the question isn't covered */
+    YUTHAQIM_NO_FIT = 12,    /* no fit: an output needs more than was lent, or a sheet or book over 65,536 bytes */
+    YUTHAQIM_COVERED = 13,   /* covered: a showing was wanted for a covered question */
+    YUTHAQIM_DESK = 14       /* desk: fewer than YUTHAQIM_WORK_WORDS words were lent to work in */
+};
+
+/* The detail of a refusal: of 1 to 10 one of these, the file at fault; of 11 the lowest unmatched link; of 12 the bytes
+ * that the first output without room needs, or the words where content is the output; of 13 and 14 zero. */
+enum {
+    YUTHAQIM_IN_PATTERN = 1, /* the question, or another lone pattern */
+    YUTHAQIM_IN_CATALOGUE = 2,
+    YUTHAQIM_IN_RECORD = 3,
+    YUTHAQIM_IN_BOOK = 4 /* a book or a lone sheet */
+};
+
+/* The answer of a call with one output. */
+struct yuthaqim_reply {
+    size_t number; /* 0, or the refusal's number */
+    size_t value;  /* how much of the output was written, in its bytes or words; or the refusal's detail */
+};
+
+/* A quote. What has no meaning is zero: the detail where the number is 0, all but the number and the detail where it is
+ * not, masks beyond the question's links and beyond the catalogue's extracts. */
+struct yuthaqim_quote {
+    size_t number; /* 0, or the refusal's number */
+    size_t detail;
+    uint32_t covered;      /* 1 if every link of the question is matched, else 0 */
+    uint32_t edges;        /* the links of the question */
+    uint32_t chosen;       /* the chosen extracts: the bit worth 2^a says extract a; none if it isn't covered */
+    uint32_t lowest;       /* the lowest unmatched link, if it isn't covered */
+    uint32_t mapping[512]; /* at 16 * e + a, the bit worth 2^b: link b of extract a matches link e of the question */
+};
+
+/* The answer of a showing. What has no meaning is zero. */
+struct yuthaqim_showing {
+    size_t number; /* 0, or the refusal's number */
+    size_t detail;
+    size_t first;  /* the bytes of the first record */
+    size_t second; /* the bytes of the second record */
+};
+
+/* Reading: from a file to its content. */
+
+struct yuthaqim_reply yuthaqim_read_pattern(const uint8_t *bytes, size_t bytes_length, uint32_t *out, size_t out_length,
+                                            uint32_t *work, size_t work_length);
+
+struct yuthaqim_reply yuthaqim_read_catalogue(const uint8_t *bytes, size_t bytes_length, uint32_t *out,
+                                              size_t out_length, uint32_t *work, size_t work_length);
+
+struct yuthaqim_reply yuthaqim_read_record(const uint8_t *bytes, size_t bytes_length, uint32_t *out, size_t out_length,
+                                           uint32_t *work, size_t work_length);
+
+/* A sheet, beside the file of its pattern. */
+struct yuthaqim_reply yuthaqim_read_sheet(const uint8_t *pattern, size_t pattern_length, const uint8_t *bytes,
+                                          size_t bytes_length, uint32_t *out, size_t out_length, uint32_t *work,
+                                          size_t work_length);
+
+/* A book, beside the file of its catalogue. */
+struct yuthaqim_reply yuthaqim_read_book(const uint8_t *catalogue, size_t catalogue_length, const uint8_t *bytes,
+                                         size_t bytes_length, uint32_t *out, size_t out_length, uint32_t *work,
+                                         size_t work_length);
+
+/* Writing: from content to its file. */
+
+struct yuthaqim_reply yuthaqim_write_pattern(const uint32_t *fields, size_t fields_length, uint8_t *out,
+                                             size_t out_length, uint32_t *work, size_t work_length);
+
+struct yuthaqim_reply yuthaqim_write_catalogue(const uint32_t *fields, size_t fields_length, uint8_t *out,
+                                               size_t out_length, uint32_t *work, size_t work_length);
+
+struct yuthaqim_reply yuthaqim_write_record(const uint32_t *fields, size_t fields_length, uint8_t *out,
+                                            size_t out_length, uint32_t *work, size_t work_length);
+
+/* A sheet, beside the file of its pattern. */
+struct yuthaqim_reply yuthaqim_write_sheet(const uint8_t *pattern, size_t pattern_length, const uint32_t *fields,
+                                           size_t fields_length, uint8_t *out, size_t out_length, uint32_t *work,
+                                           size_t work_length);
+
+/* A book, beside the file of its catalogue. */
+struct yuthaqim_reply yuthaqim_write_book(const uint8_t *catalogue, size_t catalogue_length, const uint32_t *fields,
+                                          size_t fields_length, uint8_t *out, size_t out_length, uint32_t *work,
+                                          size_t work_length);
+
+/* Searches a record for a pattern: writes the pattern's sheet. */
+struct yuthaqim_reply yuthaqim_search(const uint8_t *pattern, size_t pattern_length, const uint8_t *record,
+                                      size_t record_length, uint8_t *out, size_t out_length, uint32_t *work,
+                                      size_t work_length);
+
+/* Makes the book of a catalogue from a record: writes a sheet for each extract. */
+struct yuthaqim_reply yuthaqim_make_book(const uint8_t *catalogue, size_t catalogue_length, const uint8_t *record,
+                                         size_t record_length, uint8_t *out, size_t out_length, uint32_t *work,
+                                         size_t work_length);
+
+/* Quotes a question with a catalogue. It has no output, and uncovered is one of its results: it never gives 11 or 12. */
+struct yuthaqim_quote yuthaqim_quote(const uint8_t *question, size_t question_length, const uint8_t *catalogue,
+                                     size_t catalogue_length, uint32_t *work, size_t work_length);
+
+/* Answers a covered question from a book: writes the question's sheet, the one that searching the record gives if the
+ * book was made from a record. */
+struct yuthaqim_reply yuthaqim_answer(const uint8_t *question, size_t question_length, const uint8_t *catalogue,
+                                      size_t catalogue_length, const uint8_t *book, size_t book_length, uint8_t *out,
+                                      size_t out_length, uint32_t *work, size_t work_length);
+
+/* Shows why a question is uncovered: writes the question read as a record, and the same without its lowest unmatched
+ * link. Every extract lists the same on both, the question doesn't. */
+struct yuthaqim_showing yuthaqim_show_uncovered(const uint8_t *question, size_t question_length,
+                                                const uint8_t *catalogue, size_t catalogue_length, uint8_t *first,
+                                                size_t first_length, uint8_t *second, size_t second_length,
+                                                uint32_t *work, size_t work_length);
+
+#ifdef __cplusplus
+}
+#endif
+
+#endif

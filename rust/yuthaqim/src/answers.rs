@@ -1,0 +1,68 @@
+//! What the archive's functions answer, as include/yuthaqim.h declares it.
+
+use crate::{Quote, Refusal};
+
+/// The answer of a call with one output.
+#[repr(C)]
+#[derive(Clone, Copy, Debug, PartialEq, Eq)]
+pub struct Replied {
+    pub number: usize,
+    pub value: usize,
+}
+
+/// A quote. What has no meaning is zero.
+#[repr(C)]
+#[derive(Clone, Copy, Debug, PartialEq, Eq)]
+pub struct Quoted {
+    pub number: usize,
+    pub detail: usize,
+    pub covered: u32,
+    pub edges: u32,
+    pub chosen: u32,
+    pub lowest: u32,
+    pub mapping: [u32; 512],
+}
+
+/// The answer of a showing. What has no meaning is zero.
+#[repr(C)]
+#[derive(Clone, Copy, Debug, PartialEq, Eq)]
+pub struct Showed {
+    pub number: usize,
+    pub detail: usize,
+    pub first: usize,
+    pub second: usize,
+}
+
+fn judged<T>(number: usize, detail: usize, done: T) -> Result<T, Refusal> {
+    if number == 0 {
+        Ok(done)
+    } else {
+        Err(Refusal { number, detail })
+    }
+}
+
+impl Replied {
+    pub fn result(self) -> Result<usize, Refusal> {
+        judged(self.number, self.value, self.value)
+    }
+}
+
+impl Quoted {
+    pub fn result(self) -> Result<Quote, Refusal> {
+        let covered = self.covered == 1;
+        let quote = Quote {
+            covered,
+            links: self.edges as usize,
+            chosen: self.chosen,
+            lowest_unmatched: if covered { None } else { Some(self.lowest as usize) },
+            mapping: self.mapping,
+        };
+        judged(self.number, self.detail, quote)
+    }
+}
+
+impl Showed {
+    pub fn result(self) -> Result<(usize, usize), Refusal> {
+        judged(self.number, self.detail, (self.first, self.second))
+    }
+}

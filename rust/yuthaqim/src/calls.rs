@@ -1,0 +1,82 @@
+//! The calls.
+
+use crate::{Quote, Quoted, Refusal, Replied, Showed};
+
+/// Each call with its function in the archive, the items of its inputs and of its outputs, what that function answers and
+/// what the call gives. Every parameter of a function in the archive is a slice, as its pointer and its length.
+macro_rules! calls {
+    ($(
+        $(#[$doc:meta])*
+        $name:ident = $symbol:ident($($input:ident: $read:ty),*; $($output:ident: $written:ty),*) -> $answer:ty, $given:ty;
+    )*) => {
+        $(
+            $(#[$doc])*
+            pub fn $name(
+                $($input: &[$read],)* $($output: &mut [$written],)* work: &mut [u32],
+            ) -> Result<$given, Refusal> {
+                raw::$name($($input,)* $($output,)* work).result()
+            }
+        )*
+
+        /// The same calls with all that the functions of the archive answer.
+        pub mod raw {
+            use super::*;
+
+            $(
+                $(#[$doc])*
+                pub fn $name(
+                    $($input: &[$read],)* $($output: &mut [$written],)* work: &mut [u32],
+                ) -> $answer {
+                    extern "C" {
+                        fn $symbol(
+                            $(_: *const $read, _: usize,)* $(_: *mut $written, _: usize,)* _: *mut u32, _: usize,
+                        ) -> $answer;
+                    }
+                    // SAFETY: the types are those of include/yuthaqim.h, and each pointer and length are a slice's own.
+                    unsafe {
+                        $symbol(
+                            $($input.as_ptr(), $input.len(),)*
+                            $($output.as_mut_ptr(), $output.len(),)*
+                            work.as_mut_ptr(), work.len(),
+                        )
+                    }
+                }
+            )*
+        }
+    };
+}
+
+calls! {
+    /// Reads a pattern.
+    read_pattern = yuthaqim_read_pattern(bytes: u8; out: u32) -> Replied, usize;
+    /// Reads a catalogue.
+    read_catalogue = yuthaqim_read_catalogue(bytes: u8; out: u32) -> Replied, usize;
+    /// Reads a record.
+    read_record = yuthaqim_read_record(bytes: u8; out: u32) -> Replied, usize;
+    /// Reads a sheet beside the file of its pattern.
+    read_sheet = yuthaqim_read_sheet(pattern: u8, bytes: u8; out: u32) -> Replied, usize;
+    /// Reads a book beside the file of its catalogue.
+    read_book = yuthaqim_read_book(catalogue: u8, bytes: u8; out: u32) -> Replied, usize;
+    /// Writes a pattern.
+    write_pattern = yuthaqim_write_pattern(fields: u32; out: u8) -> Replied, usize;
+    /// Writes a catalogue.
+    write_catalogue = yuthaqim_write_catalogue(fields: u32; out: u8) -> Replied, usize;
+    /// Writes a record.
+    write_record = yuthaqim_write_record(fields: u32; out: u8) -> Replied, usize;
+    /// Writes a sheet beside the file of its pattern.
+    write_sheet = yuthaqim_write_sheet(pattern: u8, fields: u32; out: u8) -> Replied, usize;
+    /// Writes a book beside the file of its catalogue.
+    write_book = yuthaqim_write_book(catalogue: u8, fields: u32; out: u8) -> Replied, usize;
+    /// Searches a record for a pattern: writes the pattern's sheet.
+    search = yuthaqim_search(pattern: u8, record: u8; out: u8) -> Replied, usize;
+    /// Makes the book of a catalogue from a record: writes a sheet for each extract.
+    make_book = yuthaqim_make_book(catalogue: u8, record: u8; out: u8) -> Replied, usize;
+    /// Quotes a question with a catalogue. It has no output, and uncovered is one of its results.
+    quote = yuthaqim_quote(question: u8, catalogue: u8;) -> Quoted, Quote;
+    /// Answers a covered question from a book: writes the question's sheet, the one that searching the record gives if
+    /// the book was made from a record.
+    answer = yuthaqim_answer(question: u8, catalogue: u8, book: u8; out: u8) -> Replied, usize;
+    /// Shows why a question is uncovered: writes the question read as a record, and the same without its lowest
+    /// unmatched link. Every extract lists the same on both, the question doesn't.
+    show_uncovered = yuthaqim_show_uncovered(question: u8, catalogue: u8; first: u8, second: u8) -> Showed, (usize, usize);
+}

@@ -1,0 +1,145 @@
+//! Files of patterns, catalogues, records, sheets and books; searching a record, quoting a question, answering it from a
+//! book, and showing why it is uncovered. The work is done by a library whose every call is proved to meet its contract;
+//! this crate only hands over slices.
+//!
+//! A call is lent its output and at least [`WORK_WORDS`] words to work in. It answers how much of the output it wrote, or
+//! a [`Refusal`], which leaves the output as it was. The words may hold anything before a call. Afterwards the first
+//! [`WORK_WORDS`] of them are zero and those beyond are as they were; on [`DESK`] all of them are.
+//!
+//! Content is a file's fields in order, one word each, padding left out.
+//!
+//! ```
+//! # fn main() -> Result<(), yuthaqim::Refusal> {
+//! let question = [0x20, 0x80, 0x08, 0x86, 0x02, 0x04, 0x26, 0x46];
+//! let catalogue =
+//!     [0x18, 0x10, 0x20, 0x08, 0x08, 0x18, 0x40, 0x08, 0xc0, 0x44, 0x80, 0x18, 0x40, 0x10, 0xc0, 0x44, 0x80];
+//! let mut work = vec![0; yuthaqim::WORK_WORDS];
+//! let quote = yuthaqim::quote(&question, &catalogue, &mut work)?;
+//! assert!(quote.covered);
+//! assert!(quote.extracts().eq([1, 2]));
+//!
+//! let mut record = [0; yuthaqim::RECORD_BYTES];
+//! let length = yuthaqim::write_record(&[3, 2, 1, 6, 8, 0, 1, 1, 2], &mut record, &mut work)?;
+//! let record = &record[..length];
+//! let mut book = [0; yuthaqim::BOOK_BYTES];
+//! let length = yuthaqim::make_book(&catalogue, record, &mut book, &mut work)?;
+//! let mut sheet = [0; yuthaqim::SHEET_BYTES];
+//! let length = yuthaqim::answer(&question, &catalogue, &book[..length], &mut sheet, &mut work)?;
+//! let mut content = [0; yuthaqim::SHEET_WORDS];
+//! let length = yuthaqim::read_sheet(&question, &sheet[..length], &mut content, &mut work)?;
+//! assert_eq!(content[..length], [1, 0, 1, 1, 0, 1, 1, 1, 2, 1, 1, 2]);
+//! # Ok(())
+//! # }
+//! ```
+
+mod answers;
+mod calls;
+
+pub use answers::{Quoted, Replied, Showed};
+pub use calls::*;
+
+use std::error::Error;
+use std::fmt;
+
+/// The words that every call has to be lent to work in.
+pub const WORK_WORDS: usize = 16_384;
+
+/// The most bytes of each file; an answer is a sheet.
+pub const PATTERN_BYTES: usize = 44;
+pub const CATALOGUE_BYTES: usize = 705;
+pub const RECORD_BYTES: usize = 40_964;
+pub const SHEET_BYTES: usize = 65_536;
+pub const BOOK_BYTES: usize = 65_536;
+
+/// The most words of its content: who lends a reader so many never meets [`NO_FIT`].
+pub const PATTERN_WORDS: usize = 82;
+pub const CATALOGUE_WORDS: usize = 1_313;
+pub const RECORD_WORDS: usize = 20_482;
+pub const SHEET_WORDS: usize = 43_690;
+pub const BOOK_WORDS: usize = 43_690;
+
+/// The numbers of the refusals.
+pub const LONG: usize = 1;
+pub const SHORT: usize = 2;
+pub const COUNT: usize = 3;
+pub const STRAY: usize = 4;
+pub const TWICE: usize = 5;
+pub const ORDER: usize = 6;
+pub const LOOSE: usize = 7;
+pub const UNEVEN: usize = 8;
+pub const TAIL: usize = 9;
+pub const CROWDED: usize = 10;
+pub const UNCOVERED: usize = 11;
+pub const NO_FIT: usize = 12;
+pub const COVERED: usize = 13;
+pub const DESK: usize = 14;
+
+/// The word of each refusal, from 1 on.
+const WORDS: [&str; 14] = [
+    "long",
+    "short",
+    "count",
+    "stray",
+    "twice",
+    "order",
+    "loose",
+    "uneven",
+    "tail",
+    "crowded",
+    "uncovered",
+    "no fit",
+    "covered",
+    "desk",
+];
+
+/// Why a call refuses.
+#[derive(Clone, Copy, Debug, PartialEq, Eq)]
+pub struct Refusal {
+    /// 1 to 14.
+    pub number: usize,
+    /// Of 1 to 10 the file at fault (1 a pattern, 2 a catalogue, 3 a record, 4 a book or sheet), of [`UNCOVERED`] the
+    /// lowest unmatched link, of [`NO_FIT`] how much the output needs, of the others zero.
+    pub detail: usize,
+}
+
+impl Refusal {
+    pub fn word(&self) -> &'static str {
+        WORDS[self.number - 1]
+    }
+}
+
+impl fmt::Display for Refusal {
+    fn fmt(&self, f: &mut fmt::Formatter) -> fmt::Result {
+        write!(f, "refused {} {} ({})", self.number, self.detail, self.word())
+    }
+}
+
+impl Error for Refusal {}
+
+/// A quote.
+#[derive(Clone, Debug, PartialEq, Eq)]
+pub struct Quote {
+    /// Whether every link of the question is matched.
+    pub covered: bool,
+    /// The number of the question's links.
+    pub links: usize,
+    /// The chosen extracts: the bit worth 2^a says extract a. None if the question isn't covered.
+    pub chosen: u32,
+    /// None if the question is covered.
+    pub lowest_unmatched: Option<usize>,
+    /// At 16 · e + a, the bit worth 2^b: link b of extract a matches link e of the question.
+    pub mapping: [u32; 512],
+}
+
+impl Quote {
+    /// The links of extract a that match link e of the question, as a set of bits.
+    pub fn matches(&self, e: usize, a: usize) -> u32 {
+        self.mapping[16 * e + a]
+    }
+
+    /// The chosen extracts, ascending.
+    pub fn extracts(&self) -> impl Iterator<Item = usize> {
+        let chosen = self.chosen;
+        (0..16).filter(move |a| chosen >> a & 1 == 1)
+    }
+}

@@ -1,0 +1,273 @@
+/* Goes through include/yuthaqim.h once: each function on worked cases, what came, and whether it is what the cases say. */
+#include <stdio.h>
+#include <string.h>
+
+#include "yuthaqim.h"
+
+#define LENGTH(a) (sizeof(a) / sizeof((a)[0]))
+
+/* The question D, and its content: sections, slow runs, fast runs and readings are kinds 0 to 3. */
+static const uint8_t D[] = {0x20, 0x80, 0x08, 0x86, 0x02, 0x04, 0x26, 0x46};
+static const uint32_t D_FIELDS[] = {4, 4, 0, 1, 2, 3, 0, 1, 0, 2, 1, 3, 2, 3};
+
+/* The catalogue C: section to slow; section to slow to reading; section to fast to reading. */
+static const uint8_t C[] = {0x18, 0x10, 0x20, 0x08, 0x08, 0x18, 0x40, 0x08, 0xc0,
+                            0x44, 0x80, 0x18, 0x40, 0x10, 0xc0, 0x44, 0x80};
+static const uint32_t C_FIELDS[] = {3, 2, 1, 0, 1, 0, 1, 3, 2, 0, 1, 3, 0, 1, 1, 2, 3, 2, 0, 2, 3, 0, 1, 1, 2};
+
+/* Extract 1 of C as a pattern, and as a catalogue of its own. */
+static const uint8_t SLOW[] = {0x18, 0x40, 0x08, 0xc0, 0x44, 0x80};
+static const uint8_t ONLY_SLOW[] = {0x08, 0x18, 0x40, 0x08, 0xc0, 0x44, 0x80};
+
+/* Case K6: kinds {0}, {1}, {3}, {1}; extract 1 lists (0,1) and (1,2). */
+static const uint32_t K6_FIELDS[] = {4, 3, 1, 2, 8, 2, 0, 1, 0, 3, 1, 2};
+static const uint8_t K6[] = {0x00, 0x20, 0x00, 0x60, 0x00, 0x00, 0x00, 0x20, 0x00, 0x00, 0x00, 0x40, 0x00, 0x00, 0x01,
+                             0x00, 0x00, 0x00, 0x00, 0x40, 0x00, 0x00, 0x20, 0x00, 0x00, 0x60, 0x02, 0x00, 0x40};
+static const uint8_t K6_SHEET[] = {0x00, 0x04, 0x00, 0x00, 0x04, 0x00, 0x10, 0x01, 0x00, 0x20};
+static const uint32_t K6_SHEET_FIELDS[] = {1, 0, 1, 1, 1, 2};
+/* Extract 0 lists (0,1) and (0,3), extract 2 nothing. */
+static const uint8_t K6_BOOK[] = {0x00, 0x08, 0x00, 0x00, 0x04, 0x00, 0x00, 0x0c, 0x00, 0x04, 0x00,
+                                  0x00, 0x04, 0x00, 0x10, 0x01, 0x00, 0x20, 0x00, 0x00, 0x00, 0x00};
+static const uint32_t K6_BOOK_FIELDS[] = {2, 0, 1, 0, 3, 1, 0, 1, 1, 1, 2, 0, 0};
+
+/* Case K9: a section, a run of kinds {1, 2}, a reading; D lists (0,1), (0,1), (1,2), (1,2). */
+static const uint8_t K9[] = {0x00, 0x18, 0x00, 0x40, 0x00, 0x00, 0x00, 0x20, 0x00, 0x00, 0x00, 0xc0, 0x00, 0x00, 0x01,
+                             0x00, 0x00, 0x00, 0x20, 0x02, 0x00, 0x40};
+static const uint8_t K9_SHEET[] = {0x00, 0x04, 0x00, 0x00, 0x04, 0x00, 0x10, 0x00, 0x00, 0x10, 0x00, 0x40, 0x04, 0x00,
+                                   0x80, 0x01, 0x00, 0x10, 0x02};
+
+/* D read as a record, and without its link 1, which extract 1 alone leaves unmatched. */
+static const uint32_t SHOWN_FIELDS[] = {4, 4, 1, 2, 4, 8, 0, 1, 0, 2, 1, 3, 2, 3};
+static const uint32_t FEWER_FIELDS[] = {4, 3, 1, 2, 4, 8, 0, 1, 1, 3, 2, 3};
+
+static uint32_t work[YUTHAQIM_WORK_WORDS + 1];
+static uint8_t bytes[YUTHAQIM_BOOK_BYTES];
+static uint8_t more[YUTHAQIM_RECORD_BYTES];
+static uint32_t words[YUTHAQIM_BOOK_WORDS];
+static int failures;
+
+/* What came of a call: its number, and how much was written or the detail. */
+static void expect(const char *what, size_t number, size_t value, int holds) {
+    printf("%-50s %2zu %6zu  %s\n", what, number, value, holds ? "ok" : "WRONG");
+    failures += !holds;
+}
+
+/* Every word to work in and every byte and word of the outputs is marked before a call. */
+static void mark(void) {
+    memset(work, 0xa5, sizeof work);
+    memset(bytes, 0xa5, sizeof bytes);
+    memset(more, 0xa5, sizeof more);
+    memset(words, 0xa5, sizeof words);
+}
+
+static int are_marks(const void *memory, size_t from, size_t to) {
+    const uint8_t *byte = memory;
+    for (size_t i = from; i < to; i++) {
+        if (byte[i] != 0xa5) {
+            return 0;
+        }
+    }
+    return 1;
+}
+
+/* The words to work in after a call: zero, but for the one beyond. */
+static int is_cleared(void) {
+    for (size_t i = 0; i < YUTHAQIM_WORK_WORDS; i++) {
+        if (work[i] != 0) {
+            return 0;
+        }
+    }
+    return work[YUTHAQIM_WORK_WORDS] == 0xa5a5a5a5;
+}
+
+/* What was written to an output of so many bytes, and nothing beyond. */
+static int is_written(const void *out, size_t size, const void *expected, size_t length) {
+    return memcmp(out, expected, length) == 0 && are_marks(out, length, size) && is_cleared();
+}
+
+static void expect_words(const char *what, struct yuthaqim_reply r, const uint32_t *expected, size_t length) {
+    expect(what, r.number, r.value,
+           r.number == 0 && r.value == length && is_written(words, sizeof words, expected, 4 * length));
+}
+
+static void expect_bytes(const char *what, struct yuthaqim_reply r, const uint8_t *expected, size_t length) {
+    expect(what, r.number, r.value,
+           r.number == 0 && r.value == length && is_written(bytes, sizeof bytes, expected, length));
+}
+
+/* A refusal leaves the outputs as they were. */
+static void expect_refusal(const char *what, size_t number, size_t value, size_t is_number, size_t is_value) {
+    int kept = are_marks(bytes, 0, sizeof bytes) && are_marks(more, 0, sizeof more) && are_marks(words, 0, sizeof words);
+    expect(what, number, value, number == is_number && value == is_value && kept);
+}
+
+static void files(void) {
+    mark();
+    expect_words("read_pattern: D", yuthaqim_read_pattern(D, sizeof D, words, LENGTH(words), work, LENGTH(work)),
+                 D_FIELDS, LENGTH(D_FIELDS));
+    mark();
+    expect_bytes("write_pattern: D",
+                 yuthaqim_write_pattern(D_FIELDS, LENGTH(D_FIELDS), bytes, sizeof bytes, work, LENGTH(work)), D,
+                 sizeof D);
+    mark();
+    expect_words("read_catalogue: C", yuthaqim_read_catalogue(C, sizeof C, words, LENGTH(words), work, LENGTH(work)),
+                 C_FIELDS, LENGTH(C_FIELDS));
+    mark();
+    expect_bytes("write_catalogue: C",
+                 yuthaqim_write_catalogue(C_FIELDS, LENGTH(C_FIELDS), bytes, sizeof bytes, work, LENGTH(work)), C,
+                 sizeof C);
+    mark();
+    expect_words("read_record: K6", yuthaqim_read_record(K6, sizeof K6, words, LENGTH(words), work, LENGTH(work)),
+                 K6_FIELDS, LENGTH(K6_FIELDS));
+    mark();
+    expect_bytes("write_record: K6",
+                 yuthaqim_write_record(K6_FIELDS, LENGTH(K6_FIELDS), bytes, sizeof bytes, work, LENGTH(work)), K6,
+                 sizeof K6);
+    mark();
+    expect_words(
+        "read_sheet: extract 1 on K6",
+        yuthaqim_read_sheet(SLOW, sizeof SLOW, K6_SHEET, sizeof K6_SHEET, words, LENGTH(words), work, LENGTH(work)),
+        K6_SHEET_FIELDS, LENGTH(K6_SHEET_FIELDS));
+    mark();
+    expect_bytes("write_sheet: extract 1 on K6",
+                 yuthaqim_write_sheet(SLOW, sizeof SLOW, K6_SHEET_FIELDS, LENGTH(K6_SHEET_FIELDS), bytes, sizeof bytes,
+                                      work, LENGTH(work)),
+                 K6_SHEET, sizeof K6_SHEET);
+    mark();
+    expect_words("read_book: C on K6",
+                 yuthaqim_read_book(C, sizeof C, K6_BOOK, sizeof K6_BOOK, words, LENGTH(words), work, LENGTH(work)),
+                 K6_BOOK_FIELDS, LENGTH(K6_BOOK_FIELDS));
+    mark();
+    expect_bytes("write_book: C on K6",
+                 yuthaqim_write_book(C, sizeof C, K6_BOOK_FIELDS, LENGTH(K6_BOOK_FIELDS), bytes, sizeof bytes, work,
+                                     LENGTH(work)),
+                 K6_BOOK, sizeof K6_BOOK);
+}
+
+static void matching(void) {
+    mark();
+    expect_bytes("search: extract 1 on K6",
+                 yuthaqim_search(SLOW, sizeof SLOW, K6, sizeof K6, bytes, sizeof bytes, work, LENGTH(work)), K6_SHEET,
+                 sizeof K6_SHEET);
+    mark();
+    expect_bytes("make_book: C on K6",
+                 yuthaqim_make_book(C, sizeof C, K6, sizeof K6, bytes, sizeof bytes, work, LENGTH(work)), K6_BOOK,
+                 sizeof K6_BOOK);
+    mark();
+    expect_bytes("search: D on K9",
+                 yuthaqim_search(D, sizeof D, K9, sizeof K9, bytes, sizeof bytes, work, LENGTH(work)), K9_SHEET,
+                 sizeof K9_SHEET);
+}
+
+/* Whether the quote has this mask, and how many of its masks are not zero. */
+static int maps(const struct yuthaqim_quote *q, size_t e, size_t a, uint32_t mask) {
+    return q->mapping[16 * e + a] == mask;
+}
+
+static size_t masks(const struct yuthaqim_quote *q) {
+    size_t count = 0;
+    for (size_t i = 0; i < LENGTH(q->mapping); i++) {
+        count += q->mapping[i] != 0;
+    }
+    return count;
+}
+
+static void quoting(void) {
+    struct yuthaqim_quote q;
+
+    mark();
+    q = yuthaqim_quote(D, sizeof D, C, sizeof C, work, LENGTH(work));
+    expect("quote: D with C is covered", q.number, q.covered,
+           q.number == 0 && q.detail == 0 && q.covered == 1 && q.edges == 4 && q.lowest == 0 && is_cleared());
+    expect("quote: extracts 1 and 2 are chosen", q.number, q.chosen, q.chosen == (1 << 1 | 1 << 2));
+    expect("quote: the links by 0.0 and 1.0, 2.0, 1.1, 2.1", q.number, masks(&q),
+           maps(&q, 0, 0, 1) && maps(&q, 0, 1, 1) && maps(&q, 1, 2, 1) && maps(&q, 2, 1, 2) && maps(&q, 3, 2, 2) &&
+               masks(&q) == 5);
+    q = yuthaqim_quote(D, sizeof D, ONLY_SLOW, sizeof ONLY_SLOW, work, LENGTH(work));
+    expect("quote: D with extract 1 alone lacks link 1", q.number, q.lowest,
+           q.number == 0 && q.covered == 0 && q.edges == 4 && q.chosen == 0 && q.lowest == 1 && maps(&q, 0, 0, 1) &&
+               maps(&q, 2, 0, 2) && masks(&q) == 2);
+    q = yuthaqim_quote(D, sizeof D, C, sizeof C - 1, work, LENGTH(work));
+    expect("quote: a catalogue that is cut off", q.number, q.detail,
+           q.number == YUTHAQIM_SHORT && q.detail == YUTHAQIM_IN_CATALOGUE && q.covered == 0 && q.edges == 0 &&
+               q.chosen == 0 && q.lowest == 0 && masks(&q) == 0);
+}
+
+static void answering(void) {
+    static uint8_t book[YUTHAQIM_BOOK_BYTES];
+    size_t length = yuthaqim_make_book(C, sizeof C, K9, sizeof K9, book, sizeof book, work, LENGTH(work)).value;
+    struct yuthaqim_reply r;
+
+    mark();
+    r = yuthaqim_answer(D, sizeof D, C, sizeof C, book, length, bytes, sizeof bytes, work, LENGTH(work));
+    expect_bytes("answer: D from the book of C on K9", r, K9_SHEET, sizeof K9_SHEET);
+    mark();
+    r = yuthaqim_answer(D, sizeof D, C, sizeof C, book, length - 1, bytes, sizeof bytes, work, LENGTH(work));
+    expect_refusal("answer: from a book that is cut off", r.number, r.value, YUTHAQIM_SHORT, YUTHAQIM_IN_BOOK);
+    mark();
+    r = yuthaqim_answer(D, sizeof D, ONLY_SLOW, sizeof ONLY_SLOW, K6_SHEET, sizeof K6_SHEET, bytes, sizeof bytes, work,
+                        LENGTH(work));
+    expect_refusal("answer: D with extract 1 alone is uncovered", r.number, r.value, YUTHAQIM_UNCOVERED, 1);
+}
+
+static void showing(void) {
+    static uint8_t second[YUTHAQIM_RECORD_BYTES];
+    struct yuthaqim_showing s;
+
+    mark();
+    s = yuthaqim_show_uncovered(D, sizeof D, ONLY_SLOW, sizeof ONLY_SLOW, bytes, sizeof bytes, more, sizeof more, work,
+                                LENGTH(work));
+    expect("show_uncovered: D with extract 1 alone", s.number, s.first,
+           s.number == 0 && s.detail == 0 && s.first == 32 && s.second == 29 && is_cleared() &&
+               are_marks(bytes, s.first, sizeof bytes) && are_marks(more, s.second, sizeof more));
+    memcpy(second, more, s.second);
+    memset(work, 0xa5, sizeof work);
+    expect_words("show_uncovered: the first record is D",
+                 yuthaqim_read_record(bytes, s.first, words, LENGTH(words), work, LENGTH(work)), SHOWN_FIELDS,
+                 LENGTH(SHOWN_FIELDS));
+    mark();
+    expect_words("show_uncovered: the second lacks link 1",
+                 yuthaqim_read_record(second, s.second, words, LENGTH(words), work, LENGTH(work)), FEWER_FIELDS,
+                 LENGTH(FEWER_FIELDS));
+    mark();
+    s = yuthaqim_show_uncovered(D, sizeof D, C, sizeof C, bytes, sizeof bytes, more, sizeof more, work, LENGTH(work));
+    expect_refusal("show_uncovered: D with C is covered", s.number, s.detail, YUTHAQIM_COVERED, 0);
+    mark();
+    s = yuthaqim_show_uncovered(D, sizeof D, ONLY_SLOW, sizeof ONLY_SLOW, bytes, 32, more, 28, work, LENGTH(work));
+    expect_refusal("show_uncovered: no room for the second", s.number, s.detail, YUTHAQIM_NO_FIT, 29);
+}
+
+static void refusals(void) {
+    struct yuthaqim_reply r;
+
+    mark();
+    r = yuthaqim_read_pattern(D, sizeof D, words, LENGTH(words), work, YUTHAQIM_WORK_WORDS - 1);
+    expect_refusal("read_pattern: too few words to work in", r.number, r.value, YUTHAQIM_DESK, 0);
+    expect("read_pattern: which are as they came", r.number, r.value, are_marks(work, 0, sizeof work));
+    mark();
+    r = yuthaqim_read_pattern(D, sizeof D, words, LENGTH(D_FIELDS) - 1, work, LENGTH(work));
+    expect_refusal("read_pattern: no room for D", r.number, r.value, YUTHAQIM_NO_FIT, LENGTH(D_FIELDS));
+    mark();
+    r = yuthaqim_read_pattern(D, 0, words, LENGTH(words), work, LENGTH(work));
+    expect_refusal("read_pattern: no bytes", r.number, r.value, YUTHAQIM_SHORT, YUTHAQIM_IN_PATTERN);
+    mark();
+    r = yuthaqim_write_pattern(D_FIELDS, LENGTH(D_FIELDS), bytes, 0, work, LENGTH(work));
+    expect_refusal("write_pattern: no room at all", r.number, r.value, YUTHAQIM_NO_FIT, sizeof D);
+    mark();
+    r = yuthaqim_read_record(more, YUTHAQIM_RECORD_BYTES, words, LENGTH(words), work, LENGTH(work));
+    expect_refusal("read_record: marks", r.number, r.value, YUTHAQIM_COUNT, YUTHAQIM_IN_RECORD);
+    mark();
+    r = yuthaqim_read_book(C, sizeof C, bytes, sizeof bytes, words, LENGTH(words), work, LENGTH(work));
+    expect_refusal("read_book: marks", r.number, r.value, YUTHAQIM_COUNT, YUTHAQIM_IN_BOOK);
+}
+
+int main(void) {
+    files();
+    matching();
+    quoting();
+    answering();
+    showing();
+    refusals();
+    printf("%d wrong\n", failures);
+    return failures != 0;
+}

@@ -1,0 +1,231 @@
+//! Files as lists of fields, right or wrong: their content, their bytes, and ways to damage them.
+
+use crate::draw::Draw;
+use model::files::{Pattern, Record, Sheet};
+
+#[derive(Clone, Copy)]
+enum Field {
+    Of { width: u32, value: u32 },
+    Padding,
+}
+
+#[derive(Clone, Default)]
+pub struct Layout {
+    fields: Vec<Field>,
+}
+
+impl Layout {
+    fn field(&mut self, width: u32, value: u32) {
+        self.fields.push(Field::Of { width, value });
+    }
+
+    fn counts(&mut self, widths: (u32, u32), items: usize, links: usize) {
+        self.field(widths.0, items as u32);
+        self.field(widths.1, links as u32);
+    }
+
+    fn pairs(&mut self, width: u32, pairs: &[(u32, u32)]) {
+        for &(from, to) in pairs {
+            self.field(width, from);
+            self.field(width, to);
+        }
+    }
+
+    fn padding(&mut self) {
+        self.fields.push(Field::Padding);
+    }
+
+    fn add_pattern(&mut self, pattern: &Pattern) {
+        self.counts((5, 6), pattern.kinds.len(), pattern.links.len());
+        for &kind in &pattern.kinds {
+            self.field(5, kind);
+        }
+        self.pairs(4, &pattern.links);
+        self.padding();
+    }
+
+    fn add_sheet(&mut self, sheet: &Sheet) {
+        for list in sheet {
+            self.field(14, list.len() as u32);
+            self.pairs(12, list);
+        }
+        self.padding();
+    }
+
+    /// A word for each field.
+    pub fn content(&self) -> Vec<u32> {
+        let values = self.fields.iter().filter_map(|field| match field {
+            Field::Of { value, .. } => Some(*value),
+            Field::Padding => None,
+        });
+        values.collect()
+    }
+
+    /// The fields, most significant bit first; of a value that is too large only its low bits.
+    pub fn bytes(&self) -> Vec<u8> {
+        let mut bytes = Vec::new();
+        let mut held: u64 = 0;
+        let mut bits = 0;
+        for field in &self.fields {
+            match *field {
+                Field::Of { width, value } => {
+                    held = held << width | u64::from(value) & ((1 << width) - 1);
+                    bits += width;
+                }
+                Field::Padding => {
+                    held <<= (8 - bits % 8) % 8;
+                    bits = bits.div_ceil(8) * 8;
+                }
+            }
+            while bits >= 8 {
+                bits -= 8;
+                bytes.push((held >> bits) as u8);
+            }
+        }
+        if bits > 0 {
+            bytes.push((held << (8 - bits)) as u8);
+        }
+        bytes
+    }
+}
+
+pub fn of_pattern(pattern: &Pattern) -> Layout {
+    let mut layout = Layout::default();
+    layout.add_pattern(pattern);
+    layout
+}
+
+pub fn of_catalogue(extracts: &[Pattern]) -> Layout {
+    let mut layout = Layout::default();
+    layout.field(5, extracts.len() as u32);
+    layout.padding();
+    for extract in extracts {
+        layout.add_pattern(extract);
+    }
+    layout
+}
+
+pub fn of_record(record: &Record) -> Layout {
+    let mut layout = Layout::default();
+    layout.counts((13, 14), record.kinds.len(), record.links.len());
+    for &kinds in &record.kinds {
+        layout.field(32, kinds);
+    }
+    layout.pairs(12, &record.links);
+    layout.padding();
+    layout
+}
+
+/// A book; a lone sheet is a book of one.
+pub fn of_book(sheets: &[Sheet]) -> Layout {
+    let mut layout = Layout::default();
+    for sheet in sheets {
+        layout.add_sheet(sheet);
+    }
+    layout
+}
+
+// Damage.
+
+/// A value near a bound of something, or any.
+fn draw_value(draw: &mut Draw, value: u32) -> u32 {
+    match draw.below(6) {
+        0 => value.wrapping_add(1),
+        1 => value.wrapping_sub(1),
+        2 => 0,
+        3 => draw.of(&[
+            15,
+            16,
+            17,
+            31,
+            32,
+            33,
+            63,
+            64,
+            4_095,
+            4_096,
+            4_097,
+            8_191,
+            8_192,
+            8_193,
+            16_384,
+            5_000,
+            u32::MAX,
+        ]),
+        4 => draw.below(32) as u32,
+        _ => draw.word(),
+    }
+}
+
+/// One field changed, left out, put in twice, or made equal to another; or the end cut off.
+fn damage_fields(draw: &mut Draw, layout: &mut Layout) {
+    let fields = &mut layout.fields;
+    if fields.is_empty() {
+        return;
+    }
+    let at = draw.below(fields.len());
+    let other = draw.below(fields.len());
+    match draw.below(8) {
+        0..=2 => {
+            if let Field::Of { value, .. } = &mut fields[at] {
+                *value = draw_value(draw, *value);
+            }
+        }
+        3 => {
+            fields.remove(at);
+        }
+        4 => fields.insert(at, fields[other]),
+        5 => fields.swap(at, other),
+        6 => fields.truncate(at),
+        // The two ends of a link, or of a pair, become those of another.
+        _ => {
+            for i in 0..2 {
+                if at + i < fields.len() && other + i < fields.len() {
+                    fields[at + i] = fields[other + i];
+                }
+            }
+        }
+    }
+}
+
+/// A bit turned, a byte changed, bytes cut off or put to the end, up to more than the most of any file.
+fn damage_bytes(draw: &mut Draw, bytes: &mut Vec<u8>, most: usize) {
+    match draw.below(8) {
+        0 => bytes.truncate(bytes.len().saturating_sub(1)),
+        1 => bytes.truncate(draw.below(bytes.len() + 1)),
+        2 => bytes.push(draw.of(&[0, 0, 1, 0x80])),
+        3 => bytes.extend((0..draw.within(1, 9)).map(|_| 0)),
+        4 if draw.one_in(4) => bytes.resize(most + draw.below(3), 0),
+        _ if bytes.is_empty() => (),
+        5 => {
+            let at = draw.below(bytes.len());
+            bytes[at] = draw.word() as u8;
+        }
+        _ => {
+            let bit = draw.below(8 * bytes.len());
+            bytes[bit / 8] ^= 128 >> (bit % 8);
+        }
+    }
+}
+
+/// The file: one in so many is damaged, in its fields or in its bytes.
+pub fn file(draw: &mut Draw, mut layout: Layout, one_in: usize, most: usize) -> Vec<u8> {
+    if !draw.one_in(one_in) {
+        return layout.bytes();
+    }
+    if draw.one_in(2) {
+        damage_fields(draw, &mut layout);
+        return layout.bytes();
+    }
+    let mut bytes = layout.bytes();
+    damage_bytes(draw, &mut bytes, most);
+    bytes
+}
+
+/// The content for a writer: one in so many is damaged.
+pub fn content(draw: &mut Draw, mut layout: Layout, one_in: usize) -> Vec<u32> {
+    if draw.one_in(one_in) {
+        damage_fields(draw, &mut layout);
+    }
+    layout.content()
+}

@@ -1,0 +1,83 @@
+//! How often each call was made, and what came of it.
+
+use model::files::Refusal;
+use std::fmt;
+
+#[derive(Clone, Copy, PartialEq, Eq)]
+pub enum Call {
+    ReadPattern,
+    ReadCatalogue,
+    ReadRecord,
+    ReadSheet,
+    ReadBook,
+    WritePattern,
+    WriteCatalogue,
+    WriteRecord,
+    WriteSheet,
+    WriteBook,
+    Search,
+    MakeBook,
+    Quote,
+    Answer,
+    ShowUncovered,
+}
+
+const NAMES: [&str; 15] = [
+    "read_pattern",
+    "read_catalogue",
+    "read_record",
+    "read_sheet",
+    "read_book",
+    "write_pattern",
+    "write_catalogue",
+    "write_record",
+    "write_sheet",
+    "write_book",
+    "search",
+    "make_book",
+    "quote",
+    "answer",
+    "show_uncovered",
+];
+
+impl Call {
+    pub fn name(self) -> &'static str {
+        NAMES[self as usize]
+    }
+}
+
+/// For each call how often it succeeded, at 0, and how often it gave each refusal.
+#[derive(Default)]
+pub struct Tally {
+    counts: [[u64; 15]; NAMES.len()],
+    /// Covered questions that were answered from the book of a record, and the record searched.
+    pub answered: u64,
+    /// Those of them whose sheet has pairs.
+    pub with_pairs: u64,
+}
+
+impl Tally {
+    pub fn count(&mut self, call: Call, refusal: Option<Refusal>) {
+        let number = refusal.map_or(0, |refusal| refusal.number);
+        self.counts[call as usize][number as usize] += 1;
+    }
+}
+
+impl fmt::Display for Tally {
+    fn fmt(&self, f: &mut fmt::Formatter) -> fmt::Result {
+        let line = |f: &mut fmt::Formatter, name: &str, counts: &[u64; 15]| {
+            write!(f, "{name:<16}{:>9}", counts.iter().sum::<u64>())?;
+            counts.iter().try_for_each(|count| write!(f, "{count:>8}"))?;
+            writeln!(f)
+        };
+        write!(f, "{:<16}{:>9}{:>8}", "call", "calls", "done")?;
+        (1..=14).try_for_each(|number| write!(f, "{number:>8}"))?;
+        writeln!(f)?;
+        for (name, counts) in NAMES.iter().zip(&self.counts) {
+            line(f, name, counts)?;
+        }
+        line(f, "all", &std::array::from_fn(|number| self.counts.iter().map(|counts| counts[number]).sum()))?;
+        let Tally { answered, with_pairs, .. } = self;
+        writeln!(f, "{answered} covered questions answered as the record is searched, {with_pairs} of them with pairs")
+    }
+}
