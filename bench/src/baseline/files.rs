@@ -1,0 +1,209 @@
+//! The files, parsed into vectors.
+
+use super::bits::{Reader, Writer};
+use super::{give, Refusal};
+use yuthaqim::{
+    BOOK_BYTES, CATALOGUE_BYTES, COUNT, CROWDED, LOOSE, ORDER, PATTERN_BYTES, RECORD_BYTES, STRAY, TWICE, UNEVEN,
+};
+
+/// The numbers of the files.
+const QUESTION: usize = 1;
+const CATALOGUE: usize = 2;
+const RECORD: usize = 3;
+const BOOK: usize = 4;
+
+/// The most different pairs of a book.
+const BOOK_PAIRS: usize = 8_192;
+
+/// A question or an extract.
+pub struct Pattern {
+    pub kinds: Vec<u32>,
+    pub links: Vec<(usize, usize)>,
+}
+
+/// A pair of a record's items, a link of it or a pair of a sheet, is one number: the ends by 12 bits each. So pairs
+/// stand in the order in which a sheet has them.
+pub type Pair = u32;
+
+pub fn ends(pair: Pair) -> (usize, usize) {
+    ((pair >> 12) as usize, (pair & 4_095) as usize)
+}
+
+pub struct Record {
+    pub kinds: Vec<u32>,
+    /// Ascending.
+    pub links: Vec<Pair>,
+}
+
+/// The pairs of each link of a pattern.
+pub type Sheet = Vec<Vec<Pair>>;
+
+// Patterns and catalogues.
+
+fn pattern(reader: &mut Reader) -> Result<Pattern, Refusal> {
+    let items = reader.field(5)? as usize;
+    if !(1..=16).contains(&items) {
+        return reader.refuse(COUNT);
+    }
+    let number = reader.field(6)?;
+    if !(1..=32).contains(&number) {
+        return reader.refuse(COUNT);
+    }
+    let kinds = (0..items).map(|_| reader.field(5)).collect::<Result<_, _>>()?;
+    let mut links = Vec::with_capacity(number as usize);
+    let mut at_links = 0u32;
+    for _ in 0..number {
+        let link = (reader.field(4)? as usize, reader.field(4)? as usize);
+        if link.0 >= items || link.1 >= items {
+            return reader.refuse(STRAY);
+        }
+        if links.contains(&link) {
+            return reader.refuse(TWICE);
+        }
+        at_links |= 1 << link.0 | 1 << link.1;
+        links.push(link);
+    }
+    if at_links != (1 << items) - 1 {
+        return reader.refuse(LOOSE);
+    }
+    reader.padding()?;
+    Ok(Pattern { kinds, links })
+}
+
+pub fn parse_question(bytes: &[u8]) -> Result<Pattern, Refusal> {
+    let mut reader = Reader::new(bytes, PATTERN_BYTES, QUESTION)?;
+    let question = pattern(&mut reader)?;
+    reader.end()?;
+    Ok(question)
+}
+
+pub fn parse_catalogue(bytes: &[u8]) -> Result<Vec<Pattern>, Refusal> {
+    let mut reader = Reader::new(bytes, CATALOGUE_BYTES, CATALOGUE)?;
+    let number = reader.field(5)?;
+    if number > 16 {
+        return reader.refuse(COUNT);
+    }
+    reader.padding()?;
+    let extracts = (0..number).map(|_| pattern(&mut reader)).collect::<Result<_, _>>()?;
+    reader.end()?;
+    Ok(extracts)
+}
+
+// Records.
+
+/// The kinds and, in their own order, the links. None of them stands twice: that is found by sorting a copy, which the
+/// standard library does faster than it fills a set.
+fn record(bytes: &[u8]) -> Result<(Record, Vec<Pair>), Refusal> {
+    let mut reader = Reader::new(bytes, RECORD_BYTES, RECORD)?;
+    let items = reader.field(13)?;
+    if items > 4_096 {
+        return reader.refuse(COUNT);
+    }
+    let number = reader.field(14)?;
+    if number > 8_192 {
+        return reader.refuse(COUNT);
+    }
+    let mut kinds = Vec::with_capacity(items as usize);
+    for _ in 0..items {
+        kinds.push(reader.field(32)?);
+    }
+    let mut in_order = Vec::with_capacity(number as usize);
+    for _ in 0..number {
+        let link = reader.field(24)?;
+        if link >> 12 >= items || link & 4_095 >= items {
+            return reader.refuse(STRAY);
+        }
+        in_order.push(link);
+    }
+    let mut links = in_order.clone();
+    links.sort_unstable();
+    if links.windows(2).any(|two| two[0] == two[1]) {
+        return reader.refuse(TWICE);
+    }
+    reader.padding()?;
+    reader.end()?;
+    Ok((Record { kinds, links }, in_order))
+}
+
+pub fn parse_record(bytes: &[u8]) -> Result<Record, Refusal> {
+    Ok(record(bytes)?.0)
+}
+
+fn push_pair(content: &mut Vec<u32>, pair: Pair) {
+    content.extend([pair >> 12, pair & 4_095]);
+}
+
+/// Reads a record: gives its content.
+pub fn read_record(bytes: &[u8], room: usize) -> Result<Vec<u32>, Refusal> {
+    let (record, links) = record(bytes)?;
+    let mut content = Vec::with_capacity(2 + record.kinds.len() + 2 * links.len());
+    content.extend([record.kinds.len() as u32, links.len() as u32]);
+    content.extend(record.kinds);
+    links.into_iter().for_each(|link| push_pair(&mut content, link));
+    give(content, room)
+}
+
+// Sheets and books.
+
+fn sheet(reader: &mut Reader, links: usize) -> Result<Sheet, Refusal> {
+    let mut sheet = Vec::with_capacity(links);
+    for _ in 0..links {
+        let count = reader.field(14)?;
+        if count > 8_192 {
+            return reader.refuse(COUNT);
+        }
+        let mut pairs: Vec<Pair> = Vec::with_capacity(count as usize);
+        for _ in 0..count {
+            let pair = reader.field(24)?;
+            if pairs.last().is_some_and(|&before| pair <= before) {
+                return reader.refuse(ORDER);
+            }
+            pairs.push(pair);
+        }
+        sheet.push(pairs);
+    }
+    if sheet.iter().any(Vec::is_empty) && !sheet.iter().all(Vec::is_empty) {
+        return reader.refuse(UNEVEN);
+    }
+    reader.padding()?;
+    Ok(sheet)
+}
+
+/// The different pairs of a book, ascending. Each list is in order, which the stable sort makes use of.
+pub fn different_pairs(book: &[Sheet]) -> Vec<Pair> {
+    let mut pairs: Vec<Pair> = book.iter().flatten().flatten().copied().collect();
+    pairs.sort();
+    pairs.dedup();
+    pairs
+}
+
+pub fn parse_book(catalogue: &[Pattern], bytes: &[u8]) -> Result<Vec<Sheet>, Refusal> {
+    let mut reader = Reader::new(bytes, BOOK_BYTES, BOOK)?;
+    let sheet_of = |extract: &Pattern| sheet(&mut reader, extract.links.len());
+    let book: Vec<Sheet> = catalogue.iter().map(sheet_of).collect::<Result<_, _>>()?;
+    reader.end()?;
+    if different_pairs(&book).len() > BOOK_PAIRS {
+        return reader.refuse(CROWDED);
+    }
+    Ok(book)
+}
+
+/// Reads a book: gives its content.
+pub fn read_book(catalogue: &[u8], bytes: &[u8], room: usize) -> Result<Vec<u32>, Refusal> {
+    let book = parse_book(&parse_catalogue(catalogue)?, bytes)?;
+    let mut content = Vec::with_capacity(book.iter().flatten().map(|pairs| 1 + 2 * pairs.len()).sum());
+    for pairs in book.iter().flatten() {
+        content.push(pairs.len() as u32);
+        pairs.iter().for_each(|&pair| push_pair(&mut content, pair));
+    }
+    give(content, room)
+}
+
+/// Puts a sheet behind what was written.
+pub fn write_sheet(sheet: &Sheet, writer: &mut Writer) {
+    for pairs in sheet {
+        writer.field(14, pairs.len() as u32);
+        pairs.iter().for_each(|&pair| writer.field(24, pair));
+    }
+    writer.padding();
+}

@@ -1,0 +1,164 @@
+//! Matching: the greatest simulation by counters and a worklist, after Henzinger, Henzinger and Kopke, and the sheets
+//! that follow from it.
+
+use super::bits::Writer;
+use super::files::*;
+use super::{give, Refusal};
+use yuthaqim::SHEET_BYTES;
+
+/// A set of a pattern's items, or of its links.
+pub type Items = u16;
+pub type Links = u32;
+
+/// The members of a set, ascending.
+pub fn members(set: u32) -> impl Iterator<Item = usize> {
+    let mut left = set;
+    std::iter::from_fn(move || {
+        let next = left.trailing_zeros() as usize;
+        left &= left.wrapping_sub(1);
+        (next < 32).then_some(next)
+    })
+}
+
+/// A graph whose arriving links can be found: those at item w are `arriving[first[w]..first[w + 1]]`.
+pub struct Graph {
+    pub kinds: Vec<u32>,
+    pub links: Vec<Pair>,
+    first: Vec<usize>,
+    arriving: Vec<u16>,
+}
+
+impl Graph {
+    pub fn new(kinds: Vec<u32>, links: Vec<Pair>) -> Graph {
+        let mut first = vec![0; kinds.len() + 2];
+        for &link in &links {
+            first[ends(link).1 + 2] += 1;
+        }
+        for w in 2..first.len() {
+            first[w] += first[w - 1];
+        }
+        // The places of w's links begin at first[w + 1] and, once they are filled, end there.
+        let mut arriving = vec![0; links.len()];
+        for &link in &links {
+            let (v, w) = ends(link);
+            arriving[first[w + 1]] = v as u16;
+            first[w + 1] += 1;
+        }
+        Graph { kinds, links, first, arriving }
+    }
+}
+
+/// The greatest simulation: for each item of the graph the items of the pattern that it may stand for.
+fn simulate(pattern: &Pattern, graph: &Graph) -> Vec<Items> {
+    // To an item of the pattern from those that have a link to it, and from it to those it has links to.
+    let mut leading: [Items; 16] = [0; 16];
+    let mut led_to: [Items; 16] = [0; 16];
+    for &(u, next) in &pattern.links {
+        leading[next] |= 1 << u;
+        led_to[u] |= 1 << next;
+    }
+    let ends_of_links = led_to.iter().fold(0, |all, items| all | items);
+    // All items of its kind, at first.
+    let of_kind = |kinds: &u32| {
+        let fits = |(u, kind): (usize, &u32)| ((kinds >> kind & 1) << u) as Items;
+        pattern.kinds.iter().enumerate().map(fits).sum()
+    };
+    let mut held: Vec<Items> = graph.kinds.iter().map(of_kind).collect();
+    // At 16 · v + u, how many links lead from v to an item that holds u; and at v, which of them are not zero.
+    let mut counts = vec![0u16; 16 * held.len()];
+    let mut reached: Vec<Items> = vec![0; held.len()];
+    for &link in &graph.links {
+        let (v, w) = ends(link);
+        let items = held[w] & ends_of_links;
+        reached[v] |= items;
+        members(items.into()).for_each(|u| counts[16 * v + u] += 1);
+    }
+    // What was dropped and isn't taken off the counts yet.
+    let mut dropped: Vec<(usize, Items)> = Vec::new();
+    for v in 0..held.len() {
+        let unsupported = members(held[v].into()).filter(|&u| led_to[u] & !reached[v] != 0);
+        let lost = unsupported.fold(0, |lost, u| lost | 1 << u);
+        if lost != 0 {
+            held[v] &= !lost;
+            dropped.push((v, lost));
+        }
+    }
+    while let Some((w, gone)) = dropped.pop() {
+        for &v in &graph.arriving[graph.first[w]..graph.first[w + 1]] {
+            let v = v as usize;
+            let mut lost = 0;
+            for u in members((gone & ends_of_links).into()) {
+                counts[16 * v + u] -= 1;
+                if counts[16 * v + u] == 0 {
+                    lost |= leading[u];
+                }
+            }
+            lost &= held[v];
+            if lost != 0 {
+                held[v] &= !lost;
+                dropped.push((v, lost));
+            }
+        }
+    }
+    held
+}
+
+/// For each link of the graph the links of the pattern that list it: none, if an item of the pattern is held nowhere.
+pub fn matches(pattern: &Pattern, graph: &Graph) -> Vec<Links> {
+    let held = simulate(pattern, graph);
+    let somewhere = held.iter().fold(0, |all, held| all | u32::from(*held));
+    if somewhere != (1 << pattern.kinds.len()) - 1 {
+        return vec![0; graph.links.len()];
+    }
+    let mut leaving: [Links; 16] = [0; 16];
+    let mut arriving: [Links; 16] = [0; 16];
+    for (e, &(u, next)) in pattern.links.iter().enumerate() {
+        leaving[u] |= 1 << e;
+        arriving[next] |= 1 << e;
+    }
+    let any = |links: &[Links; 16], held: Items| members(held.into()).fold(0, |any, u| any | links[u]);
+    let at_items: Vec<(Links, Links)> = held.iter().map(|&held| (any(&leaving, held), any(&arriving, held))).collect();
+    let of_link = |&link: &Pair| {
+        let (v, w) = ends(link);
+        at_items[v].0 & at_items[w].1
+    };
+    graph.links.iter().map(of_link).collect()
+}
+
+/// The sheet of pairs in order, of which each is in the lists that its set names.
+pub fn sheet(number: usize, pairs: impl Iterator<Item = (Pair, Links)>) -> Sheet {
+    let mut sheet = vec![Vec::new(); number];
+    for (pair, set) in pairs {
+        members(set).for_each(|e| sheet[e].push(pair));
+    }
+    sheet
+}
+
+fn graph(record: &[u8]) -> Result<Graph, Refusal> {
+    let record = parse_record(record)?;
+    Ok(Graph::new(record.kinds, record.links))
+}
+
+fn write_matches(pattern: &Pattern, graph: &Graph, writer: &mut Writer) {
+    let sets = matches(pattern, graph);
+    let pairs = graph.links.iter().copied().zip(sets);
+    write_sheet(&sheet(pattern.links.len(), pairs), writer);
+}
+
+/// Searches a record for a pattern: gives the pattern's sheet.
+pub fn search(pattern: &[u8], record: &[u8], room: usize) -> Result<Vec<u8>, Refusal> {
+    let pattern = parse_question(pattern)?;
+    let graph = graph(record)?;
+    let mut writer = Writer::default();
+    write_matches(&pattern, &graph, &mut writer);
+    give(writer.bytes(), room.min(SHEET_BYTES))
+}
+
+/// Makes the book of a catalogue from a record.
+pub fn make_book(catalogue: &[u8], record: &[u8], room: usize) -> Result<Vec<u8>, Refusal> {
+    let catalogue = parse_catalogue(catalogue)?;
+    let graph = graph(record)?;
+    let mut writer = Writer::default();
+    catalogue.iter().for_each(|extract| write_matches(extract, &graph, &mut writer));
+    give(writer.bytes(), room.min(SHEET_BYTES))
+}

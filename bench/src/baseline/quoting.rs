@@ -1,0 +1,69 @@
+//! Quoting, by the same simulation.
+
+use super::files::*;
+use super::matching::*;
+use super::Refusal;
+
+/// A quote as the library gives it.
+#[derive(Debug, PartialEq, Eq)]
+pub struct Quote {
+    pub covered: bool,
+    pub links: usize,
+    pub chosen: u32,
+    pub lowest_unmatched: Option<usize>,
+    pub mapping: [u32; 512],
+}
+
+impl Quote {
+    /// The links of the question that an extract matches.
+    fn matched(&self, a: usize) -> Links {
+        (0..self.links).filter(|e| self.mapping[16 * e + a] != 0).map(|e| 1 << e).sum()
+    }
+}
+
+/// The chosen extracts: going up, each that adds a link; going up again, without each that the others can spare.
+fn choose(matched: &[Links]) -> u32 {
+    let mut taken: Vec<usize> = Vec::new();
+    let mut all = 0;
+    for (a, links) in matched.iter().enumerate() {
+        if links & !all != 0 {
+            all |= links;
+            taken.push(a);
+        }
+    }
+    for a in taken.clone() {
+        let others = taken.iter().filter(|&&b| b != a).fold(0, |others, &b| others | matched[b]);
+        if others == all {
+            taken.retain(|&b| b != a);
+        }
+    }
+    taken.iter().map(|a| 1 << a).sum()
+}
+
+/// The quote for a question: each extract is matched with the question read as a record.
+pub fn quote_of(question: &Pattern, catalogue: &[Pattern]) -> Quote {
+    let kinds = question.kinds.iter().map(|kind| 1 << kind).collect();
+    let links = question.links.iter().map(|&(u, next)| (u << 12 | next) as Pair).collect();
+    let graph = Graph::new(kinds, links);
+    let mut quote =
+        Quote { covered: false, links: graph.links.len(), chosen: 0, lowest_unmatched: None, mapping: [0; 512] };
+    for (a, extract) in catalogue.iter().enumerate() {
+        for (e, set) in matches(extract, &graph).into_iter().enumerate() {
+            quote.mapping[16 * e + a] = set;
+        }
+    }
+    let matched: Vec<Links> = (0..catalogue.len()).map(|a| quote.matched(a)).collect();
+    let all = matched.iter().fold(0, |all, links| all | links);
+    quote.lowest_unmatched = (0..quote.links).find(|e| all >> e & 1 == 0);
+    quote.covered = quote.lowest_unmatched.is_none();
+    if quote.covered {
+        quote.chosen = choose(&matched);
+    }
+    quote
+}
+
+/// Quotes a question with a catalogue.
+pub fn quote(question: &[u8], catalogue: &[u8]) -> Result<Quote, Refusal> {
+    let question = parse_question(question)?;
+    Ok(quote_of(&question, &parse_catalogue(catalogue)?))
+}

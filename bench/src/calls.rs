@@ -1,0 +1,129 @@
+//! The calls that are measured, by the library and by the baseline.
+
+use crate::baseline;
+use std::hint::black_box;
+use yuthaqim::{BOOK_BYTES, BOOK_WORDS, WORK_WORDS};
+
+#[derive(Clone, Copy, Debug, PartialEq, Eq)]
+pub enum Call {
+    ReadRecord,
+    Search,
+    MakeBook,
+    ReadBook,
+    Answer,
+    AnswerBySort,
+    Quote,
+}
+
+pub const CALLS: [Call; 7] =
+    [Call::ReadRecord, Call::Search, Call::MakeBook, Call::ReadBook, Call::Answer, Call::AnswerBySort, Call::Quote];
+
+impl Call {
+    pub fn name(self) -> &'static str {
+        match self {
+            Call::ReadRecord => "read a record",
+            Call::Search => "search",
+            Call::MakeBook => "make a book",
+            Call::ReadBook => "read a book",
+            Call::Answer => "answer",
+            Call::AnswerBySort => "answer, sorting",
+            Call::Quote => "quote",
+        }
+    }
+}
+
+/// The files that the calls of a workload are lent.
+#[derive(Default)]
+pub struct Files {
+    pub record: Vec<u8>,
+    pub question: Vec<u8>,
+    pub catalogue: Vec<u8>,
+    pub book: Vec<u8>,
+}
+
+/// What the library is lent beside files. It clears its own work words at the end of each call; the outputs keep what the
+/// turn before left in them.
+pub struct Desk {
+    words: Vec<u32>,
+    bytes: Vec<u8>,
+    work: Vec<u32>,
+}
+
+/// What a call gives.
+#[derive(Debug, PartialEq, Eq)]
+pub enum Outcome {
+    Words(Vec<u32>),
+    Bytes(Vec<u8>),
+    Quote(Box<baseline::Quote>),
+    Refused(usize, usize),
+}
+
+impl Desk {
+    pub fn new() -> Desk {
+        Desk { words: vec![0; BOOK_WORDS], bytes: vec![0; BOOK_BYTES], work: vec![0; WORK_WORDS] }
+    }
+
+    /// A call that gives content or a file: how much it wrote.
+    fn length(&mut self, call: Call, files: &Files) -> Result<usize, yuthaqim::Refusal> {
+        let Files { record, question, catalogue, book } = files;
+        let Desk { words, bytes, work } = self;
+        match call {
+            Call::ReadRecord => yuthaqim::read_record(record, words, work),
+            Call::Search => yuthaqim::search(question, record, bytes, work),
+            Call::MakeBook => yuthaqim::make_book(catalogue, record, bytes, work),
+            Call::ReadBook => yuthaqim::read_book(catalogue, book, words, work),
+            Call::Answer | Call::AnswerBySort => yuthaqim::answer(question, catalogue, book, bytes, work),
+            Call::Quote => unreachable!("a quote has no output"),
+        }
+    }
+
+    /// A call of the library, as it is timed.
+    pub fn run(&mut self, call: Call, files: &Files) {
+        if call == Call::Quote {
+            black_box(yuthaqim::raw::quote(&files.question, &files.catalogue, &mut self.work));
+        } else {
+            let _ = black_box(self.length(call, files));
+        }
+    }
+
+    /// A call of the library, with what it gives.
+    pub fn outcome(&mut self, call: Call, files: &Files) -> Outcome {
+        let outcome = if call == Call::Quote {
+            yuthaqim::quote(&files.question, &files.catalogue, &mut self.work).map(|quote| {
+                let yuthaqim::Quote { covered, links, chosen, lowest_unmatched, mapping } = quote;
+                Outcome::Quote(baseline::Quote { covered, links, chosen, lowest_unmatched, mapping }.into())
+            })
+        } else {
+            self.length(call, files).map(|length| match call {
+                Call::ReadRecord | Call::ReadBook => Outcome::Words(self.words[..length].to_vec()),
+                _ => Outcome::Bytes(self.bytes[..length].to_vec()),
+            })
+        };
+        outcome.unwrap_or_else(|refusal| Outcome::Refused(refusal.number, refusal.detail))
+    }
+
+    /// How long the library takes for a book, and for a sheet with as many pairs that it doesn't look for different ones
+    /// in. Neither is lent room for content, so that both stop there.
+    pub fn judge_book(&mut self, catalogue: &[u8], book: &[u8]) {
+        let _ = black_box(yuthaqim::read_book(catalogue, book, &mut [], &mut self.work));
+    }
+
+    pub fn judge_sheet(&mut self, pattern: &[u8], sheet: &[u8]) {
+        let _ = black_box(yuthaqim::read_sheet(pattern, sheet, &mut [], &mut self.work));
+    }
+}
+
+/// The same call by the baseline.
+pub fn baseline_outcome(call: Call, files: &Files) -> Outcome {
+    let Files { record, question, catalogue, book } = files;
+    let outcome = match call {
+        Call::ReadRecord => baseline::read_record(record, BOOK_WORDS).map(Outcome::Words),
+        Call::Search => baseline::search(question, record, BOOK_BYTES).map(Outcome::Bytes),
+        Call::MakeBook => baseline::make_book(catalogue, record, BOOK_BYTES).map(Outcome::Bytes),
+        Call::ReadBook => baseline::read_book(catalogue, book, BOOK_WORDS).map(Outcome::Words),
+        Call::Answer => baseline::answer(question, catalogue, book, BOOK_BYTES).map(Outcome::Bytes),
+        Call::AnswerBySort => baseline::answer_by_sorting(question, catalogue, book, BOOK_BYTES).map(Outcome::Bytes),
+        Call::Quote => baseline::quote(question, catalogue).map(|quote| Outcome::Quote(quote.into())),
+    };
+    outcome.unwrap_or_else(|(number, detail)| Outcome::Refused(number, detail))
+}

@@ -1,0 +1,137 @@
+//! Measures the library's calls beside a plain implementation with heap memory, in one run, and prints a table. Writes
+//! `plot.svg` next to this program's Cargo.toml.
+
+mod baseline;
+mod calls;
+mod measure;
+mod plot;
+mod report;
+#[cfg(test)]
+mod tests;
+mod workloads;
+
+use calls::{baseline_outcome, Call, Desk, Files, Outcome, CALLS};
+use measure::{timed, Case, Order, Time, Turn};
+use std::cell::RefCell;
+use std::hint::black_box;
+use std::process::exit;
+use std::rc::Rc;
+use std::time::Duration;
+use workloads::Workload;
+
+/// The sizes, as parts of the full one.
+const PARTS: [usize; 4] = [1, 2, 4, 8];
+
+/// What is measured beside the calls.
+const PAIRS: &str = "different pairs";
+
+/// All cases are measured in each round, for so long in each.
+const ROUNDS: usize = 12;
+const BUDGET: Duration = Duration::from_millis(30);
+
+/// The files of a workload.
+fn files_of(workload: &Workload, desk: &mut Desk) -> Files {
+    let Workload { record, question, catalogue, .. } = workload;
+    let mut files =
+        Files { record: record.clone(), question: question.clone(), catalogue: catalogue.clone(), book: Vec::new() };
+    let Outcome::Bytes(book) = desk.outcome(Call::MakeBook, &files) else {
+        panic!("the book of {} doesn't fit", workload.name);
+    };
+    files.book = book;
+    files
+}
+
+/// Ends the run if the two don't give the same.
+fn compare(what: &str, product: Outcome, baseline: Outcome) {
+    if product != baseline {
+        eprintln!("{what}: the library and the baseline differ");
+        exit(1);
+    }
+    if let Outcome::Refused(number, detail) = product {
+        eprintln!("{what}: refused {number} {detail}, which isn't worth measuring");
+        exit(1);
+    }
+}
+
+/// A call on a workload, once both sides gave the same. A quote reads no record: its size is that of the catalogue.
+fn call_case<'a>(workload: &Workload, files: &Rc<Files>, call: Call, part: usize, desk: &'a RefCell<Desk>) -> Case<'a> {
+    let mut files = files.clone();
+    let mut size = format!("{} items, {} links", report::number(workload.items), report::number(workload.links));
+    if call == Call::Quote {
+        let extracts = workload.extracts().div_ceil(part);
+        let catalogue = workload.first_extracts(extracts);
+        files = Rc::new(Files { catalogue, question: workload.question.clone(), ..Files::default() });
+        size = format!("{extracts} extracts");
+    }
+    let what = format!("{}, {}, {size}", call.name(), workload.name);
+    compare(&what, desk.borrow_mut().outcome(call, &files), baseline_outcome(call, &files));
+    if call == Call::Answer {
+        let searched = desk.borrow_mut().outcome(Call::Search, &files);
+        compare(&format!("{what}, beside a search"), searched, baseline_outcome(call, &files));
+    }
+    Case::new((call.name(), workload.name), (size, part), move |Order { product_first, number }| {
+        let mut desk = desk.borrow_mut();
+        let mut product = || timed(number, || desk.run(call, &files));
+        let first = product_first.then(&mut product);
+        let baseline = timed(number, || drop(black_box(baseline_outcome(call, &files))));
+        Turn { product: first.unwrap_or_else(product), other: Time::default(), baseline }
+    })
+}
+
+/// Finding the different pairs of a book is no call of its own: it is what reading a book takes more than reading a sheet
+/// with as many pairs. The baseline is timed at that step alone.
+fn pairs_case(book: workloads::Book, part: usize, desk: &RefCell<Desk>) -> Case<'_> {
+    let size = format!("{} pairs", report::number(book.pairs));
+    let sheets = baseline::parse_book(&baseline::parse_catalogue(&book.catalogue).unwrap(), &book.book).unwrap();
+    Case::new((PAIRS, book.name), (size, part), move |Order { number, .. }| {
+        let mut desk = desk.borrow_mut();
+        let product = timed(number, || desk.judge_book(&book.catalogue, &book.book));
+        let baseline = timed(number, || drop(black_box(baseline::different_pairs(&sheets))));
+        let other = timed(number, || desk.judge_sheet(&book.pattern, &book.sheet));
+        Turn { product, other, baseline }
+    })
+}
+
+/// All cases whose call has a name that begins so: by call, then by workload, then by size.
+fn all_cases<'a>(beginning: &str, desk: &'a RefCell<Desk>) -> Vec<Case<'a>> {
+    let mut cases = Vec::new();
+    for part in PARTS {
+        for workload in workloads::all(part) {
+            let files = Rc::new(files_of(&workload, &mut desk.borrow_mut()));
+            let calls = CALLS.iter().filter(|call| call.name().starts_with(beginning));
+            cases.extend(calls.map(|&call| call_case(&workload, &files, call, part, desk)));
+        }
+        if PAIRS.starts_with(beginning) {
+            cases.extend(workloads::books(part).into_iter().map(|book| pairs_case(book, part, desk)));
+        }
+    }
+    let place = |case: &Case| CALLS.iter().position(|call| call.name() == case.call).unwrap_or(CALLS.len());
+    let mut workloads: Vec<&str> = Vec::new();
+    for case in &cases {
+        if !workloads.contains(&case.workload) {
+            workloads.push(case.workload);
+        }
+    }
+    cases.sort_by_key(|case| (place(case), workloads.iter().position(|&name| name == case.workload), case.part));
+    cases
+}
+
+/// `bench [ROUNDS [CALL]]`
+fn main() {
+    let mut arguments = std::env::args().skip(1);
+    let rounds = arguments.next().map_or(ROUNDS, |rounds| rounds.parse().expect("a number of rounds"));
+    let beginning = arguments.next().unwrap_or_default();
+    let desk = RefCell::new(Desk::new());
+    let mut cases = all_cases(&beginning, &desk);
+    let load = report::load();
+    cases.iter_mut().for_each(|case| case.warm_up(BUDGET / 4));
+    for _ in 0..rounds {
+        cases.iter_mut().for_each(|case| case.measure(BUDGET));
+    }
+    report::print_workloads(&workloads::all(1));
+    report::print(&cases, rounds, &load);
+    if beginning.is_empty() {
+        let path = concat!(env!("CARGO_MANIFEST_DIR"), "/plot.svg");
+        std::fs::write(path, plot::draw(&cases)).expect("plot.svg can be written");
+    }
+}

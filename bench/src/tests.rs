@@ -1,0 +1,153 @@
+//! The baseline beside the plain model of the requirements, on the workloads at their least size, on small graphs drawn
+//! at random and on books that belong to no record.
+
+use crate::baseline;
+use crate::workloads::*;
+use model::files::{read_book, read_record, Refusal, BOOK_BYTES, WORK_WORDS};
+use model::{answering, matching, quoting};
+
+const ROOM: usize = BOOK_BYTES;
+
+/// Both give the same, a refusal too.
+fn same<T: PartialEq>(what: &str, baseline: Result<T, baseline::Refusal>, model: Result<T, Refusal>) -> Option<T> {
+    let model = model.map_err(|refusal| (refusal.number as usize, refusal.detail));
+    assert!(baseline == model, "{what}");
+    model.ok()
+}
+
+fn model_quote(question: &[u8], catalogue: &[u8]) -> Result<baseline::Quote, Refusal> {
+    let quote = quoting::quote(question, catalogue, WORK_WORDS)?;
+    let mut mapping = [0; 512];
+    for (e, matches) in quote.mapping.iter().enumerate() {
+        matches.iter().for_each(|&(a, b)| mapping[16 * e + a] |= 1 << b);
+    }
+    Ok(baseline::Quote {
+        covered: quote.covered,
+        links: quote.mapping.len(),
+        chosen: quote.chosen.iter().map(|a| 1 << a).sum(),
+        lowest_unmatched: quote.lowest_unmatched,
+        mapping,
+    })
+}
+
+/// Every call that reads no record.
+fn without_record(question: &[u8], catalogue: &[u8], book: &[u8]) -> Option<Vec<u8>> {
+    same("quote", baseline::quote(question, catalogue), model_quote(question, catalogue));
+    same("read a book", baseline::read_book(catalogue, book, ROOM), read_book(catalogue, book, ROOM, WORK_WORDS));
+    let answer = answering::answer(question, catalogue, book, ROOM, WORK_WORDS);
+    same("answer, sorting", baseline::answer_by_sorting(question, catalogue, book, ROOM), answer.clone());
+    same("answer", baseline::answer(question, catalogue, book, ROOM), answer)
+}
+
+/// Every call. Gives whether the question was answered.
+fn agree(record: &[u8], question: &[u8], catalogue: &[u8]) -> bool {
+    same("read a record", baseline::read_record(record, ROOM), read_record(record, ROOM, WORK_WORDS));
+    let search = matching::search(question, record, ROOM, WORK_WORDS);
+    let sheet = same("search", baseline::search(question, record, ROOM), search);
+    let made = matching::make_book(catalogue, record, ROOM, WORK_WORDS);
+    let Some(book) = same("make a book", baseline::make_book(catalogue, record, ROOM), made) else {
+        return false;
+    };
+    let answer = without_record(question, catalogue, &book);
+    assert!(answer.is_none() || answer == sheet);
+    answer.is_some()
+}
+
+#[test]
+fn on_the_workloads() {
+    for workload in all(8) {
+        assert!(agree(&workload.record, &workload.question, &workload.catalogue), "{}", workload.name);
+    }
+}
+
+#[test]
+fn on_books_that_belong_to_no_record() {
+    for book in books(8) {
+        without_record(&book.pattern, &book.catalogue, &book.book);
+    }
+}
+
+fn some_links(rule: &mut Rule, number: usize, items: usize) -> Vec<(usize, usize)> {
+    let mut links = Vec::new();
+    for _ in 0..number {
+        let link = (rule.below(items), rule.below(items));
+        if !links.contains(&link) {
+            links.push(link);
+        }
+    }
+    links
+}
+
+/// A pattern whose items are all at links.
+fn some_pattern(rule: &mut Rule) -> Pattern {
+    let items = 1 + rule.below(4);
+    let mut links: Vec<_> = (0..items).map(|u| (u, (u + 1).min(items - 1))).collect();
+    let more = rule.below(4);
+    links.extend(some_links(rule, more, items));
+    links.sort();
+    links.dedup();
+    if rule.below(2) == 0 && links.len() > 1 {
+        links.retain(|&link| link != (items - 1, items - 1));
+    }
+    ((0..items).map(|_| rule.below(3) as u32).collect(), links)
+}
+
+/// Some links of a pattern and the items at them.
+fn part_of(rule: &mut Rule, (kinds, links): &Pattern) -> Pattern {
+    let from = rule.below(links.len());
+    let links: Vec<_> = links[from..from + 1 + rule.below(links.len() - from)].to_vec();
+    let items: Vec<usize> = (0..kinds.len()).filter(|&u| links.iter().any(|link| link.0 == u || link.1 == u)).collect();
+    let place = |u: usize| items.iter().position(|&item| item == u).unwrap();
+    let kinds = items.iter().map(|&u| kinds[u]).collect();
+    (kinds, links.iter().map(|&(from, to)| (place(from), place(to))).collect())
+}
+
+#[test]
+fn on_small_graphs() {
+    let mut rule = Rule::new(8);
+    let mut answered = 0;
+    for _ in 0..3_000 {
+        let items = 1 + rule.below(12);
+        let kinds: Vec<u32> = (0..items).map(|_| rule.below(8) as u32).collect();
+        let number = rule.below(4 * items);
+        let record = record_file(&kinds, &some_links(&mut rule, number, items));
+        let question = some_pattern(&mut rule);
+        let number = rule.below(6);
+        let extracts: Vec<Pattern> = (0..number)
+            .map(|_| if rule.below(4) == 0 { some_pattern(&mut rule) } else { part_of(&mut rule, &question) })
+            .collect();
+        answered += usize::from(agree(&record, &pattern_file(&question), &catalogue_file(&extracts)));
+    }
+    assert!(answered > 500, "{answered} answered");
+}
+
+/// Sheets of any pairs, as a book's bytes.
+fn some_book(rule: &mut Rule, extracts: &[Pattern]) -> Vec<u8> {
+    let mut writer = baseline::Writer::default();
+    for (_, links) in extracts {
+        for _ in links {
+            let mut pairs: Vec<_> = (0..1 + rule.below(12)).map(|_| rule.below(5) << 12 | rule.below(5)).collect();
+            pairs.sort();
+            pairs.dedup();
+            writer.field(14, pairs.len() as u32);
+            pairs.iter().for_each(|&pair| writer.field(24, pair as u32));
+        }
+        writer.padding();
+    }
+    writer.bytes()
+}
+
+#[test]
+fn on_small_books() {
+    let mut rule = Rule::new(9);
+    let mut answered = 0;
+    for _ in 0..3_000 {
+        let question = some_pattern(&mut rule);
+        let number = 1 + rule.below(5);
+        let extracts: Vec<Pattern> = (0..number).map(|_| part_of(&mut rule, &question)).collect();
+        let book = some_book(&mut rule, &extracts);
+        let answer = without_record(&pattern_file(&question), &catalogue_file(&extracts), &book);
+        answered += usize::from(answer.is_some_and(|sheet| sheet.iter().any(|&byte| byte != 0)));
+    }
+    assert!(answered > 500, "{answered} answered");
+}

@@ -1,0 +1,362 @@
+//! The workloads: for each a record, a question and a catalogue of 15 or 16 extracts, at the full size of a record and at
+//! parts of it. They are drawn by a rule with a fixed seed. The links of every record stand in shuffled order, and so do
+//! the numbers of its items where an order of them would help.
+
+use crate::baseline::Writer;
+use std::collections::HashSet;
+
+/// The most items and links of a record.
+const ITEMS: usize = 4_096;
+const LINKS: usize = 8_192;
+
+pub struct Workload {
+    pub name: &'static str,
+    /// What was drawn, in a line.
+    pub about: &'static str,
+    pub items: usize,
+    pub links: usize,
+    pub record: Vec<u8>,
+    pub question: Vec<u8>,
+    pub catalogue: Vec<u8>,
+    extracts: Vec<Pattern>,
+}
+
+impl Workload {
+    /// The catalogue of the first extracts alone.
+    pub fn first_extracts(&self, number: usize) -> Vec<u8> {
+        catalogue_file(&self.extracts[..number])
+    }
+
+    pub fn extracts(&self) -> usize {
+        self.extracts.len()
+    }
+}
+
+/// The workloads at a size: the full one divided by a power of two up to 8.
+pub fn all(part: usize) -> Vec<Workload> {
+    let makers = [layered, star, chain, one_kind, nothing, everything];
+    makers.map(|make| make(ITEMS / part, LINKS / part)).into()
+}
+
+// The rule.
+
+/// Numbers by a 64-bit linear rule, of which the high half is used.
+pub struct Rule(u64);
+
+impl Rule {
+    pub fn new(seed: u64) -> Rule {
+        Rule(seed)
+    }
+
+    /// A number below n.
+    pub fn below(&mut self, n: usize) -> usize {
+        self.0 = self.0.wrapping_mul(6_364_136_223_846_793_005).wrapping_add(1_442_695_040_888_963_407);
+        ((self.0 >> 32) * n as u64 >> 32) as usize
+    }
+
+    pub fn shuffle<T>(&mut self, list: &mut [T]) {
+        for i in (1..list.len()).rev() {
+            list.swap(i, self.below(i + 1));
+        }
+    }
+
+    /// The numbers below n in any order.
+    fn order(&mut self, n: usize) -> Vec<usize> {
+        let mut order: Vec<usize> = (0..n).collect();
+        self.shuffle(&mut order);
+        order
+    }
+
+    /// So many different links, each drawn by the rule.
+    fn links(&mut self, number: usize, draw: impl Fn(&mut Rule) -> (usize, usize)) -> Vec<(usize, usize)> {
+        let mut links = Vec::new();
+        let mut seen = HashSet::new();
+        while links.len() < number {
+            let link = draw(self);
+            if seen.insert(link) {
+                links.push(link);
+            }
+        }
+        links
+    }
+}
+
+// The files.
+
+/// The kind of each item, and the links.
+pub type Pattern = (Vec<u32>, Vec<(usize, usize)>);
+
+fn pattern(kinds: &[u32], links: &[(usize, usize)]) -> Pattern {
+    (kinds.to_vec(), links.to_vec())
+}
+
+/// Items linked one to the next.
+fn path(kinds: &[u32]) -> Pattern {
+    let links: Vec<_> = (1..kinds.len()).map(|u| (u - 1, u)).collect();
+    pattern(kinds, &links)
+}
+
+/// Items linked one to the next and the last to the first.
+fn ring(kinds: &[u32]) -> Pattern {
+    let links: Vec<_> = (0..kinds.len()).map(|u| (u, (u + 1) % kinds.len())).collect();
+    pattern(kinds, &links)
+}
+
+fn put_pattern(writer: &mut Writer, (kinds, links): &Pattern) {
+    writer.field(5, kinds.len() as u32);
+    writer.field(6, links.len() as u32);
+    kinds.iter().for_each(|&kind| writer.field(5, kind));
+    for &(from, to) in links {
+        writer.field(4, from as u32);
+        writer.field(4, to as u32);
+    }
+    writer.padding();
+}
+
+pub fn pattern_file(pattern: &Pattern) -> Vec<u8> {
+    let mut writer = Writer::default();
+    put_pattern(&mut writer, pattern);
+    writer.bytes()
+}
+
+pub fn catalogue_file(extracts: &[Pattern]) -> Vec<u8> {
+    let mut writer = Writer::default();
+    writer.field(5, extracts.len() as u32);
+    writer.padding();
+    extracts.iter().for_each(|extract| put_pattern(&mut writer, extract));
+    writer.bytes()
+}
+
+pub fn record_file(kinds: &[u32], links: &[(usize, usize)]) -> Vec<u8> {
+    let mut writer = Writer::default();
+    writer.field(13, kinds.len() as u32);
+    writer.field(14, links.len() as u32);
+    kinds.iter().for_each(|&kinds| writer.field(32, kinds));
+    for &(from, to) in links {
+        writer.field(12, from as u32);
+        writer.field(12, to as u32);
+    }
+    writer.padding();
+    writer.bytes()
+}
+
+fn workload(
+    name: &'static str,
+    about: &'static str,
+    rule: &mut Rule,
+    (kinds, mut links): (Vec<u32>, Vec<(usize, usize)>),
+    question: Pattern,
+    extracts: Vec<Pattern>,
+) -> Workload {
+    rule.shuffle(&mut links);
+    Workload {
+        name,
+        about,
+        items: kinds.len(),
+        links: links.len(),
+        record: record_file(&kinds, &links),
+        question: pattern_file(&question),
+        catalogue: catalogue_file(&extracts),
+        extracts,
+    }
+}
+
+// The workloads.
+
+/// Four layers of items, links from each layer to the next. An item has its layer's kind and one of four finer kinds of
+/// that layer.
+fn layered(items: usize, links: usize) -> Workload {
+    let mut rule = Rule::new(1);
+    let layer = items / 4;
+    let order = rule.order(items);
+    let fine = |layer: usize| 4 + 4 * layer as u32;
+    let mut kinds = vec![0; items];
+    for (i, &item) in order.iter().enumerate() {
+        kinds[item] = 1 << (i / layer) | 1 << (fine(i / layer) + rule.below(4) as u32);
+    }
+    let links = rule.links(links, |rule| {
+        let from = rule.below(items - layer);
+        (order[from], order[(from / layer + 1) * layer + rule.below(layer)])
+    });
+    let (b, c, d) = (fine(1), fine(2), fine(3));
+    let question = pattern(&[0, 1, b, 2, c, 3, d], &[(0, 1), (0, 2), (1, 3), (2, 3), (2, 4), (3, 5), (4, 5), (4, 6)]);
+    let extracts = vec![
+        path(&[0, 1, 2, 3]),
+        path(&[0, b]),
+        path(&[b, 2]),
+        path(&[b, c]),
+        path(&[c, 3]),
+        path(&[c, d]),
+        path(&[0, b, 2]),
+        path(&[0, b, c]),
+        path(&[b, c, d]),
+        path(&[b, c, 3]),
+        pattern(&[c, 3, d], &[(0, 1), (0, 2)]),
+        path(&[0, b, c, d]),
+        pattern(&[b, 2, c], &[(0, 1), (0, 2)]),
+        pattern(&[0, b, 2, c, 3, d], &[(0, 1), (1, 2), (1, 3), (3, 4), (3, 5)]),
+        path(&[0, b, 2, 3]),
+    ];
+    let about =
+        "four layers, links to the next layer; question of 7 items and 8 links, 15 extracts that are parts of it";
+    workload("layered", about, &mut rule, (kinds, links), question, extracts)
+}
+
+/// One item in the middle, linked both ways with all others, which have one kind in common and one of 14 others.
+fn star(items: usize, _: usize) -> Workload {
+    let mut rule = Rule::new(2);
+    let middle = rule.below(items);
+    let kinds = (0..items).map(|v| if v == middle { 1 } else { 2 | 4 << rule.below(14) }).collect();
+    let others = (0..items).filter(|&v| v != middle);
+    let links = others.flat_map(|v| [(middle, v), (v, middle)]).collect();
+    let extracts = (1..16).map(|kind| ring(&[0, kind])).collect();
+    let about = "one item linked both ways with all others; question of 2 items linked both ways, 15 extracts like it";
+    workload("star", about, &mut rule, (kinds, links), ring(&[0, 1]), extracts)
+}
+
+/// A long chain of one kind, with links to the next item and to the one after, in shuffled order: nothing on it goes on
+/// for ever, which is found out one item at a time. Along the chain the items have one of eight other kinds in turn.
+fn chain(items: usize, _: usize) -> Workload {
+    let mut rule = Rule::new(3);
+    let order = rule.order(items);
+    let mut kinds = vec![0; items];
+    for (i, &item) in order.iter().enumerate() {
+        kinds[item] = 1 | 2 << (i % 8);
+    }
+    let steps = (0..items).flat_map(|i| [(i, i + 1), (i, i + 2)]);
+    let links = steps.filter(|step| step.1 < items).map(|(from, to)| (order[from], order[to])).collect();
+    let mut extracts = vec![path(&[0, 0]), ring(&[0]), ring(&[0, 0])];
+    extracts.extend((1..8).map(|kind| path(&[kind, kind + 1])));
+    extracts.extend((1..6).map(|kind| path(&[kind, kind + 1, kind + 3])));
+    let about = "a chain through all items with links to the next and the one after, numbers shuffled; question of a \
+                 self link, which nothing matches in the end; 15 extracts, 2 of which cascade like it";
+    workload("chain", about, &mut rule, (kinds, links), ring(&[0]), extracts)
+}
+
+/// All items of one kind. A sixteenth of them, the core, has two links each within the core; the others stand in three
+/// layers, from each of which links lead to the next.
+fn one_kind(items: usize, links: usize) -> Workload {
+    let mut rule = Rule::new(4);
+    let order = rule.order(items);
+    let core = items / 16;
+    let layer = (items - core) / 3;
+    let in_core = |i: usize, step: usize| (order[i], order[(i + step) % core]);
+    let mut all: Vec<_> = (0..core).flat_map(|i| [in_core(i, 1), in_core(i, 7)]).collect();
+    all.extend(rule.links(links - all.len(), |rule| {
+        let from = rule.below(2 * layer);
+        (order[core + from], order[core + (from / layer + 1) * layer + rule.below(layer)])
+    }));
+    let zeros = [0; 16];
+    let steps = (0..16).flat_map(|u| [(u, (u + 1) % 16), (u, (u + 5) % 16)]);
+    let question = (zeros.to_vec(), steps.collect());
+    let mut extracts: Vec<Pattern> = (1..6).map(|number| ring(&zeros[..number])).collect();
+    for number in 0..10 {
+        // An item with a self link, and one or two that lead to it.
+        let mut links = vec![(0, 0)];
+        links.extend((0..1 + number % 2).map(|u| (u + 1, 0)));
+        extracts.push((zeros[..links.len()].to_vec(), links));
+    }
+    let about =
+        "all items of one kind, a sixteenth of them in a ring with chords, the others in three layers; question \
+                 of 16 items and 32 links, 15 extracts";
+    workload("one kind", about, &mut rule, (vec![1; items], all), question, extracts)
+}
+
+/// Eight kinds, and links from a kind to a greater one alone. The patterns ask for the other direction.
+fn nothing(items: usize, links: usize) -> Workload {
+    let mut rule = Rule::new(5);
+    let kind: Vec<u32> = (0..items).map(|_| rule.below(8) as u32).collect();
+    let mut all = Vec::new();
+    let mut seen = HashSet::new();
+    while all.len() < links {
+        let (a, b) = (rule.below(items), rule.below(items));
+        let link = if kind[a] < kind[b] { (a, b) } else { (b, a) };
+        if kind[a] != kind[b] && seen.insert(link) {
+            all.push(link);
+        }
+    }
+    let mut question = path(&[7, 6, 5, 4, 3, 2, 1, 0]);
+    question.1.extend((0..6).map(|u| (u, u + 2)));
+    let mut extracts: Vec<Pattern> = (0..7).map(|k| path(&[7 - k, 6 - k])).collect();
+    extracts.extend((0..6).map(|k| path(&[7 - k, 5 - k])));
+    extracts.extend((0..3).map(|k| path(&[7 - k, 6 - k, 5 - k, 4 - k])));
+    let about =
+        "eight kinds, links from lesser to greater kinds alone; question of 8 items and 13 links the other way, \
+                 16 extracts that are parts of it";
+    workload("nothing", about, &mut rule, (kind.iter().map(|kind| 1 << kind).collect(), all), question, extracts)
+}
+
+/// Sixteen kinds, and from each item two links to items of its own kind: every link is listed.
+fn everything(items: usize, _: usize) -> Workload {
+    let mut rule = Rule::new(6);
+    let order = rule.order(items);
+    let group = items / 16;
+    let mut kinds = vec![0; items];
+    for (i, &item) in order.iter().enumerate() {
+        kinds[item] = 1 << (i / group);
+    }
+    let step = |i: usize, step: usize| (order[i], order[i / group * group + (i + step) % group]);
+    let links = (0..items).flat_map(|i| [step(i, 1), step(i, 7)]).collect();
+    let question = ((0..16).collect(), (0..16).map(|u| (u, u)).collect());
+    let extracts = (0..16).map(|kind| ring(&[kind, kind])).collect();
+    let about =
+        "sixteen kinds, two links from each item to items of its kind; question of 16 items with self links, 16 \
+                 extracts of two items linked both ways; every link of the record is listed";
+    workload("everything", about, &mut rule, (kinds, links), question, extracts)
+}
+
+// Books that belong to no record, to find the different pairs of.
+
+pub struct Book {
+    pub name: &'static str,
+    pub pairs: usize,
+    pub catalogue: Vec<u8>,
+    pub book: Vec<u8>,
+    /// A lone sheet with as many pairs, and its pattern.
+    pub pattern: Vec<u8>,
+    pub sheet: Vec<u8>,
+}
+
+/// A pattern with so many links.
+fn any_pattern(links: usize) -> Pattern {
+    let links: Vec<_> = (0..links).map(|e| (e / 6, e % 6)).collect();
+    let items = 1 + links.iter().map(|&(from, to)| from.max(to)).max().unwrap();
+    (vec![0; items], links)
+}
+
+/// So many sheets of so many lists, each of so many pairs in order.
+fn sheets(rule: &mut Rule, number: usize, lists: usize, pairs: usize, pool: &mut [u32]) -> Vec<u8> {
+    let mut writer = Writer::default();
+    for _ in 0..number {
+        for _ in 0..lists {
+            rule.shuffle(pool);
+            let mut list = pool[..pairs].to_vec();
+            list.sort_unstable();
+            writer.field(14, pairs as u32);
+            list.iter().for_each(|&pair| writer.field(24, pair));
+        }
+        writer.padding();
+    }
+    writer.bytes()
+}
+
+/// Books at a size: of three long lists, of 32, and of 512 short ones. Their pairs are drawn from 8,192 at the full size.
+pub fn books(part: usize) -> Vec<Book> {
+    let mut rule = Rule::new(7);
+    let pool = rule.links(LINKS / part, |rule| (rule.below(ITEMS), rule.below(ITEMS)));
+    let mut pool: Vec<u32> = pool.iter().map(|&(from, to)| (from << 12 | to) as u32).collect();
+    let forms = [("3 long lists", 1, 3, 7_280), ("32 lists", 1, 32, 680), ("512 short lists", 16, 32, 40)];
+    let make = |(name, number, lists, pairs)| {
+        let pairs = pairs / part;
+        let extracts = vec![any_pattern(lists); number];
+        Book {
+            name,
+            pairs: number * lists * pairs,
+            catalogue: catalogue_file(&extracts),
+            book: sheets(&mut rule, number, lists, pairs, &mut pool),
+            pattern: pattern_file(&extracts[0]),
+            sheet: sheets(&mut rule, 1, lists, number * pairs, &mut pool),
+        }
+    };
+    forms.map(make).into()
+}
