@@ -26,8 +26,8 @@ use Rattle.matching.proofs.PatternLaws.{edges-in, pattern-is}
 use Rattle.matching.proofs.EdgeLaws.{edgesIn-length}
 use Rattle.containment.specs.Choice.{everyView, coversIn, lowestUnmatched, chosen}
 use Rattle.containment.specs.Quote.{blank, mapping, valuesFrom, quoteValues, quoteTold}
-use Rattle.containment.specs.Show.{graphFields, fewerFields, shownFields, recordBytes, fitBoth, showFor}
-use Rattle.containment.specs.Steps.{Query, Views, Answers}
+use Rattle.containment.specs.Show.{graphFields, fewerFields, recordBytes, fitBoth, showFor}
+use Rattle.containment.specs.Steps.{Query, Views, Answers, shownFields}
 use Rattle.containment.specs.declared.quote_type.Quote.{Quote}
 use Rattle.containment.specs.declared.quote_type.Coverage.the-variants as coverage-is
 use Rattle.containment.proofs.ChoiceLaws.{chosen-none, lowest-below}

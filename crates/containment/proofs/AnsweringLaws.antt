@@ -7,12 +7,12 @@ use lib.ListN.{length, take, drop, getD}
 use native.Mathlib.Omega.{arith}
 use Rattle.packed.specs.Format.{pick, decode}
 use Rattle.packed.specs.Formats.{catalogue, book}
-use Rattle.packed.specs.Contents.{edgeCounts, pairsIn, sum, Counted}
+use Rattle.packed.specs.Contents.{edgeCounts, pairsIn, sum, sheetsIn}
+use Rattle.packed.specs.ByValue.{Counted}
 use Rattle.packed.specs.Reading.{Content}
 use Rattle.packed.specs.Refusals.{Told, numberOf, detailOf, replyTold}
 use Rattle.packed.specs.Matches.{matchesOf, total, Marked, Written}
 use Rattle.packed.specs.Walks.{bookPairs, Different}
-use Rattle.packed.specs.BookSheets.{sheetsIn}
 use Rattle.packed.specs.Calls.{Answer, refuse, judged, readCatalogue, readBook, uncrowded, fitFile, Answered}
 use Rattle.packed.specs.declared.reply.Refusal.{Refusal}
 use Rattle.packed.specs.declared.reply.Refusal.the-variants.{TooManyPairs, NotContained}
@@ -24,7 +24,8 @@ use Rattle.packed.proofs.CallLaws.{read-finds, front-is, counts-are, counts-sma
 use Rattle.packed.proofs.MatchLaws.{matches-encode}
 use Rattle.matching.specs.Simulation.{patternOf, ascending}
 use Rattle.matching.specs.Search.{sheetBytes}
-use Rattle.matching.specs.Join.{View, answerTo, answerSets}
+use Rattle.matching.specs.Join.{View, answerSets}
+use Rattle.matching.proofs.ByEdge.{answerTo}
 use Rattle.matching.specs.Steps.{patternIn}
 use Rattle.matching.specs.Candidates.{Pool, Booked}
 use Rattle.matching.specs.Joining.{Agrees, Joined}

@@ -8,10 +8,10 @@ use lib.Seq.{getD-take}
 use native.Mathlib.Omega.{arith}
 use Rattle.packed.specs.Format.{ok, decode}
 use Rattle.packed.specs.Formats.{book}
-use Rattle.packed.specs.Contents.{edgesOf, viewsOf, edgeCounts, Small}
-use Rattle.packed.specs.Distinct.{distinct}
+use Rattle.packed.specs.Contents.{edgesOf, viewsOf, edgeCounts, distinct, sheetsIn}
+use Rattle.packed.specs.ByValue.{Small}
 use Rattle.packed.specs.Walks.{fieldOr, codesAt, listEnd, pairsAt, listsEnd, sheetEnd, bookPairs, Different}
-use Rattle.packed.specs.BookSheets.{sheetsIn, listAt, sheetAt}
+use Rattle.packed.specs.BookSheets.{listAt, sheetAt}
 use Rattle.packed.proofs.DistinctLaws.{member-distinct, distinct-increasing}
 use Rattle.packed.proofs.Walks.{ends-none}
 use Rattle.packed.proofs.AcceptedBounds.{catalogue-views, catalogue-bounds}

@@ -9,9 +9,8 @@ use lib.Dec.{T}
 use native.Mathlib.Omega.{arith}
 use Rattle.packed.specs.Format.{ok, pick, decode}
 use Rattle.packed.specs.Formats.{code, book}
-use Rattle.packed.specs.Contents.{viewsOf, edgeCounts}
-use Rattle.packed.specs.Order.{member}
-use Rattle.packed.specs.BookSheets.{sheetsIn, sheetAt}
+use Rattle.packed.specs.Contents.{viewsOf, edgeCounts, member, sheetsIn}
+use Rattle.packed.specs.BookSheets.{sheetAt}
 use Rattle.packed.specs.declared.by_value.Pattern.{Pattern as Given}
 use Rattle.packed.proofs.AcceptedBounds.{catalogue-views}
 use Rattle.matching.specs.Lists.{In, here, there, gather}

@@ -12,10 +12,9 @@ use borrow.Author.Tests.{le-ltb}
 use native.Mathlib.Omega.{arith}
 use Rattle.packed.specs.Format.{ok, pick, decode}
 use Rattle.packed.specs.Formats.{pattern, catalogue, record′, book}
-use Rattle.packed.specs.Contents.{edgesOf, viewsOf, edgeCounts}
-use Rattle.packed.specs.BookSheets.{sheetsIn, listAt, sheetAt}
-use Rattle.packed.specs.Matches.{allOrNone, fieldsOf}
-use Rattle.packed.specs.Order.{member}
+use Rattle.packed.specs.Contents.{edgesOf, viewsOf, edgeCounts, sheetsIn, fieldsOf, member}
+use Rattle.packed.specs.BookSheets.{listAt, sheetAt}
+use Rattle.packed.specs.Matches.{allOrNone}
 use Rattle.packed.specs.Plain.{PlainPattern}
 use Rattle.packed.specs.Calls.{give, refuse, accepted, judged, readSheet, pairsOf, uncrowdedBy, fitFile}
 use Rattle.packed.proofs.DistinctLaws.{member-distinct}
@@ -27,7 +26,8 @@ use Rattle.packed.proofs.BookSheetLaws.{sheets-back, sheet-many, list-is, list-
 use Rattle.packed.proofs.CallLaws.{overFile, overFile-no, fitFile-fits}
 use Rattle.matching.specs.Lists.{In, here, there, keep, each}
 use Rattle.matching.specs.Simulation.{Pattern, Graph, bit, patternOf, graphOf, sound, matchSets}
-use Rattle.matching.specs.Join.{matchedBy, matched, covered, View, viewOf, answerSets}
+use Rattle.matching.specs.Join.{View, answerSets}
+use Rattle.matching.proofs.ByEdge.{matchedBy, matched, covered, viewOf}
 use Rattle.matching.specs.Search.{sheetBytes, viewSheets, searchAnswer}
 use Rattle.matching.specs.Sweeps.{OneOf}
 use Rattle.matching.proofs.ListLaws.{not-in-none, in-cases, in-every, in-some, keep-in, in-keep, keep-length, length-each}

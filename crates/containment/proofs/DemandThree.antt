@@ -6,9 +6,7 @@ use mathlib.Core.List.{List, [], _∷_, map}
 use lib.ListN.{length, getD}
 use lib.Dec.{T}
 use native.Mathlib.Omega.{arith}
-use Rattle.packed.specs.Contents.{edgesOf, edgeCounts, viewsOf}
-use Rattle.packed.specs.BookSheets.{sheetsIn}
-use Rattle.packed.specs.Matches.{fieldsOf}
+use Rattle.packed.specs.Contents.{edgesOf, edgeCounts, viewsOf, sheetsIn, fieldsOf}
 use Rattle.packed.specs.Calls.{give, refuse, withWorkspace, accepted, judged, readSheet, fitFile}
 use Rattle.matching.specs.Lists.{In, here, there}
 use Rattle.matching.specs.Simulation.{Pattern, Graph, bit, patternOf, graphOf, matchSets}

@@ -18,12 +18,13 @@ use Rattle.packed.specs.declared.by_value.Pattern.{Pattern as Given}
 use Rattle.packed.proofs.OrderCases.{lt-or-ge}
 use Rattle.packed.proofs.RoundTrip.{pick-yes, pick-no}
 use Rattle.matching.specs.Simulation.{Pair, Pattern, edgesIn, patternOf}
-use Rattle.matching.specs.Steps.{upTo, patternIn}
+use Rattle.matching.specs.Steps.{patternIn}
+use Rattle.matching.specs.Lists.{upTo}
 use Rattle.matching.proofs.UpToLaws.{getD-upTo}
 use Rattle.matching.proofs.PatternLaws.{nodes-in, edges-in, pattern-is, pattern-same}
 use Rattle.matching.proofs.EdgeLaws.{edgeAt}
-use Rattle.containment.specs.Show.{graphFields, fewerFields, shownFields}
-use Rattle.containment.specs.Steps.{powers, edgesBut, endsBut, labelFields, fieldsBut, Front, Extends}
+use Rattle.containment.specs.Show.{graphFields, fewerFields}
+use Rattle.containment.specs.Steps.{powers, edgesBut, endsBut, labelFields, fieldsBut, Front, Extends, shownFields}
 use Rattle.containment.proofs.QueryGraph.{graph-fields, fewer-fields, edge-at}
 
 -- ---- words at the front of a table

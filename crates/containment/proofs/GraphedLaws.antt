@@ -10,8 +10,8 @@ use Rattle.packed.specs.Format.{ok, bad, decode}
 use Rattle.packed.specs.Formats.{record′}
 use Rattle.packed.specs.declared.by_value.Pattern.{Pattern as Given}
 use Rattle.packed.proofs.Sets.{sets-front}
-use Rattle.containment.specs.Show.{graphFields, shownFields, recordBytes}
-use Rattle.containment.specs.Steps.{Query, Graphed}
+use Rattle.containment.specs.Show.{graphFields, recordBytes}
+use Rattle.containment.specs.Steps.{Query, Graphed, shownFields}
 use Rattle.containment.proofs.QueryLaws.{few-edges, shown-whole, shown-made}
 
 module _ {p : Given} (t : Query p) {r : ℕ} {out out′ : List ℕ} (g : Graphed (t .content) 32 r out out′) where

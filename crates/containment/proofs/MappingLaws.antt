@@ -15,12 +15,12 @@ use borrow.Author.Tests.{lt-ltb, le-ltb, eqb-true, eq-eqb, ne-eqb}
 use Rattle.packed.specs.Bits.{odd}
 use Rattle.packed.specs.Format.{pick}
 use Rattle.packed.specs.Formats.{code}
-use Rattle.packed.specs.Order.{member}
+use Rattle.packed.specs.Contents.{member}
 use Rattle.packed.specs.Matches.{marks, marked, markedFrom, anyEmpty, emptied, allOrNone, codesOf, masksOf, matchesOf, Marked, Listed}
 use Rattle.packed.proofs.OrderCases.{lt-or-ge, trichotomy}
 use Rattle.packed.proofs.RoundTrip.{and-no}
 use Rattle.matching.specs.Simulation.{Pair, Pattern, bit, asGraph, matchSets}
-use Rattle.matching.specs.Steps.{upTo}
+use Rattle.matching.specs.Lists.{upTo}
 use Rattle.matching.specs.Sweeps.{OneOf, Has}
 use Rattle.matching.proofs.UpToLaws.{length-upTo, getD-upTo}
 use Rattle.matching.proofs.MaskBits.{few-lt, has-say}

@@ -8,10 +8,9 @@ use native.Mathlib.Omega.{arith}
 use native.Mathlib.Numerals.{add-one}
 use Rattle.packed.specs.Format.{ok, decode}
 use Rattle.packed.specs.Formats.{record′, code}
-use Rattle.packed.specs.Contents.{nodesOf, edgesOf, viewsOf}
+use Rattle.packed.specs.Contents.{nodesOf, edgesOf, viewsOf, distinct}
 use Rattle.packed.specs.Loading.{codes}
 use Rattle.packed.specs.LoadedGraph.{Holds}
-use Rattle.packed.specs.Distinct.{distinct}
 use Rattle.packed.specs.Matches.{matchesOf}
 use Rattle.packed.specs.declared.by_value.Pattern.{Pattern as Given}
 use Rattle.packed.proofs.DistinctLaws.{member-distinct}

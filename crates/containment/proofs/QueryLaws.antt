@@ -18,11 +18,12 @@ use Rattle.packed.specs.declared.by_value.Pattern.{Pattern as Given}
 use Rattle.packed.proofs.OrderCases.{lt-or-ge}
 use Rattle.packed.proofs.Accepted.{pattern-accepted}
 use Rattle.matching.specs.Simulation.{Pair, Pattern, patternOf}
-use Rattle.matching.specs.Steps.{upTo, patternIn, Fair}
+use Rattle.matching.specs.Steps.{patternIn, Fair}
+use Rattle.matching.specs.Lists.{upTo}
 use Rattle.matching.proofs.UpToLaws.{length-upTo, getD-upTo}
 use Rattle.matching.proofs.PatternLaws.{edges-in, fair-by, pattern-same}
-use Rattle.containment.specs.Show.{graphFields, shownFields, recordBytes}
-use Rattle.containment.specs.Steps.{Query, fieldsBut, HoldsFields, Graphed}
+use Rattle.containment.specs.Show.{graphFields, recordBytes}
+use Rattle.containment.specs.Steps.{Query, fieldsBut, HoldsFields, Graphed, shownFields}
 use Rattle.containment.specs.declared.query.Fields.{Fields}
 use Rattle.containment.proofs.QueryGraph.{Made, graph-made, fewer-made}
 use Rattle.containment.proofs.FieldLaws.{fields-are}

@@ -11,10 +11,11 @@ use borrow.Author.Tests.{ne-eqb, lt-ltb}
 use native.Mathlib.Nat.{div-one, pow-suc}
 use native.Mathlib.Omega.{arith}
 use Rattle.packed.specs.Formats.{code}
-use Rattle.packed.specs.Order.{member}
+use Rattle.packed.specs.Contents.{member}
 use Rattle.matching.specs.Lists.{_or_, In, here, there, some}
 use Rattle.matching.specs.Simulation.{Pair, Pattern, bit, asGraph, matchSets}
-use Rattle.matching.specs.Join.{lists, matchedBy, matched, covered}
+use Rattle.matching.specs.Join.{lists}
+use Rattle.matching.proofs.ByEdge.{matchedBy, matched, covered}
 use Rattle.matching.specs.Sweeps.{OneOf}
 use Rattle.matching.proofs.ListLaws.{not-in-none, in-cases, in-at, every-in, in-every, some-in, in-some}
 use Rattle.matching.proofs.UpToLaws.{getD-upTo}

@@ -8,15 +8,16 @@ use lib.Dec.{T, T-not}
 use native.Mathlib.Omega.{arith}
 use Rattle.packed.specs.Format.{ok, decode}
 use Rattle.packed.specs.Formats.{pattern, catalogue}
-use Rattle.packed.specs.Contents.{edgesOf, viewsOf}
-use Rattle.packed.specs.Matches.{ends, fieldsOf, total}
+use Rattle.packed.specs.Contents.{edgesOf, viewsOf, ends, fieldsOf}
+use Rattle.packed.specs.Matches.{total}
 use Rattle.packed.specs.Calls.{accepted, readRecord}
 use Rattle.packed.specs.Plain.{PlainPattern}
 use Rattle.packed.proofs.Accepted.{pattern-accepted, record-accepted, record-read}
 use Rattle.packed.proofs.AcceptedBounds.{catalogue-views}
 use Rattle.matching.specs.Lists.{In, here, there}
-use Rattle.matching.specs.Simulation.{Pair, same, Pattern, Graph, patternOf, graphOf, asGraph, rowOf, matchSets}
-use Rattle.matching.specs.Join.{matched, without}
+use Rattle.matching.specs.Simulation.{Pair, same, Pattern, Graph, patternOf, graphOf, asGraph, matchSets}
+use Rattle.matching.proofs.ByEdge.{rowOf, matched}
+use Rattle.matching.specs.Join.{without}
 use Rattle.matching.specs.Search.{sheetBytes, bookBytes, viewSheets}
 use Rattle.matching.proofs.ListLaws.{in-at, keep-in, keep-length}
 use Rattle.matching.proofs.SimLaws.{same-refl}

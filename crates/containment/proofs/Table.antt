@@ -1,39 +1,170 @@
--- The cases of the requirements that are proved, on bytes, in one table: files, searches, quotes, showings and answers.
-use Prim.Native.Nat.{ℕ}
+-- The cases that are proved, in one table with one statement: on bytes and fields, over the functions that the contracts of the calls cite. K1 to
+-- K10 are those of the requirements. The others pin the rules of the files, for readers and for writers, and the order of refusals.
+use Prim.Native.Nat.{ℕ, _+_, _-_, _*_}
+use Prim.Native.Char.{code as codeOf}
+use Prim.Native.String.{String, [] as []ˢ, _∷_ as _∷ˢ_}
 use mathlib.Core.Path.{_≡_, refl}
-use mathlib.Core.List.{List, [], _∷_, _++_}
-use lib.ListN.{replicate}
-use Rattle.packed.specs.Bits.{bitsOf, num, numFrom, bits, field, zeros, gap}
-use Rattle.packed.specs.Format.{then, times, whole, within, scan, lay, bytesOf, decode, encode}
+use mathlib.Core.List.{List, [], _∷_, _++_, map}
+use lib.ListN.{length, replicate}
+use lib.Dec.{eqb, ltb}
+use Rattle.packed.specs.Bits.{bitsOf, num, numFrom, bits, zeros, gap}
+use Rattle.packed.specs.Format.{pick, then, times, whole, within, scan, lay, bytesOf, decode, encode}
 use Rattle.packed.specs.Formats.{linked, edges, isEnd, allEnds, label, joined, pattern, catalogue, labels, record′, pairs, lists, sheet, book}
-use Rattle.packed.specs.Contents.{patternSize, patternsIn, viewsOf, edgeCounts, codesIn, pairsIn, sum}
-use Rattle.packed.specs.BookSheets.{listsIn, afterLists, sheetsIn}
-use Rattle.packed.specs.Order.{member}
-use Rattle.packed.specs.Distinct.{insert, distinct}
-use Rattle.packed.specs.Matches.{ends, fieldsOf}
-use Rattle.packed.specs.Calls.{Answer, give, refuse, withWorkspace, readFile, writeFile, judged, pairsOf, uncrowdedBy, fit, fitFile, patternRead, patternWritten}
-use Rattle.packed.proofs.Table.{Case, case, Agree, d, dFields}
-use Rattle.matching.specs.Lists.{_and_, _or_, _implies_, every, some, keep, gather, each, below}
+use Rattle.packed.specs.Contents.{patternSize, patternsIn, viewsOf, edgeCounts, codesIn, listsIn, afterLists, ends, fieldsOf, sheetsIn, pairsIn, sum, member, insert, distinct}
+use Rattle.packed.specs.Calls.{Answer, give, refuse, withWorkspace, readFile, writeFile, judged, pairsOf, uncrowdedBy, fit, fitFile, patternRead, catalogueRead, recordRead, sheetRead, bookRead, patternWritten, catalogueWritten, recordWritten, sheetWritten, bookWritten}
+use Rattle.matching.specs.Lists.{_and_, _or_, _implies_, every, some, keep, gather, each, below, upTo}
 use Rattle.matching.specs.Greatest.{settle, greatest}
 use Rattle.matching.specs.Simulation.{same, has, pairs as allPairs, bit, edgesIn, patternOf, graphOf, asGraph, fits, follows, sim, total, row, ascending, matchSets}
 use Rattle.matching.specs.Search.{sheetBytes, bookBytes, searchAnswer, viewSheets, makeBookAnswer}
 use Rattle.matching.specs.Join.{lists as listsHere, pairOf, under, candidates, supported, join, complete, keptFor, answerSets}
-use Rattle.matching.specs.Steps.{upTo}
-use Rattle.matching.proofs.Table.{c, r9, table as searches}
 use Rattle.containment.specs.Choice.{matches, matchedIn, coversIn, lowestUnmatched, addsTo, taken, kept, chosen}
 use Rattle.containment.specs.Quote.{maskIn, matchMask, maskAt, mapping, valuesFrom, quoteValues, quoteAnswer}
 use Rattle.containment.specs.Answer.{viewsIn, answerBytes, answerFor, answerBy, answerAnswer}
 use Rattle.containment.specs.Show.{graphFields, fewerFields, recordBytes, fitBoth, showFor, showAnswer}
 
+-- ---- how a case is written
+
+-- bytes, in hexadecimal, two digits each
+unfoldable pub digit : ℕ → ℕ
+digit c = pick (ltb c 58) (c - 48) (c - 87)
+
+unfoldable pub hex : String → List ℕ
+hex []ˢ = []
+hex (a ∷ˢ []ˢ) = []
+hex (a ∷ˢ (b ∷ˢ []ˢ)) = (16 * digit (codeOf a) + digit (codeOf b)) ∷ []
+hex (a ∷ˢ (b ∷ˢ (c ∷ˢ s))) = (16 * digit (codeOf a) + digit (codeOf b)) ∷ hex s
+
+-- fields, in decimal: those so far stand last first
+unfoldable pub next : ℕ → List ℕ → List ℕ
+next c [] = []
+next c (n ∷ ns) = pick (eqb c 32) (0 ∷ n ∷ ns) ((10 * n + (c - 48)) ∷ ns)
+
+unfoldable pub turned : List ℕ → List ℕ → List ℕ
+turned done [] = done
+turned done (n ∷ ns) = turned (n ∷ done) ns
+
+unfoldable pub numbers : List ℕ → String → List ℕ
+numbers ns []ˢ = turned [] ns
+numbers ns (c ∷ˢ s) = numbers (next (codeOf c) ns) s
+
+abbrev pub fields : String → List ℕ
+fields s = numbers (0 ∷ []) s
+
+-- what a call answers, and what it has to
+pub data Case : Type 0 where
+  case : Answer → Answer → Case
+
+-- the same of a call that is lent a whole workspace, and no more
+abbrev pub call : Answer → Answer → Case
+call a b = case (withWorkspace 16384 a) b
+
+-- one output, and a number that is no call's answer
+abbrev pub output : List ℕ → Answer
+output o = give [] (o ∷ [])
+
+abbrev pub number : ℕ → Answer
+number n = give (n ∷ []) []
+
+abbrev pub answered : Case → Answer
+answered (case a b) = a
+
+abbrev pub due : Case → Answer
+due (case a b) = b
+
+-- in each group, every call answers what it has to
+unfoldable pub Agree : List (List Case) → Type 0
+Agree [] = Unit {0}
+Agree (g ∷ gs) = (map answered g ≡ map due g) × Agree gs
+
+-- ---- the files of the requirements
+
+-- the question D, and its content
+abbrev pub d : List ℕ
+d = hex "20 80 08 86 02 04 26 46"
+
+abbrev pub dFields : List ℕ
+dFields = fields "4 4 0 1 2 3 0 1 0 2 1 3 2 3"
+
+-- a pattern with 16 items
+abbrev pub p16 : List ℕ
+p16 = hex "81 00 00 00 00 00 00 00 00 00 00 00 24 68 ac f1 35 79 bd e0"
+
+abbrev pub p16Fields : List ℕ
+p16Fields = fields "16 8 0 0 0 0 0 0 0 0 0 0 0 0 0 0 0 0 0 1 2 3 4 5 6 7 8 9 10 11 12 13 14 15"
+
+-- the catalogue C: section to slow; section to slow to reading; section to fast to reading
+abbrev pub c : List ℕ
+c = hex "18 10 20 08 08 18 40 08 c0 44 80 18 40 10 c0 44 80"
+
+abbrev pub cFields : List ℕ
+cFields = fields "3 2 1 0 1 0 1 3 2 0 1 3 0 1 1 2 3 2 0 2 3 0 1 1 2"
+
+-- extract 1 of C as a file of its own, and the pattern with one link that is extract 0
+abbrev pub extract1 : List ℕ
+extract1 = hex "18 40 08 c0 44 80"
+
+abbrev pub oneLink : List ℕ
+oneLink = hex "10 20 08 08"
+
 -- the catalogues of K3 to K5: extract 1 of C alone, none, and slow to fast
 abbrev pub c3 : List ℕ
-c3 = 0x08 ∷ 0x18 ∷ 0x40 ∷ 0x08 ∷ 0xc0 ∷ 0x44 ∷ 0x80 ∷ []
+c3 = hex "08 18 40 08 c0 44 80"
 
 abbrev pub c4 : List ℕ
-c4 = 0x00 ∷ []
+c4 = hex "00"
 
 abbrev pub c5 : List ℕ
-c5 = 0x08 ∷ 0x10 ∷ 0x21 ∷ 0x10 ∷ 0x08 ∷ []
+c5 = hex "08 10 21 10 08"
+
+-- section to slow to fast, which fits D only in part
+abbrev pub inPart : List ℕ
+inPart = hex "08 18 40 08 80 44 80"
+
+-- the records of K6 to K10, and the pattern of K7 and K8
+abbrev pub r6 : List ℕ
+r6 = hex "00 20 00 60 00 00 00 20 00 00 00 40 00 00 01 00 00 00 00 40 00 00 20 00 00 60 02 00 40"
+
+abbrev pub r6Fields : List ℕ
+r6Fields = fields "4 3 1 2 8 2 0 1 0 3 1 2"
+
+abbrev pub selfLoop : List ℕ
+selfLoop = hex "08 25 00"
+
+abbrev pub r7 : List ℕ
+r7 = hex "00 10 00 40 00 00 04 00 00 00 04 00 00 00 20 02 00 00"
+
+abbrev pub r8 : List ℕ
+r8 = hex "00 18 00 40 00 00 04 00 00 00 04 00 00 00 04 00 00 00 20 02 00 40"
+
+abbrev pub r9 : List ℕ
+r9 = hex "00 18 00 40 00 00 00 20 00 00 00 c0 00 00 01 00 00 00 20 02 00 40"
+
+abbrev pub r10 : List ℕ
+r10 = hex "00 00 00 00"
+
+-- the sheets of K6 and of K9
+abbrev pub s6 : List ℕ
+s6 = hex "00 04 00 00 04 00 10 01 00 20"
+
+abbrev pub s9 : List ℕ
+s9 = hex "00 04 00 00 04 00 10 00 00 10 00 40 04 00 80 01 00 10 02"
+
+-- the books of C made from the records of K6 and K9, one of no record, in which extract 1 lists (0, 1), (1, 2) and extract 2 lists (0, 1), (3, 2),
+-- and one of extract 1 alone
+abbrev pub b6 : List ℕ
+b6 = hex "00 08 00 00 04 00 00 0c 00 04 00 00 04 00 10 01 00 20 00 00 00 00"
+
+abbrev pub b6Fields : List ℕ
+b6Fields = fields "2 0 1 0 3 1 0 1 1 1 2 0 0"
+
+abbrev pub b9 : List ℕ
+b9 = hex "00 04 00 00 04 00 04 00 00 04 00 10 01 00 20 00 04 00 00 04 00 10 01 00 20"
+
+abbrev pub bn : List ℕ
+bn = hex "00 04 00 00 04 00 04 00 00 04 00 10 01 00 20 00 04 00 00 04 00 10 03 00 20"
+
+abbrev pub b3 : List ℕ
+b3 = hex "00 04 00 00 04 00 10 01 00 20"
 
 -- a row of a quote's table: three masks and zeros
 abbrev pub rowOf : ℕ → ℕ → ℕ → List ℕ
@@ -45,66 +176,360 @@ rowsOf rows = rows ++ replicate 448 0
 
 -- D as a record, and the same without its edge 0 → 2
 abbrev pub first : List ℕ
-first =
-    0x00 ∷ 0x20 ∷ 0x00 ∷ 0x80 ∷ 0x00 ∷ 0x00 ∷ 0x00 ∷ 0x20 ∷ 0x00 ∷ 0x00 ∷ 0x00 ∷ 0x40 ∷ 0x00 ∷ 0x00 ∷ 0x00 ∷ 0x80 ∷ 0x00 ∷ 0x00 ∷ 0x01 ∷ 0x00
-    ∷ 0x00 ∷ 0x00 ∷ 0x20 ∷ 0x00 ∷ 0x00 ∷ 0x40 ∷ 0x02 ∷ 0x00 ∷ 0x60 ∷ 0x04 ∷ 0x00 ∷ 0x60 ∷ []
+first = hex "00 20 00 80 00 00 00 20 00 00 00 40 00 00 00 80 00 00 01 00 00 00 20 00 00 40 02 00 60 04 00 60"
 
 abbrev pub second : List ℕ
-second =
-    0x00 ∷ 0x20 ∷ 0x00 ∷ 0x60 ∷ 0x00 ∷ 0x00 ∷ 0x00 ∷ 0x20 ∷ 0x00 ∷ 0x00 ∷ 0x00 ∷ 0x40 ∷ 0x00 ∷ 0x00 ∷ 0x00 ∷ 0x80 ∷ 0x00 ∷ 0x00 ∷ 0x01 ∷ 0x00
-    ∷ 0x00 ∷ 0x00 ∷ 0x20 ∷ 0x02 ∷ 0x00 ∷ 0x60 ∷ 0x04 ∷ 0x00 ∷ 0x60 ∷ []
+second = hex "00 20 00 60 00 00 00 20 00 00 00 40 00 00 00 80 00 00 01 00 00 00 20 02 00 60 04 00 60"
+
+-- ---- the cases
+-- Those of a file's rules stand in pairs, the reader's on bytes and the writer's on content. So many bytes are given as are judged: 2 after a count
+-- shows that the count was accepted.
+
+unfoldable pub patterns : List Case
+patterns =
+    -- K1, both directions
+    call (patternRead d 14) (output dFields)
+    ∷ call (patternWritten dFields 8) (output d)
+    -- 16 items pass, 17 give 3, and so do none
+    ∷ call (patternRead p16 34) (output p16Fields)
+    ∷ call (patternWritten p16Fields 20) (output p16)
+    ∷ call (patternRead (hex "88") 99) (refuse 3 1)
+    ∷ call (patternWritten (fields "17") 99) (refuse 3 1)
+    ∷ call (patternRead (hex "00") 99) (refuse 3 1)
+    ∷ call (patternWritten (fields "0") 99) (refuse 3 1)
+    -- 32 links pass, 33 give 3, and so do none
+    ∷ call (patternRead (hex "0c 00") 99) (refuse 2 1)
+    ∷ call (patternWritten (fields "1 32") 99) (refuse 2 1)
+    ∷ call (patternRead (hex "0c 20") 99) (refuse 3 1)
+    ∷ call (patternWritten (fields "1 33") 99) (refuse 3 1)
+    ∷ call (patternRead (hex "08 00") 99) (refuse 3 1)
+    ∷ call (patternWritten (fields "1 0") 99) (refuse 3 1)
+    -- kind 31 passes, 32 gives 3
+    ∷ call (patternRead (hex "08 3f 00") 5) (output (fields "1 1 31 0 0"))
+    ∷ call (patternWritten (fields "1 1 31 0 0") 3) (output (hex "08 3f 00"))
+    ∷ call (patternWritten (fields "1 1 32 0 0") 3) (refuse 3 1)
+    -- a file of no bytes, and content of no fields
+    ∷ call (patternRead [] 99) (refuse 2 1)
+    ∷ call (patternWritten [] 99) (refuse 2 1)
+    -- an end that is no item: from, before its to is missed, and to
+    ∷ call (patternRead (hex "28 20 00 00 04") 99) (refuse 2 1)
+    ∷ call (patternWritten (fields "5 1 0 0 0 0 0 4") 99) (refuse 2 1)
+    ∷ call (patternRead (hex "28 20 00 00 05") 99) (refuse 4 1)
+    ∷ call (patternWritten (fields "5 1 0 0 0 0 0 5") 99) (refuse 4 1)
+    ∷ call (patternRead (hex "10 40 00 08 10") 99) (refuse 4 1)
+    ∷ call (patternWritten (fields "2 2 0 0 0 1 0 2") 99) (refuse 4 1)
+    -- the same where a field can't hold it
+    ∷ call (patternWritten (fields "1 1 0 16 0") 99) (refuse 4 1)
+    -- a link twice, one after the other, and with another between
+    ∷ call (patternRead (hex "10 40 00 08 08") 99) (refuse 5 1)
+    ∷ call (patternWritten (fields "2 2 0 0 0 1 0 1") 99) (refuse 5 1)
+    ∷ call (patternRead (hex "10 60 00 08 80 08") 99) (refuse 5 1)
+    ∷ call (patternWritten (fields "2 3 0 0 0 1 1 0 0 1") 99) (refuse 5 1)
+    -- front to back: 5 before a later 4, and 4 before a later 5
+    ∷ call (patternRead (hex "10 60 00 08 08 10") 99) (refuse 5 1)
+    ∷ call (patternWritten (fields "2 3 0 0 0 1 0 1 0 2") 99) (refuse 5 1)
+    ∷ call (patternRead (hex "10 60 00 08 10 08") 99) (refuse 4 1)
+    ∷ call (patternWritten (fields "2 3 0 0 0 1 0 2 0 1") 99) (refuse 4 1)
+    -- an item at no link, before a padding bit and before what is left over
+    ∷ call (patternRead (hex "10 20 00 00") 99) (refuse 7 1)
+    ∷ call (patternWritten (fields "2 1 0 0 0 0") 99) (refuse 7 1)
+    ∷ call (patternRead (hex "10 20 00 01") 99) (refuse 7 1)
+    ∷ call (patternWritten (fields "2 1 0 0 0 0 0") 99) (refuse 7 1)
+    -- a padding bit, a byte more, a field left over
+    ∷ call (patternRead (hex "20 80 08 86 02 04 26 47") 14) (refuse 9 1)
+    ∷ call (patternRead (d ++ hex "00") 14) (refuse 9 1)
+    ∷ call (patternWritten (dFields ++ fields "0") 8) (refuse 9 1)
+    -- 44 bytes are read, 45 are too long
+    ∷ call (patternRead (replicate 44 0) 99) (refuse 3 1)
+    ∷ call (patternRead (replicate 45 0) 99) (refuse 1 1)
+    -- too little room, by one
+    ∷ call (patternRead d 13) (refuse 12 14)
+    ∷ call (patternWritten dFields 7) (refuse 12 8)
+    -- too few words to work in, before all else
+    ∷ case (withWorkspace 16383 (patternRead (replicate 45 0) 0)) (refuse 14 0)
+    ∷ case (withWorkspace 16383 (patternWritten [] 0)) (refuse 14 0)
+    ∷ []
+
+unfoldable pub catalogues : List Case
+catalogues =
+    -- C and the catalogue of K4, both directions
+    call (catalogueRead c 25) (output cFields)
+    ∷ call (catalogueWritten cFields 17) (output c)
+    ∷ call (catalogueRead c4 1) (output (fields "0"))
+    ∷ call (catalogueWritten (fields "0") 1) (output c4)
+    -- 16 extracts pass, 17 give 3
+    ∷ call (catalogueRead (hex "80") 99) (refuse 2 2)
+    ∷ call (catalogueWritten (fields "16") 99) (refuse 2 2)
+    ∷ call (catalogueRead (hex "88") 99) (refuse 3 2)
+    ∷ call (catalogueWritten (fields "17") 99) (refuse 3 2)
+    -- a fault in an extract comes with the catalogue's number: 17 items, a link twice, an item at no link
+    ∷ call (catalogueRead (hex "08 88") 99) (refuse 3 2)
+    ∷ call (catalogueWritten (fields "1 17") 99) (refuse 3 2)
+    ∷ call (catalogueRead (hex "08 10 40 00 08 08") 99) (refuse 5 2)
+    ∷ call (catalogueWritten (fields "1 2 2 0 0 0 1 0 1") 99) (refuse 5 2)
+    ∷ call (catalogueRead (hex "08 10 20 00 00") 99) (refuse 7 2)
+    ∷ call (catalogueWritten (fields "1 2 1 0 0 0 0") 99) (refuse 7 2)
+    -- a padding bit after the number, and after an extract, each before a fault in the next extract
+    ∷ call (catalogueRead (hex "01") 99) (refuse 9 2)
+    ∷ call (catalogueRead (hex "09 88") 99) (refuse 9 2)
+    ∷ call (catalogueRead (hex "10 10 20 08 09 88") 99) (refuse 9 2)
+    ∷ call (catalogueRead (hex "10 10 20 08 08 88") 99) (refuse 3 2)
+    -- a byte more, a field left over
+    ∷ call (catalogueRead (c ++ hex "00") 25) (refuse 9 2)
+    ∷ call (catalogueRead (hex "00 00") 99) (refuse 9 2)
+    ∷ call (catalogueWritten (cFields ++ fields "0") 17) (refuse 9 2)
+    -- 705 bytes are read, 706 are too long
+    ∷ call (catalogueRead (replicate 705 0) 99) (refuse 9 2)
+    ∷ call (catalogueRead (replicate 706 0) 99) (refuse 1 2)
+    -- too little room, by one; too few words
+    ∷ call (catalogueRead c 24) (refuse 12 25)
+    ∷ call (catalogueWritten cFields 16) (refuse 12 17)
+    ∷ case (withWorkspace 16383 (catalogueRead c 25)) (refuse 14 0)
+    ∷ case (withWorkspace 16383 (catalogueWritten cFields 17)) (refuse 14 0)
+    ∷ []
+
+unfoldable pub records : List Case
+records =
+    -- the records of K6 and K10, both directions
+    call (recordRead r6 12) (output r6Fields)
+    ∷ call (recordWritten r6Fields 29) (output r6)
+    ∷ call (recordRead r10 2) (output (fields "0 0"))
+    ∷ call (recordWritten (fields "0 0") 4) (output r10)
+    -- 4,096 items pass, 4,097 give 3
+    ∷ call (recordRead (hex "80 00 00 00") 99) (refuse 2 3)
+    ∷ call (recordWritten (fields "4096 0") 99) (refuse 2 3)
+    ∷ call (recordRead (hex "80 08 00 00") 99) (refuse 3 3)
+    ∷ call (recordWritten (fields "4097 0") 99) (refuse 3 3)
+    -- 8,192 links pass, 8,193 give 3
+    ∷ call (recordRead (hex "00 04 00 00") 99) (refuse 2 3)
+    ∷ call (recordWritten (fields "0 8192") 99) (refuse 2 3)
+    ∷ call (recordRead (hex "00 04 00 20") 99) (refuse 3 3)
+    ∷ call (recordWritten (fields "0 8193") 99) (refuse 3 3)
+    -- an end that is no item: from, and to
+    ∷ call (recordRead (hex "00 10 00 20 00 00 00 00 00 00 00 00 04 00 00") 99) (refuse 4 3)
+    ∷ call (recordWritten (fields "2 1 0 0 2 0") 99) (refuse 4 3)
+    ∷ call (recordRead (hex "00 10 00 20 00 00 00 00 00 00 00 00 00 00 40") 99) (refuse 4 3)
+    ∷ call (recordWritten (fields "2 1 0 0 0 2") 99) (refuse 4 3)
+    -- a link twice, one after the other, and with another between: 0 → 1, 1 → 0, 0 → 1
+    ∷ call (recordRead (hex "00 10 00 40 00 00 00 00 00 00 00 00 00 00 20 00 00 20") 99) (refuse 5 3)
+    ∷ call (recordWritten (fields "2 2 0 0 0 1 0 1") 99) (refuse 5 3)
+    ∷ call (recordRead (hex "00 10 00 60 00 00 00 00 00 00 00 00 00 00 20 02 00 00 00 00 20") 99) (refuse 5 3)
+    ∷ call (recordWritten (fields "2 3 0 0 0 1 1 0 0 1") 99) (refuse 5 3)
+    -- front to back: 5 before a later 4 and before a later 2, and 4 before a later 5
+    ∷ call (recordRead (hex "00 10 00 60 00 00 00 00 00 00 00 00 00 00 20 00 00 20 00 00 40") 99) (refuse 5 3)
+    ∷ call (recordWritten (fields "2 3 0 0 0 1 0 1 0 2") 99) (refuse 5 3)
+    ∷ call (recordRead (hex "00 10 00 60 00 00 00 00 00 00 00 00 00 00 20 00 00 20") 99) (refuse 5 3)
+    ∷ call (recordWritten (fields "2 3 0 0 0 1 0 1") 99) (refuse 5 3)
+    ∷ call (recordRead (hex "00 10 00 60 00 00 00 00 00 00 00 00 00 00 20 00 00 40 00 00 20") 99) (refuse 4 3)
+    ∷ call (recordWritten (fields "2 3 0 0 0 1 0 2 0 1") 99) (refuse 4 3)
+    -- an item at no link is right in a record
+    ∷ call (recordRead (hex "00 10 00 20 00 00 00 00 00 00 00 00 00 00 00") 6) (output (fields "2 1 0 0 0 0"))
+    ∷ call (recordWritten (fields "2 1 0 0 0 0") 15) (output (hex "00 10 00 20 00 00 00 00 00 00 00 00 00 00 00"))
+    -- a padding bit, a byte more, a field left over
+    ∷ call (recordRead (hex "00 00 00 01") 99) (refuse 9 3)
+    ∷ call (recordRead (r10 ++ hex "00") 99) (refuse 9 3)
+    ∷ call (recordWritten (fields "0 0 0") 99) (refuse 9 3)
+    -- over 40,964 bytes is too long
+    ∷ call (recordRead (replicate 40965 0) 99) (refuse 1 3)
+    -- too little room, by one; too few words
+    ∷ call (recordRead r6 11) (refuse 12 12)
+    ∷ call (recordWritten r6Fields 28) (refuse 12 29)
+    ∷ case (withWorkspace 16383 (recordRead r6 12)) (refuse 14 0)
+    ∷ case (withWorkspace 16383 (recordWritten r6Fields 29)) (refuse 14 0)
+    ∷ []
+
+-- beside a pattern: extract 1 of C has two links
+unfoldable pub sheets : List Case
+sheets =
+    -- the sheets of K6 and K10, both directions
+    call (sheetRead extract1 s6 6) (output (fields "1 0 1 1 1 2"))
+    ∷ call (sheetWritten extract1 (fields "1 0 1 1 1 2") 10) (output s6)
+    ∷ call (sheetRead oneLink (hex "00 00") 1) (output (fields "0"))
+    ∷ call (sheetWritten oneLink (fields "0") 2) (output (hex "00 00"))
+    -- 8,192 pairs pass, 8,193 give 3
+    ∷ call (sheetRead oneLink (hex "80 00") 99) (refuse 2 4)
+    ∷ call (sheetWritten oneLink (fields "8192") 99) (refuse 2 4)
+    ∷ call (sheetRead oneLink (hex "80 04") 99) (refuse 3 4)
+    ∷ call (sheetWritten oneLink (fields "8193") 99) (refuse 3 4)
+    -- a pair's number has 12 bits: 4,095 passes, 4,096 gives 3, before 6
+    ∷ call (sheetRead oneLink (hex "00 07 ff ff fc") 3) (output (fields "1 4095 4095"))
+    ∷ call (sheetWritten oneLink (fields "1 4095 4095") 5) (output (hex "00 07 ff ff fc"))
+    ∷ call (sheetWritten oneLink (fields "1 4096 0") 99) (refuse 3 4)
+    ∷ call (sheetWritten oneLink (fields "2 5 0 4 5000") 99) (refuse 3 4)
+    -- pairs ascend by from, then to
+    ∷ call (sheetRead oneLink (hex "00 08 00 00 14 00 40 00") 5) (output (fields "2 0 5 1 0"))
+    ∷ call (sheetWritten oneLink (fields "2 0 5 1 0") 8) (output (hex "00 08 00 00 14 00 40 00"))
+    ∷ call (sheetRead oneLink (hex "00 08 00 40 00 00 00 04") 99) (refuse 6 4)
+    ∷ call (sheetWritten oneLink (fields "2 1 0 0 1") 99) (refuse 6 4)
+    ∷ call (sheetRead oneLink (hex "00 08 00 00 08 00 00 04") 99) (refuse 6 4)
+    ∷ call (sheetWritten oneLink (fields "2 0 2 0 1") 99) (refuse 6 4)
+    -- and none equals the one before
+    ∷ call (sheetRead oneLink (hex "00 08 00 00 04 00 00 04") 99) (refuse 6 4)
+    ∷ call (sheetWritten oneLink (fields "2 0 1 0 1") 99) (refuse 6 4)
+    -- a zero count first, and last
+    ∷ call (sheetRead extract1 (hex "00 00 00 10 00 00 10") 99) (refuse 8 4)
+    ∷ call (sheetWritten extract1 (fields "0 1 0 1") 99) (refuse 8 4)
+    ∷ call (sheetRead extract1 (hex "00 04 00 00 04 00 00") 99) (refuse 8 4)
+    ∷ call (sheetWritten extract1 (fields "1 0 1 0") 99) (refuse 8 4)
+    -- 8 is judged after all lists: 2, 3 and 6 in a later one stand before it
+    ∷ call (sheetRead extract1 (hex "00 00 00 10") 99) (refuse 2 4)
+    ∷ call (sheetWritten extract1 (fields "0 1") 99) (refuse 2 4)
+    ∷ call (sheetRead extract1 (hex "00 02 00 10") 99) (refuse 3 4)
+    ∷ call (sheetWritten extract1 (fields "0 8193") 99) (refuse 3 4)
+    ∷ call (sheetWritten extract1 (fields "0 1 0 5000") 99) (refuse 3 4)
+    ∷ call (sheetRead extract1 (hex "00 00 00 20 00 00 10 00 00 10") 99) (refuse 6 4)
+    ∷ call (sheetWritten extract1 (fields "0 2 0 1 0 1") 99) (refuse 6 4)
+    -- and before a padding bit and what is left over
+    ∷ call (sheetRead extract1 (hex "00 00 00 10 00 00 11") 99) (refuse 8 4)
+    ∷ call (sheetWritten extract1 (fields "0 1 0 1 0") 99) (refuse 8 4)
+    -- a padding bit, a byte more, a field left over
+    ∷ call (sheetRead oneLink (hex "00 01") 99) (refuse 9 4)
+    ∷ call (sheetRead oneLink (hex "00 00 00") 99) (refuse 9 4)
+    ∷ call (sheetWritten oneLink (fields "0 0") 99) (refuse 9 4)
+    -- over 65,536 bytes is too long
+    ∷ call (sheetRead oneLink (replicate 65537 0) 99) (refuse 1 4)
+    -- the pattern is judged first
+    ∷ call (sheetRead (hex "88") [] 99) (refuse 3 1)
+    ∷ call (sheetWritten (hex "88") [] 99) (refuse 3 1)
+    ∷ call (sheetRead oneLink [] 99) (refuse 2 4)
+    ∷ call (sheetWritten oneLink [] 99) (refuse 2 4)
+    -- too little room, by one; too few words
+    ∷ call (sheetRead extract1 s6 5) (refuse 12 6)
+    ∷ call (sheetWritten extract1 (fields "1 0 1 1 1 2") 9) (refuse 12 10)
+    ∷ case (withWorkspace 16383 (sheetRead extract1 s6 6)) (refuse 14 0)
+    ∷ case (withWorkspace 16383 (sheetWritten extract1 (fields "1 0 1 1 1 2") 10)) (refuse 14 0)
+    ∷ []
+
+-- beside a catalogue
+unfoldable pub books : List Case
+books =
+    -- the book of C made from the record of K6, both directions
+    call (bookRead c b6 13) (output b6Fields)
+    ∷ call (bookWritten c b6Fields 22) (output b6)
+    -- a catalogue without extracts has a book of no bytes, and any byte or field is too many
+    ∷ call (bookRead c4 [] 0) (output [])
+    ∷ call (bookWritten c4 [] 0) (output [])
+    ∷ call (bookRead c4 (hex "00") 99) (refuse 9 4)
+    ∷ call (bookWritten c4 (fields "0") 99) (refuse 9 4)
+    -- beside any other no bytes are too few
+    ∷ call (bookRead c [] 99) (refuse 2 4)
+    ∷ call (bookWritten c [] 99) (refuse 2 4)
+    -- a fault in a sheet: 8,193 pairs, equal neighbours, a zero count
+    ∷ call (bookRead c3 (hex "80 04") 99) (refuse 3 4)
+    ∷ call (bookWritten c3 (fields "8193") 99) (refuse 3 4)
+    ∷ call (bookRead c3 (hex "00 08 00 00 04 00 00 04") 99) (refuse 6 4)
+    ∷ call (bookWritten c3 (fields "2 0 1 0 1") 99) (refuse 6 4)
+    ∷ call (bookRead c3 (hex "00 00 00 10 00 00 10") 99) (refuse 8 4)
+    ∷ call (bookWritten c3 (fields "0 1 0 1") 99) (refuse 8 4)
+    -- a padding bit after a sheet, before a fault in the next
+    ∷ call (bookRead c (hex "00 08 00 00 04 00 00 0d 80 04") 99) (refuse 9 4)
+    ∷ call (bookRead c (hex "00 08 00 00 04 00 00 0c 80 04") 99) (refuse 3 4)
+    -- a byte more, a field left over
+    ∷ call (bookRead c (b6 ++ hex "00") 13) (refuse 9 4)
+    ∷ call (bookWritten c (b6Fields ++ fields "0") 22) (refuse 9 4)
+    -- over 65,536 bytes is too long
+    ∷ call (bookRead c (replicate 65537 0) 99) (refuse 1 4)
+    -- the catalogue is judged first
+    ∷ call (bookRead (hex "88") [] 99) (refuse 3 2)
+    ∷ call (bookWritten (hex "88") [] 99) (refuse 3 2)
+    -- too little room, by one; too few words
+    ∷ call (bookRead c b6 12) (refuse 12 13)
+    ∷ call (bookWritten c b6Fields 21) (refuse 12 22)
+    ∷ case (withWorkspace 16383 (bookRead c b6 13)) (refuse 14 0)
+    ∷ case (withWorkspace 16383 (bookWritten c b6Fields 22)) (refuse 14 0)
+    -- a sheet, book or answer of 65,536 bytes fits, one of a byte more does not, however much is lent
+    ∷ call (fitFile 65536 (replicate 65536 0)) (output (replicate 65536 0))
+    ∷ call (fitFile 65537 (replicate 65537 0)) (refuse 12 65537)
+    -- what 10 counts: a pair that is listed under two extracts, or under two links of one, counts once, wherever it stands
+    ∷ case (number (length (pairsOf (edgeCounts cFields) b6Fields))) (number 3)
+    ∷ case (number (length (pairsOf (edgeCounts cFields) (fields "1 0 1 1 0 1 1 1 2 1 0 1 1 1 2")))) (number 2)
+    ∷ case (number (length (pairsOf (edgeCounts cFields) (fields "2 0 1 1 2 2 0 1 1 2 2 0 1 1 2 0 0")))) (number 2)
+    ∷ []
+
+unfoldable pub searches : List Case
+searches =
+    -- K6, the sheet of extract 1 of C, and the book of C
+    call (searchAnswer extract1 r6 10) (output s6)
+    ∷ call (makeBookAnswer c r6 22) (output b6)
+    -- K7, K8
+    ∷ call (searchAnswer selfLoop r7 8) (output (hex "00 08 00 00 04 00 40 00"))
+    ∷ call (searchAnswer selfLoop r8 2) (output (hex "00 00"))
+    -- K9, and the book of C
+    ∷ call (searchAnswer d r9 19) (output s9)
+    ∷ call (makeBookAnswer c r9 25) (output b9)
+    -- K10
+    ∷ call (searchAnswer oneLink r10 2) (output (hex "00 00"))
+    -- no extracts, no bytes
+    ∷ call (makeBookAnswer c4 r9 0) (output [])
+    -- the pattern or catalogue is judged first, then the record
+    ∷ call (searchAnswer (hex "88") (hex "80 08") 99) (refuse 3 1)
+    ∷ call (makeBookAnswer (hex "88") (hex "80 08") 99) (refuse 3 2)
+    ∷ call (searchAnswer d (hex "80 08") 99) (refuse 3 3)
+    ∷ call (makeBookAnswer c (hex "80 08") 99) (refuse 3 3)
+    -- too little room, by one; too few words
+    ∷ call (searchAnswer extract1 r6 9) (refuse 12 10)
+    ∷ call (makeBookAnswer c r6 21) (refuse 12 22)
+    ∷ case (withWorkspace 16383 (searchAnswer extract1 r6 10)) (refuse 14 0)
+    ∷ case (withWorkspace 16383 (makeBookAnswer c r6 22)) (refuse 14 0)
+    ∷ []
 
 unfoldable pub quotes : List Case
 quotes =
     -- K2: covered, chosen 1 and 2
-    case (withWorkspace 16384 (quoteAnswer d c)) (give (1 ∷ (rowsOf (rowOf 1 1 0 ++ rowOf 0 0 1 ++ rowOf 0 2 0 ++ rowOf 0 0 2) ++ (4 ∷ 6 ∷ 0 ∷ []))) [])
-    -- K3: uncovered, lowest link 1; the second shown record lacks 0 → 2
-    ∷ case (withWorkspace 16384 (quoteAnswer d c3)) (give (0 ∷ (rowsOf (rowOf 1 0 0 ++ rowOf 0 0 0 ++ rowOf 2 0 0 ++ rowOf 0 0 0) ++ (4 ∷ 0 ∷ 1 ∷ []))) [])
-    ∷ case (withWorkspace 16384 (showAnswer d c3 32 29)) (give [] (first ∷ second ∷ []))
+    call (quoteAnswer d c) (give (1 ∷ (rowsOf (rowOf 1 1 0 ++ rowOf 0 0 1 ++ rowOf 0 2 0 ++ rowOf 0 0 2) ++ (4 ∷ 6 ∷ 0 ∷ []))) [])
+    -- K3: uncovered, lowest link 1
+    ∷ call (quoteAnswer d c3) (give (0 ∷ (rowsOf (rowOf 1 0 0 ++ rowOf 0 0 0 ++ rowOf 2 0 0 ++ rowOf 0 0 0) ++ (4 ∷ 0 ∷ 1 ∷ []))) [])
     -- K4: no extracts, link 0
-    ∷ case (withWorkspace 16384 (quoteAnswer d c4)) (give (0 ∷ (replicate 512 0 ++ (4 ∷ 0 ∷ 0 ∷ []))) [])
+    ∷ call (quoteAnswer d c4) (give (0 ∷ (replicate 512 0 ++ (4 ∷ 0 ∷ 0 ∷ []))) [])
     -- K5: slow to fast matches no link of D
-    ∷ case (withWorkspace 16384 (quoteAnswer d c5)) (give (0 ∷ (replicate 512 0 ++ (4 ∷ 0 ∷ 0 ∷ []))) [])
+    ∷ call (quoteAnswer d c5) (give (0 ∷ (replicate 512 0 ++ (4 ∷ 0 ∷ 0 ∷ []))) [])
+    -- nor does an extract that fits D only in part
+    ∷ call (quoteAnswer d inPart) (give (0 ∷ (replicate 512 0 ++ (4 ∷ 0 ∷ 0 ∷ []))) [])
+    -- the question is judged first, then the catalogue; too few words
+    ∷ call (quoteAnswer (hex "88") (hex "88")) (refuse 3 1)
+    ∷ call (quoteAnswer d (hex "88")) (refuse 3 2)
+    ∷ case (withWorkspace 16383 (quoteAnswer d c)) (refuse 14 0)
     ∷ []
 
--- the books of C made from the records of K6 and K9, one of no record, in which extract 1 lists (0, 1), (1, 2) and extract 2 lists (0, 1), (3, 2),
--- and one of extract 1 alone
-abbrev pub b6 : List ℕ
-b6 =
-    0x00 ∷ 0x08 ∷ 0x00 ∷ 0x00 ∷ 0x04 ∷ 0x00 ∷ 0x00 ∷ 0x0c ∷ 0x00 ∷ 0x04 ∷ 0x00 ∷ 0x00 ∷ 0x04 ∷ 0x00 ∷ 0x10 ∷ 0x01 ∷ 0x00 ∷ 0x20 ∷ 0x00 ∷ 0x00
-    ∷ 0x00 ∷ 0x00 ∷ []
+unfoldable pub showings : List Case
+showings =
+    -- K3: the second shown record lacks 0 → 2
+    call (showAnswer d c3 32 29) (give [] (first ∷ second ∷ []))
+    -- too little room, by one, for the first or for the second; the first that doesn't fit is told
+    ∷ call (showAnswer d c3 31 29) (refuse 12 32)
+    ∷ call (showAnswer d c3 32 28) (refuse 12 29)
+    ∷ call (showAnswer d c3 31 28) (refuse 12 32)
+    -- K2 is covered, which is told before too little room
+    ∷ call (showAnswer d c 32 29) (refuse 13 0)
+    ∷ call (showAnswer d c 0 0) (refuse 13 0)
+    -- the question is judged first, then the catalogue; too few words
+    ∷ call (showAnswer (hex "88") (hex "88") 0 0) (refuse 3 1)
+    ∷ call (showAnswer d (hex "88") 0 0) (refuse 3 2)
+    ∷ case (withWorkspace 16383 (showAnswer d c3 32 29)) (refuse 14 0)
+    ∷ []
 
-abbrev pub b9 : List ℕ
-b9 =
-    0x00 ∷ 0x04 ∷ 0x00 ∷ 0x00 ∷ 0x04 ∷ 0x00 ∷ 0x04 ∷ 0x00 ∷ 0x00 ∷ 0x04 ∷ 0x00 ∷ 0x10 ∷ 0x01 ∷ 0x00 ∷ 0x20 ∷ 0x00 ∷ 0x04 ∷ 0x00 ∷ 0x00 ∷ 0x04
-    ∷ 0x00 ∷ 0x10 ∷ 0x01 ∷ 0x00 ∷ 0x20 ∷ []
-
-abbrev pub bn : List ℕ
-bn =
-    0x00 ∷ 0x04 ∷ 0x00 ∷ 0x00 ∷ 0x04 ∷ 0x00 ∷ 0x04 ∷ 0x00 ∷ 0x00 ∷ 0x04 ∷ 0x00 ∷ 0x10 ∷ 0x01 ∷ 0x00 ∷ 0x20 ∷ 0x00 ∷ 0x04 ∷ 0x00 ∷ 0x00 ∷ 0x04
-    ∷ 0x00 ∷ 0x10 ∷ 0x03 ∷ 0x00 ∷ 0x20 ∷ []
-
-abbrev pub b3 : List ℕ
-b3 = 0x00 ∷ 0x04 ∷ 0x00 ∷ 0x00 ∷ 0x04 ∷ 0x00 ∷ 0x10 ∷ 0x01 ∷ 0x00 ∷ 0x20 ∷ []
-
--- answers from a book: K9 as it is searched, with a byte too few, none where a list is empty or a pair is not supported; K3 gives 11 with link 1
 unfoldable pub answers : List Case
 answers =
-    case (withWorkspace 16384 (makeBookAnswer c r9 25)) (give [] (b9 ∷ []))
-    ∷ case (withWorkspace 16384 (answerAnswer d c b9 19))
-    (give []
-    ((0x00 ∷ 0x04 ∷ 0x00 ∷ 0x00 ∷ 0x04 ∷ 0x00 ∷ 0x10 ∷ 0x00 ∷ 0x00 ∷ 0x10 ∷ 0x00 ∷ 0x40 ∷ 0x04 ∷ 0x00 ∷ 0x80 ∷ 0x01 ∷ 0x00 ∷ 0x10 ∷ 0x02 ∷ [])
-    ∷ []))
-    ∷ case (withWorkspace 16384 (answerAnswer d c b9 18)) (refuse 12 19)
-    ∷ case (withWorkspace 16384 (answerAnswer d c b6 7)) (give [] ((replicate 7 0) ∷ []))
-    ∷ case (withWorkspace 16384 (answerAnswer d c bn 7)) (give [] ((replicate 7 0) ∷ []))
-    ∷ case (withWorkspace 16384 (answerAnswer d c3 b3 19)) (refuse 11 1)
+    -- K9, as it is searched
+    call (answerAnswer d c b9 19) (output s9)
+    -- none where a list is empty, and none where a pair is not supported
+    ∷ call (answerAnswer d c b6 7) (output (replicate 7 0))
+    ∷ call (answerAnswer d c bn 7) (output (replicate 7 0))
+    -- K3 is uncovered, link 1, which is told before too little room
+    ∷ call (answerAnswer d c3 b3 19) (refuse 11 1)
+    ∷ call (answerAnswer d c3 b3 0) (refuse 11 1)
+    -- the question is judged first, then the catalogue, then the book, each before 11
+    ∷ call (answerAnswer (hex "88") (hex "88") [] 0) (refuse 3 1)
+    ∷ call (answerAnswer d (hex "88") [] 0) (refuse 3 2)
+    ∷ call (answerAnswer d c3 [] 0) (refuse 2 4)
+    -- too little room, by one; too few words
+    ∷ call (answerAnswer d c b9 18) (refuse 12 19)
+    ∷ case (withWorkspace 16383 (answerAnswer d c b9 19)) (refuse 14 0)
     ∷ []
 
--- K1 to K10
-unfoldable pub table : List Case
-table = searches ++ (quotes ++ answers)
+unfoldable pub table : List (List Case)
+table = patterns ∷ catalogues ∷ records ∷ sheets ∷ books ∷ searches ∷ quotes ∷ showings ∷ answers ∷ []
 
 pub cases : Agree table
-unfolding Agree table searches quotes answers bitsOf num numFrom bits field zeros gap then times whole within scan lay bytesOf decode encode linked edges isEnd allEnds label joined pattern catalogue labels record′ pairs lists sheet book patternSize patternsIn viewsOf member insert distinct ends fieldsOf withWorkspace readFile writeFile judged fit fitFile patternRead patternWritten _and_ _or_ _implies_ every some keep gather each below settle greatest same has allPairs bit edgesIn patternOf graphOf asGraph fits follows sim total row ascending matchSets sheetBytes bookBytes searchAnswer viewSheets makeBookAnswer upTo matches matchedIn coversIn lowestUnmatched addsTo taken kept chosen maskIn matchMask maskAt mapping valuesFrom quoteValues quoteAnswer graphFields fewerFields recordBytes fitBoth showFor showAnswer codesIn pairsIn sum edgeCounts listsIn afterLists sheetsIn pairsOf uncrowdedBy pairOf listsHere under candidates supported join complete keptFor answerSets viewsIn answerBytes answerFor answerBy answerAnswer
-cases = (refl, (refl, (refl, (refl, (refl, (refl, (refl, (refl, (refl, (refl, (refl, (refl, (refl, (refl, (refl, (refl, (refl, (refl, (refl, tt)))))))))))))))))))
+unfolding Agree table patterns catalogues records sheets books searches quotes showings answers digit hex next turned numbers bitsOf num numFrom bits zeros gap then times whole within scan lay bytesOf decode encode linked edges isEnd allEnds label joined pattern catalogue labels record′ pairs lists sheet book patternSize patternsIn viewsOf edgeCounts codesIn listsIn afterLists ends fieldsOf sheetsIn pairsIn sum member insert distinct withWorkspace readFile writeFile judged pairsOf uncrowdedBy fit fitFile patternRead catalogueRead recordRead sheetRead bookRead patternWritten catalogueWritten recordWritten sheetWritten bookWritten _and_ _or_ _implies_ every some keep gather each below upTo settle greatest same has allPairs bit edgesIn patternOf graphOf asGraph fits follows sim total row ascending matchSets sheetBytes bookBytes searchAnswer viewSheets makeBookAnswer pairOf listsHere under candidates supported join complete keptFor answerSets matches matchedIn coversIn lowestUnmatched addsTo taken kept chosen maskIn matchMask maskAt mapping valuesFrom quoteValues quoteAnswer viewsIn answerBytes answerFor answerBy answerAnswer graphFields fewerFields recordBytes fitBoth showFor showAnswer
+cases = (refl, (refl, (refl, (refl, (refl, (refl, (refl, (refl, (refl, tt)))))))))

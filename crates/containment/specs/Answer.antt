@@ -3,8 +3,7 @@ use Prim.Native.Nat.{ℕ, _/_}
 use mathlib.Core.List.{List, [], _∷_, map}
 use lib.ListN.{length, drop, getD}
 use Rattle.packed.specs.Format.{pick}
-use Rattle.packed.specs.Contents.{edgesOf, edgeCounts, viewsOf}
-use Rattle.packed.specs.BookSheets.{sheetsIn}
+use Rattle.packed.specs.Contents.{edgesOf, edgeCounts, viewsOf, sheetsIn}
 use Rattle.packed.specs.Calls.{Answer, refuse, judged, readPattern, readCatalogue, readBook, uncrowded, fitFile}
 use Rattle.matching.specs.Simulation.{Pattern, bit, patternOf}
 use Rattle.matching.specs.Join.{View, answerSets}

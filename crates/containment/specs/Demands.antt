@@ -12,9 +12,7 @@ use mathlib.Core.List.{List, [], _∷_, map}
 use lib.ListN.{length, getD}
 use lib.Dec.{T}
 use Rattle.packed.specs.Formats.{code}
-use Rattle.packed.specs.Contents.{edgesOf, viewsOf, edgeCounts}
-use Rattle.packed.specs.BookSheets.{sheetsIn}
-use Rattle.packed.specs.Matches.{fieldsOf}
+use Rattle.packed.specs.Contents.{edgesOf, viewsOf, edgeCounts, sheetsIn, fieldsOf}
 use Rattle.packed.specs.Refusals.{Told, told}
 use Rattle.packed.specs.Calls.{Answer, give, refuse, fronts, Settled, withWorkspace, accepted, readPattern, readCatalogue, readRecord, readSheet, readBook, pairsOf, fitFile, patternRead, catalogueRead, recordRead, sheetRead, bookRead, patternWritten, catalogueWritten, recordWritten, sheetWritten, bookWritten}
 use Rattle.matching.specs.Lists.{In}

@@ -1,6 +1,7 @@
 pub mod Choice
 pub mod Quote
-pub mod Show
-pub mod Steps
 pub mod Answer
+pub mod Show
 pub mod Demands
+-- inner
+pub mod Steps

@@ -7,12 +7,11 @@ use lib.ListN.{length, getD, replicate}
 use lib.Dec.{ltb}
 use Rattle.packed.specs.Format.{pick}
 use Rattle.packed.specs.Formats.{code}
-use Rattle.packed.specs.Contents.{viewsOf}
-use Rattle.packed.specs.Order.{member}
+use Rattle.packed.specs.Contents.{viewsOf, member}
 use Rattle.packed.specs.Refusals.{Told, told, numberOf, detailOf}
 use Rattle.packed.specs.Calls.{Answer, give, judged, readPattern, readCatalogue}
 use Rattle.matching.specs.Simulation.{Pair, Pattern, patternOf, asGraph, matchSets}
-use Rattle.matching.specs.Steps.{upTo}
+use Rattle.matching.specs.Lists.{upTo}
 use Rattle.containment.specs.Choice.{everyView, coversIn, lowestUnmatched, chosen}
 use Rattle.containment.specs.declared.quote_type.Coverage.{Coverage}
 use Rattle.containment.specs.declared.quote_type.Coverage.the-variants as coverage-is

@@ -27,10 +27,6 @@ fewerFields ws e =
     nodesOf ws ∷ (edgesOf ws - 1)
     ∷ (map (λ k. 2 ^ k) (take (nodesOf ws) (drop 2 ws)) ++ (take (2 * e) (drop (2 + nodesOf ws) ws) ++ drop (2 + nodesOf ws + 2 * e + 2) ws))
 
--- without the edge skip, if there is one
-unfoldable pub shownFields : List ℕ → ℕ → List ℕ
-shownFields ws skip = pick (ltb skip (edgesOf ws)) (fewerFields ws skip) (graphFields ws)
-
 -- a record with this content, in bytes
 unfoldable pub recordBytes : List ℕ → List ℕ
 recordBytes fs = bytesIn (encode record′ fs)

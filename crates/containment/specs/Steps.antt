@@ -1,4 +1,4 @@
--- What the steps of quoting, of answering and of showing promise one another.
+-- inner: what the steps of quoting, of answering and of showing promise one another.
 use Prim.Native.Nat.{ℕ, zero, suc, _+_, _-_, _*_, _/_, _%_, _^_, _<_, _≤_}
 use mathlib.Core.Path.{_≡_}
 use mathlib.Core.List.{List, [], _∷_, _++_, map}
@@ -7,13 +7,13 @@ use lib.Seq.{sets}
 use lib.Dec.{eqb, ltb}
 use Rattle.packed.specs.Format.{ok, pick, decode}
 use Rattle.packed.specs.Formats.{pattern, catalogue, code}
-use Rattle.packed.specs.Contents.{edgeCounts, Small}
-use Rattle.packed.specs.ByValue.{HoldsPattern}
+use Rattle.packed.specs.Contents.{edgesOf, edgeCounts}
+use Rattle.packed.specs.ByValue.{HoldsPattern, Small}
 use Rattle.packed.specs.Calls.{Answer, toldOf, outputsOf}
 use Rattle.packed.specs.Refusals.{Told}
 use Rattle.packed.specs.declared.by_value.Pattern.{Pattern as Given}
 use Rattle.matching.specs.Sweeps.{OneOf, Has}
-use Rattle.containment.specs.Show.{shownFields, recordBytes}
+use Rattle.containment.specs.Show.{graphFields, fewerFields, recordBytes}
 use Rattle.containment.specs.declared.query.Fields.{Fields}
 
 -- an accepted pattern by value
@@ -42,6 +42,10 @@ pub record Answers (blank : List ℕ) (a : Answer) (r : Told) (outs outs′ : Li
   pub outputs : outs′ ≡ outputsOf a outs
 
 -- ---- a query read as a record
+
+-- the content of the query with content ws read as a record, without the edge skip, if there is one
+unfoldable pub shownFields : List ℕ → ℕ → List ℕ
+shownFields ws skip = pick (ltb skip (edgesOf ws)) (fewerFields ws skip) (graphFields ws)
 
 -- the labels of nodes that have one each
 unfoldable pub powers : List ℕ → List ℕ

@@ -7,12 +7,14 @@ use Prim.Native.Nat.{ℕ, _^_, _≤_, _<_}
 use native.Mathlib.Omega.{arith}
 use lib.ListN.{length}
 use Rattle.packed.specs.Formats.{code}
-use Rattle.packed.specs.Distinct.{distinct, Increasing}
+use Rattle.packed.specs.Distinct.{Increasing}
+use Rattle.packed.specs.Contents.{distinct}
 use Rattle.packed.specs.Matches.{allOrNone}
 use Rattle.packed.proofs.DistinctLaws.{distinct-own}
 use Rattle.matching.specs.Lists.{In, here, there, gather, each}
 use Rattle.matching.specs.Simulation.{Pair, Pattern, asGraph, ascending, matchSets}
-use Rattle.matching.specs.Join.{lists, View, pairOf, under, candidates, join, complete, keptFor, answerTo, answerSets}
+use Rattle.matching.specs.Join.{lists, View, pairOf, under, candidates, join, complete, keptFor, answerSets}
+use Rattle.matching.proofs.ByEdge.{answerTo}
 use Rattle.matching.proofs.ListLaws.{cond-case, not-in-none, append-in, gather-in, each-in}
 use Rattle.matching.proofs.CodeLaws.{ascending-say, ascending-increasing, distinct-fewer}
 use Rattle.matching.proofs.MatchSetLaws.{Listable, listable-by}

@@ -11,8 +11,7 @@ use native.Mathlib.Nat.{suc-add, zero-add}
 use Rattle.packed.specs.Bits.{bits}
 use Rattle.packed.specs.Format.{ok, decode}
 use Rattle.packed.specs.Formats.{code, catalogue, record′, book}
-use Rattle.packed.specs.Contents.{edgesOf, viewsOf, edgeCounts, codesIn, pairsIn, sum}
-use Rattle.packed.specs.Matches.{ends, fieldsOf}
+use Rattle.packed.specs.Contents.{edgesOf, viewsOf, edgeCounts, codesIn, pairsIn, sum, ends, fieldsOf}
 use Rattle.packed.specs.Calls.{accepted, readBook, pairsOf}
 use Rattle.packed.specs.Plain.{PlainPattern, PlainSheet, Whole, InTurn}
 use Rattle.packed.proofs.BitsLaws.{bits-append}

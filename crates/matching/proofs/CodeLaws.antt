@@ -10,8 +10,8 @@ use lib.ListN.{length, getD}
 use lib.Dec.{eqb}
 use borrow.Author.Tests.{eqb-true, eq-eqb}
 use Rattle.packed.specs.Formats.{code}
-use Rattle.packed.specs.Order.{member}
-use Rattle.packed.specs.Distinct.{insert, distinct, BelowHead, Increasing}
+use Rattle.packed.specs.Contents.{member, insert, distinct}
+use Rattle.packed.specs.Distinct.{BelowHead, Increasing}
 use Rattle.packed.proofs.OrderCases.{trichotomy, or-cases}
 use Rattle.packed.proofs.DistinctLaws.{insert-lt, insert-eq, insert-gt, member-distinct, distinct-increasing, distinct-same}
 use Rattle.matching.specs.Lists.{In, here, there, each}

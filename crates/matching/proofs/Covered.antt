@@ -7,8 +7,9 @@ use native.Mathlib.Omega.{arith}
 use lib.ListN.{length, getD}
 use lib.Dec.{T}
 use Rattle.matching.specs.Lists.{In, some, each}
-use Rattle.matching.specs.Simulation.{Pair, bit, Pattern, Graph, asGraph, rowOf, ascending, matchSets, IsSim, sound}
-use Rattle.matching.specs.Join.{lists, matchedBy, matched, covered, View, viewOf, join, complete, answerTo, answerSets}
+use Rattle.matching.specs.Simulation.{Pair, bit, Pattern, Graph, asGraph, ascending, matchSets, IsSim, sound}
+use Rattle.matching.proofs.ByEdge.{rowOf, matchedBy, matched, covered, viewOf, answerTo}
+use Rattle.matching.specs.Join.{lists, View, join, complete, answerSets}
 use Rattle.matching.proofs.ListLaws.{every-in, some-in, each-same}
 use Rattle.matching.proofs.SimLaws.{Fits, fits-say, fits-by, sim-is, sim-most}
 use Rattle.matching.proofs.MatchLaws.{Sim, Total, Matches, row-say, row-by, own-label, matches-through, Sound, sound-say}

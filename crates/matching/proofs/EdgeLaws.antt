@@ -8,9 +8,8 @@ use Rattle.packed.specs.Formats.{code}
 use Rattle.packed.specs.Loading.{codes}
 use Rattle.packed.specs.Plain.{fromAt, toAt}
 use Rattle.packed.proofs.AcceptedEdges.{from-cons, to-cons}
-use Rattle.matching.specs.Lists.{In, each}
+use Rattle.matching.specs.Lists.{In, each, upTo}
 use Rattle.matching.specs.Simulation.{Pair, edgesIn}
-use Rattle.matching.specs.Steps.{upTo}
 use Rattle.matching.specs.Sweeps.{OneOf}
 use Rattle.matching.proofs.UpToLaws.{in-upTo, upTo-in, upTo-same, length-upTo}
 

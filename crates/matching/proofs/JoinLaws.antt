@@ -8,8 +8,9 @@ use native.Mathlib.Omega.{arith}
 use lib.Dec.{T, eqb, eqb→eq, eqb-refl}
 use Rattle.packed.specs.Formats.{code}
 use Rattle.matching.specs.Lists.{_and_, In, here, there, some, gather, each}
-use Rattle.matching.specs.Simulation.{Pair, same, Pattern, Graph, asGraph, rowOf, ascending, matchSets}
-use Rattle.matching.specs.Join.{lists, View, viewOf, pairOf, under, candidates, Kept, supported, join, complete, keptFor, answerTo, answerSets}
+use Rattle.matching.specs.Simulation.{Pair, same, Pattern, Graph, asGraph, ascending, matchSets}
+use Rattle.matching.proofs.ByEdge.{rowOf, viewOf, answerTo}
+use Rattle.matching.specs.Join.{lists, View, pairOf, under, candidates, Kept, supported, join, complete, keptFor, answerSets}
 use Rattle.matching.proofs.ListLaws.{and-left, and-right, both, use-if, make-if, cond-case, not-in-none, in-cast, every-in, in-every, some-in, in-some, keep-in, in-keep, append-in, in-append-left, in-append-right, gather-in, in-gather, each-in, in-each}
 use Rattle.matching.proofs.GreatestLaws.{greatest-part, greatest-ok, greatest-all}
 use Rattle.matching.proofs.SimLaws.{same-eq, same-refl}

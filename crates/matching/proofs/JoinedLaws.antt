@@ -9,15 +9,15 @@ use lib.Dec.{T}
 use native.Mathlib.Omega.{arith}
 use lib.Pow.{pow-pos}
 use Rattle.packed.specs.Formats.{code}
-use Rattle.packed.specs.Distinct.{distinct}
+use Rattle.packed.specs.Contents.{distinct}
 use Rattle.packed.specs.BookSheets.{listAt}
 use Rattle.packed.specs.Matches.{marked, matchesOf}
 use Rattle.packed.specs.Matches.{Marked as MarkedPairs}
 use Rattle.packed.specs.declared.by_value.Pattern.{Pattern as Given}
-use Rattle.matching.specs.Lists.{In, here, there, gather, keep}
+use Rattle.matching.specs.Lists.{In, here, there, gather, keep, upTo}
 use Rattle.matching.specs.Simulation.{Pair, Pattern, has, ascending}
 use Rattle.matching.specs.Join.{View, pairOf, candidates, Kept, join, keptFor, answerSets}
-use Rattle.matching.specs.Steps.{upTo, patternIn, Fair, Edges}
+use Rattle.matching.specs.Steps.{patternIn, Fair, Edges}
 use Rattle.matching.specs.Sweeps.{Has, OneOf, Tabled}
 use Rattle.matching.specs.Candidates.{Booked, Blank, Taken, BookListing}
 use Rattle.matching.specs.Support.{fromOf, toOf, Offers, May, Supports, Settled, KeptBy}

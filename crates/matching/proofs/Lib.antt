@@ -11,6 +11,7 @@ pub mod Settling
 pub mod Pruning
 pub mod FirstMasks
 pub mod EdgeMaskLaws
+pub mod ByEdge
 pub mod MatchLaws
 pub mod CodeLaws
 pub mod MatchSetLaws
@@ -36,4 +37,3 @@ pub mod JoinedLaws
 pub mod AnswerLaws
 pub mod Covered
 pub mod Uncovered
-pub mod Table

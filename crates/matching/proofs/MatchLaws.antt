@@ -7,7 +7,8 @@ use native.Mathlib.Omega.{arith}
 use lib.ListN.{length, getD}
 use lib.Dec.{T, eqb, eqb→eq, eqb-refl, ltb→lt, lt→ltb}
 use Rattle.matching.specs.Lists.{_or_, In, each, below}
-use Rattle.matching.specs.Simulation.{Pair, bit, Pattern, Graph, asGraph, sim, total, row, rowOf, rows, IsSim, sound}
+use Rattle.matching.specs.Simulation.{Pair, bit, Pattern, Graph, asGraph, sim, total, row, IsSim, sound}
+use Rattle.matching.proofs.ByEdge.{rowOf, rows}
 use Rattle.matching.proofs.ListLaws.{and-left, and-right, both, or-left, or-right, or-cases, cond-case, not-in-none, every-in, in-every, some-in, in-some, keep-in, in-keep, length-each, getD-each, below-in, in-below}
 use Rattle.matching.proofs.Masks.{bit-one}
 use Rattle.matching.proofs.SimLaws.{has-in, in-has, Fits, fits-say, fits-by, sim-is, sim-most}

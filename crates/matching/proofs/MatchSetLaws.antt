@@ -5,9 +5,11 @@ use Prim.Native.Nat.{ℕ, _^_, _≤_, _<_}
 use native.Mathlib.Omega.{arith}
 use lib.ListN.{length, getD}
 use Rattle.packed.specs.Formats.{code}
-use Rattle.packed.specs.Distinct.{distinct, Increasing}
+use Rattle.packed.specs.Distinct.{Increasing}
+use Rattle.packed.specs.Contents.{distinct}
 use Rattle.matching.specs.Lists.{In, gather, each}
-use Rattle.matching.specs.Simulation.{Pair, Pattern, Graph, sim, total, row, rowOf, ascending, matchSets}
+use Rattle.matching.specs.Simulation.{Pair, Pattern, Graph, sim, total, row, ascending, matchSets}
+use Rattle.matching.proofs.ByEdge.{rowOf}
 use Rattle.matching.proofs.ListLaws.{cond-case, keep-length, gather-in, each-in, in-each, each-same, length-each, getD-each, in-at}
 use Rattle.matching.proofs.MatchLaws.{Matches, row-say, row-by, Subgraph, subgraph-fewer}
 use Rattle.matching.proofs.CodeLaws.{ascending-say, ascending-same, ascending-increasing, ascending-length, increasing-at, distinct-fewer}

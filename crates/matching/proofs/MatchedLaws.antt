@@ -9,16 +9,17 @@ use lib.Dec.{T}
 use native.Mathlib.Omega.{arith}
 use Rattle.packed.specs.Format.{pick}
 use Rattle.packed.specs.Formats.{code}
-use Rattle.packed.specs.Distinct.{distinct, BelowHead, Increasing}
+use Rattle.packed.specs.Distinct.{BelowHead, Increasing}
+use Rattle.packed.specs.Contents.{distinct}
 use Rattle.packed.specs.Matches.{marks, marked, markedFrom, allOrNone, matchesOf}
 use Rattle.packed.specs.Matches.{Marked as MarkedPairs}
 use Rattle.packed.specs.declared.by_value.Pattern.{Pattern as Given}
 use Rattle.packed.proofs.DistinctLaws.{distinct-own}
 use Rattle.packed.proofs.SheetLaws.{Rising, rising-none, rising-next, Fit, fit-next}
 use Rattle.packed.proofs.MatchLaws.{fit-lists}
-use Rattle.matching.specs.Lists.{_and_, In, each, keep, put}
+use Rattle.matching.specs.Lists.{_and_, In, each, keep, put, upTo}
 use Rattle.matching.specs.Simulation.{Pair, Pattern, Graph, bit, has, sim, row, ascending, matchSets}
-use Rattle.matching.specs.Steps.{upTo, patternIn, graphIn, Fair, Ready, Codes, Edges, Simulated, Marks}
+use Rattle.matching.specs.Steps.{patternIn, graphIn, Fair, Ready, Codes, Edges, Simulated, Marks}
 use Rattle.matching.specs.Matched.{Proper, Rises, Matched}
 use Rattle.matching.proofs.ListLaws.{and-left, and-right, both, same-test}
 use Rattle.matching.proofs.SimLaws.{has-in, in-has}

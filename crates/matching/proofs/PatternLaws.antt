@@ -13,7 +13,8 @@ use Rattle.packed.specs.Plain.{PlainPattern, fromAt, toAt}
 use Rattle.packed.specs.ByValue.{HoldsPattern}
 use Rattle.packed.specs.declared.by_value.Pattern.{Pattern as Given}
 use Rattle.matching.specs.Simulation.{Pair, Pattern, edgesIn, patternOf, sound}
-use Rattle.matching.specs.Steps.{upTo, patternIn, Fair}
+use Rattle.matching.specs.Steps.{patternIn, Fair}
+use Rattle.matching.specs.Lists.{upTo}
 use Rattle.matching.specs.Matched.{Proper}
 use Rattle.matching.proofs.UpToLaws.{upTo-same}
 use Rattle.matching.proofs.MatchLaws.{Sound, sound-by}

@@ -9,9 +9,9 @@ use lib.Dec.{T}
 use Rattle.packed.specs.Bits.{field}
 use Rattle.packed.specs.declared.by_value.Pattern.{Pattern as Given}
 use Rattle.packed.proofs.OrderCases.{lt-or-ge}
-use Rattle.matching.specs.Lists.{In}
+use Rattle.matching.specs.Lists.{In, upTo}
 use Rattle.matching.specs.Simulation.{Pair, Graph, IsSim, sim}
-use Rattle.matching.specs.Steps.{upTo, patternIn, graphIn, Fair, Edges, Means}
+use Rattle.matching.specs.Steps.{patternIn, graphIn, Fair, Edges, Means}
 use Rattle.matching.specs.Sweeps.{Has, OneOf, Tabled, Pairs, Offered, Shaped, Clear, Cleared, Gathered, Settled, Swept, First, Pruned, sumOf}
 use Rattle.matching.proofs.SimLaws.{fits-say, sim-is, sim-most, sim-kept}
 use Rattle.matching.proofs.MaskBits.{none-has, mask-cast, few-lt, part-le}

@@ -14,9 +14,9 @@ use Rattle.packed.specs.LoadedGraph.{Holds}
 use Rattle.packed.specs.Distinct.{Increasing}
 use Rattle.packed.proofs.DistinctLaws.{member-distinct, distinct-increasing}
 use Rattle.packed.proofs.GraphLaws.{labels-field, record-bounds, ends-below}
-use Rattle.matching.specs.Lists.{In, here, there}
+use Rattle.matching.specs.Lists.{In, here, there, upTo}
 use Rattle.matching.specs.Simulation.{Pair, Pattern, Graph, edgesIn, graphOf, matchSets}
-use Rattle.matching.specs.Steps.{upTo, graphIn, Ready, Edges}
+use Rattle.matching.specs.Steps.{graphIn, Ready, Edges}
 use Rattle.matching.specs.Sweeps.{OneOf}
 use Rattle.matching.specs.Matched.{Rises}
 use Rattle.matching.proofs.ListLaws.{in-at, each-in, in-each}

@@ -6,7 +6,8 @@ use Prim.Native.Nat.{ℕ}
 use lib.Dec.{T, not-T}
 use Rattle.packed.specs.Formats.{code}
 use Rattle.matching.specs.Lists.{_and_, In, keep}
-use Rattle.matching.specs.Simulation.{Pair, same, has, Pattern, Graph, sim, total, row, rowOf, rows, ascending, matchSets, IsSim}
+use Rattle.matching.specs.Simulation.{Pair, same, has, Pattern, Graph, sim, total, row, ascending, matchSets, IsSim}
+use Rattle.matching.proofs.ByEdge.{rowOf, rows}
 use Rattle.matching.specs.Join.{without}
 use Rattle.matching.proofs.ListLaws.{and-left, and-right, both, cond-same, same-test, keep-in, in-keep, keep-same, keep-keep, each-same}
 use Rattle.matching.proofs.SimLaws.{same-eq, has-in, in-has, fits-say, fits-by, sim-is, sim-most}

@@ -7,8 +7,9 @@ use lib.ListN.{length, getD}
 use lib.Dec.{T, T-not}
 use Rattle.packed.specs.Formats.{code}
 use Rattle.matching.specs.Lists.{In}
-use Rattle.matching.specs.Simulation.{Pair, same, bit, Pattern, Graph, asGraph, fits, rowOf, ascending, matchSets, IsSim, sound}
-use Rattle.matching.specs.Join.{lists, matchedBy, matched, covered, without}
+use Rattle.matching.specs.Simulation.{Pair, same, bit, Pattern, Graph, asGraph, fits, ascending, matchSets, IsSim, sound}
+use Rattle.matching.proofs.ByEdge.{rowOf, matchedBy, matched, covered}
+use Rattle.matching.specs.Join.{lists, without}
 use Rattle.matching.proofs.ListLaws.{keep-in, in-some, every-fails, length-each, getD-each}
 use Rattle.matching.proofs.Masks.{bit-self}
 use Rattle.matching.proofs.SimLaws.{same-refl, Fits, fits-by, sim-most}

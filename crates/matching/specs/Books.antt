@@ -1,4 +1,4 @@
--- What the loops over the views of an accepted catalogue c need and leave, where the edges of the record s stand in the workspace.
+-- inner: what the loops over the views of an accepted catalogue c need and leave, where the edges of the record s stand in the workspace.
 use Prim.Native.Nat.{ℕ, _≤_}
 use mathlib.Core.Path.{_≡_}
 use mathlib.Core.List.{List}

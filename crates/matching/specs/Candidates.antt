@@ -1,11 +1,11 @@
--- What taking the candidates of a join needs and does: the d different pairs of a book stand ascending from word 0 on, and from 8192 on for
+-- inner: what taking the candidates of a join needs and does: the d different pairs of a book stand ascending from word 0 on, and from 8192 on for
 -- each a mask of the query's edges.
 use Prim.Native.Nat.{ℕ, _+_, _*_, _^_, _<_, _≤_}
 use mathlib.Core.Path.{_≡_}
 use mathlib.Core.List.{List}
 use mathlib.Core.Logic.{_⊎_}
 use lib.ListN.{length, getD, take}
-use Rattle.packed.specs.Contents.{Small}
+use Rattle.packed.specs.ByValue.{Small}
 use Rattle.packed.specs.Distinct.{Increasing}
 use Rattle.packed.specs.Order.{Outside}
 use Rattle.packed.specs.Walks.{fieldOr, codesAt, listsEnd}

@@ -1,4 +1,4 @@
--- What the steps from the masks of nodes to those of edges do: meanwhile the masks of the nodes stand in the high bytes of the words below 8192.
+-- inner: what the steps from the masks of nodes to those of edges do: meanwhile the masks of the nodes stand in the high bytes of the words below 8192.
 use Prim.Native.Nat.{ℕ, _+_, _*_, _/_, _%_, _^_, _<_}
 use mathlib.Core.Path.{_≡_}
 use mathlib.Core.List.{List}

@@ -1,45 +1,28 @@
--- Which edges of a query its views match, and the query's answer from the views' sheets.
+-- A query's answer from its views' sheets.
 use mathlib.Core.Bool.{Bool, cond, not}
 use mathlib.Core.List.{List, [], _∷_, _++_}
 use Prim.Native.Nat.{ℕ, _/_, _%_}
 use lib.Dec.{eqb}
 use Rattle.packed.specs.Formats.{code}
-use Rattle.packed.specs.Order.{member}
+use Rattle.packed.specs.Contents.{member}
 use Rattle.matching.specs.Lists.{_and_, _implies_, every, some, keep, gather, each}
 use Rattle.matching.specs.Greatest.{greatest}
 use Rattle.matching.specs.Simulation.{Pair, same, Pattern, Graph, asGraph, ascending, matchSets}
 
--- ---- quoting
-
--- the list of codes has the edge e
-unfoldable pub lists : Pair → List ℕ → Bool
-lists e l = member (code (e .0) (e .1)) l
-
--- the edge e of the query ("question") Q is matched by an edge of the view ("extract") P: that edge's list, on Q read as a graph, has e
-unfoldable pub matchedBy : Pattern → Pair → Pattern → Bool
-matchedBy Q e P = some (lists e) (matchSets P (asGraph Q))
-
-unfoldable pub matched : Pattern → List Pattern → Pair → Bool
-matched Q Ps e = some (matchedBy Q e) Ps
-
--- every edge of the query is matched by a view
-unfoldable pub covered : Pattern → List Pattern → Bool
-covered Q Ps = every (matched Q Ps) (Q .edges)
-
 -- ---- answering
 
--- a view and the lists of its sheet, by codes
+-- a view ("extract") and the lists of its sheet, by codes
 pub record View : Type 0 where
   pub pattern : Pattern
   pub sheet : List (List ℕ)
 
--- a view with its match sets in a graph
-unfoldable pub viewOf : Graph → Pattern → View
-viewOf G P = record { pattern = P; sheet = matchSets P G }
-
 -- the pair of a code
 unfoldable pub pairOf : ℕ → Pair
 pairOf c = (c / 4096, c % 4096)
+
+-- the list of codes has the edge e
+unfoldable pub lists : Pair → List ℕ → Bool
+lists e l = member (code (e .0) (e .1)) l
 
 -- what the second sheet lists under those edges under which the first lists e
 unfoldable pub under : Pair → List (List ℕ) → List (List ℕ) → List ℕ
@@ -47,7 +30,8 @@ under e [] ls = []
 under e (m ∷ ms) [] = []
 under e (m ∷ ms) (l ∷ ls) = cond (lists e m) l [] ++ under e ms ls
 
--- the candidates for the edge e of Q: the pairs listed under those edges of the views that match e
+-- the candidates for the edge e of the query ("question") Q: the pairs listed under those edges of the views that match e, which are those whose
+-- lists, on Q read as a graph, have e
 unfoldable pub candidates : Pattern → List View → Pair → List Pair
 candidates Q vs e = each pairOf (gather (λ v. under e (matchSets (v .pattern) (asGraph Q)) (v .sheet)) vs)
 
@@ -76,11 +60,7 @@ complete Q ks = every (λ e. some (λ j. same (j .0) e) ks) (Q .edges)
 unfoldable pub keptFor : List Kept → Pair → List Pair
 keptFor ks e = each (λ j. j .1) (keep (λ j. same (j .0) e) ks)
 
--- the same, or none where some edge keeps none
-unfoldable pub answerTo : Pattern → List View → Pair → List Pair
-answerTo Q vs e = cond (complete Q (join Q vs)) (keptFor (join Q vs) e) []
-
--- the answer to Q from the sheets of views: a list for each edge of Q
+-- the answer to Q from the sheets of views: a list for each edge of Q, all empty where some edge keeps none
 unfoldable pub answerSets : Pattern → List View → List (List ℕ)
 answerSets Q vs = let ks = join Q vs in let b = complete Q ks in each (λ e. ascending (cond b (keptFor ks e) [])) (Q .edges)
 

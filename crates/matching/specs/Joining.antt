@@ -1,4 +1,4 @@
--- What the join leaves in the workspace, where a table and a set say which lists of a book are asked.
+-- inner: what the join leaves in the workspace, where a table and a set say which lists of a book are asked.
 use Prim.Native.Nat.{ℕ, _<_}
 use mathlib.Core.Path.{_≡_}
 use mathlib.Core.List.{List}

@@ -3,6 +3,7 @@ pub mod Greatest
 pub mod Simulation
 pub mod Search
 pub mod Join
+-- inner
 pub mod Steps
 pub mod Sweeps
 pub mod EdgeMasks

@@ -57,3 +57,8 @@ module _ {A B : Type 0} where
 unfoldable pub below : ℕ → List ℕ
 below zero = []
 below (suc n) = n ∷ below n
+
+-- f of the numbers below n, in order
+unfoldable pub upTo : {A : Type 0} → (ℕ → A) → ℕ → List A
+upTo f zero = []
+upTo f (suc n) = f 0 ∷ upTo (λ j. f (suc j)) n

@@ -1,4 +1,4 @@
--- What matching a pattern leaves in the workspace, and a view of an accepted catalogue by value.
+-- inner: what matching a pattern leaves in the workspace, and a view of an accepted catalogue by value.
 use Prim.Native.Nat.{ℕ, _+_, _*_, _<_, _≤_}
 use mathlib.Core.Path.{_≡_}
 use mathlib.Core.List.{List}

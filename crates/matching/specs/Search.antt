@@ -4,8 +4,7 @@ use Prim.Native.Nat.{ℕ}
 use lib.ListN.{length}
 use Rattle.packed.specs.Format.{Result, ok, bad, encode}
 use Rattle.packed.specs.Formats.{sheet}
-use Rattle.packed.specs.Contents.{viewsOf}
-use Rattle.packed.specs.Matches.{fieldsOf}
+use Rattle.packed.specs.Contents.{viewsOf, fieldsOf}
 use Rattle.packed.specs.Calls.{Answer, judged, readPattern, readCatalogue, readRecord, fitFile}
 use Rattle.matching.specs.Simulation.{Pattern, Graph, patternOf, graphOf, matchSets}
 

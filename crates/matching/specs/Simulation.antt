@@ -5,8 +5,7 @@ use Prim.Native.Nat.{ℕ, _+_, _/_, _%_, _^_}
 use lib.ListN.{length, getD, take, drop}
 use lib.Dec.{T, eqb, ltb}
 use Rattle.packed.specs.Formats.{code}
-use Rattle.packed.specs.Contents.{nodesOf}
-use Rattle.packed.specs.Distinct.{distinct}
+use Rattle.packed.specs.Contents.{nodesOf, distinct}
 use Rattle.matching.specs.Lists.{_and_, _or_, _implies_, In, every, some, keep, gather, each, below}
 use Rattle.matching.specs.Greatest.{greatest}
 
@@ -80,18 +79,11 @@ total P s = every (λ u. some (λ x. eqb (x .0) u) s) (below (length (P .labels)
 unfoldable pub row : Graph → List Pair → Pair → List Pair
 row G s e = keep (λ f. has (e .0, f .0) s and has (e .1, f .1) s) (G .edges)
 
--- the same, or none where some node of P has no partner
-unfoldable pub rowOf : Pattern → Graph → Pair → List Pair
-rowOf P G e = cond (total P (sim P G)) (row G (sim P G) e) []
-
-unfoldable pub rows : Pattern → Graph → List (List Pair)
-rows P G = each (rowOf P G) (P .edges)
-
 -- edges by their codes, ascending, as a sheet lists them
 unfoldable pub ascending : List Pair → List ℕ
 ascending l = distinct (each (λ f. code (f .0) (f .1)) l)
 
--- the match sets of P in G: a list for each edge of P
+-- the match sets of P in G: a list for each edge of P, all empty where some node of P has no partner
 unfoldable pub matchSets : Pattern → Graph → List (List ℕ)
 matchSets P G = let s = sim P G in let b = total P s in each (λ e. ascending (cond b (row G s e) [])) (P .edges)
 

@@ -1,18 +1,13 @@
--- What the steps of matching do to the workspace: the codes of m edges from word 0 on, and the candidate masks of n nodes from 8192 on.
-use Prim.Native.Nat.{ℕ, zero, suc, _+_, _*_, _/_, _%_, _^_, _<_, _≤_}
+-- inner: what the steps of matching do to the workspace: the codes of m edges from word 0 on, and the candidate masks of n nodes from 8192 on.
+use Prim.Native.Nat.{ℕ, _+_, _*_, _/_, _%_, _^_, _<_, _≤_}
 use mathlib.Core.Path.{_≡_}
-use mathlib.Core.List.{List, [], _∷_}
+use mathlib.Core.List.{List}
 use lib.ListN.{length, getD, take}
 use lib.Dec.{T}
 use Rattle.packed.specs.Bits.{field}
 use Rattle.packed.specs.declared.by_value.Pattern.{Pattern as Given}
-use Rattle.matching.specs.Lists.{In, each}
+use Rattle.matching.specs.Lists.{In, upTo}
 use Rattle.matching.specs.Simulation.{Pair, Pattern, Graph, bit, sim}
-
--- f of the numbers below n, in order
-unfoldable pub upTo : {A : Type 0} → (ℕ → A) → ℕ → List A
-upTo f zero = []
-upTo f (suc n) = f 0 ∷ upTo (λ j. f (suc j)) n
 
 -- the pattern that is given by value
 unfoldable pub patternIn : Given → Pattern

@@ -1,4 +1,4 @@
--- What the walks over the pairs that are taken do to the masks of the nodes, and these to the masks of the pairs.
+-- inner: what the walks over the pairs that are taken do to the masks of the nodes, and these to the masks of the pairs.
 use Prim.Native.Nat.{ℕ, zero, suc, _+_, _*_, _/_, _%_, _<_, _≤_}
 use mathlib.Core.Path.{_≡_}
 use mathlib.Core.List.{List}

@@ -1,4 +1,4 @@
--- What the inner steps of a simulation do: masks as sets of numbers, the table of pairs, and what a sweep leaves in the workspace.
+-- inner: what the steps of a simulation do: masks as sets of numbers, the table of pairs, and what a sweep leaves in the workspace.
 use Prim.Native.Nat.{ℕ, zero, suc, _+_, _*_, _/_, _%_, _<_, _≤_}
 use mathlib.Core.Path.{_≡_}
 use mathlib.Core.List.{List}

@@ -8,12 +8,10 @@ use native.Mathlib.Omega.{arith}
 use lib.ListN.{length, getD}
 use Rattle.packed.specs.Format.{ok, decode}
 use Rattle.packed.specs.Formats.{code, book}
-use Rattle.packed.specs.Contents.{codesIn}
-use Rattle.packed.specs.Order.{member}
+use Rattle.packed.specs.Contents.{codesIn, member, listsIn, sheetsIn, ends, fieldsOf}
 use Rattle.packed.specs.Distinct.{Increasing}
 use Rattle.packed.specs.Walks.{fieldOr, codesAt, listEnd, pairsAt, listsEnd, sheetEnd, bookPairs}
-use Rattle.packed.specs.BookSheets.{listsIn, sheetsIn, listAt, sheetAt}
-use Rattle.packed.specs.Matches.{ends, fieldsOf}
+use Rattle.packed.specs.BookSheets.{listAt, sheetAt}
 use Rattle.packed.proofs.BitsLaws.{field-lt}
 use Rattle.packed.proofs.OrderCases.{lt-or-ge}
 use Rattle.packed.proofs.DistinctLaws.{member-append, member-below}

@@ -12,7 +12,8 @@ use native.Mathlib.Numerals.{add-one}
 use borrow.Author.Tests.{lt-ltb, le-ltb, ltb-false}
 use borrow.Rule.Slice.PartMut.{putMid, postOf}
 use Rattle.packed.specs.Format.{Format, Result, ok, bad, pick, decode, encode}
-use Rattle.packed.specs.Contents.{edgesOf, edgeCounts, Counted, Small, pairsIn, sum}
+use Rattle.packed.specs.Contents.{edgesOf, edgeCounts, pairsIn, sum}
+use Rattle.packed.specs.ByValue.{Counted, Small}
 use Rattle.packed.specs.Refusals.{Told, numberOf, detailOf, replyTold}
 use Rattle.packed.specs.Reading.{Content, Judges}
 use Rattle.packed.specs.Writing.{JudgesFields}

@@ -9,7 +9,8 @@ use lib.ListN.{length, drop, getD, set, replicate, length-append}
 use lib.Seq.{set-at, getD-take, getD-drop, drop-drop}
 use native.Mathlib.Omega.{arith}
 use native.Mathlib.Nat.{add-zero, sub-zero}
-use Rattle.packed.specs.Contents.{edgesOf, patternSize, patternsIn, viewsOf, edgeCounts, Counted}
+use Rattle.packed.specs.Contents.{edgesOf, patternSize, patternsIn, viewsOf, edgeCounts}
+use Rattle.packed.specs.ByValue.{Counted}
 
 -- how many edges each of so many patterns has
 unfoldable pub countsIn : ℕ → List ℕ → List ℕ

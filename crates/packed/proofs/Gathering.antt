@@ -8,8 +8,9 @@ use native.Mathlib.Omega.{arith}
 use native.Mathlib.Numerals.{add-one}
 use lib.ListN.{length, take, drop, set, length-set, length-drop}
 use lib.Seq.{take-set-le, drop-set-add, take-suc-set, getD-set-same, getD-set-other}
-use Rattle.packed.specs.Order.{word, member}
-use Rattle.packed.specs.Distinct.{insert, distinct, Below, Absorbable, Absorbed}
+use Rattle.packed.specs.Order.{word}
+use Rattle.packed.specs.Contents.{member, insert, distinct}
+use Rattle.packed.specs.Distinct.{Below, Absorbable, Absorbed}
 use Rattle.packed.specs.Walks.{Gathers, Adds, Gathering, Different}
 use Rattle.packed.specs.declared.gather.Gather.{Gather}
 use Rattle.packed.proofs.OrderCases.{trichotomy, eq-or-ne}

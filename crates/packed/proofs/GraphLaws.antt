@@ -12,10 +12,10 @@ use borrow.Author.Tests.{eqb-true}
 use Rattle.packed.specs.Bits.{bitsOf, bits, field, gap}
 use Rattle.packed.specs.Format.{ok, decode}
 use Rattle.packed.specs.Formats.{record′, code}
-use Rattle.packed.specs.Contents.{nodesOf, edgesOf}
+use Rattle.packed.specs.Contents.{nodesOf, edgesOf, member, distinct}
 use Rattle.packed.specs.Plain.{fieldsOf, Below, fromAt, toAt, PlainEdges}
-use Rattle.packed.specs.Order.{word, Ascends, SameTo, Sorted, Repeats, member}
-use Rattle.packed.specs.Distinct.{distinct, BelowHead, Increasing}
+use Rattle.packed.specs.Order.{word, Ascends, SameTo, Sorted, Repeats}
+use Rattle.packed.specs.Distinct.{BelowHead, Increasing}
 use Rattle.packed.specs.Loading.{codes}
 use Rattle.packed.specs.LoadedGraph.{CodesAt, Accepted, Ordered, Holds}
 use Rattle.packed.proofs.BitsLaws.{length-bitsOf, length-bits, num-bitsOf-lt, field-lt}

@@ -17,7 +17,6 @@ pub mod DistinctLaws
 pub mod DistinctMerge
 pub mod DistinctAbsorb
 pub mod Closing
-pub mod Table
 pub mod Sheets
 pub mod AcceptedLaws
 pub mod AcceptedEdges

@@ -11,7 +11,8 @@ use native.Mathlib.Omega.{arith}
 use borrow.Author.Tests.{eq-eqb, ne-eqb, not-true, not-false}
 use Rattle.packed.specs.Formats.{code, linked}
 use Rattle.packed.specs.Loading.{codes, once, Kept}
-use Rattle.packed.specs.Order.{word, member, allDifferent, TellsRepeat}
+use Rattle.packed.specs.Order.{word, allDifferent, TellsRepeat}
+use Rattle.packed.specs.Contents.{member}
 use Rattle.packed.proofs.OrderCases.{eq-or-ne}
 use Rattle.packed.proofs.Sets.{sets-append, sets-front}
 use Rattle.packed.proofs.Sorts.{word-front}

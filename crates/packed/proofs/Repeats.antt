@@ -9,7 +9,8 @@ use lib.Dec.{eqb, ltb}
 use lib.ListN.{length, take, getD}
 use lib.Seq.{take-suc, take-length}
 use borrow.Author.Tests.{eqb-true, eqb-false, lt-ltb, le-ltb, not-true, not-false}
-use Rattle.packed.specs.Order.{times, word, Repeats, TellsRepeat, member, allDifferent}
+use Rattle.packed.specs.Order.{times, word, Repeats, TellsRepeat, allDifferent}
+use Rattle.packed.specs.Contents.{member}
 use Rattle.packed.proofs.OrderCases.{eq-or-ne, eqb-sym, or-cases, or-neither, and-both, and-cases}
 use Rattle.packed.proofs.Places.{times-hit, times-miss, times-le}
 

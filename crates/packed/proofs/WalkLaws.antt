@@ -13,10 +13,10 @@ use borrow.Author.Tests.{leb-true, ltb-true}
 use Rattle.packed.specs.Bits.{bits, num, field, zeros, gap}
 use Rattle.packed.specs.Format.{Format, done, ask, pad, then, whole, Got, got, fault, within, scan, ok, decode, encode}
 use Rattle.packed.specs.Formats.{code, pairs, lists, sheet, book}
-use Rattle.packed.specs.Contents.{codesIn, pairsIn, sum}
+use Rattle.packed.specs.Contents.{codesIn, pairsIn, sum, listsIn, afterLists, sheetsIn}
 use Rattle.packed.specs.Distinct.{BelowHead, Increasing}
 use Rattle.packed.specs.Walks.{fieldOr, codesAt, listEnd, pairsAt, listsEnd, sheetEnd, bookPairs, codesFrom, pairsFrom}
-use Rattle.packed.specs.BookSheets.{listsIn, afterLists, sheetsIn, sheetAt}
+use Rattle.packed.specs.BookSheets.{sheetAt}
 use Rattle.packed.proofs.BitsLaws.{length-bits, field-add}
 use Rattle.packed.proofs.RoundTrip.{push-got, pick-got, and-yes, ended-ok, onward, scan-done, scan-test, scan-then, encode-decode}
 use Rattle.packed.proofs.ReadingLaws.{gap-of, gap-in}

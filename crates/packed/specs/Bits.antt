@@ -32,10 +32,6 @@ unfoldable pub bits : List ℕ → List Bool
 bits [] = []
 bits (x ∷ xs) = bitsOf 8 x ++ bits xs
 
--- the field of w bits at the bit offset at
-unfoldable pub field : List ℕ → ℕ → ℕ → ℕ
-field s at w = num (take w (drop at (bits s)))
-
 -- whether all bits are zero
 unfoldable pub zeros : List Bool → Bool
 zeros [] = true
@@ -45,3 +41,7 @@ zeros (false ∷ bs) = zeros bs
 -- how many bits lie between the bit offset at and the next whole byte
 unfoldable pub gap : ℕ → ℕ
 gap at = (8 - at % 8) % 8
+
+-- inner: the field of w bits at the bit offset at
+unfoldable pub field : List ℕ → ℕ → ℕ → ℕ
+field s at w = num (take w (drop at (bits s)))

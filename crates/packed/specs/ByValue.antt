@@ -1,9 +1,9 @@
--- A pattern's fields by value.
-use Prim.Native.Nat.{ℕ, _+_, _*_, _<_, _≤_}
+-- inner: a pattern's fields by value, and the numbers of edges of a catalogue's views in a table.
+use Prim.Native.Nat.{ℕ, _+_, _-_, _*_, _<_, _≤_}
 use mathlib.Core.Path.{_≡_}
-use mathlib.Core.List.{List}
-use lib.ListN.{length, getD}
-use Rattle.packed.specs.Contents.{nodesOf, edgesOf}
+use mathlib.Core.List.{List, _++_}
+use lib.ListN.{length, getD, replicate}
+use Rattle.packed.specs.Contents.{nodesOf, edgesOf, edgeCounts}
 use Rattle.packed.specs.declared.by_value.Pattern.{Pattern}
 
 -- the first n of a table of so many are the words from first on, each so many words after the one before; the others are zero
@@ -19,3 +19,11 @@ pub record HoldsPattern (ws : List ℕ) (p : Pattern) : Type 0 where
   pub labels : Spread ws 2 1 (nodesOf ws) 16 (p .labels)
   pub from : Spread ws (2 + nodesOf ws) 2 (edgesOf ws) 32 (p .from)
   pub to : Spread ws (3 + nodesOf ws) 2 (edgesOf ws) 32 (p .to)
+
+-- the numbers of edges, in a table of 16
+pub record Counted (ws r : List ℕ) : Type 0 where
+  pub is : getD ws 0 0 ≤ 16 → r ≡ edgeCounts ws ++ replicate (16 - getD ws 0 0) 0
+
+-- a table of numbers of edges, each at most 32
+abbrev pub Small : List ℕ → Type 0
+Small counts = (j : ℕ) → getD counts j 0 ≤ 32

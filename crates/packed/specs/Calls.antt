@@ -7,8 +7,7 @@ use lib.ListN.{length, take, drop, replicate}
 use lib.Dec.{ltb}
 use Rattle.packed.specs.Format.{Format, Result, ok, bad, pick, decode, encode}
 use Rattle.packed.specs.Formats.{pattern, catalogue, record′, sheet, book}
-use Rattle.packed.specs.Contents.{edgesOf, edgeCounts, pairsIn, sum}
-use Rattle.packed.specs.Distinct.{distinct}
+use Rattle.packed.specs.Contents.{edgesOf, edgeCounts, pairsIn, sum, distinct}
 use Rattle.packed.specs.Refusals.{Told, told}
 
 -- ---- the protocol
@@ -148,7 +147,7 @@ sheetWritten p ws room = judged (readPattern p) (λ ps. judged (writeSheet ps ws
 unfoldable pub bookWritten : List ℕ → List ℕ → ℕ → Answer
 bookWritten c ws room = judged (readCatalogue c) (λ cs. judged (writeBook cs ws) (λ s. uncrowded cs ws (fitFile room s)))
 
--- with the workspace aside: the result and the one output
+-- inner: with the workspace aside, the result and the one output
 pub record Answered (a : Answer) (r : Told) (out out′ : List ℕ) : Type 0 where
   pub result : r ≡ toldOf [] a
   pub output : out′ ∷ [] ≡ outputsOf a (out ∷ [])

@@ -1,11 +1,12 @@
 -- What stands in the content of a file: its fields in order, one number each.
-use Prim.Native.Nat.{ℕ, zero, suc, _+_, _-_, _*_, _≤_}
-use mathlib.Core.Path.{_≡_}
+use Prim.Native.Nat.{ℕ, zero, suc, _+_, _*_, _/_, _%_}
 use mathlib.Core.List.{List, [], _∷_, _++_, map}
-use lib.ListN.{length, take, drop, getD, replicate}
+use mathlib.Core.Bool.{Bool, false, cond, _||_}
+use lib.ListN.{length, take, drop, getD}
+use lib.Dec.{eqb, ltb}
 use Rattle.packed.specs.Formats.{code}
 
--- how many nodes and edges a pattern has, and how many fields
+-- ---- a pattern: how many nodes and edges it has, and how many fields
 abbrev pub nodesOf : List ℕ → ℕ
 nodesOf ws = getD ws 0 0
 
@@ -14,6 +15,8 @@ edgesOf ws = getD ws 1 0
 
 unfoldable pub patternSize : List ℕ → ℕ
 patternSize ws = 2 + (nodesOf ws + 2 * edgesOf ws)
+
+-- ---- a catalogue
 
 -- so many patterns, one after the other
 unfoldable pub patternsIn : ℕ → List ℕ → List (List ℕ)
@@ -27,10 +30,37 @@ viewsOf ws = patternsIn (getD ws 0 0) (drop 1 ws)
 unfoldable pub edgeCounts : List ℕ → List ℕ
 edgeCounts ws = map edgesOf (viewsOf ws)
 
+-- ---- a sheet: lists of pairs, each pair by its code
+
 -- the codes of so many pairs
 unfoldable pub codesIn : ℕ → List ℕ → List ℕ
 codesIn zero ws = []
 codesIn (suc k) ws = code (getD ws 0 0) (getD ws 1 0) ∷ codesIn k (drop 2 ws)
+
+-- the codes of so many lists, each a count and its pairs; and what stands after them
+unfoldable pub listsIn : ℕ → List ℕ → List (List ℕ)
+listsIn zero ws = []
+listsIn (suc m) ws = codesIn (getD ws 0 0) (drop 1 ws) ∷ listsIn m (drop (1 + 2 * getD ws 0 0) ws)
+
+unfoldable pub afterLists : ℕ → List ℕ → List ℕ
+afterLists zero ws = ws
+afterLists (suc m) ws = afterLists m (drop (1 + 2 * getD ws 0 0) ws)
+
+-- the fields of a list's pairs, and of lists: each a count and its pairs
+unfoldable pub ends : List ℕ → List ℕ
+ends [] = []
+ends (c ∷ cs) = c / 4096 ∷ c % 4096 ∷ ends cs
+
+unfoldable pub fieldsOf : List (List ℕ) → List ℕ
+fieldsOf [] = []
+fieldsOf (l ∷ ls) = length l ∷ (ends l ++ fieldsOf ls)
+
+-- ---- a book
+
+-- the sheets in the content of a book for views with so many edges
+unfoldable pub sheetsIn : List ℕ → List ℕ → List (List (List ℕ))
+sheetsIn [] ws = []
+sheetsIn (m ∷ ms) ws = listsIn m ws ∷ sheetsIn ms (afterLists m ws)
 
 -- the codes in so many lists, each a count and its pairs
 unfoldable pub pairsIn : ℕ → List ℕ → List ℕ
@@ -41,10 +71,19 @@ unfoldable pub sum : List ℕ → ℕ
 sum [] = 0
 sum (m ∷ ms) = m + sum ms
 
--- the numbers of edges, in a table of 16
-pub record Counted (ws r : List ℕ) : Type 0 where
-  pub is : getD ws 0 0 ≤ 16 → r ≡ edgeCounts ws ++ replicate (16 - getD ws 0 0) 0
+-- ---- lists of codes
 
--- a table of numbers of edges, each at most 32
-abbrev pub Small : List ℕ → Type 0
-Small counts = (j : ℕ) → getD counts j 0 ≤ 32
+-- whether x stands in the list
+unfoldable pub member : ℕ → List ℕ → Bool
+member x [] = false
+member x (y ∷ ys) = eqb y x || member x ys
+
+-- x put into a list before the first number that is not below it; a number that is there already is not put again
+unfoldable pub insert : ℕ → List ℕ → List ℕ
+insert x [] = x ∷ []
+insert x (y ∷ ys) = cond (ltb x y) (x ∷ y ∷ ys) (cond (eqb x y) (y ∷ ys) (y ∷ insert x ys))
+
+-- the different numbers of a list, ascending
+unfoldable pub distinct : List ℕ → List ℕ
+distinct [] = []
+distinct (x ∷ xs) = insert x (distinct xs)

@@ -1,11 +1,13 @@
 pub mod Bits
 pub mod Format
 pub mod Formats
-pub mod Refusals
+pub mod Plain
 pub mod Contents
-pub mod Distinct
+pub mod Refusals
 pub mod Calls
+-- inner
 pub mod Order
+pub mod Distinct
 pub mod Reading
 pub mod Writing
 pub mod Loading
@@ -14,4 +16,3 @@ pub mod BookSheets
 pub mod Matches
 pub mod ByValue
 pub mod LoadedGraph
-pub mod Plain

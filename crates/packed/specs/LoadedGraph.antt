@@ -1,4 +1,4 @@
--- A record's edges in the workspace.
+-- inner: a record's edges in the workspace.
 use Prim.Native.Nat.{ℕ, _+_, _*_, _^_, _<_, _≤_}
 use mathlib.Core.Path.{_≡_}
 use mathlib.Core.List.{List}
@@ -6,9 +6,8 @@ use lib.ListN.{length, take, drop, getD}
 use Rattle.packed.specs.Bits.{field}
 use Rattle.packed.specs.Format.{Result, ok, bad, decode}
 use Rattle.packed.specs.Formats.{record′, code}
-use Rattle.packed.specs.Contents.{nodesOf, edgesOf}
+use Rattle.packed.specs.Contents.{nodesOf, edgesOf, distinct}
 use Rattle.packed.specs.Loading.{codes}
-use Rattle.packed.specs.Distinct.{distinct}
 use Rattle.packed.specs.Refusals.{numberOf, detailOf}
 use Rattle.packed.specs.declared.graph.Graph.{Graph}
 use Rattle.packed.specs.declared.graph.Graph.the-variants as graph-is

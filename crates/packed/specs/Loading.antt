@@ -1,4 +1,4 @@
--- Edges that are read or written first and judged for repeats afterwards, all at once, from their codes in the workspace.
+-- inner: edges that are read or written first and judged for repeats afterwards, all at once, from their codes in the workspace.
 use Prim.Native.Nat.{ℕ, _+_, _*_, _^_, _<_, _≤_}
 use mathlib.Core.Path.{_≡_}
 use mathlib.Core.List.{List, [], _∷_, _++_}

@@ -1,4 +1,4 @@
--- A sheet made from pairs: codes in ascending order, each with a mask that says under which edges of the pattern it is listed.
+-- inner: a sheet made from pairs: codes in ascending order, each with a mask that says under which edges of the pattern it is listed.
 use Prim.Native.Nat.{ℕ, zero, suc, _+_, _*_, _/_, _%_, _^_, _<_, _≤_}
 use mathlib.Core.Path.{_≡_}
 use mathlib.Core.List.{List, [], _∷_, _++_}
@@ -9,6 +9,7 @@ use lib.Dec.{eqb}
 use Rattle.packed.specs.Bits.{odd, bits, bitsOf}
 use Rattle.packed.specs.Format.{pick, encode, ok}
 use Rattle.packed.specs.Formats.{sheet}
+use Rattle.packed.specs.Contents.{fieldsOf}
 
 -- whether the mask q names the edge e
 unfoldable pub marks : ℕ → ℕ → Bool
@@ -35,15 +36,6 @@ emptied (l ∷ ls) = [] ∷ emptied ls
 -- where one list is empty, all are
 unfoldable pub allOrNone : List (List ℕ) → List (List ℕ)
 allOrNone ls = pick (anyEmpty ls) (emptied ls) ls
-
--- the fields of a list's pairs, and of lists: each a count and its pairs
-unfoldable pub ends : List ℕ → List ℕ
-ends [] = []
-ends (c ∷ cs) = c / 4096 ∷ c % 4096 ∷ ends cs
-
-unfoldable pub fieldsOf : List (List ℕ) → List ℕ
-fieldsOf [] = []
-fieldsOf (l ∷ ls) = length l ∷ (ends l ++ fieldsOf ls)
 
 -- how many pairs lists have
 unfoldable pub total : List (List ℕ) → ℕ

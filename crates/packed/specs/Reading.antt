@@ -1,4 +1,4 @@
--- How a reader goes through the bytes s of a file, with its fields stored in a list of words as far as that goes.
+-- inner: how a reader goes through the bytes s of a file, with its fields stored in a list of words as far as that goes.
 use Prim.Native.Nat.{ℕ, _+_, _*_, _<_, _≤_}
 use mathlib.Core.Path.{_≡_}
 use mathlib.Core.List.{List}

@@ -1,4 +1,4 @@
--- The pairs of a sheet or a book one after the other, taken from its bits or from its fields, which need not be accepted for that.
+-- inner: the pairs of a sheet or a book one after the other, taken from its bits or from its fields, which need not be accepted for that.
 use Prim.Native.Nat.{ℕ, zero, suc, _+_, _*_, _%_, _<_, _≤_}
 use mathlib.Core.Path.{_≡_}
 use mathlib.Core.List.{List, [], _∷_, _++_}
@@ -7,7 +7,8 @@ use lib.Dec.{leb}
 use Rattle.packed.specs.Bits.{field, gap}
 use Rattle.packed.specs.Format.{pick}
 use Rattle.packed.specs.Formats.{code}
-use Rattle.packed.specs.Distinct.{distinct, Absorbable}
+use Rattle.packed.specs.Distinct.{Absorbable}
+use Rattle.packed.specs.Contents.{distinct}
 use Rattle.packed.specs.declared.gather.Gather.{Gather}
 
 -- the field of w bits at the bit offset at, or 0 where the bits end before it does

@@ -1,4 +1,4 @@
--- How a writer goes through the fields ws of a content, with its bits stored in a list of bytes as far as that goes.
+-- inner: how a writer goes through the fields ws of a content, with its bits stored in a list of bytes as far as that goes.
 use Prim.Native.Nat.{ℕ, _+_, _*_, _^_, _<_, _≤_}
 use mathlib.Core.Path.{_≡_}
 use mathlib.Core.List.{List}

@@ -5,7 +5,7 @@ ghost use Prim.Native.Nat.{ℕ, _+_, _*_, _^_, _<_, _≤_};
 ghost use lib.ListN.{length, take, getD, replicate};
 ghost use Rattle.packed.specs.Format.{times, whole, decode, encode};
 ghost use Rattle.packed.specs.Formats.{pattern, catalogue};
-ghost use Rattle.packed.specs.Contents.{Counted};
+ghost use Rattle.packed.specs.ByValue.{Counted};
 ghost use Rattle.packed.specs.Reading.{Stands, Room, ReadsBytesUpTo, JudgesUpTo};
 ghost use Rattle.packed.specs.Writing.{WritesBytes, JudgesFields};
 use crate::bits;

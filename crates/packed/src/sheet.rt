@@ -6,7 +6,7 @@ ghost use Prim.Native.Nat.{ℕ, _+_, _*_, _^_, _<_, _≤_};
 ghost use lib.ListN.{length, take};
 ghost use Rattle.packed.specs.Format.{whole, decode, encode};
 ghost use Rattle.packed.specs.Formats.{pairs, sheet, book};
-ghost use Rattle.packed.specs.Contents.{Small};
+ghost use Rattle.packed.specs.ByValue.{Small};
 ghost use Rattle.packed.specs.Reading.{Stands, Reads, ReadsBytes, Judges};
 ghost use Rattle.packed.specs.Writing.{Writes, WritesBytes, JudgesFields};
 use crate::bits;
