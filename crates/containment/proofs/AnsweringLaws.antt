@@ -7,11 +7,11 @@ use lib.ListN.{length, take, drop, getD}
 use native.Mathlib.Omega.{arith}
 use Rattle.packed.specs.Format.{pick, decode}
 use Rattle.packed.specs.Formats.{catalogue, book}
-use Rattle.packed.specs.Contents.{edgeCounts, pairsIn, sum, sheetsIn}
+use Rattle.packed.specs.Contents.{edgeCounts, pairsIn, sum, sheetsIn, total}
 use Rattle.packed.specs.ByValue.{Counted}
 use Rattle.packed.specs.Reading.{Content}
 use Rattle.packed.specs.Refusals.{Told, numberOf, detailOf, replyTold}
-use Rattle.packed.specs.Matches.{matchesOf, total, Marked, Written}
+use Rattle.packed.specs.Matches.{matchesOf, Marked, Written}
 use Rattle.packed.specs.Walks.{bookPairs, Different}
 use Rattle.packed.specs.Calls.{Answer, refuse, judged, readCatalogue, readBook, uncrowded, fitFile, Answered}
 use Rattle.packed.specs.declared.reply.Refusal.{Refusal}

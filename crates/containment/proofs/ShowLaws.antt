@@ -8,8 +8,7 @@ use lib.Dec.{T, T-not}
 use native.Mathlib.Omega.{arith}
 use Rattle.packed.specs.Format.{ok, decode}
 use Rattle.packed.specs.Formats.{pattern, catalogue}
-use Rattle.packed.specs.Contents.{edgesOf, viewsOf, ends, fieldsOf}
-use Rattle.packed.specs.Matches.{total}
+use Rattle.packed.specs.Contents.{edgesOf, viewsOf, ends, fieldsOf, total}
 use Rattle.packed.specs.Calls.{accepted, readRecord}
 use Rattle.packed.specs.Plain.{PlainPattern}
 use Rattle.packed.proofs.Accepted.{pattern-accepted, record-accepted, record-read}

@@ -25,11 +25,6 @@ coversIn t set k (suc m) = coversIn t set k m && matchedIn t set m k
 abbrev pub everyView : ℕ
 everyView = 65535
 
--- the lowest of m edges that no view matches, or m
-unfoldable pub lowestUnmatched : List ℕ → ℕ → ℕ → ℕ
-lowestUnmatched t k zero = 0
-lowestUnmatched t k (suc m) = pick (ltb (lowestUnmatched t k m) m) (lowestUnmatched t k m) (pick (matchedIn t everyView m k) (suc m) m)
-
 -- whether the view a matches one of the first m edges that no view of the set below a does
 unfoldable pub addsTo : List ℕ → ℕ → ℕ → ℕ → Bool
 addsTo t set a zero = false
@@ -49,3 +44,8 @@ kept t m k set (suc a) =
 -- the chosen set: empty for a query that is not covered
 unfoldable pub chosen : List ℕ → ℕ → ℕ → ℕ
 chosen t m k = pick (coversIn t everyView k m) (kept t m k (taken t m k) k) 0
+
+-- the lowest of m edges that no view matches, or m
+unfoldable pub lowestUnmatched : List ℕ → ℕ → ℕ → ℕ
+lowestUnmatched t k zero = 0
+lowestUnmatched t k (suc m) = pick (ltb (lowestUnmatched t k m) m) (lowestUnmatched t k m) (pick (matchedIn t everyView m k) (suc m) m)

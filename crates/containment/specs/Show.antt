@@ -1,9 +1,7 @@
 -- Showing why a query is not covered: the query read as a record, and the same without its lowest unmatched edge.
-use Prim.Native.Nat.{ℕ, zero, suc, _+_, _-_, _*_, _^_}
-use mathlib.Core.Path.{_≡_}
+use Prim.Native.Nat.{ℕ, _+_, _-_, _*_, _^_}
 use mathlib.Core.List.{List, [], _∷_, _++_, map}
-use mathlib.Core.Bool.{Bool}
-use lib.ListN.{length, getD, take, drop}
+use lib.ListN.{length, take, drop}
 use lib.Dec.{ltb}
 use Rattle.packed.specs.Format.{pick, encode}
 use Rattle.packed.specs.Formats.{record′}

@@ -9,10 +9,10 @@ use native.Mathlib.Nat.{add-zero, zero-add}
 use borrow.Rule.Slice.PartMut.{putMid, postOf}
 use Rattle.packed.specs.Format.{ok, decode}
 use Rattle.packed.specs.Formats.{catalogue}
-use Rattle.packed.specs.Contents.{viewsOf}
+use Rattle.packed.specs.Contents.{viewsOf, total}
 use Rattle.packed.specs.Reading.{Stands}
 use Rattle.packed.specs.LoadedGraph.{Holds}
-use Rattle.packed.specs.Matches.{matchesOf, total, Written}
+use Rattle.packed.specs.Matches.{matchesOf, Written}
 use Rattle.packed.proofs.Sets.{sets-append, sets-drop}
 use Rattle.packed.proofs.SheetLaws.{Fit, fit-none, fit-next, fit-all}
 use Rattle.packed.proofs.MatchLaws.{fit-lists, matches-encode}

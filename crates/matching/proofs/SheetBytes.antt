@@ -7,8 +7,8 @@ use lib.Dec.{T}
 use native.Mathlib.Omega.{arith}
 use Rattle.packed.specs.Format.{ok, decode, encode}
 use Rattle.packed.specs.Formats.{pattern, record′, sheet}
-use Rattle.packed.specs.Contents.{edgesOf, fieldsOf}
-use Rattle.packed.specs.Matches.{allOrNone, total}
+use Rattle.packed.specs.Contents.{edgesOf, fieldsOf, total}
+use Rattle.packed.specs.Matches.{allOrNone}
 use Rattle.packed.specs.Calls.{accepted, readSheet}
 use Rattle.packed.proofs.SheetLaws.{Fit, fit-none, fit-next, rising-by, all-twice, Encoded, sheet-encodes}
 use Rattle.packed.proofs.Accepted.{pattern-accepted, sheet-accepted, sheet-read}

@@ -7,7 +7,7 @@ use lib.Dec.{T}
 use Rattle.packed.specs.Bits.{field}
 use Rattle.packed.specs.declared.by_value.Pattern.{Pattern as Given}
 use Rattle.matching.specs.Lists.{In, upTo}
-use Rattle.matching.specs.Simulation.{Pair, Pattern, Graph, bit, sim}
+use Rattle.matching.specs.Simulation.{Pattern, Graph, bit, sim}
 
 -- the pattern that is given by value
 unfoldable pub patternIn : Given → Pattern

@@ -14,7 +14,8 @@ use native.Mathlib.Numerals.{add-one}
 use native.Mathlib.Nat.{add-zero, zero-add}
 use Rattle.packed.specs.Bits.{bits, bitsOf, gap}
 use Rattle.packed.specs.Format.{pick}
-use Rattle.packed.specs.Matches.{marks, marked, markedFrom, anyEmpty, emptied, allOrNone, total, codesOf, masksOf, matchesOf, Marked, Counts, Written, Added, anyZero, sumOf, Listed, pairBits, listBits, ListWritten, ListsWritten}
+use Rattle.packed.specs.Matches.{marks, marked, markedFrom, anyEmpty, emptied, allOrNone, codesOf, masksOf, matchesOf, Marked, Counts, Written, Added, anyZero, sumOf, Listed, pairBits, listBits, ListWritten, ListsWritten}
+use Rattle.packed.specs.Contents.{total}
 use Rattle.packed.proofs.BitsLaws.{length-bitsOf, length-bits, bitsOf-zero, bits-injective}
 use Rattle.packed.proofs.OrderCases.{lt-or-ge}
 use Rattle.packed.proofs.Sets.{sets-append}

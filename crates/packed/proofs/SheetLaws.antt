@@ -11,8 +11,8 @@ use borrow.Author.Tests.{le-leb}
 use Rattle.packed.specs.Bits.{bits, bitsOf, gap}
 use Rattle.packed.specs.Format.{Format, done, test, pad, then, whole, Got, got, fault, pick, push, lay, ok, ended, bytesOf, inBytes, decode, encode}
 use Rattle.packed.specs.Formats.{code, number12, pairs, lists, sheet}
-use Rattle.packed.specs.Matches.{anyEmpty, emptied, allOrNone, total, pairBits, listBits}
-use Rattle.packed.specs.Contents.{ends, fieldsOf}
+use Rattle.packed.specs.Matches.{anyEmpty, emptied, allOrNone, pairBits, listBits}
+use Rattle.packed.specs.Contents.{ends, fieldsOf, total}
 use Rattle.packed.proofs.BitsLaws.{length-bitsOf, bitsOf-add, bitsOf-mod}
 use Rattle.packed.proofs.RoundTrip.{Bytes, bits-bytesOf, encode-decode, lay-done, lay-ask, lay-test, lay-pad, lay-then, whole-is, pick-yes, push-push, onward}
 use Rattle.packed.proofs.ReadingLaws.{in-range}

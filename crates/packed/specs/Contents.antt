@@ -55,6 +55,11 @@ unfoldable pub fieldsOf : List (List ℕ) → List ℕ
 fieldsOf [] = []
 fieldsOf (l ∷ ls) = length l ∷ (ends l ++ fieldsOf ls)
 
+-- how many pairs lists have
+unfoldable pub total : List (List ℕ) → ℕ
+total [] = 0
+total (l ∷ ls) = length l + total ls
+
 -- ---- a book
 
 -- the sheets in the content of a book for views with so many edges

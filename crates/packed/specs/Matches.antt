@@ -37,11 +37,6 @@ emptied (l ∷ ls) = [] ∷ emptied ls
 unfoldable pub allOrNone : List (List ℕ) → List (List ℕ)
 allOrNone ls = pick (anyEmpty ls) (emptied ls) ls
 
--- how many pairs lists have
-unfoldable pub total : List (List ℕ) → ℕ
-total [] = 0
-total (l ∷ ls) = length l + total ls
-
 -- the n codes at the front of the workspace, and their masks from word 8192 on
 abbrev pub codesOf : ℕ → List ℕ → List ℕ
 codesOf n w = take n w

@@ -3,7 +3,8 @@
 ghost use mathlib.Core.Path.{_≡_};
 ghost use Prim.Native.Nat.{ℕ, _+_, _*_, _/_, _^_, _<_, _≤_};
 ghost use lib.ListN.{length, getD, replicate};
-ghost use Rattle.packed.specs.Matches.{matchesOf, total, Marked, Counts, Written, Added, ListWritten, ListsWritten, Listed, anyZero, sumOf};
+ghost use Rattle.packed.specs.Matches.{matchesOf, Marked, Counts, Written, Added, ListWritten, ListsWritten, Listed, anyZero, sumOf};
+ghost use Rattle.packed.specs.Contents.{total};
 use crate::bits;
 use crate::field;
 
