@@ -25,7 +25,7 @@ use Rattle.matching.specs.Simulation.{Pattern, patternOf}
 use Rattle.matching.proofs.PatternLaws.{edges-in, pattern-is}
 use Rattle.matching.proofs.EdgeLaws.{edgesIn-length}
 use Rattle.containment.specs.Choice.{everyView, coversIn, lowestUnmatched, chosen}
-use Rattle.containment.specs.Quote.{blank, mapping, valuesFrom, quoteValues, quoteTold}
+use Rattle.containment.specs.Quote.{blank, flat, mapping, valuesFrom, quoteValues, quoteTold}
 use Rattle.containment.specs.Show.{graphFields, fewerFields, recordBytes, fitBoth, showFor}
 use Rattle.containment.specs.Steps.{Query, Views, Answers, shownFields}
 use Rattle.containment.specs.declared.quote_type.Quote.{Quote}
@@ -96,12 +96,12 @@ refused-told x t e = rw e
 
 module _ (t : List ℕ) (m k : ℕ) where
   pub covered-told : (c : ℕ) → coversIn t everyView k m ≡ true → c ≡ chosen t m k
-      → quoteTold (record { coverage = coverage-is.Covered; mapping = t; edges = m; chosen = c; lowest = 0 }) ≡ told 0 (valuesFrom t m k)
+      → quoteTold (record { coverage = coverage-is.Covered; mapping = t; edges = m; chosen = c; lowest = 0 }) ≡ told 0 (flat (valuesFrom t m k))
   unfolding quoteTold valuesFrom
   covered-told c h e = rw (h, e)
 
   pub uncovered-told : (e : ℕ) → coversIn t everyView k m ≡ false → e ≡ lowestUnmatched t k m
-      → quoteTold (record { coverage = coverage-is.Uncovered; mapping = t; edges = m; chosen = 0; lowest = e }) ≡ told 0 (valuesFrom t m k)
+      → quoteTold (record { coverage = coverage-is.Uncovered; mapping = t; edges = m; chosen = 0; lowest = e }) ≡ told 0 (flat (valuesFrom t m k))
   unfolding quoteTold valuesFrom
   uncovered-told e h q = rw (h, q, chosen-none t m k h)
 
@@ -131,7 +131,7 @@ viewPatterns cs = map patternOf (viewsOf cs)
 
 -- how the calls go on with an accepted query
 abbrev pub quoteOn : List ℕ → List ℕ → Answer
-quoteOn c qs = judged (readCatalogue c) (λ cs. give (quoteValues (patternOf qs) (viewPatterns cs)) [])
+quoteOn c qs = judged (readCatalogue c) (λ cs. give (flat (quoteValues (patternOf qs) (viewPatterns cs))) [])
 
 abbrev pub showOn : List ℕ → ℕ → ℕ → List ℕ → Answer
 showOn c room room′ qs = judged (readCatalogue c) (λ cs. showFor qs (viewPatterns cs) room room′)
@@ -152,8 +152,8 @@ module _ {s : List ℕ} {k : ℕ} (v : Views s k) where
         ∙ sym (t .holds .edges)
 
     module _ {table : List ℕ} (e : table ≡ mapping (patternOf (t .content)) (viewPatterns (v .content))) where
-      pub quote-given : {r : Told} → r ≡ told 0 (valuesFrom table (q .edges) k)
-          → Answers blank (give (quoteValues (patternOf (t .content)) (viewPatterns (v .content))) []) r [] []
+      pub quote-given : {r : Told} → r ≡ told 0 (flat (valuesFrom table (q .edges) k))
+          → Answers blank (give (flat (quoteValues (patternOf (t .content)) (viewPatterns (v .content)))) []) r [] []
       unfolding quoteValues toldOf outputsOf fronts
       quote-given h = record { result = rw (edges-many, views-many) (rw e at h); outputs = refl }
 

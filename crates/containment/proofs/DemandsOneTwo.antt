@@ -26,7 +26,7 @@ use Rattle.matching.proofs.AllOrNone.{sets-even}
 use Rattle.matching.proofs.RecordLaws.{graph-narrow}
 use Rattle.matching.proofs.PatternLaws.{edges-in, edges-many, sound-of}
 use Rattle.containment.specs.Choice.{everyView, coversIn, lowestUnmatched, chosen}
-use Rattle.containment.specs.Quote.{one, mapping, valuesFrom, quoteValues, quoteAnswer}
+use Rattle.containment.specs.Quote.{one, mapping, valuesFrom, quoteValues, flat, quoteAnswer}
 use Rattle.containment.specs.Answer.{Choose, answerFor, answerBy, answerAnswer}
 use Rattle.containment.specs.Show.{showFor, showAnswer}
 use Rattle.containment.specs.Demands.{Settles, Demand1, Question, Catalogue, Record, extracts, Covered, Matching, Matched, Demand2}
@@ -122,7 +122,7 @@ quote-exactly q c qs cs eq ec =
 -- the first value of a quote
 quote-first : (q c qs cs : List ℕ) → Question q qs → Catalogue c cs → (b : Bool) → coversIn (mapping (patternOf qs) (extracts cs)) everyView (length (extracts cs)) (edgesOf qs) ≡ b
     → (vs : List ℕ) × (quoteAnswer q c ≡ give (one b ∷ vs) [])
-unfolding quoteAnswer quoteValues valuesFrom
+unfolding quoteAnswer quoteValues valuesFrom flat
 quote-first q c qs cs eq ec b h =
     let t = mapping (patternOf qs) (extracts cs) in
     let k = length (extracts cs) in

@@ -10,6 +10,9 @@ use borrow.Author.Tests.{leb-true}
 use Rattle.packed.specs.Bits.{bitsOf, num, bits, zeros, gap}
 use Rattle.packed.specs.Format.{Format, done, ask, test, pad, then, times, whole, Got, got, fault, pick, push, within, scan, lay, Result, ok, bad, ended, inBytes, decode, encode}
 use Rattle.packed.specs.Formats.{code, edges, label, joined, pattern, catalogue, labels, record′, pairs, lists, sheet, book}
+use Rattle.packed.specs.Refusals.{numberOf}
+use Rattle.packed.specs.declared.reply.Refusal.{Refusal}
+use Rattle.packed.specs.declared.reply.Refusal.the-variants.{TooLong, Truncated, OutOfRange, NoSuchNode, DuplicateEdge, NotAscending, IsolatedNode, MixedCounts, Trailing, TooManyPairs, NotContained, NoRoom, Contained, SmallWorkspace}
 use Rattle.packed.specs.Calls.{Answer, give, refuse, withWorkspace, rejected, inFile, readFile, writeFile, judged, pairsOf, uncrowdedBy, fit, fitFile}
 use Rattle.containment.specs.Show.{fitBoth}
 use Rattle.containment.specs.Demands.{Settles}
@@ -20,6 +23,22 @@ pub record Numbered (n : ℕ) : Type 0 where
 
 pub numbered : (n : ℕ) → leb 1 n ≡ true → leb n 14 ≡ true → Numbered n
 numbered n p q = record { least = leb-true 1 n p; most = leb-true n 14 q }
+
+pub refusal-numbered : (x : Refusal) → Numbered (numberOf x)
+refusal-numbered (TooLong d) = numbered 1 refl refl
+refusal-numbered (Truncated d) = numbered 2 refl refl
+refusal-numbered (OutOfRange d) = numbered 3 refl refl
+refusal-numbered (NoSuchNode d) = numbered 4 refl refl
+refusal-numbered (DuplicateEdge d) = numbered 5 refl refl
+refusal-numbered (NotAscending d) = numbered 6 refl refl
+refusal-numbered (IsolatedNode d) = numbered 7 refl refl
+refusal-numbered (MixedCounts d) = numbered 8 refl refl
+refusal-numbered (Trailing d) = numbered 9 refl refl
+refusal-numbered (TooManyPairs d) = numbered 10 refl refl
+refusal-numbered (NotContained d) = numbered 11 refl refl
+refusal-numbered (NoRoom d) = numbered 12 refl refl
+refusal-numbered Contained = numbered 13 refl refl
+refusal-numbered SmallWorkspace = numbered 14 refl refl
 
 -- ---- formats
 

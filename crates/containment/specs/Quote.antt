@@ -42,30 +42,59 @@ maskAt Q Ps k =
 unfoldable pub mapping : Pattern → List Pattern → List ℕ
 mapping Q Ps = upTo (maskAt Q Ps) 512
 
--- the values of a quote: whether the query is covered, the table, the number of edges, the chosen set, the lowest unmatched edge
-unfoldable pub valuesFrom : List ℕ → ℕ → ℕ → List ℕ
-valuesFrom t m k =
-    one (coversIn t everyView k m)
-    ∷ (t ++ (m ∷ chosen t m k ∷ pick (coversIn t everyView k m) 0 (lowestUnmatched t k m) ∷ []))
+-- what a quote gives by value
+pub record QuoteValues : Type 0 where
+  -- "covered if every link is matched by at least one": 1 if so, 0 if not
+  pub covered : ℕ
+  -- "for each question link, the extract links that match it": the table above
+  pub mapping : List ℕ
+  -- how many links the question has
+  pub edges : ℕ
+  -- "a chosen set", in which the bit worth 2 ^ a says extract a; "for an uncovered question the chosen set is empty"
+  pub chosen : ℕ
+  -- "the lowest unmatched link"; 0 for a covered question
+  pub lowest : ℕ
 
-unfoldable pub quoteValues : Pattern → List Pattern → List ℕ
+-- what these are, from the table, the number of edges and the number of views
+unfoldable pub valuesFrom : List ℕ → ℕ → ℕ → QuoteValues
+valuesFrom t m k =
+    record {
+      covered = one (coversIn t everyView k m);
+      mapping = t;
+      edges = m;
+      chosen = chosen t m k;
+      lowest = pick (coversIn t everyView k m) 0 (lowestUnmatched t k m);
+    }
+
+unfoldable pub quoteValues : Pattern → List Pattern → QuoteValues
 quoteValues Q Ps = valuesFrom (mapping Q Ps) (length (Q .edges)) (length Ps)
+
+-- the list of them that the protocol of a call carries
+unfoldable pub flat : QuoteValues → List ℕ
+flat v = v .covered ∷ (v .mapping ++ (v .edges ∷ v .chosen ∷ v .lowest ∷ []))
 
 -- quoting: 14, the question's refusals, the catalogue's
 unfoldable pub quoteAnswer : List ℕ → List ℕ → Answer
-quoteAnswer q c = judged (readPattern q) (λ qs. judged (readCatalogue c) (λ cs. give (quoteValues (patternOf qs) (map patternOf (viewsOf cs))) []))
+quoteAnswer q c =
+    judged (readPattern q) (λ qs. judged (readCatalogue c) (λ cs. give (flat (quoteValues (patternOf qs) (map patternOf (viewsOf cs)))) []))
 
--- what a quote tells; on a refusal everything beside it is zero
+-- on a refusal each of them is zero
 abbrev pub blank : List ℕ
-blank = replicate 515 0
+blank = flat (record { covered = 0; mapping = replicate 512 0; edges = 0; chosen = 0; lowest = 0 })
 
-abbrev pub rest : Quote → List ℕ
-rest q = q .mapping ++ (q .edges ∷ q .chosen ∷ q .lowest ∷ [])
+-- what a quote tells
+abbrev pub coveredOf : Coverage → ℕ
+coveredOf coverage-is.Covered = 1
+coveredOf coverage-is.Uncovered = 0
+coveredOf (coverage-is.Refused x) = 0
+
+abbrev pub valuesOf : Quote → QuoteValues
+valuesOf q = record { covered = coveredOf (q .coverage); mapping = q .mapping; edges = q .edges; chosen = q .chosen; lowest = q .lowest }
 
 unfoldable pub quoteTold : Quote → Told
 quoteTold q = by (q .coverage)
   where
     by : Coverage → Told
-    by coverage-is.Covered = told 0 (1 ∷ rest q)
-    by coverage-is.Uncovered = told 0 (0 ∷ rest q)
-    by (coverage-is.Refused x) = told (numberOf x) (detailOf x ∷ rest q)
+    by coverage-is.Covered = told 0 (flat (valuesOf q))
+    by coverage-is.Uncovered = told 0 (flat (valuesOf q))
+    by (coverage-is.Refused x) = told (numberOf x) (detailOf x ∷ flat (valuesOf q))

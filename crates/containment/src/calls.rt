@@ -16,7 +16,7 @@ ghost use Rattle.matching.specs.Search.{sheetBytes};
 ghost use Rattle.matching.specs.Join.{View, answerSets};
 ghost use Rattle.matching.specs.Candidates.{Booked};
 ghost use Rattle.matching.specs.Joining.{Agrees};
-ghost use Rattle.containment.specs.Quote.{blank, maskIn, mapping, valuesFrom, quoteValues, quoteAnswer, quoteTold};
+ghost use Rattle.containment.specs.Quote.{blank, flat, maskIn, mapping, valuesFrom, quoteValues, quoteAnswer, quoteTold};
 ghost use Rattle.containment.specs.Answer.{answerFor, answerAnswer};
 ghost use Rattle.containment.specs.Choice.{chosen};
 ghost use Rattle.containment.specs.Show.{graphFields, recordBytes, fitBoth, showFor, showAnswer, shownTold};
@@ -162,7 +162,7 @@ fn map_views(q: Pattern, catalogue: &[u8], k: usize, work: &mut [u32]) -> [u32; 
 // A quote from its table.
 fn quote_of(mapping: [u32; 512], m: usize, k: usize) -> Quote
     requires { ⌜ (m ≤ 32) × (k ≤ 16) ⌝ }
-    ensures { λ r. ⌜ quoteTold r ≡ told 0 (valuesFrom mapping m k) ⌝ }
+    ensures { λ r. ⌜ quoteTold r ≡ told 0 (flat (valuesFrom mapping m k)) ⌝ }
 {
     if choose::is_cover(&mapping, 65535, k, m) {
         return Quote {
@@ -184,7 +184,7 @@ fn quote_of(mapping: [u32; 512], m: usize, k: usize) -> Quote
 
 fn quote_for(q: Pattern, catalogue: &[u8], work: &mut [u32]) -> Quote
     requires { ⌜ Query q × (length (now work) ≡ 16384) ⌝ }
-    ensures { λ r. ⌜ ((t : Query q) → Answers blank (judged (readCatalogue (now (catalogue .entry))) (λ cs. give (quoteValues (patternOf (t .content)) (map patternOf (viewsOf cs))) [])) (quoteTold r) [] []) ⌝ }
+    ensures { λ r. ⌜ ((t : Query q) → Answers blank (judged (readCatalogue (now (catalogue .entry))) (λ cs. give (flat (quoteValues (patternOf (t .content)) (map patternOf (viewsOf cs)))) [])) (quoteTold r) [] []) ⌝ }
 {
     if 705 < catalogue.len() {
         return refused(Refusal::TooLong(2));

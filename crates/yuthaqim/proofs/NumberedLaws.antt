@@ -1,36 +1,63 @@
 -- An answer in numbers tells what the answer told, so a call that hands it on settles the same.
 use Prim.Native.Nat.{ℕ}
-use mathlib.Core.Path.{_≡_, refl, _∙_}
-use mathlib.Core.Bool.{false}
-use mathlib.Core.List.{List, [], _∷_, _++_, append-nil}
-use lib.Dec.{eqb}
+use mathlib.Core.Path.{_≡_, refl, sym, ap, _∙_}
+use mathlib.Core.List.{List, [], _∷_}
+use native.Mathlib.Omega.{arith}
+use borrow.Author.Tests.{ne-eqb}
 use Rattle.packed.specs.Refusals.{Told, told, numberOf, detailOf}
 use Rattle.packed.specs.Calls.{Answer, Settled}
 use Rattle.packed.specs.declared.reply.Refusal.{Refusal}
-use Rattle.packed.specs.declared.reply.Refusal.the-variants.{TooLong, Truncated, OutOfRange, NoSuchNode, DuplicateEdge, NotAscending, IsolatedNode, MixedCounts, Trailing, TooManyPairs, NotContained, NoRoom, Contained, SmallWorkspace}
-use Rattle.yuthaqim.specs.Numbered.{toldBy}
+use Rattle.containment.specs.Quote.{quoteTold}
+use Rattle.containment.specs.declared.quote_type.Coverage.{Coverage}
+use Rattle.containment.specs.declared.quote_type.Coverage.the-variants as coverage-is
+use Rattle.containment.specs.declared.quote_type.Quote.{Quote}
+use Rattle.containment.proofs.Numbered.{refusal-numbered}
+use Rattle.yuthaqim.specs.Numbered.{toldBy, numberedQuoteTold, numberedShownTold, QuoteZeros, ShownZeros}
+use Rattle.yuthaqim.specs.declared.numbered.NumberedQuote.{NumberedQuote}
 
 pub settled-as : {none : List ℕ} {a : Answer} {r r′ : Told} {outs outs′ : List (List ℕ)} {work work′ : List ℕ}
     → r′ ≡ r → Settled none a r outs outs′ work work′ → Settled none a r′ outs outs′ work work′
 settled-as e s = record { result = e ∙ s .result; outputs = s .outputs; workspace = s .workspace }
 
 -- no refusal has the number of success
-number-not-0 : (x : Refusal) → eqb (numberOf x) 0 ≡ false
-number-not-0 (TooLong d) = refl
-number-not-0 (Truncated d) = refl
-number-not-0 (OutOfRange d) = refl
-number-not-0 (NoSuchNode d) = refl
-number-not-0 (DuplicateEdge d) = refl
-number-not-0 (NotAscending d) = refl
-number-not-0 (IsolatedNode d) = refl
-number-not-0 (MixedCounts d) = refl
-number-not-0 (Trailing d) = refl
-number-not-0 (TooManyPairs d) = refl
-number-not-0 (NotContained d) = refl
-number-not-0 (NoRoom d) = refl
-number-not-0 Contained = refl
-number-not-0 SmallWorkspace = refl
+number-not-0 : (x : Refusal) → numberOf x ≡ 0 → ⊥
+number-not-0 x h = omega (arith, refusal-numbered x .least)
 
-pub refused-told : (x : Refusal) (done refused : List ℕ) → toldBy (numberOf x) done refused ≡ told (numberOf x) refused
+refused-told : (x : Refusal) (done refused : List ℕ) → toldBy (numberOf x) done refused ≡ told (numberOf x) refused
 unfolding toldBy
-refused-told x done refused = rw (number-not-0 x)
+refused-told x done refused = rw (ne-eqb (numberOf x) 0 (number-not-0 x))
+
+-- a quote in numbers, by the coverage that the quote has
+module _ (q : Quote) where
+  quote-with : {x : Coverage} → q .coverage ≡ x → quoteTold (record { coverage = x; mapping = q .mapping; edges = q .edges; chosen = q .chosen; lowest = q .lowest }) ≡ quoteTold q
+  quote-with e =
+      sym (ap (λ (x : Coverage). quoteTold (record { coverage = x; mapping = q .mapping; edges = q .edges; chosen = q .chosen; lowest = q .lowest })) e)
+
+  abbrev pub inNumbers : ℕ → ℕ → ℕ → NumberedQuote
+  inNumbers number detail covered =
+      record { number = number; detail = detail; covered = covered; edges = q .edges; chosen = q .chosen; lowest = q .lowest; mapping = q .mapping }
+
+  pub quote-covered : q .coverage ≡ coverage-is.Covered → (numberedQuoteTold (inNumbers 0 0 1) ≡ quoteTold q) × QuoteZeros (inNumbers 0 0 1)
+  unfolding numberedQuoteTold toldBy quoteTold
+  quote-covered e = (quote-with e, record { no-detail = λ h. refl })
+
+  pub quote-uncovered : q .coverage ≡ coverage-is.Uncovered → (numberedQuoteTold (inNumbers 0 0 0) ≡ quoteTold q) × QuoteZeros (inNumbers 0 0 0)
+  unfolding numberedQuoteTold toldBy quoteTold
+  quote-uncovered e = (quote-with e, record { no-detail = λ h. refl })
+
+  pub quote-refused : (x : Refusal) {n d : ℕ} → q .coverage ≡ coverage-is.Refused x → n ≡ numberOf x → d ≡ detailOf x
+      → (numberedQuoteTold (inNumbers n d 0) ≡ quoteTold q) × QuoteZeros (inNumbers n d 0)
+  unfolding numberedQuoteTold quoteTold
+  quote-refused x e p r = (rw (p, r, refused-told) (quote-with e), record { no-detail = λ h. absurd (number-not-0 x (sym p ∙ h)) })
+
+-- a showing in numbers
+pub shown-done : (a b : ℕ) → (numberedShownTold (record { number = 0; detail = 0; first = a; second = b }) ≡ told 0 (a ∷ b ∷ []))
+    × ShownZeros (record { number = 0; detail = 0; first = a; second = b })
+unfolding numberedShownTold toldBy
+shown-done a b = (refl, record { no-detail = λ h. refl; no-first = λ n. absurd (n refl); no-second = λ n. absurd (n refl) })
+
+pub shown-refused : (x : Refusal) {n d : ℕ} → n ≡ numberOf x → d ≡ detailOf x
+    → (numberedShownTold (record { number = n; detail = d; first = 0; second = 0 }) ≡ told (numberOf x) (detailOf x ∷ []))
+    × ShownZeros (record { number = n; detail = d; first = 0; second = 0 })
+unfolding numberedShownTold
+shown-refused x p r = (rw (p, r, refused-told), record { no-detail = λ h. absurd (number-not-0 x (sym p ∙ h)); no-first = λ n. refl; no-second = λ n. refl })

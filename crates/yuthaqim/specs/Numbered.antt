@@ -1,16 +1,14 @@
--- What an answer in numbers tells.
+-- What an answer in numbers tells, and which of its fields are zero because they have no meaning.
 use Prim.Native.Nat.{ℕ}
-use mathlib.Core.List.{List, [], _∷_, _++_}
+use mathlib.Core.Path.{_≡_}
+use mathlib.Core.List.{List, [], _∷_}
 use lib.Dec.{eqb}
 use Rattle.packed.specs.Format.{pick}
 use Rattle.packed.specs.Refusals.{Told, told}
+use Rattle.containment.specs.Quote.{QuoteValues, flat}
 use Rattle.yuthaqim.specs.declared.numbered.NumberedReply.{NumberedReply}
 use Rattle.yuthaqim.specs.declared.numbered.NumberedQuote.{NumberedQuote}
 use Rattle.yuthaqim.specs.declared.numbered.NumberedShown.{NumberedShown}
-
--- a value without meaning is not told if it is zero, as it has to be
-unfoldable pub unlessZero : ℕ → List ℕ
-unlessZero v = pick (eqb v 0) [] (v ∷ [])
 
 -- the values of success, or those of a refusal
 unfoldable pub toldBy : ℕ → List ℕ → List ℕ → Told
@@ -19,11 +17,22 @@ toldBy number done refused = pick (eqb number 0) (told 0 done) (told number refu
 unfoldable pub numberedReplyTold : NumberedReply → Told
 numberedReplyTold r = told (r .number) (r .value ∷ [])
 
+-- a quote's values are told on a refusal too: there `blank` says of each that it is zero
+abbrev pub numberedValues : NumberedQuote → QuoteValues
+numberedValues q = record { covered = q .covered; mapping = q .mapping; edges = q .edges; chosen = q .chosen; lowest = q .lowest }
+
 unfoldable pub numberedQuoteTold : NumberedQuote → Told
-numberedQuoteTold q =
-    let table = q .mapping ++ (q .edges ∷ q .chosen ∷ q .lowest ∷ []) in
-    toldBy (q .number) (q .covered ∷ (table ++ unlessZero (q .detail))) (q .detail ∷ (table ++ unlessZero (q .covered)))
+numberedQuoteTold q = toldBy (q .number) (flat (numberedValues q)) (q .detail ∷ flat (numberedValues q))
 
 unfoldable pub numberedShownTold : NumberedShown → Told
-numberedShownTold s =
-    toldBy (s .number) (s .first ∷ s .second ∷ unlessZero (s .detail)) (s .detail ∷ (unlessZero (s .first) ++ unlessZero (s .second)))
+numberedShownTold s = toldBy (s .number) (s .first ∷ s .second ∷ []) (s .detail ∷ [])
+
+-- what is not told: a quote has no detail
+pub record QuoteZeros (q : NumberedQuote) : Type 0 where
+  pub no-detail : q .number ≡ 0 → q .detail ≡ 0
+
+-- a showing has no detail, and a refusal has no lengths
+pub record ShownZeros (s : NumberedShown) : Type 0 where
+  pub no-detail : s .number ≡ 0 → s .detail ≡ 0
+  pub no-first : (s .number ≡ 0 → ⊥) → s .first ≡ 0
+  pub no-second : (s .number ≡ 0 → ⊥) → s .second ≡ 0

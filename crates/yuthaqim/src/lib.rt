@@ -8,7 +8,7 @@ ghost use Rattle.matching.specs.Search.{searchAnswer, makeBookAnswer};
 ghost use Rattle.containment.specs.Quote.{quoteAnswer, blank};
 ghost use Rattle.containment.specs.Answer.{answerAnswer};
 ghost use Rattle.containment.specs.Show.{showAnswer};
-ghost use Rattle.yuthaqim.specs.Numbered.{numberedReplyTold, numberedQuoteTold, numberedShownTold};
+ghost use Rattle.yuthaqim.specs.Numbered.{numberedReplyTold, numberedQuoteTold, numberedShownTold, QuoteZeros, ShownZeros};
 use numbered::NumberedQuote;
 use numbered::NumberedReply;
 use numbered::NumberedShown;
@@ -170,7 +170,7 @@ pub extern "C" fn yuthaqim_quote(
     catalogue: &[u8],
     work: &mut [u32],
 ) -> NumberedQuote
-    ensures { λ r. ⌜ Settled blank (withWorkspace (length (now (work .entry))) (quoteAnswer (now (question .entry)) (now (catalogue .entry)))) (numberedQuoteTold r) [] [] (now (work .entry)) (now (work .exit)) ⌝ }
+    ensures { λ r. ⌜ Settled blank (withWorkspace (length (now (work .entry))) (quoteAnswer (now (question .entry)) (now (catalogue .entry)))) (numberedQuoteTold r) [] [] (now (work .entry)) (now (work .exit)) × QuoteZeros r ⌝ }
 {
     numbered::quote(containment::quote(question, catalogue, work))
 }
@@ -198,7 +198,7 @@ pub extern "C" fn yuthaqim_show_uncovered(
     second: &mut [u8],
     work: &mut [u32],
 ) -> NumberedShown
-    ensures { λ r. ⌜ Settled [] (withWorkspace (length (now (work .entry))) (showAnswer (now (question .entry)) (now (catalogue .entry)) (length (now (first .entry))) (length (now (second .entry))))) (numberedShownTold r) (now (first .entry) ∷ now (second .entry) ∷ []) (now (first .exit) ∷ now (second .exit) ∷ []) (now (work .entry)) (now (work .exit)) ⌝ }
+    ensures { λ r. ⌜ Settled [] (withWorkspace (length (now (work .entry))) (showAnswer (now (question .entry)) (now (catalogue .entry)) (length (now (first .entry))) (length (now (second .entry))))) (numberedShownTold r) (now (first .entry) ∷ now (second .entry) ∷ []) (now (first .exit) ∷ now (second .exit) ∷ []) (now (work .entry)) (now (work .exit)) × ShownZeros r ⌝ }
 {
     numbered::shown(containment::show_uncovered(question, catalogue, first, second, work))
 }

@@ -3,7 +3,7 @@ ghost use mathlib.Core.Path.{_≡_};
 ghost use Rattle.packed.specs.Refusals.{replyTold};
 ghost use Rattle.containment.specs.Quote.{quoteTold};
 ghost use Rattle.containment.specs.Show.{shownTold};
-ghost use Rattle.yuthaqim.specs.Numbered.{numberedReplyTold, numberedQuoteTold, numberedShownTold};
+ghost use Rattle.yuthaqim.specs.Numbered.{numberedReplyTold, numberedQuoteTold, numberedShownTold, QuoteZeros, ShownZeros};
 use containment::quote_type::Coverage;
 use containment::quote_type::Quote;
 use containment::show::Shown;
@@ -54,7 +54,7 @@ pub fn reply(r: Reply) -> NumberedReply
 }
 
 pub fn quote(q: Quote) -> NumberedQuote
-    ensures { λ n. ⌜ numberedQuoteTold n ≡ quoteTold q ⌝ }
+    ensures { λ n. ⌜ (numberedQuoteTold n ≡ quoteTold q) × QuoteZeros n ⌝ }
 {
     let coverage = q.coverage;
     let mapping = q.mapping;
@@ -90,7 +90,7 @@ pub fn quote(q: Quote) -> NumberedQuote
 }
 
 pub fn shown(s: Shown) -> NumberedShown
-    ensures { λ n. ⌜ numberedShownTold n ≡ shownTold s ⌝ }
+    ensures { λ n. ⌜ (numberedShownTold n ≡ shownTold s) × ShownZeros n ⌝ }
 {
     match s {
         Shown::Done(first, second) => NumberedShown {

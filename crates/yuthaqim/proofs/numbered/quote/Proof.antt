@@ -1,8 +1,5 @@
 -- `numbered::quote` meets its contract.
-use mathlib.Core.List.{append-nil}
-use Rattle.containment.specs.Quote.{quoteTold}
-use Rattle.yuthaqim.specs.Numbered.{unlessZero, toldBy, numberedQuoteTold}
-use Rattle.yuthaqim.proofs.NumberedLaws.{refused-told}
+use Rattle.yuthaqim.proofs.NumberedLaws.{quote-covered, quote-uncovered, quote-refused}
 use borrow.Author.Needs.{needs}
 use Rattle.yuthaqim.proofs.numbered.quote.Statement.{statement}
 use Rattle.yuthaqim.proofs.numbered.quote.Tie as tie
@@ -23,17 +20,13 @@ detail-of-requires : tie.Need-detail-of-requires
 detail-of-requires c κs = search needs
 
 returns : tie.Need-returns
-unfolding quoteTold numberedQuoteTold toldBy unlessZero
-returns c = rw (c .enum-told .given .1, append-nil)
+returns c = quote-covered _ (c .enum-told .given .1)
 
 returns-2 : tie.Need-returns-2
-unfolding quoteTold numberedQuoteTold toldBy unlessZero
-returns-2 c = rw (c .enum-told2 .given .1, append-nil)
+returns-2 c = quote-uncovered _ (c .enum-told2 .given .1)
 
 returns-3 : tie.Need-returns-3
-unfolding quoteTold numberedQuoteTold unlessZero
-returns-3 c =
-    rw (c .before .before .before .coverage .given .1, c .before .number-of .ensures, c .detail-of .ensures, refused-told, append-nil)
+returns-3 c = quote-refused _ _ (c .before .before .before .coverage .given .1) (c .before .number-of .ensures) (c .detail-of .ensures)
 
 pub quote-spec : {M : Type 1} → statement M
 quote-spec =

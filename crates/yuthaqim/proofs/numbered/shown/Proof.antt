@@ -1,6 +1,5 @@
 -- `numbered::shown` meets its contract.
-use Rattle.yuthaqim.specs.Numbered.{unlessZero, toldBy, numberedShownTold}
-use Rattle.yuthaqim.proofs.NumberedLaws.{refused-told}
+use Rattle.yuthaqim.proofs.NumberedLaws.{shown-done, shown-refused}
 use borrow.Author.Needs.{needs}
 use Rattle.yuthaqim.proofs.numbered.shown.Statement.{statement}
 use Rattle.yuthaqim.proofs.numbered.shown.Tie as tie
@@ -18,13 +17,11 @@ detail-of-requires : tie.Need-detail-of-requires
 detail-of-requires c κs = search needs
 
 returns : tie.Need-returns
-unfolding numberedShownTold toldBy unlessZero
-returns c = rw (c .before .s .given .1)
+returns c = rw (c .before .s .given .1) (shown-done _ _)
 
 returns-2 : tie.Need-returns-2
-unfolding numberedShownTold unlessZero
 returns-2 c =
-    rw (c .before .before .before .s2 .given .1, c .before .number-of .ensures, c .detail-of .ensures, refused-told)
+    rw (c .before .before .before .s2 .given .1) (shown-refused (c .before .before .before .s2 .given .0 .0) (c .before .number-of .ensures) (c .detail-of .ensures))
 
 pub shown-spec : {M : Type 1} → statement M
 shown-spec =
