@@ -29,6 +29,7 @@ use Rattle.containment.specs.Choice.{everyView, coversIn, lowestUnmatche
 use Rattle.containment.specs.Quote.{one, mapping, valuesFrom, quoteValues, flat, quoteAnswer}
 use Rattle.containment.specs.Answer.{Choose, answerFor, answerBy, answerAnswer}
 use Rattle.containment.specs.Show.{showFor, showAnswer}
+use Rattle.containment.specs.Listing.{lineOf, lineAnswer}
 use Rattle.containment.specs.Demands.{Settles, Demand1, Question, Catalogue, Record, extracts, Covered, Matching, Matched, Demand2}
 use Rattle.containment.proofs.Numbered.{numbered, pattern-faults, catalogue-faults, record-faults, sheet-faults, book-faults, gives, refuses, either, workspace-settles, uncrowded-settles, fit-settles, fitFile-settles, fitBoth-settles, read-settles, write-settles}
 use Rattle.containment.proofs.CoveredBytes.{question-bounds, few-views}
@@ -60,7 +61,7 @@ unfolding showFor
 show-settles qs Ps room room′ = either (covers qs Ps) (refuses 0 (numbered 13 refl refl)) (fitBoth-settles room room′ _ _)
 
 pub demand-1 : Demand1
-unfolding patternRead catalogueRead recordRead sheetRead bookRead patternWritten catalogueWritten recordWritten sheetWritten bookWritten searchAnswer makeBookAnswer quoteAnswer answerBy answerAnswer showAnswer toldOf outputsOf
+unfolding patternRead catalogueRead recordRead sheetRead bookRead patternWritten catalogueWritten recordWritten sheetWritten bookWritten searchAnswer makeBookAnswer quoteAnswer answerBy answerAnswer showAnswer lineAnswer toldOf outputsOf
 demand-1 = record {
   read-pattern = λ s room words. workspace-settles words (pattern-first s (fit-settles room));
   read-catalogue = λ s room words. workspace-settles words (catalogue-first s (fit-settles room));
@@ -83,6 +84,7 @@ demand-1 = record {
       workspace-settles words
       (pattern-first q (λ qs. catalogue-first c (λ cs. read-settles 65536 4 (book-faults (edgeCounts cs)) b (λ bs. answer-settles chosen qs cs bs room))));
   show = λ q c room room′ words. workspace-settles words (pattern-first q (λ qs. catalogue-first c (λ cs. show-settles qs (extracts cs) room room′)));
+  line = λ q k room. fit-settles room (lineOf q k);
   full = λ blank r outs outs′ work work′ values outputs s. s .outputs;
   untouched = λ blank r outs outs′ work work′ number detail s. (s .outputs, s .result);
 }

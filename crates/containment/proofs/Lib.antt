@@ -16,4 +16,6 @@ pub mod CoveredBytes
 pub mod DemandThree
 pub mod Numbered
 pub mod DemandsOneTwo
+pub mod ListingLaws
+pub mod Listings
 pub mod Table

@@ -3,8 +3,8 @@
 -- The contract of each client call is `Settled` (packed/specs/Calls.antt) over one of the answers named here: it says of the result, of every
 -- lent byte and of every word of the workspace what they are once that answer is known. So what is said here of answers holds of the programs.
 -- An answer is a function of the bytes and fields that are lent, of the length of each output (`room`) and of the workspace (`words`).
--- Proofs: proofs/DemandsOneTwo.antt and proofs/DemandThree.antt.
-use Prim.Native.Nat.{ℕ, _<_, _≤_}
+-- Proofs: proofs/DemandsOneTwo.antt, proofs/DemandThree.antt and proofs/Listings.antt.
+use Prim.Native.Nat.{ℕ, _+_, _<_, _≤_}
 use mathlib.Core.Path.{_≡_}
 use mathlib.Core.Logic.{_⊎_, _↔_}
 use mathlib.Core.Bool.{true, false}
@@ -20,9 +20,11 @@ use Rattle.matching.specs.Simulation.{Pair, Pattern, Graph, patternOf, graphOf,
 use Rattle.matching.specs.Join.{without, answerSets}
 use Rattle.matching.specs.Search.{sheetBytes, bookBytes, viewSheets, searchAnswer, makeBookAnswer}
 use Rattle.containment.specs.Choice.{everyView, coversIn, lowestUnmatched, chosen}
-use Rattle.containment.specs.Quote.{mapping, quoteAnswer}
+use Rattle.containment.specs.Quote.{mapping, blank, quoteAnswer, quoteTold}
 use Rattle.containment.specs.Answer.{viewsIn, answerBy, answerAnswer}
 use Rattle.containment.specs.Show.{graphFields, fewerFields, recordBytes, fitBoth, showAnswer}
+use Rattle.containment.specs.Listing.{bytes, linkLine, lineOf, lineAnswer}
+use Rattle.containment.specs.declared.quote_type.Quote.{Quote}
 
 -- ---- Demand 1. "Every call gives a full result or a numbered refusal under a fixed rule, for all bytes and buffers of every length. A refusal
 -- leaves the output untouched."
@@ -61,6 +63,7 @@ pub record Demand1 : Type 0 where
   pub quote : (q c : List ℕ) (words : ℕ) → Settles (withWorkspace words (quoteAnswer q c))
   pub answer : (q c b : List ℕ) (room words : ℕ) → Settles (withWorkspace words (answerAnswer q c b room))
   pub show : (q c : List ℕ) (room room′ words : ℕ) → Settles (withWorkspace words (showAnswer q c room room′))
+  pub line : (q : Quote) (k room : ℕ) → Settles (lineAnswer q k room)
   -- a full result stands at the front of each output, and the rest is as it was
   pub full : (blank : List ℕ) (r : Told) (outs outs′ : List (List ℕ)) (work work′ values : List ℕ) (outputs : List (List ℕ))
       → Settled blank (give values outputs) r outs outs′ work work′ → outs′ ≡ fronts outputs outs
@@ -224,3 +227,22 @@ pub record Answers : Type 0 where
   -- for an uncovered question no function whatsoever of the extracts' lists gives the question's sheet on every record
   pub no-other-way : (q c qs cs : List ℕ) → Question q qs → Catalogue c cs → Uncovered qs cs → (F : List (List (List ℕ)) → List ℕ)
       → ((r rs : List ℕ) → Record r rs → F (viewSheets cs (graphOf rs)) ≡ sheetBytes (matchSets (patternOf qs) (graphOf rs))) → ⊥
+
+-- ---- what holds of the listing of a quote
+
+-- the listing of a quote r of an uncovered question with m links, where t is the table of what matches them
+pub record UncoveredListing (r : Quote) (t : List ℕ) (m : ℕ) : Type 0 where
+  -- "begins `quote uncovered`"
+  pub first : lineOf r 0 ≡ bytes "quote uncovered\n"
+  pub links : (e : ℕ) → e < m → lineOf r (e + 1) ≡ linkLine t e
+  -- "and ends `extracts none`": nothing follows
+  pub last : lineOf r (m + 1) ≡ bytes "extracts none\n"
+  pub nothing-after : (k : ℕ) → m + 1 < k → lineOf r k ≡ []
+
+pub record Listings : Type 0 where
+  -- "an uncovered quote": any that the call gives for an uncovered question
+  pub uncovered : (q c qs cs work work′ : List ℕ) → Question q qs → Catalogue c cs → Uncovered qs cs → (r : Quote) → 16384 ≤ length work
+      → Settled blank (withWorkspace (length work) (quoteAnswer q c)) (quoteTold r) [] [] work work′
+      → UncoveredListing r (mapping (patternOf qs) (extracts cs)) (edgesOf qs)
+  -- so that a buffer of 4,096 bytes takes every line
+  pub longest : (q : Quote) (k : ℕ) → length (lineOf q k) ≤ 4096

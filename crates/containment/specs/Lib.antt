@@ -2,6 +2,7 @@ pub mod Choice
 pub mod Quote
 pub mod Answer
 pub mod Show
+pub mod Listing
 pub mod Demands
 -- inner
 pub mod Steps

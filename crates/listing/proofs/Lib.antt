@@ -1,1 +1,1 @@
-pub mod ListingLaws
+pub mod WrittenLaws

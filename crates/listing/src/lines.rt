@@ -4,13 +4,17 @@ ghost use Prim.Native.Nat.{_+_, _*_, _%_, _^_, _<_, _≤_};
 ghost use lib.ListN.{length, getD, set};
 ghost use lib.Seq.{sets};
 ghost use lib.Dec.{eqb};
+ghost use Rattle.packed.specs.Calls.{Answered};
 ghost use Rattle.packed.specs.Format.{pick};
+ghost use Rattle.packed.specs.Refusals.{replyTold};
 ghost use Rattle.matching.specs.Simulation.{bit};
-ghost use Rattle.listing.specs.Listing.{Written, bytes, decimal, edgeText, edgesText, viewsText, viewText, chosenText, linkLine, chosenLine, firstLine, linesAfter, lineOf, refusedLine};
+ghost use Rattle.containment.specs.Listing.{bytes, decimal, edgeText, edgesText, viewsText, viewText, chosenText, linkLine, chosenLine, firstLine, linesAfter, lineOf, refusedLine, lineAnswer};
+ghost use Rattle.listing.specs.Written.{Written};
 use containment::quote_type::Coverage;
 use containment::quote_type::Quote;
 use packed::reply;
 use packed::reply::Refusal;
+use packed::reply::Reply;
 
 // The byte i is v, where there is a byte i.
 fn store(bytes: &mut [u8], i: usize, v: u8)
@@ -96,7 +100,7 @@ fn put_edge(out: &mut [u8], at: usize, a: usize, mask: u32, b: usize) -> usize
 
 // The edges of the view a that the mask has.
 fn put_edges(out: &mut [u8], at: usize, a: usize, mask: u32) -> usize
-    requires { ⌜ at ≤ 60000 ⌝ }
+    requires { ⌜ (at ≤ 60000) × (a < 16) ⌝ }
     ensures { λ r. ⌜ Written (edgesText a mask) (now (out .entry)) at (now (out .exit)) r ⌝ }
 {
     let mut end = at;
@@ -170,7 +174,7 @@ fn put_end(out: &mut [u8], start: usize, at: usize) -> usize
 // The line of the edge e.
 fn put_link(out: &mut [u8], q: Quote, e: usize) -> usize
     requires { ⌜ e < 2 ^ 32 ⌝ }
-    ensures { λ r. ⌜ Written (linkLine q e) (now (out .entry)) 0 (now (out .exit)) r ⌝ }
+    ensures { λ r. ⌜ Written (linkLine (q .mapping) e) (now (out .entry)) 0 (now (out .exit)) r ⌝ }
 {
     let mapping = q.mapping;
     let number = put(out, 0, b"link ");
@@ -181,12 +185,15 @@ fn put_link(out: &mut [u8], q: Quote, e: usize) -> usize
 }
 
 // The last line.
-fn put_extracts(out: &mut [u8], q: Quote) -> usize
-    ensures { λ r. ⌜ Written (chosenLine q) (now (out .entry)) 0 (now (out .exit)) r ⌝ }
+fn put_extracts(out: &mut [u8], set: u32) -> usize
+    ensures { λ r. ⌜ Written (chosenLine set) (now (out .entry)) 0 (now (out .exit)) r ⌝ }
 {
+    if set % 65536 == 0 {
+        return put(out, 0, b"extracts none\n");
+    }
     let start = put(out, 0, b"extracts");
-    let end = put_chosen(out, start, q.chosen);
-    put_end(out, start, end)
+    let end = put_chosen(out, start, set);
+    put(out, end, b"\n")
 }
 
 // The line of a refusal.
@@ -223,9 +230,9 @@ fn lines_after(q: Quote) -> usize
     }
 }
 
-// Line k of the listing goes to the front of the buffer, as far as it goes; the result is the line's length, 0 beyond the last line.
-pub fn line(q: Quote, k: usize, out: &mut [u8]) -> usize
-    ensures { λ r. ⌜ (r ≡ length (lineOf q k)) × (now (out .exit) ≡ sets (now (out .entry)) 0 (lineOf q k)) ⌝ }
+// Line k of the listing, empty beyond the last line, goes to the front of the buffer, as far as that goes; the result is its length.
+fn put_line(out: &mut [u8], q: Quote, k: usize) -> usize
+    ensures { λ r. ⌜ Written (lineOf q k) (now (out .entry)) 0 (now (out .exit)) r ⌝ }
 {
     let last = lines_after(q);
     if k == 0 {
@@ -236,7 +243,19 @@ pub fn line(q: Quote, k: usize, out: &mut [u8]) -> usize
         return 0;
     }
     if k == last {
-        return put_extracts(out, q);
+        return put_extracts(out, q.chosen);
     }
     put_link(out, q, k - 1)
+}
+
+// Writes line k of the listing, empty beyond the last line: whole, or not at all if the buffer is too short for it.
+pub fn line(q: Quote, k: usize, out: &mut [u8]) -> Reply
+    ensures { λ r. ⌜ Answered (lineAnswer q k (length (now (out .entry)))) (replyTold r) (now (out .entry)) (now (out .exit)) ⌝ }
+{
+    let n = put_line(&mut out[0..0], q, k);
+    if out.len() < n {
+        return Reply::Refused(Refusal::NoRoom(n));
+    }
+    put_line(out, q, k);
+    Reply::Done(n)
 }

@@ -1,59 +1,58 @@
 -- `listing::line` meets its contract.
-use native.Mathlib.Omega.{arith}
-use Rattle.listing.proofs.ListingLaws.{written-none, line-first, line-beyond, line-last, line-link, is-line}
+use Rattle.packed.proofs.CallLaws.{none-lent}
+use Rattle.containment.specs.Listing.{lineAnswer}
+use Rattle.listing.proofs.WrittenLaws.{line-tight, line-given}
 use borrow.Author.Needs.{needs}
 use Rattle.listing.proofs.lines.line.Statement.{statement}
 use Rattle.listing.proofs.lines.line.Tie as tie
 
-lines-after-requires : tie.Need-lines-after-requires
-lines-after-requires c κs = search needs
+sub-put-line : tie.Need-sub-put-line
+sub-put-line c = search needs
 
-put-first-requires : tie.Need-put-first-requires
-put-first-requires c κs = search needs
+part-put-line-start : tie.Need-part-put-line-start
+part-put-line-start c = search needs
+
+part-put-line-end : tie.Need-part-put-line-end
+part-put-line-end c = search needs
+
+put-line-requires : tie.Need-put-line-requires
+put-line-requires c κs = search needs
 
 same-length : tie.Need-same-length
 same-length c = search needs
 
 returns : tie.Need-returns
-returns c = is-line _ (line-first (c .before .before .before .before .before .before .before .args .q) (c .before .before .before .before .before .before .before .args .k) (c .before .before .before .before .if1 .taken)) (c .before .before .put-first .ensures)
+unfolding lineAnswer
+returns c =
+    let out = c .before .before .before .before .before .before .args .out .now in
+    let w = c .before .before .before .put-line in
+    let s = none-lent out (w .last .0) (w .kept .0) in
+    rw s (line-tight out _ (w .ensures .end) (rw s at (c .if1 .taken)))
 
-returns-2 : tie.Need-returns-2
-returns-2 c = is-line _ (line-beyond (c .before .before .before .before .args .q) (c .before .before .before .before .args .k) (c .before .if1 .left) (omega (arith, c .before .before .lines-after .ensures .0))) (written-none _ 0)
-
-put-extracts-requires : tie.Need-put-extracts-requires
-put-extracts-requires c κs = search needs
+put-line-requires-2 : tie.Need-put-line-requires-2
+put-line-requires-2 c κs = search needs
 
 same-length-2 : tie.Need-same-length-2
 same-length-2 c = search needs
 
-returns-3 : tie.Need-returns-3
-returns-3 c = is-line _ (line-last (c .before .before .before .before .before .before .before .before .before .args .q) (c .before .before .before .before .before .before .before .before .before .args .k) (c .before .before .before .before .before .before .if1 .left) (omega (arith, c .before .before .before .before .before .before .before .lines-after .ensures .0))) (c .before .before .put-extracts .ensures)
-
-sub-put-link : tie.Need-sub-put-link
-sub-put-link c = search needs
-
-put-link-requires : tie.Need-put-link-requires
-put-link-requires c κs = omega (arith, c .before .before .before .before .lines-after .ensures .1)
-
-same-length-3 : tie.Need-same-length-3
-same-length-3 c = search needs
-
-returns-4 : tie.Need-returns-4
-returns-4 c = is-line _ (line-link (c .before .before .before .before .before .before .before .before .before .args .q) (c .before .before .before .before .before .before .before .before .before .args .k) (c .before .before .before .before .before .before .if1 .left) (omega (arith, c .before .before .before .before .before .before .before .lines-after .ensures .0))) (c .before .before .put-link .ensures)
+returns-2 : tie.Need-returns-2
+unfolding lineAnswer
+returns-2 c =
+    let out = c .before .before .before .before .before .before .before .before .before .before .args .out .now in
+    let w = c .before .before .before .before .before .before .before .put-line in
+    let s = none-lent out (w .last .0) (w .kept .0) in
+    line-given out _ (w .ensures .end) (rw s at (c .before .before .before .before .if1 .left)) (rw s at (c .before .before .put-line2 .ensures .is))
 
 pub line-spec : {M : Type 1} → statement M
 line-spec =
     tie.close
     (tie.spec
-    lines-after-requires
-    put-first-requires
+    sub-put-line
+    part-put-line-start
+    part-put-line-end
+    put-line-requires
     same-length
     returns
-    returns-2
-    put-extracts-requires
+    put-line-requires-2
     same-length-2
-    returns-3
-    sub-put-link
-    put-link-requires
-    same-length-3
-    returns-4)
+    returns-2)

@@ -2,8 +2,8 @@
 use Prim.Native.Nat.{_+_, _-_, _≤_}
 use native.Mathlib.Omega.{arith}
 use lib.ListN.{length, take}
-use Rattle.listing.specs.Listing.{Written}
-use Rattle.listing.proofs.ListingLaws.{text-none, text-more, text-end, written-long}
+use Rattle.listing.specs.Written.{Written}
+use Rattle.listing.proofs.WrittenLaws.{text-none, text-more, text-end, written-long}
 use borrow.Author.Needs.{needs}
 use Rattle.listing.proofs.lines.put.Statement.{statement}
 use Rattle.listing.proofs.lines.put.Tie as tie

@@ -1,8 +1,10 @@
 -- `listing::put_chosen` meets its contract.
 use Prim.Native.Nat.{_-_, _≤_}
 use native.Mathlib.Omega.{arith}
-use Rattle.listing.specs.Listing.{Written, concat, viewText, chosenText}
-use Rattle.listing.proofs.ListingLaws.{concat-none, concat-more, concat-end, written-long, chosen-so-far}
+use Rattle.containment.specs.Listing.{concat, viewText, chosenText}
+use Rattle.listing.specs.Written.{Written}
+use Rattle.containment.proofs.ListingLaws.{chosen-so-far}
+use Rattle.listing.proofs.WrittenLaws.{concat-none, concat-more, concat-end, written-long}
 use borrow.Author.Needs.{needs}
 use Rattle.listing.proofs.lines.put_chosen.Statement.{statement}
 use Rattle.listing.proofs.lines.put_chosen.Tie as tie
@@ -17,7 +19,7 @@ loop-holds : tie.Need-loop-holds Inv-loop μ-loop
 loop-holds c = (omega arith, concat-none (viewText (c .before .args .set)) (c .before .args .out .now) (c .before .args .at))
 
 put-view-requires : tie.Need-put-view-requires Inv-loop μ-loop
-put-view-requires c κs = omega (arith, c .before .before .loop .inv .1 .end, chosen-so-far (c .before .before .before .before .args .set) (c .before .before .loop .a))
+put-view-requires c κs = omega (arith, c .before .before .loop .inv .1 .end, chosen-so-far (c .before .before .before .before .args .set) (c .before .before .loop .a) (omega arith))
 
 add-a : tie.Need-add-a Inv-loop μ-loop
 add-a c = search needs

@@ -1,8 +1,9 @@
 -- `listing::put_edge` meets its contract.
 use borrow.Author.Tests.{not-true, not-false}
 use native.Mathlib.Omega.{arith}
-use Rattle.listing.specs.Listing.{edgeText}
-use Rattle.listing.proofs.ListingLaws.{written-then, written-none, decimal-length}
+use Rattle.containment.specs.Listing.{edgeText}
+use Rattle.containment.proofs.ListingLaws.{decimal-length}
+use Rattle.listing.proofs.WrittenLaws.{written-then, written-none}
 use borrow.Author.Needs.{needs}
 use Rattle.listing.proofs.lines.put_edge.Statement.{statement}
 use Rattle.listing.proofs.lines.put_edge.Tie as tie

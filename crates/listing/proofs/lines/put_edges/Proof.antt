@@ -1,8 +1,10 @@
 -- `listing::put_edges` meets its contract.
 use Prim.Native.Nat.{_-_, _≤_}
 use native.Mathlib.Omega.{arith}
-use Rattle.listing.specs.Listing.{Written, concat, edgeText, edgesText}
-use Rattle.listing.proofs.ListingLaws.{concat-none, concat-more, concat-end, written-long, edges-so-far}
+use Rattle.containment.specs.Listing.{concat, edgeText, edgesText}
+use Rattle.listing.specs.Written.{Written}
+use Rattle.containment.proofs.ListingLaws.{edges-so-far}
+use Rattle.listing.proofs.WrittenLaws.{concat-none, concat-more, concat-end, written-long}
 use borrow.Author.Needs.{needs}
 use Rattle.listing.proofs.lines.put_edges.Statement.{statement}
 use Rattle.listing.proofs.lines.put_edges.Tie as tie
@@ -17,7 +19,7 @@ loop-holds : tie.Need-loop-holds Inv-loop μ-loop
 loop-holds c = (omega arith, concat-none (edgeText (c .before .args .a) (c .before .args .mask)) (c .before .args .out .now) (c .before .args .at))
 
 put-edge-requires : tie.Need-put-edge-requires Inv-loop μ-loop
-put-edge-requires c κs = omega (arith, c .before .before .loop .inv .1 .end, edges-so-far (c .before .before .before .before .args .a) (c .before .before .before .before .args .mask) (c .before .before .loop .b))
+put-edge-requires c κs = omega (arith, c .before .before .loop .inv .1 .end, edges-so-far (c .before .before .before .before .args .a) (c .before .before .before .before .args .mask) (c .before .before .loop .b) (omega arith) (omega arith))
 
 add-b : tie.Need-add-b Inv-loop μ-loop
 add-b c = search needs

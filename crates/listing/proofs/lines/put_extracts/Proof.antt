@@ -1,7 +1,9 @@
 -- `listing::put_extracts` meets its contract.
 use native.Mathlib.Omega.{arith}
-use Rattle.listing.specs.Listing.{chosenText, chosenLine}
-use Rattle.listing.proofs.ListingLaws.{written-then, or-none, chosen-length}
+use borrow.Author.Tests.{eq-eqb, ne-eqb}
+use Rattle.containment.specs.Listing.{chosenLine}
+use Rattle.containment.proofs.ListingLaws.{chosen-length}
+use Rattle.listing.proofs.WrittenLaws.{written-then}
 use borrow.Author.Needs.{needs}
 use Rattle.listing.proofs.lines.put_extracts.Statement.{statement}
 use Rattle.listing.proofs.lines.put_extracts.Tie as tie
@@ -12,20 +14,36 @@ slice-aggregate-put c = search needs
 put-requires : tie.Need-put-requires
 put-requires c κs = search needs
 
-put-chosen-requires : tie.Need-put-chosen-requires
-put-chosen-requires c κs = search needs
-
-put-end-requires : tie.Need-put-end-requires
-put-end-requires c κs = omega (arith, c .before .before .before .before .before .before .before .put .ensures .end, c .before .before .before .put-chosen .ensures .end, chosen-length (c .before .before .before .before .before .before .before .before .before .before .before .args .q .chosen))
-
 same-length : tie.Need-same-length
 same-length c = search needs
 
 returns : tie.Need-returns
 unfolding chosenLine
-returns c =
-    rw (or-none (chosenText (c .before .before .before .before .before .before .before .before .before .before .before .before .before .before .args .q .chosen)) (c .before .before .before .before .before .before .before .before .before .before .put .result) (c .before .before .before .before .before .before .put-chosen .result) (c .before .before .before .before .before .before .put-chosen .ensures .end))
-    (written-then (c .before .before .before .before .before .before .before .before .before .before .put .ensures) (written-then (c .before .before .before .before .before .before .put-chosen .ensures) (c .before .before .put-end .ensures)))
+returns c = rw (eq-eqb _ _ (c .before .before .before .before .before .if1 .taken)) (c .before .before .put .ensures)
+
+slice-aggregate-put-2 : tie.Need-slice-aggregate-put-2
+slice-aggregate-put-2 c = search needs
+
+put-requires-2 : tie.Need-put-requires-2
+put-requires-2 c κs = search needs
+
+put-chosen-requires : tie.Need-put-chosen-requires
+put-chosen-requires c κs = search needs
+
+slice-aggregate-put-3 : tie.Need-slice-aggregate-put-3
+slice-aggregate-put-3 c = search needs
+
+put-requires-3 : tie.Need-put-requires-3
+put-requires-3 c κs = omega (arith, c .before .before .before .before .before .before .before .before .put2 .ensures .end, c .before .before .before .before .put-chosen .ensures .end, chosen-length (c .before .before .before .before .before .before .before .before .before .before .before .before .before .args .set))
+
+same-length-2 : tie.Need-same-length-2
+same-length-2 c = search needs
+
+returns-2 : tie.Need-returns-2
+unfolding chosenLine
+returns-2 c =
+    rw (ne-eqb _ _ (c .before .before .before .before .before .before .before .before .before .before .before .before .before .before .if1 .left))
+    (written-then (c .before .before .before .before .before .before .before .before .before .before .before .put2 .ensures) (written-then (c .before .before .before .before .before .before .before .put-chosen .ensures) (c .before .before .put3 .ensures)))
 
 pub put-extracts-spec : {M : Type 1} → statement M
 put-extracts-spec =
@@ -33,7 +51,12 @@ put-extracts-spec =
     (tie.spec
     slice-aggregate-put
     put-requires
-    put-chosen-requires
-    put-end-requires
     same-length
-    returns)
+    returns
+    slice-aggregate-put-2
+    put-requires-2
+    put-chosen-requires
+    slice-aggregate-put-3
+    put-requires-3
+    same-length-2
+    returns-2)

@@ -1,7 +1,8 @@
 -- `listing::put_link` meets its contract.
 use native.Mathlib.Omega.{arith}
-use Rattle.listing.specs.Listing.{viewsText, linkLine}
-use Rattle.listing.proofs.ListingLaws.{written-then, or-none, decimal-length, views-length}
+use Rattle.containment.specs.Listing.{viewsText, linkLine}
+use Rattle.containment.proofs.ListingLaws.{decimal-length, views-length}
+use Rattle.listing.proofs.WrittenLaws.{written-then, or-none}
 use borrow.Author.Needs.{needs}
 use Rattle.listing.proofs.lines.put_link.Statement.{statement}
 use Rattle.listing.proofs.lines.put_link.Tie as tie

@@ -3,8 +3,9 @@ use Prim.Native.Nat.{_+_}
 use mathlib.Core.Path.{_≡_}
 use lib.ListN.{length}
 use native.Mathlib.Omega.{arith}
-use Rattle.listing.specs.Listing.{decimal}
-use Rattle.listing.proofs.ListingLaws.{Numbered, number-start, number-within, number-more, number-end, written-long, decimal-length}
+use Rattle.containment.specs.Listing.{decimal}
+use Rattle.containment.proofs.ListingLaws.{decimal-length}
+use Rattle.listing.proofs.WrittenLaws.{Numbered, number-start, number-within, number-more, number-end, written-long}
 use borrow.Author.Needs.{needs}
 use Rattle.listing.proofs.lines.put_number.Statement.{statement}
 use Rattle.listing.proofs.lines.put_number.Tie as tie

@@ -1,7 +1,8 @@
 -- `listing::put_refused` meets its contract.
 use native.Mathlib.Omega.{arith}
-use Rattle.listing.specs.Listing.{refusedLine}
-use Rattle.listing.proofs.ListingLaws.{written-then, decimal-length}
+use Rattle.containment.specs.Listing.{refusedLine}
+use Rattle.containment.proofs.ListingLaws.{decimal-length}
+use Rattle.listing.proofs.WrittenLaws.{written-then}
 use borrow.Author.Needs.{needs}
 use Rattle.listing.proofs.lines.put_refused.Statement.{statement}
 use Rattle.listing.proofs.lines.put_refused.Tie as tie

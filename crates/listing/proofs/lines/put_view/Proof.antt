@@ -1,8 +1,8 @@
 -- `listing::put_view` meets its contract.
 use borrow.Author.Tests.{not-true, not-false}
 use native.Mathlib.Omega.{arith}
-use Rattle.listing.specs.Listing.{viewText}
-use Rattle.listing.proofs.ListingLaws.{written-then, written-none}
+use Rattle.containment.specs.Listing.{viewText}
+use Rattle.listing.proofs.WrittenLaws.{written-then, written-none}
 use borrow.Author.Needs.{needs}
 use Rattle.listing.proofs.lines.put_view.Statement.{statement}
 use Rattle.listing.proofs.lines.put_view.Tie as tie

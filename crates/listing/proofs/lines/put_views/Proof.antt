@@ -1,8 +1,10 @@
 -- `listing::put_views` meets its contract.
 use Prim.Native.Nat.{_-_, _≤_}
 use native.Mathlib.Omega.{arith}
-use Rattle.listing.specs.Listing.{Written, concat, viewsText}
-use Rattle.listing.proofs.ListingLaws.{matches, concat-none, concat-more, concat-end, written-long, views-so-far}
+use Rattle.containment.specs.Listing.{concat, viewsText}
+use Rattle.listing.specs.Written.{Written}
+use Rattle.containment.proofs.ListingLaws.{matches, views-so-far}
+use Rattle.listing.proofs.WrittenLaws.{concat-none, concat-more, concat-end, written-long}
 use borrow.Author.Needs.{needs}
 use Rattle.listing.proofs.lines.put_views.Statement.{statement}
 use Rattle.listing.proofs.lines.put_views.Tie as tie
@@ -26,7 +28,7 @@ mask-at-requires : tie.Need-mask-at-requires Inv-loop μ-loop
 mask-at-requires c κs = search needs
 
 put-edges-requires : tie.Need-put-edges-requires Inv-loop μ-loop
-put-edges-requires c κs = omega (arith, c .before .before .before .loop .inv .1 .end, views-so-far (c .before .before .before .before .before .before .args .mapping .now) (c .before .before .before .before .before .before .args .e) (c .before .before .before .loop .a))
+put-edges-requires c κs = omega (arith, c .before .before .before .loop .inv .1 .end, views-so-far (c .before .before .before .before .before .before .args .mapping .now) (c .before .before .before .before .before .before .args .e) (c .before .before .before .loop .a) (omega arith))
 
 add-a : tie.Need-add-a Inv-loop μ-loop
 add-a c = search needs

@@ -1,6 +1,7 @@
 -- `listing::width` meets its contract.
 use native.Mathlib.Omega.{arith}
-use Rattle.listing.proofs.ListingLaws.{Counted, count-more, count-end, decimal-length}
+use Rattle.containment.proofs.ListingLaws.{decimal-length}
+use Rattle.listing.proofs.WrittenLaws.{Counted, count-more, count-end}
 use borrow.Author.Needs.{needs}
 use Rattle.listing.proofs.lines.width.Statement.{statement}
 use Rattle.listing.proofs.lines.width.Tie as tie

@@ -2,18 +2,17 @@
 use Prim.Native.Nat.{ℕ, zero, suc, _+_, _-_, _*_, _/_, _%_, _^_}
 use Prim.Native.Char.{code}
 use Prim.Native.String.{String, [] as []ˢ, _∷_ as _∷ˢ_}
-use mathlib.Core.Path.{_≡_}
 use mathlib.Core.List.{List, [], _∷_, _++_}
 use lib.ListN.{length, getD}
-use lib.Seq.{sets}
 use lib.Dec.{eqb, ltb}
 use Rattle.packed.specs.Format.{pick}
 use Rattle.packed.specs.Refusals.{numberOf, detailOf}
+use Rattle.packed.specs.Calls.{Answer, fit}
 use Rattle.packed.specs.declared.reply.Refusal.{Refusal}
 use Rattle.matching.specs.Simulation.{bit}
 use Rattle.containment.specs.declared.quote_type.Coverage.{Coverage}
 use Rattle.containment.specs.declared.quote_type.Coverage.the-variants as coverage-is
 use Rattle.containment.specs.declared.quote_type.Quote.{Quote}
 
 -- a number in decimal, if it has at most k digits
 unfoldable pub digits : ℕ → ℕ → List ℕ
@@ -59,13 +58,13 @@ unfoldable pub orNone : List ℕ → List ℕ
 orNone [] = bytes " none\n"
 orNone (x ∷ xs) = (x ∷ xs) ++ bytes "\n"
 
--- the line of the edge e
-unfoldable pub linkLine : Quote → ℕ → List ℕ
-linkLine q e = bytes "link " ++ (decimal e ++ (bytes " by" ++ orNone (viewsText (q .mapping) e)))
+-- the line of the edge e, by the table t
+unfoldable pub linkLine : List ℕ → ℕ → List ℕ
+linkLine t e = bytes "link " ++ (decimal e ++ (bytes " by" ++ orNone (viewsText t e)))
 
--- the last line
-unfoldable pub chosenLine : Quote → List ℕ
-chosenLine q = bytes "extracts" ++ orNone (chosenText (q .chosen))
+-- the last line: the set has none of the sixteen views, or those that it has
+unfoldable pub chosenLine : ℕ → List ℕ
+chosenLine set = pick (eqb (set % 2 ^ 16) 0) (bytes "extracts none\n") (bytes "extracts" ++ (chosenText set ++ bytes "\n"))
 
 -- the one line of a refusal
 unfoldable pub refusedLine : Refusal → List ℕ
@@ -91,9 +90,8 @@ unfoldable pub lineOf : Quote → ℕ → List ℕ
 lineOf q k =
     pick (eqb k 0) (firstLine (q .coverage))
     (pick (ltb (linesAfter q) k) []
-    (pick (eqb k (linesAfter q)) (chosenLine q) (linkLine q (k - 1))))
+    (pick (eqb k (linesAfter q)) (chosenLine (q .chosen)) (linkLine (q .mapping) (k - 1))))
 
--- the text went to the buffer from at on, as far as that goes, and ends at r
-pub record Written (text before : List ℕ) (at : ℕ) (now : List ℕ) (r : ℕ) : Type 0 where
-  pub is : now ≡ sets before at text
-  pub end : r ≡ at + length text
+-- what the call that writes line k answers: the whole line, or 12 and its length
+unfoldable pub lineAnswer : Quote → ℕ → ℕ → Answer
+lineAnswer q k room = fit room (lineOf q k)
