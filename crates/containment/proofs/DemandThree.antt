@@ -6,8 +6,8 @@ use mathlib.Core.List.{List, [], _∷_, map}
 use lib.ListN.{length, getD}
 use lib.Dec.{T}
 use native.Mathlib.Omega.{arith}
-use Rattle.packed.specs.Contents.{edgesOf, edgeCounts, viewsOf, sheetsIn, fieldsOf}
-use Rattle.packed.specs.Calls.{give, refuse, withWorkspace, accepted, judged, readSheet, fitFile}
+use Rattle.packed.specs.Contents.{edgesOf, edgeCounts, viewsOf, fieldsOf, sheetsIn}
+use Rattle.packed.specs.Calls.{give, withWorkspace, readSheet, fitFile}
 use Rattle.matching.specs.Lists.{In, here, there}
 use Rattle.matching.specs.Simulation.{Pattern, Graph, bit, patternOf, graphOf, matchSets}
 use Rattle.matching.specs.Join.{without, answerSets}
@@ -16,13 +16,16 @@ use Rattle.matching.proofs.BookBytes.{bookFields}
 use Rattle.matching.proofs.Uncovered.{uncovered-views}
 use Rattle.containment.specs.Choice.{chosen}
 use Rattle.containment.specs.Quote.{mapping}
-use Rattle.containment.specs.Answer.{viewsIn, answerBytes, answerAnswer}
-use Rattle.containment.specs.Show.{recordBytes, fitBoth, showFor, showAnswer}
-use Rattle.containment.specs.Demands.{Question, Catalogue, Record, Book, extracts, Covered, Uncovered, bookOf, lacking, linkOf, firstOf, secondOf, Shown, Demand3, chosenOf, Answers}
+use Rattle.containment.specs.Answer.{answerBytes, answerAnswer}
+use Rattle.containment.specs.Show.{recordBytes}
+use Rattle.containment.specs.Demands.{Question, Catalogue, Record, Sheet, Book, extracts, Covered, Uncovered, bookOf, answerOf, lacking, linkOf, firstOf, secondOf, LowestUnmatched, Shown, Demand3, chosenOf, Answers}
 use Rattle.containment.proofs.SetBits.{test-cases}
 use Rattle.containment.proofs.ChoiceLaws.{chosen-covers}
 use Rattle.containment.proofs.ShowLaws.{lowest-of, shows, shows-book}
-use Rattle.containment.proofs.CoveredBytes.{views-same, question-is, catalogue-is, made-sheets, made-book, coveredBy, answer-covered, answer-uncovered, answer-search, answer-back, given-file}
+use Rattle.containment.proofs.CoveredBytes.{views-same, question-is, catalogue-is, question-bounds, made-sheets, made-book, coveredBy, answer-search, answer-back, given-file}
+use Rattle.containment.proofs.DemandRules.{not-refused, matched-whole, shown-both, shown-exactly, refused-by, given-by, refused-exactly}
+use Rattle.containment.proofs.DemandSheets.{answer-size}
+use Rattle.containment.proofs.DemandJoin.{answer-joins}
 
 module _ (q c qs cs : List ℕ) (p : Question q qs) (d : Catalogue c cs) where
   -- ---- a covered query
@@ -32,10 +35,6 @@ module _ (q c qs cs : List ℕ) (p : Question q qs) (d : Catalogue c cs) where
       answer-search q c qs cs p d r rs f chosen (chosen-covers (mapping (patternOf qs) (extracts cs)) (edgesOf qs) (length (extracts cs)) h) l room
 
   -- ---- an uncovered query
-  shown-both : Uncovered qs cs → (room room′ : ℕ) → showAnswer q c room room′ ≡ fitBoth room room′ (recordBytes (firstOf qs)) (recordBytes (secondOf qs cs))
-  unfolding showAnswer showFor judged
-  shown-both n room room′ = rw (p, d, n)
-
   shown-by : Uncovered qs cs → Shown qs cs
   shown-by n =
       let s = shows q c qs cs (question-is q qs p) (catalogue-is c cs d) n in
@@ -51,6 +50,18 @@ module _ (q c qs cs : List ℕ) (p : Question q qs) (d : Catalogue c cs) where
         differ = s .differs;
       }
 
+  -- the link that the second record lacks
+  lowest-by : Uncovered qs cs → LowestUnmatched qs cs
+  lowest-by n =
+      let Q = patternOf qs in
+      let Ps = extracts cs in
+      let l = lowest-of q c qs cs (question-is q qs p) (catalogue-is c cs d) n in
+      record {
+        below = omega (arith, l .below, question-bounds q qs p .many);
+        unmatched = λ m. l .unmatched (matched-whole Q Ps (linkOf qs (lacking qs cs)) .1 m);
+        lower = λ e h. matched-whole Q Ps (linkOf qs e) .0 (l .lower e h);
+      }
+
   -- the two shown records have the same lists
   same-lists : Uncovered qs cs → (P : Pattern) → In P (extracts cs) → matchSets P (graphOf (firstOf qs)) ≡ matchSets P (graphOf (secondOf qs cs))
   same-lists n P i =
@@ -62,22 +73,15 @@ module _ (q c qs cs : List ℕ) (p : Question q qs) (d : Catalogue c cs) where
 
   -- ---- accepted books
   module _ (b bs : List ℕ) (k : Book cs b bs) where
-    refused-by : Uncovered qs cs → (room : ℕ) → answerAnswer q c b room ≡ refuse 11 (lacking qs cs)
-    unfolding answerAnswer
-    refused-by n room = answer-uncovered q c qs cs p d b bs k chosen room n
-
-    given-by : Covered qs cs → (room : ℕ) → answerAnswer q c b room ≡ fitFile room (answerBytes qs (chosenOf qs cs) (extracts cs) (sheetsIn (edgeCounts cs) bs))
-    unfolding answerAnswer
-    given-by h room = answer-covered q c qs cs p d b bs k chosen room h
-
     read-back : (out : List ℕ) (room : ℕ) → answerAnswer q c b room ≡ give [] (out ∷ [])
-        → readSheet qs out ≡ accepted (fieldsOf (answerSets (patternOf qs) (viewsIn (chosenOf qs cs) (extracts cs) (sheetsIn (edgeCounts cs) bs))))
+        → Sheet qs out (fieldsOf (answerOf (chosenOf qs cs) qs cs bs))
+    unfolding answerBytes
     read-back out room e =
         ⊎-elim
         (λ h.
-        let g = given-file room _ out (sym (given-by h room) ∙ e) in
+        let g = given-file room _ out (sym (given-by q c qs cs p d b bs k h room) ∙ e) in
         ap (readSheet qs) (g .0) ∙ answer-back cs b bs k q qs p (chosenOf qs cs) (g .1))
-        (λ n. absurd (let r = refused-by n room in let z : _≡_ {A = ℕ} 0 1 = cc in omega arith))
+        (λ n. absurd (not-refused (sym e ∙ refused-by q c qs cs p d b bs k n room)))
         (test-cases (coveredBy qs cs))
 
 -- the sheets of views whose lists are the same in two graphs
@@ -89,7 +93,6 @@ same-sheets G H (v ∷ vs) h = ap₂ (λ (x : List (List ℕ)) (l : List (List (
 same-answer : (q c qs cs b b′ bs bs′ : List ℕ) → Question q qs → Catalogue c cs → Book cs b bs → Book cs b′ bs′
     → ((a : ℕ) → T (bit (chosenOf qs cs) a) → getD (sheetsIn (edgeCounts cs) bs) a [] ≡ getD (sheetsIn (edgeCounts cs) bs′) a [])
     → (room : ℕ) → answerAnswer q c b room ≡ answerAnswer q c b′ room
-unfolding answerBytes
 same-answer q c qs cs b b′ bs bs′ p d k k′ s room =
     ⊎-elim
     (λ h.
@@ -116,12 +119,16 @@ demand-3 = record {
   fits = λ c r cs rs d f l. (bookFields (viewSheets cs (graphOf rs)), made-book c r cs rs d f l, made-sheets c r cs rs d f);
   shows = λ q c qs cs p d n room room′ words. ap (withWorkspace words) (shown-both q c qs cs p d n room room′);
   uncovered = λ q c qs cs p d n. shown-by q c qs cs p d n;
-  refused = λ q c b qs cs bs p d n k room. refused-by q c qs cs p d b bs k n room;
+  lowest = λ q c qs cs p d n. lowest-by q c qs cs p d n;
+  shows-covered = λ q c qs cs p d room room′ words e. shown-exactly q c qs cs p d room room′ words e;
+  refused = λ q c b qs cs bs p d k room words e. refused-exactly q c qs cs p d b bs k room words e;
 }
 
 pub answers : Answers
 answers = record {
+  joins = answer-joins;
   same = same-answer;
   back = λ q c b qs cs bs out p d k room e. read-back q c qs cs p d b bs k out room e;
+  answer-length = answer-size;
   no-other-way = no-function;
 }

@@ -1,39 +1,40 @@
 -- Demands 1 and 2 hold.
-use Prim.Native.Nat.{ℕ, _<_, _≤_}
+use Prim.Native.Nat.{ℕ, _+_, _*_, _<_, _≤_}
 use mathlib.Core.Path.{_≡_, refl, sym, ap, _∙_}
 use mathlib.Core.Bool.{Bool, true, false}
-use mathlib.Core.Logic.{_↔_, ⊎-elim}
+use mathlib.Core.Logic.{_↔_, Iff·trans, Iff·symm}
 use mathlib.Core.List.{List, [], _∷_, _++_}
-use lib.ListN.{length, getD, length-map, List·getD-eq-default}
+use lib.ListN.{length, getD}
 use lib.Dec.{T}
+use borrow.Author.Tests.{lt-ltb, le-ltb}
 use native.Mathlib.Omega.{arith}
 use Rattle.packed.specs.Format.{pick}
 use Rattle.packed.specs.Formats.{code}
-use Rattle.packed.specs.Contents.{edgesOf, edgeCounts, viewsOf}
-use Rattle.packed.specs.Plain.{PlainPattern, PatternFile}
-use Rattle.packed.specs.Calls.{Answer, give, toldOf, outputsOf, Verdict, accepted, judged, readPattern, readCatalogue, readRecord, patternRead, catalogueRead, recordRead, sheetRead, bookRead, patternWritten, catalogueWritten, recordWritten, sheetWritten, bookWritten}
-use Rattle.packed.proofs.OrderCases.{lt-or-ge}
-use Rattle.packed.proofs.RoundTrip.{Bytes}
-use Rattle.packed.proofs.Accepted.{pattern-read, catalogue-read, catalogue-accepted, record-read, record-accepted}
-use Rattle.packed.proofs.AcceptedBounds.{catalogue-views}
+use Rattle.packed.specs.Contents.{edgesOf, edgeCounts, ends, fieldsOf}
+use Rattle.packed.specs.Plain.{BookFile}
+use Rattle.packed.specs.Calls.{Answer, give, toldOf, fronts, outputsOf, workOf, withWorkspace, judged, readPattern, readCatalogue, readRecord, patternRead, catalogueRead, recordRead, sheetRead, bookRead, patternWritten, catalogueWritten, recordWritten, sheetWritten, bookWritten}
+use Rattle.packed.proofs.Accepted.{pattern-read, catalogue-read, record-read, sheet-read, book-read}
 use Rattle.packed.proofs.CallRoundTrips.{pattern-back, pattern-again, catalogue-back, catalogue-again, record-back, record-again, sheet-back, sheet-again, book-back, book-again}
 use Rattle.matching.specs.Lists.{In}
-use Rattle.matching.specs.Simulation.{Pair, Pattern, patternOf, graphOf, matchSets, sound}
+use Rattle.matching.specs.Simulation.{Pair, Pattern, bit, patternOf, graphOf, asGraph, matchSets}
 use Rattle.matching.specs.Search.{searchAnswer, makeBookAnswer}
 use Rattle.matching.proofs.SimLaws.{sim-is, sim-most}
 use Rattle.matching.proofs.Listed.{listed-exactly, matches-related, related-matches}
 use Rattle.matching.proofs.AllOrNone.{sets-even}
 use Rattle.matching.proofs.RecordLaws.{graph-narrow}
-use Rattle.matching.proofs.PatternLaws.{edges-in, edges-many, sound-of}
-use Rattle.containment.specs.Choice.{everyView, coversIn, lowestUnmatched, chosen}
+use Rattle.containment.specs.Choice.{everyView, coversIn, chosen}
 use Rattle.containment.specs.Quote.{one, mapping, valuesFrom, quoteValues, flat, quoteAnswer}
 use Rattle.containment.specs.Answer.{Choose, answerFor, answerBy, answerAnswer}
 use Rattle.containment.specs.Show.{showFor, showAnswer}
 use Rattle.containment.specs.Listing.{lineOf, lineAnswer}
-use Rattle.containment.specs.Demands.{Settles, Demand1, Question, Catalogue, Record, extracts, Covered, Matching, Matched, Demand2}
+use Rattle.containment.specs.Demands.{Full, Settles, Worked, Demand1, Question, Catalogue, Record, Uncrowded, Book, extracts, extractOf, linkOf, Covered, lacking, chosenOf, Matching, Matched, Demand2}
 use Rattle.containment.proofs.Numbered.{numbered, pattern-faults, catalogue-faults, record-faults, sheet-faults, book-faults, gives, refuses, either, workspace-settles, uncrowded-settles, fit-settles, fitFile-settles, fitBoth-settles, read-settles, write-settles}
-use Rattle.containment.proofs.CoveredBytes.{question-bounds, few-views}
-use Rattle.containment.proofs.QuoteLaws.{Listed, listed-whole, quote-says-covered}
+use Rattle.containment.proofs.SetBits.{never}
+use Rattle.containment.proofs.ChoiceLaws.{chosen-none, chosen-covers, chosen-needed}
+use Rattle.containment.proofs.CoveredBytes.{coveredBy, question-bounds, few-views, record-is}
+use Rattle.containment.proofs.QuoteLaws.{test-is, mapping-exactly, quote-says-covered}
+use Rattle.containment.proofs.DemandRules.{not-refused, goes-on, bytes-by, few-words, enough-words, enough-for, full-words, full-judged, full-twice, full-uncrowded, fitted-file, fitted-both, pattern-reads, catalogue-reads, record-reads, sheet-reads, book-reads, pattern-writes, catalogue-writes, record-writes, sheet-writes, book-writes, crowded-read, crowded-written, crowded-answer, listed-matched, matched-listed, covers-plain, shown-both, full-shown, given-by, full-answered}
+use Rattle.containment.proofs.DemandSheets.{pair-fields, searched, searched-back, searched-length, book-made, order-sheets, order-books, views-sound}
 
 -- ---- demand 1
 
@@ -60,8 +61,27 @@ show-settles : (qs : List ℕ) (Ps : List Pattern) (room room′ : ℕ) → Sett
 unfolding showFor
 show-settles qs Ps room room′ = either (covers qs Ps) (refuses 0 (numbered 13 refl refl)) (fitBoth-settles room room′ _ _)
 
+full-answer : (choose : Choose) (qs cs bs : List ℕ) (room : ℕ) → Full (answerFor choose qs cs bs room) → Uncrowded cs bs
+unfolding answerFor
+full-answer choose qs cs bs room f = full-uncrowded (edgeCounts cs) bs _ f
+
+-- what a workspace holds afterwards
+worked : (work work′ : List ℕ) → work′ ≡ workOf work → Worked work work′
+unfolding workOf
+worked work work′ e = record {
+  zeroed = λ h. e ∙ rw (le-ltb (length work) 16384 h);
+  as-came = λ h. e ∙ rw (lt-ltb (length work) 16384 h);
+}
+
+-- a book is accepted if none of 1 to 9 falls to it, and 10 doesn't
+book-exactly : (cs s ws : List ℕ) → Book cs s ws ↔ ((length s ≤ 65536) × BookFile (edgeCounts cs) s ws × Uncrowded cs ws)
+book-exactly cs s ws = (
+  λ k. let r = book-read cs s ws .0 (k .read) in (r .0, r .1, k .few),
+  λ k. record { read = book-read cs s ws .1 (k .0, k .1); few = k .2 },
+)
+
 pub demand-1 : Demand1
-unfolding patternRead catalogueRead recordRead sheetRead bookRead patternWritten catalogueWritten recordWritten sheetWritten bookWritten searchAnswer makeBookAnswer quoteAnswer answerBy answerAnswer showAnswer lineAnswer toldOf outputsOf
+unfolding fronts patternRead catalogueRead recordRead sheetRead bookRead patternWritten catalogueWritten recordWritten sheetWritten bookWritten searchAnswer makeBookAnswer quoteAnswer answerBy answerAnswer showAnswer lineAnswer toldOf outputsOf
 demand-1 = record {
   read-pattern = λ s room words. workspace-settles words (pattern-first s (fit-settles room));
   read-catalogue = λ s room words. workspace-settles words (catalogue-first s (fit-settles room));
@@ -85,32 +105,59 @@ demand-1 = record {
       (pattern-first q (λ qs. catalogue-first c (λ cs. read-settles 65536 4 (book-faults (edgeCounts cs)) b (λ bs. answer-settles chosen qs cs bs room))));
   show = λ q c room room′ words. workspace-settles words (pattern-first q (λ qs. catalogue-first c (λ cs. show-settles qs (extracts cs) room room′)));
   line = λ q k room. fit-settles room (lineOf q k);
-  full = λ blank r outs outs′ work work′ values outputs s. s .outputs;
-  untouched = λ blank r outs outs′ work work′ number detail s. (s .outputs, s .result);
+  desk = λ a words. few-words words a;
+  enough = λ a words. enough-words words a;
+  accepts-pattern = pattern-read;
+  accepts-catalogue = catalogue-read;
+  accepts-record = record-read;
+  accepts-sheet = sheet-read;
+  accepts-book = book-exactly;
+  reads-pattern = pattern-reads;
+  reads-catalogue = catalogue-reads;
+  reads-record = record-reads;
+  reads-sheet = sheet-reads;
+  reads-book = book-reads;
+  writes-pattern = pattern-writes;
+  writes-catalogue = catalogue-writes;
+  writes-record = record-writes;
+  writes-sheet = sheet-writes;
+  writes-book = book-writes;
+  read-crowded = crowded-read;
+  write-crowded = crowded-written;
+  answer-crowded = crowded-answer;
+  search-gives = λ p r ps rs e f room words. fitted-file _ words room _ (searched p r ps rs e f room);
+  search-only = λ p r room words f. let t = full-twice _ _ _ (full-words words _ f) in (t .0, t .1, t .2, t .3);
+  make-book-gives = λ c r cs rs e f room words. fitted-file _ words room _ (book-made c r cs rs e f room);
+  make-book-only = λ c r room words f. let t = full-twice _ _ _ (full-words words _ f) in (t .0, t .1, t .2, t .3);
+  quote-only = λ q c words f. let t = full-twice _ _ _ (full-words words _ f) in (t .0, t .1, t .2, t .3);
+  answer-gives = λ q c b qs cs bs e f k h room words. fitted-file _ words room _ (given-by q c qs cs e f b bs k h room);
+  answer-only = λ q c b room words f.
+      let w = full-words words (answerAnswer q c b room) f in
+      let t = full-twice _ _ _ w in
+      let z = full-judged _ _ (t .4) in
+      let k : Book (t .1) b (z .0) = record { read = z .1; few = full-answer chosen _ _ _ room (z .2) } in
+      (t .0, t .1, z .0, t .2, t .3, k, full-answered q c (t .0) (t .1) (t .2) (t .3) b (z .0) k room w);
+  show-gives = λ q c qs cs e f n room room′ words. fitted-both _ words room room′ _ _ (shown-both q c qs cs e f n room room′);
+  show-only = λ q c room room′ words f.
+      let w = full-words words (showAnswer q c room room′) f in
+      let t = full-twice _ _ _ w in
+      (t .0, t .1, t .2, t .3, full-shown q c (t .0) (t .1) (t .2) (t .3) room room′ w);
+  full = λ blank r outs outs′ work work′ values outputs s. (s .outputs, s .result, worked work work′ (s .workspace));
+  front = λ o l. refl;
+  both-fronts = λ o o′ l l′. refl;
+  untouched = λ blank r outs outs′ work work′ number detail s. (s .outputs, s .result, worked work work′ (s .workspace));
 }
 
 -- ---- demand 2
 
--- an accepted file's content goes on
-goes-on : {v : Verdict} {ws : List ℕ} (k : List ℕ → Answer) → v ≡ accepted ws → judged v k ≡ k ws
-unfolding judged
-goes-on k e = rw e
-
 lists-exactly : (r rs : List ℕ) → Record r rs → (P : Pattern) (i : ℕ) → i < length (P .edges) → (f : Pair) → f .1 < 4096
     → In (code (f .0) (f .1)) (getD (matchSets P (graphOf rs)) i []) ↔ Matching P (graphOf rs) (getD (P .edges) i (0, 0)) f
 lists-exactly r rs e P i h f k =
-    let d = record-accepted r rs .1 (record-read r rs .0 e .1) in
+    let d = record-is r rs e in
     let x = listed-exactly P (graphOf rs) (graph-narrow r rs d) i h f k in (
       λ j. let m = related-matches P (graphOf rs) (x .0 j) in record { whole = m .whole; edge = m .edge; tail = m .tail; head = m .head },
       λ m. x .1 (matches-related P (graphOf rs) (record { whole = m .whole; edge = m .edge; tail = m .tail; head = m .head })),
     )
-
-module _ (Q : Pattern) (Ps : List Pattern) (e : Pair) where
-  listed-matched : Listed Q Ps e → Matched Q Ps e
-  listed-matched o = record { extract = o .view; given = o .given; link = o .at; below = o .below; lists = o .lists; whole = listed-whole Q Ps e o }
-
-  matched-listed : Matched Q Ps e → Listed Q Ps e
-  matched-listed o = record { view = o .extract; given = o .given; at = o .link; below = o .below; lists = o .lists }
 
 quote-exactly : (q c qs cs : List ℕ) → Question q qs → Catalogue c cs → Covered qs cs ↔ ((e : Pair) → In e (patternOf qs .edges) → Matched (patternOf qs) (extracts cs) e)
 quote-exactly q c qs cs eq ec =
@@ -121,35 +168,69 @@ quote-exactly q c qs cs eq ec =
       λ f. sym same ∙ x .1 (λ e i. matched-listed (patternOf qs) (extracts cs) e (f e i)),
     )
 
--- the first value of a quote
-quote-first : (q c qs cs : List ℕ) → Question q qs → Catalogue c cs → (b : Bool) → coversIn (mapping (patternOf qs) (extracts cs)) everyView (length (extracts cs)) (edgesOf qs) ≡ b
-    → (vs : List ℕ) × (quoteAnswer q c ≡ give (one b ∷ vs) [])
-unfolding quoteAnswer quoteValues valuesFrom flat
-quote-first q c qs cs eq ec b h =
-    let t = mapping (patternOf qs) (extracts cs) in
-    let k = length (extracts cs) in
-    let n = length (patternOf qs .edges) in
-    let vs : List ℕ = t ++ (n ∷ chosen t n k ∷ pick (coversIn t everyView k n) 0 (lowestUnmatched t k n) ∷ []) in
-    let e : coversIn t everyView k n ≡ b = ap (coversIn t everyView k) (question-bounds q qs eq .many) ∙ h in
-    (vs, goes-on _ eq ∙ goes-on _ ec ∙ ap (λ (x : Bool). give (one x ∷ vs) []) e)
+-- the masks of a quote
+maps-exactly : (q c qs cs : List ℕ) → Question q qs → Catalogue c cs → (i a f : ℕ) → i < edgesOf qs → a < length (extracts cs) → f < length (extractOf cs a .edges)
+    → T (bit (getD (mapping (patternOf qs) (extracts cs)) (16 * i + a) 0) f) ↔ In (code (linkOf qs i .0) (linkOf qs i .1)) (getD (matchSets (extractOf cs a) (asGraph (patternOf qs))) f [])
+maps-exactly q c qs cs eq ec i a f h l k =
+    let b = question-bounds q qs eq in
+    let n = few-views c cs ec in
+    Iff·trans (Iff·symm (test-is _)) (mapping-exactly (patternOf qs) (extracts cs) (b .few-edges) i a (omega (arith, b .many)) l (omega arith) f k)
 
--- beyond its end a list counts as zeros
-bytes-by : (s : List ℕ) → ((i : ℕ) → i < length s → getD s i 0 < 256) → Bytes s
-bytes-by s h i = ⊎-elim (h i) (λ (l : length s ≤ i). let z = List·getD-eq-default s 0 {n = i} l in omega arith) (lt-or-ge i (length s))
+-- the values of a quote
+quote-values : (q c qs cs : List ℕ) → Question q qs → Catalogue c cs → (b : Bool) → coveredBy qs cs ≡ b
+    → quoteAnswer q c ≡ give (one b ∷ (mapping (patternOf qs) (extracts cs) ++ (edgesOf qs ∷ chosenOf qs cs ∷ pick b 0 (lacking qs cs) ∷ []))) []
+unfolding quoteAnswer quoteValues valuesFrom flat
+quote-values q c qs cs eq ec b h = goes-on _ eq ∙ goes-on _ ec ∙ rw (question-bounds q qs eq .many, h)
+
+one-same : (a b : Bool) → one a ≡ one b → a ≡ b
+one-same true true e = refl
+one-same true false e = absurd (omega arith)
+one-same false true e = absurd (omega arith)
+one-same false false e = refl
+
+-- which is all that it says of coverage
+quote-says : (q c qs cs : List ℕ) → Question q qs → Catalogue c cs → (b : Bool) (words : ℕ)
+    → ((vs : List ℕ) × (withWorkspace words (quoteAnswer q c) ≡ give (one b ∷ vs) [])) ↔ ((16384 ≤ words) × (coveredBy qs cs ≡ b))
+quote-says q c qs cs eq ec b words = (
+  λ x.
+      let w = enough-for words (quoteAnswer q c) (λ z. not-refused (sym z)) (x .1) in
+      let e = sym (quote-values q c qs cs eq ec (coveredBy qs cs) refl) ∙ w .1 in
+      (w .0, one-same (coveredBy qs cs) b (cc)),
+  λ x. (_, enough-words words (quoteAnswer q c) (x .0) ∙ quote-values q c qs cs eq ec b (x .1)),
+)
 
 pub demand-2 : Demand2
-unfolding searchAnswer makeBookAnswer
+unfolding fieldsOf ends flat
 demand-2 = record {
   simulates = sim-is;
   greatest = sim-most;
-  searches = λ p r ps rs ep er room. goes-on _ ep ∙ goes-on _ er;
-  books = λ c r cs rs ec er room. goes-on _ ec ∙ goes-on _ er;
+  searches = searched;
+  books = book-made;
   lists = lists-exactly;
+  sheet-back = λ p r ps rs out e f room words. searched-back p r ps rs e f out room words;
+  each-link = λ l ls. refl;
+  no-links = refl;
+  each-pair = pair-fields;
+  no-pairs = refl;
+  sheet-length = searched-length;
+  any-order = λ r r′ rs rs′ e e′ s p room words. ap (withWorkspace words) (order-sheets r r′ rs rs′ e e′ s p room);
+  any-order-books = λ r r′ rs rs′ e e′ s c room words. ap (withWorkspace words) (order-books r r′ rs rs′ e e′ s c room);
   all-or-none = sets-even;
   patterns-sound = λ p ps e. question-bounds p ps e .sound;
+  extracts-sound = views-sound;
   quotes = quote-exactly;
-  says-covered = λ q c qs cs eq ec h. quote-first q c qs cs eq ec true h;
-  says-uncovered = λ q c qs cs eq ec h. quote-first q c qs cs eq ec false h;
+  covers = λ q c qs cs eq ec. covers-plain q c qs cs eq ec;
+  says-covered = λ q c qs cs eq ec words. quote-says q c qs cs eq ec true words;
+  says-uncovered = λ q c qs cs eq ec words. quote-says q c qs cs eq ec false words;
+  values-covered = λ q c qs cs eq ec h. quote-values q c qs cs eq ec true h;
+  values-uncovered = λ q c qs cs eq ec n.
+      quote-values q c qs cs eq ec false n
+      ∙ ap (λ (set : ℕ). give (0 ∷ (mapping (patternOf qs) (extracts cs) ++ (edgesOf qs ∷ set ∷ lacking qs cs ∷ []))) [])
+      (chosen-none (mapping (patternOf qs) (extracts cs)) (edgesOf qs) (length (extracts cs)) n);
+  maps = maps-exactly;
+  choice-covers = λ qs cs h. chosen-covers (mapping (patternOf qs) (extracts cs)) (edgesOf qs) (length (extracts cs)) h;
+  choice-needs = λ qs cs a t h.
+      never (sym h ∙ chosen-needed (mapping (patternOf qs) (extracts cs)) (edgesOf qs) (length (extracts cs)) a (test-is _ .1 t));
   patterns = record { back = λ s ws room room′ words y. pattern-back s ws room room′ words (bytes-by s y); again = pattern-again };
   catalogues = record { back = λ s ws room room′ words y. catalogue-back s ws room room′ words (bytes-by s y); again = catalogue-again };
   records = record { back = λ s ws room room′ words y. record-back s ws room room′ words (bytes-by s y); again = record-again };

@@ -13,6 +13,9 @@ pub mod BookLaws
 pub mod CandidateLaws
 pub mod AnsweringLaws
 pub mod CoveredBytes
+pub mod DemandRules
+pub mod DemandSheets
+pub mod DemandJoin
 pub mod DemandThree
 pub mod Numbered
 pub mod DemandsOneTwo

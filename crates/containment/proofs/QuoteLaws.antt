@@ -204,7 +204,7 @@ pub record Listed (Q : Pattern) (Ps : List Pattern) (e : Pair) : Type 0 where
   pub lists : In (code (e .0) (e .1)) (getD (matchSets view (asGraph Q)) at [])
 
 module _ (Q : Pattern) (Ps : List Pattern) where
-  matched-say : (e : Pair) → T (matched Q Ps e) → Listed Q Ps e
+  pub matched-say : (e : Pair) → T (matched Q Ps e) → Listed Q Ps e
   unfolding matched matchedBy lists
   matched-say e t =
       let p = some-in (matchedBy Q e) Ps t in
@@ -218,7 +218,7 @@ module _ (Q : Pattern) (Ps : List Pattern) where
         lists = subst (λ m. In (code (e .0) (e .1)) m) (o .holds) (member-in (l .0) (test-is (lists e (l .0)) .1 (l .2)));
       }
 
-  matched-by : (e : Pair) → Listed Q Ps e → T (matched Q Ps e)
+  pub matched-by : (e : Pair) → Listed Q Ps e → T (matched Q Ps e)
   unfolding matched matchedBy lists
   matched-by e o =
       let ms : List (List ℕ) = matchSets (o .view) (asGraph Q) in

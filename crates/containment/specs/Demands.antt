@@ -3,16 +3,18 @@
 -- The contract of each client call is `Settled` (packed/specs/Calls.antt) over one of the answers named here: it says of the result, of every
 -- lent byte and of every word of the workspace what they are once that answer is known. So what is said here of answers holds of the programs.
 -- An answer is a function of the bytes and fields that are lent, of the length of each output (`room`) and of the workspace (`words`).
--- Proofs: proofs/DemandsOneTwo.antt, proofs/DemandThree.antt and proofs/Listings.antt.
-use Prim.Native.Nat.{ℕ, _+_, _<_, _≤_}
+-- Proofs: proofs/DemandsOneTwo.antt and proofs/DemandThree.antt, by proofs/DemandRules.antt, DemandSheets.antt and DemandJoin.antt; and
+-- proofs/Listings.antt.
+use Prim.Native.Nat.{ℕ, _+_, _-_, _*_, _/_, _^_, _<_, _≤_}
 use mathlib.Core.Path.{_≡_}
 use mathlib.Core.Logic.{_⊎_, _↔_}
 use mathlib.Core.Bool.{true, false}
-use mathlib.Core.List.{List, [], _∷_, map}
-use lib.ListN.{length, getD}
+use mathlib.Core.List.{List, [], _∷_, _++_, map}
+use lib.ListN.{length, getD, drop, replicate}
 use lib.Dec.{T}
 use Rattle.packed.specs.Formats.{code}
-use Rattle.packed.specs.Contents.{edgesOf, viewsOf, edgeCounts, sheetsIn, fieldsOf}
+use Rattle.packed.specs.Plain.{Below, PatternFile, CatalogueFile, RecordFile, SheetFile, BookFile}
+use Rattle.packed.specs.Contents.{edgesOf, viewsOf, edgeCounts, ends, fieldsOf, total, sheetsIn}
 use Rattle.packed.specs.Refusals.{Told, told}
 use Rattle.packed.specs.Calls.{Answer, give, refuse, fronts, Settled, withWorkspace, accepted, readPattern, readCatalogue, readRecord, readSheet, readBook, pairsOf, fitFile, patternRead, catalogueRead, recordRead, sheetRead, bookRead, patternWritten, catalogueWritten, recordWritten, sheetWritten, bookWritten}
 use Rattle.matching.specs.Lists.{In}
@@ -20,11 +22,83 @@ use Rattle.matching.specs.Simulation.{Pair, Pattern, Graph, patternOf, graphOf,
 use Rattle.matching.specs.Join.{without, answerSets}
 use Rattle.matching.specs.Search.{sheetBytes, bookBytes, viewSheets, searchAnswer, makeBookAnswer}
 use Rattle.containment.specs.Choice.{everyView, coversIn, lowestUnmatched, chosen}
-use Rattle.containment.specs.Quote.{mapping, blank, quoteAnswer, quoteTold}
+use Rattle.containment.specs.Quote.{noPattern, mapping, blank, flat, quoteAnswer, quoteTold}
 use Rattle.containment.specs.Answer.{viewsIn, answerBy, answerAnswer}
 use Rattle.containment.specs.Show.{graphFields, fewerFields, recordBytes, fitBoth, showAnswer}
 use Rattle.containment.specs.Listing.{bytes, linkLine, lineOf, lineAnswer}
 use Rattle.containment.specs.declared.quote_type.Quote.{Quote}
+
+-- ---- Words of the requirements
+
+-- "A paper is accepted if none of 1 to 10 falls to it": an accepted file and its content. A lone sheet stands beside the content of its
+-- pattern, a book beside that of its catalogue; 10 falls to a book in which over 8,192 different pairs stand.
+abbrev pub Question : List ℕ → List ℕ → Type 0
+Question q qs = readPattern q ≡ accepted qs
+
+abbrev pub Catalogue : List ℕ → List ℕ → Type 0
+Catalogue c cs = readCatalogue c ≡ accepted cs
+
+abbrev pub Record : List ℕ → List ℕ → Type 0
+Record r rs = readRecord r ≡ accepted rs
+
+abbrev pub Sheet : List ℕ → List ℕ → List ℕ → Type 0
+Sheet ps s ws = readSheet ps s ≡ accepted ws
+
+abbrev pub Uncrowded : List ℕ → List ℕ → Type 0
+Uncrowded cs bs = length (pairsOf (edgeCounts cs) bs) ≤ 8192
+
+abbrev pub Crowded : List ℕ → List ℕ → Type 0
+Crowded cs bs = 8192 < length (pairsOf (edgeCounts cs) bs)
+
+pub record Book (cs b bs : List ℕ) : Type 0 where
+  pub read : readBook cs b ≡ accepted bs
+  pub few : Uncrowded cs bs
+
+abbrev pub extracts : List ℕ → List Pattern
+extracts cs = map patternOf (viewsOf cs)
+
+abbrev pub extractOf : List ℕ → ℕ → Pattern
+extractOf cs a = getD (extracts cs) a noPattern
+
+abbrev pub linkOf : List ℕ → ℕ → Pair
+linkOf qs e = getD (patternOf qs .edges) e (0, 0)
+
+-- the extracts in a set match every link of the question
+abbrev pub Covers : ℕ → List ℕ → List ℕ → Type 0
+Covers set qs cs = coversIn (mapping (patternOf qs) (extracts cs)) set (length (extracts cs)) (edgesOf qs) ≡ true
+
+-- what a quote says: covered or uncovered
+abbrev pub Covered : List ℕ → List ℕ → Type 0
+Covered qs cs = Covers everyView qs cs
+
+abbrev pub Uncovered : List ℕ → List ℕ → Type 0
+Uncovered qs cs = coversIn (mapping (patternOf qs) (extracts cs)) everyView (length (extracts cs)) (edgesOf qs) ≡ false
+
+-- the lowest link of the question that no extract matches
+abbrev pub lacking : List ℕ → List ℕ → ℕ
+lacking qs cs = lowestUnmatched (mapping (patternOf qs) (extracts cs)) (length (extracts cs)) (edgesOf qs)
+
+-- the set that a quote chooses
+abbrev pub chosenOf : List ℕ → List ℕ → ℕ
+chosenOf qs cs = chosen (mapping (patternOf qs) (extracts cs)) (edgesOf qs) (length (extracts cs))
+
+-- a pattern's sheet from a record, and "the extract lists made from the record": the sheets of all extracts, laid out as a book
+abbrev pub sheetOf : Pattern → List ℕ → List ℕ
+sheetOf P rs = sheetBytes (matchSets P (graphOf rs))
+
+abbrev pub bookOf : List ℕ → List ℕ → List ℕ
+bookOf cs rs = bookBytes (viewSheets cs (graphOf rs))
+
+-- the lists of the answer from a book by the extracts in a set
+abbrev pub answerOf : ℕ → List ℕ → List ℕ → List ℕ → List (List ℕ)
+answerOf set qs cs bs = answerSets (patternOf qs) (viewsIn set (extracts cs) (sheetsIn (edgeCounts cs) bs))
+
+-- the content of "the two shown records": the question read as a record, and the same without its lowest unmatched link
+abbrev pub firstOf : List ℕ → List ℕ
+firstOf qs = graphFields qs
+
+abbrev pub secondOf : List ℕ → List ℕ → List ℕ
+secondOf qs cs = fewerFields qs (lacking qs cs)
 
 -- ---- Demand 1. "Every call gives a full result or a numbered refusal under a fixed rule, for all bytes and buffers of every length. A refusal
 -- leaves the output untouched."
@@ -46,6 +120,42 @@ pub record Refused (a : Answer) : Type 0 where
 abbrev pub Settles : Answer → Type 0
 Settles a = Full a ⊎ Refused a
 
+-- 12: "an output needs more bytes than were lent"; "where content is the output, 12 counts words". It needs d.
+abbrev pub Over : ℕ → List ℕ → ℕ → Type 0
+Over room o d = (room < length o) × (d ≡ length o)
+
+-- "or a sheet, book or answer more than 65,536"
+abbrev pub OverFile : ℕ → List ℕ → ℕ → Type 0
+OverFile room o d = ((room < length o) ⊎ (65536 < length o)) × (d ≡ length o)
+
+-- "12 the bytes needed, of the first output that doesn't fit"
+abbrev pub OverEither : ℕ → ℕ → List ℕ → List ℕ → ℕ → Type 0
+OverEither room room′ o o′ d = Over room o d ⊎ ((length o ≤ room) × Over room′ o′ d)
+
+-- what a call answers once nothing but 14 and 12 can fall to it: "each refusal is given in its case and no other"; else its outputs, whole
+pub record Fitted (words : ℕ) (NoFit : ℕ → Type 0) (outputs : List (List ℕ)) (a : Answer) : Type 0 where
+  pub desk : (d : ℕ) → (a ≡ refuse 14 d) ↔ ((words < 16384) × (d ≡ 0))
+  pub no-fit : (d : ℕ) → (a ≡ refuse 12 d) ↔ ((16384 ≤ words) × NoFit d)
+  pub gives : (a ≡ give [] outputs) ↔ ((16384 ≤ words) × ((d : ℕ) → NoFit d → ⊥))
+  pub no-other : (a ≡ refuse 14 0) ⊎ (((d : ℕ) × (a ≡ refuse 12 d)) ⊎ (a ≡ give [] outputs))
+
+-- reading: an accepted file's content is given, and nothing of another file
+pub record Reads (read : List ℕ → ℕ → Answer) (Accepted : List ℕ → List ℕ → Type 0) : Type 0 where
+  pub gives : (s ws : List ℕ) → Accepted s ws → (room words : ℕ) → Fitted words (Over room ws) (ws ∷ []) (withWorkspace words (read s room))
+  pub only : (s : List ℕ) (room words : ℕ) → Full (withWorkspace words (read s room)) → (ws : List ℕ) × Accepted s ws
+
+-- writing: "content handed to a writer meets the same rules", those of the file of bytes s that has it
+pub record Writes (write : List ℕ → ℕ → Answer) (NoFit : ℕ → List ℕ → ℕ → Type 0) (Has : List ℕ → List ℕ → Type 0) : Type 0 where
+  pub gives : (s ws : List ℕ) → Below 256 s → Has s ws → (room words : ℕ) → Fitted words (NoFit room s) (s ∷ []) (withWorkspace words (write ws room))
+  pub only : (ws : List ℕ) (room words : ℕ) → Full (withWorkspace words (write ws room)) → (s : List ℕ) × Below 256 s × Has s ws
+
+-- what a call leaves in the workspace
+pub record Worked (work work′ : List ℕ) : Type 0 where
+  -- "the first 16,384 work words are zero after every call", "words beyond never change"
+  pub zeroed : 16384 ≤ length work → work′ ≡ replicate 16384 0 ++ drop 16384 work
+  -- "except 14, which leaves them as they came"
+  pub as-came : length work < 16384 → work′ ≡ work
+
 pub record Demand1 : Type 0 where
   -- "every call", "for all bytes and buffers of every length"
   pub read-pattern : (s : List ℕ) (room words : ℕ) → Settles (withWorkspace words (patternRead s room))
@@ -64,44 +174,68 @@ pub record Demand1 : Type 0 where
   pub answer : (q c b : List ℕ) (room words : ℕ) → Settles (withWorkspace words (answerAnswer q c b room))
   pub show : (q c : List ℕ) (room room′ words : ℕ) → Settles (withWorkspace words (showAnswer q c room room′))
   pub line : (q : Quote) (k room : ℕ) → Settles (lineAnswer q k room)
-  -- a full result stands at the front of each output, and the rest is as it was
+  -- "under a fixed rule": 14, "fewer than 16,384 work words were lent", stands before all else
+  pub desk : (a : Answer) (words : ℕ) → words < 16384 → withWorkspace words a ≡ refuse 14 0
+  pub enough : (a : Answer) (words : ℕ) → 16384 ≤ words → withWorkspace words a ≡ a
+  -- a file is accepted, with its content, exactly when the plain conditions of its format hold (packed/specs/Plain.antt:
+  -- counts in range, ends that are items, no repeat, each item at a link, ascending, even, padding zero and nothing after it)
+  pub accepts-pattern : (s ws : List ℕ) → Question s ws ↔ ((length s ≤ 44) × PatternFile s ws)
+  pub accepts-catalogue : (s ws : List ℕ) → Catalogue s ws ↔ ((length s ≤ 705) × CatalogueFile s ws)
+  pub accepts-record : (s ws : List ℕ) → Record s ws ↔ ((length s ≤ 40964) × RecordFile s ws)
+  pub accepts-sheet : (ps s ws : List ℕ) → Sheet ps s ws ↔ ((length s ≤ 65536) × SheetFile (edgesOf ps) s ws)
+  pub accepts-book : (cs s ws : List ℕ) → Book cs s ws ↔ ((length s ≤ 65536) × BookFile (edgeCounts cs) s ws × Uncrowded cs ws)
+  -- a reader gives the content of an accepted file and of no other; a writer the file that has the content by the same conditions
+  pub reads-pattern : Reads patternRead Question
+  pub reads-catalogue : Reads catalogueRead Catalogue
+  pub reads-record : Reads recordRead Record
+  pub reads-sheet : (p : List ℕ) → Reads (sheetRead p) (λ s ws. (ps : List ℕ) × Question p ps × Sheet ps s ws)
+  pub reads-book : (c : List ℕ) → Reads (bookRead c) (λ s ws. (cs : List ℕ) × Catalogue c cs × Book cs s ws)
+  pub writes-pattern : Writes patternWritten Over PatternFile
+  pub writes-catalogue : Writes catalogueWritten Over CatalogueFile
+  pub writes-record : Writes recordWritten Over RecordFile
+  pub writes-sheet : (p : List ℕ) → Writes (sheetWritten p) OverFile (λ s ws. (ps : List ℕ) × Question p ps × SheetFile (edgesOf ps) s ws)
+  pub writes-book : (c : List ℕ) → Writes (bookWritten c) OverFile (λ s ws. (cs : List ℕ) × Catalogue c cs × BookFile (edgeCounts cs) s ws × Uncrowded cs ws)
+  -- 10, "over 8,192 different pairs stand in a book", falls to a book exactly then, with the detail 4, "book or lone sheet"
+  pub read-crowded : (c cs s ws : List ℕ) → Catalogue c cs → readBook cs s ≡ accepted ws → (room words d : ℕ)
+      → (withWorkspace words (bookRead c s room) ≡ refuse 10 d) ↔ ((16384 ≤ words) × Crowded cs ws × (d ≡ 4))
+  pub write-crowded : (c cs s ws : List ℕ) → Catalogue c cs → Below 256 s → BookFile (edgeCounts cs) s ws → (room words d : ℕ)
+      → (withWorkspace words (bookWritten c ws room) ≡ refuse 10 d) ↔ ((16384 ≤ words) × Crowded cs ws × (d ≡ 4))
+  pub answer-crowded : (q c b qs cs bs : List ℕ) → Question q qs → Catalogue c cs → readBook cs b ≡ accepted bs → (room words d : ℕ)
+      → (withWorkspace words (answerAnswer q c b room) ≡ refuse 10 d) ↔ ((16384 ≤ words) × Crowded cs bs × (d ≡ 4))
+  -- a search gives the sheet of accepted files, making a book the book, and neither anything of others
+  pub search-gives : (p r ps rs : List ℕ) → Question p ps → Record r rs → (room words : ℕ)
+      → Fitted words (OverFile room (sheetOf (patternOf ps) rs)) (sheetOf (patternOf ps) rs ∷ []) (withWorkspace words (searchAnswer p r room))
+  pub search-only : (p r : List ℕ) (room words : ℕ) → Full (withWorkspace words (searchAnswer p r room))
+      → (ps : List ℕ) × (rs : List ℕ) × Question p ps × Record r rs
+  pub make-book-gives : (c r cs rs : List ℕ) → Catalogue c cs → Record r rs → (room words : ℕ)
+      → Fitted words (OverFile room (bookOf cs rs)) (bookOf cs rs ∷ []) (withWorkspace words (makeBookAnswer c r room))
+  pub make-book-only : (c r : List ℕ) (room words : ℕ) → Full (withWorkspace words (makeBookAnswer c r room))
+      → (cs : List ℕ) × (rs : List ℕ) × Catalogue c cs × Record r rs
+  -- a quote is given of accepted files alone (what it says is in demand 2); it has no output to fit
+  pub quote-only : (q c : List ℕ) (words : ℕ) → Full (withWorkspace words (quoteAnswer q c)) → (qs : List ℕ) × (cs : List ℕ) × Question q qs × Catalogue c cs
+  -- answering gives the answer from the book to a covered question, showing the two records of an uncovered one
+  pub answer-gives : (q c b qs cs bs : List ℕ) → Question q qs → Catalogue c cs → Book cs b bs → Covered qs cs → (room words : ℕ)
+      → Fitted words (OverFile room (sheetBytes (answerOf (chosenOf qs cs) qs cs bs))) (sheetBytes (answerOf (chosenOf qs cs) qs cs bs) ∷ [])
+      (withWorkspace words (answerAnswer q c b room))
+  pub answer-only : (q c b : List ℕ) (room words : ℕ) → Full (withWorkspace words (answerAnswer q c b room))
+      → (qs : List ℕ) × (cs : List ℕ) × (bs : List ℕ) × Question q qs × Catalogue c cs × Book cs b bs × Covered qs cs
+  pub show-gives : (q c qs cs : List ℕ) → Question q qs → Catalogue c cs → Uncovered qs cs → (room room′ words : ℕ)
+      → Fitted words (OverEither room room′ (recordBytes (firstOf qs)) (recordBytes (secondOf qs cs))) (recordBytes (firstOf qs) ∷ recordBytes (secondOf qs cs) ∷ [])
+      (withWorkspace words (showAnswer q c room room′))
+  pub show-only : (q c : List ℕ) (room room′ words : ℕ) → Full (withWorkspace words (showAnswer q c room room′))
+      → (qs : List ℕ) × (cs : List ℕ) × Question q qs × Catalogue c cs × Uncovered qs cs
+  -- a full result tells 0, the length of each output and the values; it stands at the front of each output, and the rest is as it was
   pub full : (blank : List ℕ) (r : Told) (outs outs′ : List (List ℕ)) (work work′ values : List ℕ) (outputs : List (List ℕ))
-      → Settled blank (give values outputs) r outs outs′ work work′ → outs′ ≡ fronts outputs outs
+      → Settled blank (give values outputs) r outs outs′ work work′ → (outs′ ≡ fronts outputs outs) × (r ≡ told 0 (map length outputs ++ values)) × Worked work work′
+  pub front : (o l : List ℕ) → fronts (o ∷ []) (l ∷ []) ≡ (o ++ drop (length o) l) ∷ []
+  pub both-fronts : (o o′ l l′ : List ℕ) → fronts (o ∷ o′ ∷ []) (l ∷ l′ ∷ []) ≡ (o ++ drop (length o) l) ∷ (o′ ++ drop (length o′) l′) ∷ []
   -- "a refusal leaves the output untouched", and tells its number and its detail
   pub untouched : (blank : List ℕ) (r : Told) (outs outs′ : List (List ℕ)) (work work′ : List ℕ) (number detail : ℕ)
-      → Settled blank (refuse number detail) r outs outs′ work work′ → (outs′ ≡ outs) × (r ≡ told number (detail ∷ blank))
+      → Settled blank (refuse number detail) r outs outs′ work work′ → (outs′ ≡ outs) × (r ≡ told number (detail ∷ blank)) × Worked work work′
 
 -- ---- Demand 2. "Matches are the greatest simulation (source 001), all links or none. A quote says covered exactly when each question link is
 -- matched by a link of some extract that fits the question as a whole. Files read are written back as the same bytes; files written are read
 -- back as the same content."
-
--- the content of accepted files: none of 1 to 10 falls to them
-abbrev pub Question : List ℕ → List ℕ → Type 0
-Question q qs = readPattern q ≡ accepted qs
-
-abbrev pub Catalogue : List ℕ → List ℕ → Type 0
-Catalogue c cs = readCatalogue c ≡ accepted cs
-
-abbrev pub Record : List ℕ → List ℕ → Type 0
-Record r rs = readRecord r ≡ accepted rs
-
-pub record Book (cs b bs : List ℕ) : Type 0 where
-  pub read : readBook cs b ≡ accepted bs
-  pub few : length (pairsOf (edgeCounts cs) bs) ≤ 8192
-
-abbrev pub extracts : List ℕ → List Pattern
-extracts cs = map patternOf (viewsOf cs)
-
--- the extracts in a set match every link of the question
-abbrev pub Covers : ℕ → List ℕ → List ℕ → Type 0
-Covers set qs cs = coversIn (mapping (patternOf qs) (extracts cs)) set (length (extracts cs)) (edgesOf qs) ≡ true
-
--- what a quote says: covered or uncovered
-abbrev pub Covered : List ℕ → List ℕ → Type 0
-Covered qs cs = Covers everyView qs cs
-
-abbrev pub Uncovered : List ℕ → List ℕ → Type 0
-Uncovered qs cs = coversIn (mapping (patternOf qs) (extracts cs)) everyView (length (extracts cs)) (edgesOf qs) ≡ false
 
 -- a pair is listed under an edge: every node of P has a partner, and both ends of the pair, an edge of G, are partners of the edge's ends
 pub record Matching (P : Pattern) (G : Graph) (e f : Pair) : Type 0 where
@@ -109,6 +243,12 @@ pub record Matching (P : Pattern) (G : Graph) (e f : Pair) : Type 0 where
   pub edge : In f (G .edges)
   pub tail : In (e .0, f .0) (sim P G)
   pub head : In (e .1, f .1) (sim P G)
+
+-- two records with the same kinds and the same links, in whatever order
+pub record SameLinks (rs rs′ : List ℕ) : Type 0 where
+  pub kinds : graphOf rs .labels ≡ graphOf rs′ .labels
+  pub there : (f : Pair) → In f (graphOf rs .edges) → In f (graphOf rs′ .edges)
+  pub back : (f : Pair) → In f (graphOf rs′ .edges) → In f (graphOf rs .edges)
 
 -- the link e of the question Q stands in the list of a link of an extract that fits Q, read as a record, as a whole
 pub record Matched (Q : Pattern) (Ps : List Pattern) (e : Pair) : Type 0 where
@@ -119,10 +259,18 @@ pub record Matched (Q : Pattern) (Ps : List Pattern) (e : Pair) : Type 0 where
   pub lists : In (code (e .0) (e .1)) (getD (matchSets extract (asGraph Q)) link [])
   pub whole : (u : ℕ) → u < length (extract .labels) → (v : ℕ) × In (u, v) (sim extract (asGraph Q))
 
+-- "question link e is matched by an extract link if that link's list contains e": here by a link of one of the extracts in a set
+pub record MatchedIn (Q : Pattern) (Ps : List Pattern) (set : ℕ) (e : Pair) : Type 0 where
+  pub extract : ℕ
+  pub given : extract < length Ps
+  pub in-set : T (bit set extract)
+  pub link : ℕ
+  pub lists : In (code (e .0) (e .1)) (getD (matchSets (getD Ps extract noPattern) (asGraph Q)) link [])
+
 -- what was read is written back as the same bytes s; what was written is read back as the same content ws
 pub record RoundTrip (read : List ℕ → ℕ → Answer) (write : List ℕ → ℕ → Answer) : Type 0 where
-  pub back : (s ws : List ℕ) (room room′ words : ℕ) → ((i : ℕ) → i < length s → getD s i 0 < 256) → withWorkspace words (read s room) ≡ give [] (ws ∷ [])
-      → length s ≤ room′ → withWorkspace words (write ws room′) ≡ give [] (s ∷ [])
+  pub back : (s ws : List ℕ) (room room′ words : ℕ) → Below 256 s → withWorkspace words (read s room) ≡ give [] (ws ∷ []) → length s ≤ room′
+      → withWorkspace words (write ws room′) ≡ give [] (s ∷ [])
   pub again : (s ws : List ℕ) (room room′ words : ℕ) → withWorkspace words (write ws room) ≡ give [] (s ∷ []) → length ws ≤ room′
       → withWorkspace words (read s room′) ≡ give [] (ws ∷ [])
 
@@ -131,19 +279,50 @@ pub record Demand2 : Type 1 where
   pub simulates : (P : Pattern) (G : Graph) → IsSim P G (λ u v. In (u, v) (sim P G))
   pub greatest : (P : Pattern) (G : Graph) (R : ℕ → ℕ → Type 0) → IsSim P G R → (u v : ℕ) → R u v → In (u, v) (sim P G)
   -- a search gives the match sets as a sheet, and a book has a sheet of them for each extract
-  pub searches : (p r ps rs : List ℕ) → Question p ps → Record r rs → (room : ℕ) → searchAnswer p r room ≡ fitFile room (sheetBytes (matchSets (patternOf ps) (graphOf rs)))
-  pub books : (c r cs rs : List ℕ) → Catalogue c cs → Record r rs → (room : ℕ) → makeBookAnswer c r room ≡ fitFile room (bookBytes (viewSheets cs (graphOf rs)))
+  pub searches : (p r ps rs : List ℕ) → Question p ps → Record r rs → (room : ℕ) → searchAnswer p r room ≡ fitFile room (sheetOf (patternOf ps) rs)
+  pub books : (c r cs rs : List ℕ) → Catalogue c cs → Record r rs → (room : ℕ) → makeBookAnswer c r room ≡ fitFile room (bookOf cs rs)
   -- "matches": the match sets list exactly what the greatest simulation matches
   pub lists : (r rs : List ℕ) → Record r rs → (P : Pattern) (i : ℕ) → i < length (P .edges) → (f : Pair) → f .1 < 4096
       → In (code (f .0) (f .1)) (getD (matchSets P (graphOf rs)) i []) ↔ Matching P (graphOf rs) (getD (P .edges) i (0, 0)) f
-  -- "all links or none"
+  -- the sheet that a search gives is read back as its match sets: for each link the number of its pairs, then each pair's from and to
+  pub sheet-back : (p r ps rs out : List ℕ) → Question p ps → Record r rs → (room words : ℕ) → withWorkspace words (searchAnswer p r room) ≡ give [] (out ∷ [])
+      → Sheet ps out (fieldsOf (matchSets (patternOf ps) (graphOf rs)))
+  pub each-link : (l : List ℕ) (ls : List (List ℕ)) → fieldsOf (l ∷ ls) ≡ length l ∷ (ends l ++ fieldsOf ls)
+  pub no-links : fieldsOf [] ≡ []
+  pub each-pair : (a b : ℕ) (l : List ℕ) → b < 4096 → ends (code a b ∷ l) ≡ a ∷ b ∷ ends l
+  pub no-pairs : ends [] ≡ []
+  -- "a sheet with m links and t pairs takes (14·m + 24·t)/8 bytes, rounded up"
+  pub sheet-length : (p r ps rs : List ℕ) → Question p ps → Record r rs
+      → length (sheetOf (patternOf ps) rs) ≡ (14 * edgesOf ps + 24 * total (matchSets (patternOf ps) (graphOf rs)) + 7) / 8
+  -- "links stand in any order, and that order never alters a sheet"
+  pub any-order : (r r′ rs rs′ : List ℕ) → Record r rs → Record r′ rs′ → SameLinks rs rs′ → (p : List ℕ) (room words : ℕ)
+      → withWorkspace words (searchAnswer p r room) ≡ withWorkspace words (searchAnswer p r′ room)
+  pub any-order-books : (r r′ rs rs′ : List ℕ) → Record r rs → Record r′ rs′ → SameLinks rs rs′ → (c : List ℕ) (room words : ℕ)
+      → withWorkspace words (makeBookAnswer c r room) ≡ withWorkspace words (makeBookAnswer c r′ room)
+  -- "all links or none", of a lone pattern and of each extract of a catalogue
   pub all-or-none : (P : Pattern) (G : Graph) → T (sound P) → ((l : List ℕ) → In l (matchSets P G) → 0 < length l) ⊎ ((l : List ℕ) → In l (matchSets P G) → l ≡ [])
   pub patterns-sound : (p ps : List ℕ) → Question p ps → T (sound (patternOf ps))
+  pub extracts-sound : (c cs : List ℕ) → Catalogue c cs → (P : Pattern) → In P (extracts cs) → T (sound P)
   -- "a quote says covered exactly when .."
   pub quotes : (q c qs cs : List ℕ) → Question q qs → Catalogue c cs → Covered qs cs ↔ ((e : Pair) → In e (patternOf qs .edges) → Matched (patternOf qs) (extracts cs) e)
-  -- which is the first value that the call gives: 1, or 0 for an uncovered question
-  pub says-covered : (q c qs cs : List ℕ) → Question q qs → Catalogue c cs → Covered qs cs → (vs : List ℕ) × (quoteAnswer q c ≡ give (1 ∷ vs) [])
-  pub says-uncovered : (q c qs cs : List ℕ) → Question q qs → Catalogue c cs → Uncovered qs cs → (vs : List ℕ) × (quoteAnswer q c ≡ give (0 ∷ vs) [])
+  pub covers : (q c qs cs : List ℕ) → Question q qs → Catalogue c cs → (set : ℕ)
+      → Covers set qs cs ↔ ((i : ℕ) → i < edgesOf qs → MatchedIn (patternOf qs) (extracts cs) set (linkOf qs i))
+  -- which is the first value that the call gives, where enough words are lent: 1, or 0 for an uncovered question
+  pub says-covered : (q c qs cs : List ℕ) → Question q qs → Catalogue c cs → (words : ℕ)
+      → ((vs : List ℕ) × (withWorkspace words (quoteAnswer q c) ≡ give (1 ∷ vs) [])) ↔ ((16384 ≤ words) × Covered qs cs)
+  pub says-uncovered : (q c qs cs : List ℕ) → Question q qs → Catalogue c cs → (words : ℕ)
+      → ((vs : List ℕ) × (withWorkspace words (quoteAnswer q c) ≡ give (0 ∷ vs) [])) ↔ ((16384 ≤ words) × Uncovered qs cs)
+  -- the other values: the masks of what matches each link, the number of links, the chosen set, the lowest unmatched link; what has no meaning is 0
+  pub values-covered : (q c qs cs : List ℕ) → Question q qs → Catalogue c cs → Covered qs cs
+      → quoteAnswer q c ≡ give (flat (record { covered = 1; mapping = mapping (patternOf qs) (extracts cs); edges = edgesOf qs; chosen = chosenOf qs cs; lowest = 0 })) []
+  pub values-uncovered : (q c qs cs : List ℕ) → Question q qs → Catalogue c cs → Uncovered qs cs
+      → quoteAnswer q c ≡ give (flat (record { covered = 0; mapping = mapping (patternOf qs) (extracts cs); edges = edgesOf qs; chosen = 0; lowest = lacking qs cs })) []
+  -- "for each question link, the extract links that match it": bit f in the mask of link i and extract a says that link f of a lists i
+  pub maps : (q c qs cs : List ℕ) → Question q qs → Catalogue c cs → (i a f : ℕ) → i < edgesOf qs → a < length (extracts cs) → f < length (extractOf cs a .edges)
+      → T (bit (getD (mapping (patternOf qs) (extracts cs)) (16 * i + a) 0) f) ↔ In (code (linkOf qs i .0) (linkOf qs i .1)) (getD (matchSets (extractOf cs a) (asGraph (patternOf qs))) f [])
+  -- the chosen set covers the question, and "drop an extract if those still kept cover the question without it" has left none to drop
+  pub choice-covers : (qs cs : List ℕ) → Covered qs cs → Covers (chosenOf qs cs) qs cs
+  pub choice-needs : (qs cs : List ℕ) (a : ℕ) → T (bit (chosenOf qs cs) a) → Covers (chosenOf qs cs - 2 ^ a) qs cs → ⊥
   -- "files read are written back as the same bytes; files written are read back as the same content"
   pub patterns : RoundTrip patternRead patternWritten
   pub catalogues : RoundTrip catalogueRead catalogueWritten
@@ -156,23 +335,11 @@ pub record Demand2 : Type 1 where
 -- uncovered, the two shown records are accepted, the second lacks just one link of the first, every extract's lists are byte for byte equal on
 -- both, and the question's sheets differ."
 
--- "the extract lists made from the record": the sheets of all extracts, laid out as a book
-abbrev pub bookOf : List ℕ → List ℕ → List ℕ
-bookOf cs rs = bookBytes (viewSheets cs (graphOf rs))
-
--- the link of the question that the second shown record lacks: the lowest that no extract matches
-abbrev pub lacking : List ℕ → List ℕ → ℕ
-lacking qs cs = lowestUnmatched (mapping (patternOf qs) (extracts cs)) (length (extracts cs)) (edgesOf qs)
-
-abbrev pub linkOf : List ℕ → ℕ → Pair
-linkOf qs e = getD (patternOf qs .edges) e (0, 0)
-
--- the content of "the two shown records": the question read as a record, and the same without its lowest unmatched link
-abbrev pub firstOf : List ℕ → List ℕ
-firstOf qs = graphFields qs
-
-abbrev pub secondOf : List ℕ → List ℕ → List ℕ
-secondOf qs cs = fewerFields qs (lacking qs cs)
+-- the link of the question that the second shown record lacks
+pub record LowestUnmatched (qs cs : List ℕ) : Type 0 where
+  pub below : lacking qs cs < edgesOf qs
+  pub unmatched : Matched (patternOf qs) (extracts cs) (linkOf qs (lacking qs cs)) → ⊥
+  pub lower : (e : ℕ) → e < lacking qs cs → Matched (patternOf qs) (extracts cs) (linkOf qs e)
 
 -- what is shown of an uncovered question
 pub record Shown (qs cs : List ℕ) : Type 0 where
@@ -186,10 +353,10 @@ pub record Shown (qs cs : List ℕ) : Type 0 where
   pub in-first : In (linkOf qs (lacking qs cs)) (graphOf (firstOf qs) .edges)
   pub not-in-second : In (linkOf qs (lacking qs cs)) (graphOf (secondOf qs cs) .edges) → ⊥
   -- "every extract's lists are byte for byte equal on both", and so are the books
-  pub equal : (P : Pattern) → In P (extracts cs) → sheetBytes (matchSets P (graphOf (firstOf qs))) ≡ sheetBytes (matchSets P (graphOf (secondOf qs cs)))
+  pub equal : (P : Pattern) → In P (extracts cs) → sheetOf P (firstOf qs) ≡ sheetOf P (secondOf qs cs)
   pub equal-books : bookOf cs (firstOf qs) ≡ bookOf cs (secondOf qs cs)
   -- "the question's sheets differ"
-  pub differ : sheetBytes (matchSets (patternOf qs) (graphOf (firstOf qs))) ≡ sheetBytes (matchSets (patternOf qs) (graphOf (secondOf qs cs))) → ⊥
+  pub differ : sheetOf (patternOf qs) (firstOf qs) ≡ sheetOf (patternOf qs) (secondOf qs cs) → ⊥
 
 pub record Demand3 : Type 0 where
   -- "for every accepted question and catalogue and every accepted record: if covered" (here by the extracts in any set), "and the extract lists
@@ -207,26 +374,62 @@ pub record Demand3 : Type 0 where
   pub shows : (q c qs cs : List ℕ) → Question q qs → Catalogue c cs → Uncovered qs cs → (room room′ words : ℕ)
       → withWorkspace words (showAnswer q c room room′) ≡ withWorkspace words (fitBoth room room′ (recordBytes (firstOf qs)) (recordBytes (secondOf qs cs)))
   pub uncovered : (q c qs cs : List ℕ) → Question q qs → Catalogue c cs → Uncovered qs cs → Shown qs cs
-  -- and an answer from an accepted book is refused with 11 and that link
-  pub refused : (q c b qs cs bs : List ℕ) → Question q qs → Catalogue c cs → Uncovered qs cs → Book cs b bs → (room : ℕ) → answerAnswer q c b room ≡ refuse 11 (lacking qs cs)
+  -- "its lowest unmatched link"
+  pub lowest : (q c qs cs : List ℕ) → Question q qs → Catalogue c cs → Uncovered qs cs → LowestUnmatched qs cs
+  -- 13, "a showing was wanted for a covered question", exactly then
+  pub shows-covered : (q c qs cs : List ℕ) → Question q qs → Catalogue c cs → (room room′ words d : ℕ)
+      → (withWorkspace words (showAnswer q c room room′) ≡ refuse 13 d) ↔ ((16384 ≤ words) × Covered qs cs × (d ≡ 0))
+  -- 11, "an answer was wanted and the question isn't covered", exactly then, with "the lowest unmatched link"
+  pub refused : (q c b qs cs bs : List ℕ) → Question q qs → Catalogue c cs → Book cs b bs → (room words d : ℕ)
+      → (withWorkspace words (answerAnswer q c b room) ≡ refuse 11 d) ↔ ((16384 ≤ words) × Uncovered qs cs × (d ≡ lacking qs cs))
 
 -- ---- what else holds of answers
 
--- the set that the call chooses
-abbrev pub chosenOf : List ℕ → List ℕ → ℕ
-chosenOf qs cs = chosen (mapping (patternOf qs) (extracts cs)) (edgesOf qs) (length (extracts cs))
+-- "candidates for question link e are the pairs listed under those links of chosen extracts that match e": here of the extracts in a set,
+-- each with its sheet from a book. A pair's second number has 12 bits.
+pub record Candidate (Q : Pattern) (Ps : List Pattern) (sheets : List (List (List ℕ))) (set : ℕ) (e f : Pair) : Type 0 where
+  pub by : MatchedIn Q Ps set e
+  pub lists : In (code (f .0) (f .1)) (getD (getD sheets (by .extract) []) (by .link) [])
+  pub narrow : f .1 < 4096
 
-pub record Answers : Type 0 where
+-- a choice K of pairs from the candidates: K e f says that the pair f is kept for the question link e
+abbrev pub Chooses : Pattern → (Pair → Pair → Type 0) → (Pair → Pair → Type 0) → Type 0
+Chooses Q Candidates K = (e f : Pair) → K e f → In e (Q .edges) × Candidates e f
+
+-- "for each pair (v, v') kept for a link (u, u'), each question link leaving u keeps some pair that begins at v, and each leaving u' keeps some
+-- pair that begins at v'"
+pub record SupportsItself (Q : Pattern) (K : Pair → Pair → Type 0) : Type 0 where
+  pub leaving-from : (u u′ v v′ : ℕ) → K (u, u′) (v, v′) → (w : ℕ) → In (u, w) (Q .edges) → (x : ℕ) × K (u, w) (v, x)
+  pub leaving-to : (u u′ v v′ : ℕ) → K (u, u′) (v, v′) → (w : ℕ) → In (u′, w) (Q .edges) → (x : ℕ) × K (u′, w) (v′, x)
+
+-- "the greatest choice of pairs from the candidates such that .."
+pub record GreatestChoice (Q : Pattern) (Candidates K : Pair → Pair → Type 0) : Type 1 where
+  pub chooses : Chooses Q Candidates K
+  pub supports : SupportsItself Q K
+  pub greatest : (L : Pair → Pair → Type 0) → Chooses Q Candidates L → SupportsItself Q L → (e f : Pair) → L e f → K e f
+
+-- the answer lists, for each link, what the greatest choice keeps; "if any link keeps none, all are zero"
+pub record Joins (set : ℕ) (qs cs bs : List ℕ) : Type 1 where
+  pub keeps : Pair → Pair → Type 0
+  pub is : GreatestChoice (patternOf qs) (Candidate (patternOf qs) (extracts cs) (sheetsIn (edgeCounts cs) bs) set) keeps
+  pub lists : (i : ℕ) → i < length (patternOf qs .edges) → (f : Pair) → f .1 < 4096
+      → In (code (f .0) (f .1)) (getD (answerOf set qs cs bs) i []) ↔ (((e : Pair) → In e (patternOf qs .edges) → (h : Pair) × keeps e h) × keeps (linkOf qs i) f)
+
+pub record Answers : Type 1 where
+  -- "the answer is the greatest choice ..", from any book, also one "that belongs to no record"
+  pub joins : (set : ℕ) (qs cs bs : List ℕ) → Joins set qs cs bs
   -- "two accepted books that agree on the chosen sheets give the same answer"
   pub same : (q c qs cs b b′ bs bs′ : List ℕ) → Question q qs → Catalogue c cs → Book cs b bs → Book cs b′ bs′
       → ((a : ℕ) → T (bit (chosenOf qs cs) a) → getD (sheetsIn (edgeCounts cs) bs) a [] ≡ getD (sheetsIn (edgeCounts cs) bs′) a [])
       → (room : ℕ) → answerAnswer q c b room ≡ answerAnswer q c b′ room
-  -- an answer, also from a book of no record, is read back as its content
+  -- an answer, also from a book of no record, is read back as its content, and is as long as such a sheet
   pub back : (q c b qs cs bs out : List ℕ) → Question q qs → Catalogue c cs → Book cs b bs → (room : ℕ) → answerAnswer q c b room ≡ give [] (out ∷ [])
-      → readSheet qs out ≡ accepted (fieldsOf (answerSets (patternOf qs) (viewsIn (chosenOf qs cs) (extracts cs) (sheetsIn (edgeCounts cs) bs))))
+      → Sheet qs out (fieldsOf (answerOf (chosenOf qs cs) qs cs bs))
+  pub answer-length : (q qs cs b bs : List ℕ) → Question q qs → Book cs b bs → (set : ℕ)
+      → length (sheetBytes (answerOf set qs cs bs)) ≡ (14 * edgesOf qs + 24 * total (answerOf set qs cs bs) + 7) / 8
   -- for an uncovered question no function whatsoever of the extracts' lists gives the question's sheet on every record
   pub no-other-way : (q c qs cs : List ℕ) → Question q qs → Catalogue c cs → Uncovered qs cs → (F : List (List (List ℕ)) → List ℕ)
-      → ((r rs : List ℕ) → Record r rs → F (viewSheets cs (graphOf rs)) ≡ sheetBytes (matchSets (patternOf qs) (graphOf rs))) → ⊥
+      → ((r rs : List ℕ) → Record r rs → F (viewSheets cs (graphOf rs)) ≡ sheetOf (patternOf qs) rs) → ⊥
 
 -- ---- what holds of the listing of a quote
 

@@ -1,0 +1,116 @@
+-- The join is the greatest choice of pairs from the candidates that supports itself.
+use Prim.Native.Nat.{ℕ, _%_, _<_}
+use mathlib.Core.Path.{_≡_, refl, sym, ap, subst, _∙_}
+use mathlib.Core.Logic.{_↔_}
+use mathlib.Core.List.{List, []}
+use lib.ListN.{length, getD}
+use native.Mathlib.Omega.{arith}
+use Rattle.packed.specs.Formats.{code}
+use Rattle.packed.specs.Contents.{edgeCounts, sheetsIn}
+use Rattle.matching.specs.Lists.{In}
+use Rattle.matching.specs.Simulation.{Pair, Pattern, patternOf, asGraph, ascending, matchSets}
+use Rattle.matching.specs.Join.{View, pairOf, candidates, answerSets}
+use Rattle.matching.proofs.ByEdge.{answerTo}
+use Rattle.matching.proofs.ListLaws.{in-cast, getD-each}
+use Rattle.matching.proofs.CodeLaws.{code-same, ascending-say, ascending-by}
+use Rattle.matching.proofs.MatchSetLaws.{sets-length}
+use Rattle.matching.proofs.JoinLaws.{Supported, Joined, join-candidate, join-supported, join-most, complete-say, complete-by, answer-say, answer-by, answer-each, code-pair, pair-code}
+use Rattle.containment.specs.Quote.{noPattern}
+use Rattle.containment.specs.Answer.{viewsIn}
+use Rattle.containment.specs.Demands.{extracts, Candidate, SupportsItself, GreatestChoice, Joins}
+use Rattle.containment.proofs.DemandRules.{place-below}
+use Rattle.containment.proofs.CandidateLaws.{Offered, offered-say, offered-by}
+
+-- the second number of the pair of a code has 12 bits
+pair-narrow : {f : Pair} (c : ℕ) → f ≡ pairOf c → f .1 < 4096
+unfolding pairOf
+pair-narrow {f} c e = let q : f .1 ≡ c % 4096 = ap (λ (g : Pair). g .1) e in omega arith
+
+module _ (Q : Pattern) (Ps : List Pattern) (sheets : List (List (List ℕ))) (set : ℕ) where
+  abbrev views : List View
+  views = viewsIn set Ps sheets
+
+  -- ---- candidates
+  candidate-say : {e f : Pair} → In f (candidates Q views e) → Candidate Q Ps sheets set e f
+  candidate-say {e} {f} i =
+      let r = offered-say Q set Ps sheets e i in
+      let o = r .2 in
+      let q : code (f .0) (f .1) ≡ r .0 = ap (λ (g : Pair). code (g .0) (g .1)) (r .1) ∙ pair-code (r .0) in
+      record {
+        by = record { extract = o .view; given = o .given; in-set = o .chosen; link = o .edge; lists = o .matches };
+        lists = in-cast (sym q) (o .lists);
+        narrow = pair-narrow (r .0) (r .1);
+      }
+
+  candidate-by : {e f : Pair} → Candidate Q Ps sheets set e f → In f (candidates Q views e)
+  candidate-by {e} {f} k =
+      let m = k .by in
+      let P : Pattern = getD Ps (m .extract) noPattern in
+      let o : Offered Q set Ps sheets e (code (f .0) (f .1)) = record {
+        view = m .extract;
+        given = m .given;
+        chosen = m .in-set;
+        edge = m .link;
+        below = place-below (getD sheets (m .extract) []) (m .link) (k .lists);
+        matches = m .lists;
+        lists = k .lists;
+      } in
+      let l : m .link < length (P .edges) = omega (arith, place-below (matchSets P (asGraph Q)) (m .link) (m .lists), sets-length P (asGraph Q)) in
+      in-cast (code-pair (k .narrow)) (offered-by Q set Ps sheets e o l)
+
+  -- ---- the greatest choice
+  abbrev Keeps : Pair → Pair → Type 0
+  Keeps e f = Joined Q views e f
+
+  supports : SupportsItself Q Keeps
+  supports = record {
+    leaving-from = λ u u′ v v′ k w i. begins (join-supported Q views k .tail (u, w) i refl);
+    leaving-to = λ u u′ v v′ k w i. begins (join-supported Q views k .head (u′, w) i refl);
+  }
+    where
+      begins : {g : Pair} {v : ℕ} → (h : Pair) × Keeps g h × (h .0 ≡ v) → (x : ℕ) × Keeps g (v, x)
+      begins {g} {v} (h, k, q) = (h .1, subst (λ z. Keeps g (z, h .1)) q k)
+
+  supported-of : (L : Pair → Pair → Type 0) → SupportsItself Q L → (e f : Pair) → L e f → Supported Q L e f
+  supported-of L s e f k = record {
+    tail = λ g i q.
+        let r = s .leaving-from (e .0) (e .1) (f .0) (f .1) k (g .1) (subst (λ z. In (z, g .1) (Q .edges)) q i) in
+        ((f .0, r .0), subst (λ z. L (z, g .1) (f .0, r .0)) (sym q) (r .1), refl);
+    head = λ g i q.
+        let r = s .leaving-to (e .0) (e .1) (f .0) (f .1) k (g .1) (subst (λ z. In (z, g .1) (Q .edges)) q i) in
+        ((f .1, r .0), subst (λ z. L (z, g .1) (f .1, r .0)) (sym q) (r .1), refl);
+  }
+
+  greatest-choice : GreatestChoice Q (Candidate Q Ps sheets set) Keeps
+  greatest-choice = record {
+    chooses = λ e f k. let r = join-candidate Q views k in (r .0, candidate-say (r .1));
+    supports = supports;
+    greatest = λ L c s. join-most Q views L (λ e f k. let r = c e f k in (r .0, candidate-by (r .1))) (supported-of L s);
+  }
+
+  -- ---- the lists of the answer
+  abbrev Complete : Type 0
+  Complete = (e : Pair) → In e (Q .edges) → (h : Pair) × Keeps e h
+
+  answer-narrow : (e : Pair) {f : Pair} → In f (answerTo Q views e) → f .1 < 4096
+  answer-narrow e i = candidate-say (join-candidate Q views (answer-say Q views i .1) .1) .narrow
+
+  answer-lists : (i : ℕ) → i < length (Q .edges) → (f : Pair) → f .1 < 4096
+      → In (code (f .0) (f .1)) (getD (answerSets Q views) i []) ↔ (Complete × Keeps (getD (Q .edges) i (0, 0)) f)
+  answer-lists i h f n =
+      let e = getD (Q .edges) i (0, 0) in
+      let at : getD (answerSets Q views) i [] ≡ ascending (answerTo Q views e) =
+      ap (λ ls. getD ls i []) (answer-each Q views) ∙ getD-each (λ g. ascending (answerTo Q views g)) (Q .edges) i (0, 0) [] h in (
+        λ m.
+            let r = ascending-say (answerTo Q views e) (subst (λ l. In (code (f .0) (f .1)) l) at m) in
+            let a = answer-say Q views (in-cast (sym (code-same n (answer-narrow e (r .1)) (r .2))) (r .1)) in
+            (complete-say Q views (a .0), a .1),
+        λ m. subst (λ l. In (code (f .0) (f .1)) l) (sym at) (ascending-by (answer-by Q views (complete-by Q views (m .0)) (m .1))),
+      )
+
+pub answer-joins : (set : ℕ) (qs cs bs : List ℕ) → Joins set qs cs bs
+answer-joins set qs cs bs = record {
+  keeps = Keeps (patternOf qs) (extracts cs) (sheetsIn (edgeCounts cs) bs) set;
+  is = greatest-choice (patternOf qs) (extracts cs) (sheetsIn (edgeCounts cs) bs) set;
+  lists = answer-lists (patternOf qs) (extracts cs) (sheetsIn (edgeCounts cs) bs) set;
+}

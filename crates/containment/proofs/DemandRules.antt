@@ -1,0 +1,489 @@
+-- The rules of the calls: where 14 and 12 are given and where the output, and what falls to covered and to uncovered queries.
+use Prim.Native.Nat.{ℕ, _<_, _≤_}
+use mathlib.Core.Path.{_≡_, refl, sym, ap, subst, _∙_}
+use mathlib.Core.Bool.{Bool, true, false, _||_}
+use mathlib.Core.Logic.{_⊎_, inl, inr, _↔_, ⊎-elim}
+use mathlib.Core.List.{List, [], _∷_}
+use lib.ListN.{length, getD, List·getD-eq-default}
+use lib.Dec.{T, ltb}
+use borrow.Author.Tests.{lt-ltb, le-ltb}
+use native.Mathlib.Omega.{arith}
+use Rattle.packed.specs.Format.{Format, Result, ok, bad, pick, decode, encode}
+use Rattle.packed.specs.Contents.{edgesOf, edgeCounts, sheetsIn}
+use Rattle.packed.specs.Plain.{Below, PatternFile, CatalogueFile, RecordFile, SheetFile, BookFile}
+use Rattle.packed.specs.Formats.{code, pattern, catalogue, record′, sheet, book}
+use Rattle.packed.specs.Calls.{Answer, give, refuse, withWorkspace, Verdict, accepted, rejected, inFile, writeFile, judged, readPattern, readCatalogue, readRecord, readBook, pairsOf, uncrowdedBy, fit, fitFile, patternRead, catalogueRead, recordRead, sheetRead, bookRead, patternWritten, catalogueWritten, recordWritten, sheetWritten, bookWritten}
+use Rattle.packed.proofs.OrderCases.{lt-or-ge}
+use Rattle.packed.proofs.RoundTrip.{Bytes}
+use Rattle.packed.proofs.Accepted.{pattern-accepted, catalogue-accepted, record-accepted, sheet-accepted, book-accepted, written-accepted}
+use Rattle.matching.specs.Lists.{In}
+use Rattle.matching.specs.Simulation.{Pair, Pattern, patternOf, asGraph, matchSets}
+use Rattle.matching.specs.Join.{lists}
+use Rattle.matching.proofs.ByEdge.{matchedBy, matched}
+use Rattle.matching.specs.Search.{sheetBytes}
+use Rattle.matching.proofs.ListLaws.{not-in-none, in-at, some-in, in-some}
+use Rattle.matching.proofs.CodeLaws.{member-in}
+use Rattle.matching.proofs.JoinLaws.{lists-by}
+use Rattle.containment.specs.Choice.{chosen}
+use Rattle.containment.specs.Quote.{mapping}
+use Rattle.containment.specs.Answer.{answerBytes, answerFor, answerBy, answerAnswer}
+use Rattle.containment.specs.Show.{recordBytes, fitBoth, showFor, showAnswer}
+use Rattle.containment.specs.Demands.{Question, Catalogue, Record, Sheet, Uncrowded, Crowded, Book, extracts, extractOf, linkOf, Covers, Covered, Uncovered, lacking, chosenOf, answerOf, firstOf, secondOf, Full, Over, OverFile, OverEither, Fitted, Reads, Writes, Matched, MatchedIn}
+use Rattle.containment.proofs.SetBits.{test-cases}
+use Rattle.containment.proofs.ChoiceLaws.{covers-exactly}
+use Rattle.containment.proofs.QuoteLaws.{test-is, place-of, matched-exactly, Listed, matched-say, matched-by, listed-whole}
+use Rattle.containment.proofs.CoveredBytes.{question-bounds, few-views, coveredBy, answer-covered, answer-uncovered}
+
+-- ---- answers are told apart
+
+pub number-same : {m n d e : ℕ} → refuse m d ≡ refuse n e → m ≡ n
+number-same h = cc
+
+detail-same : {m n d e : ℕ} → refuse m d ≡ refuse n e → d ≡ e
+detail-same h = cc
+
+pub not-refused : {vs : List ℕ} {os : List (List ℕ)} {n d : ℕ} → give vs os ≡ refuse n d → ⊥
+not-refused h = let z : _≡_ {A = ℕ} 0 1 = cc in omega arith
+
+-- ---- an accepted file's content goes on
+
+pub goes-on : {v : Verdict} {ws : List ℕ} (k : List ℕ → Answer) → v ≡ accepted ws → judged v k ≡ k ws
+unfolding judged
+goes-on k e = rw e
+
+pub not-crowded : (ms ws : List ℕ) (a : Answer) → length (pairsOf ms ws) ≤ 8192 → uncrowdedBy ms ws a ≡ a
+unfolding uncrowdedBy
+not-crowded ms ws a h = rw (le-ltb 8192 (length (pairsOf ms ws)) h)
+
+-- beyond its end a list counts as zeros
+pub bytes-by : (s : List ℕ) → Below 256 s → Bytes s
+bytes-by s h i = ⊎-elim (h i) (λ (l : length s ≤ i). let z = List·getD-eq-default s 0 {n = i} l in omega arith) (lt-or-ge i (length s))
+
+-- the file with a content is what is written of it
+pub written : (file : ℕ) (F : Format) (s ws : List ℕ) → Below 256 s → decode F s ≡ ok ws → writeFile file F ws ≡ accepted s
+unfolding writeFile
+written file F s ws y e = ap (inFile file) (written-accepted F ws s .1 (bytes-by s y, e))
+
+-- ---- the workspace
+
+pub few-words : (words : ℕ) (a : Answer) → words < 16384 → withWorkspace words a ≡ refuse 14 0
+unfolding withWorkspace
+few-words words a h = rw (lt-ltb words 16384 h)
+
+pub enough-words : (words : ℕ) (a : Answer) → 16384 ≤ words → withWorkspace words a ≡ a
+unfolding withWorkspace
+enough-words words a h = rw (le-ltb words 16384 h)
+
+-- what is not 14 is answered with enough words
+pub enough-for : (words : ℕ) (a : Answer) {b : Answer} → (refuse 14 0 ≡ b → ⊥) → withWorkspace words a ≡ b → (16384 ≤ words) × (a ≡ b)
+enough-for words a n e =
+    ⊎-elim
+    (λ (h : words < 16384). absurd (n (sym (few-words words a h) ∙ e)))
+    (λ (h : 16384 ≤ words). (h, sym (enough-words words a h) ∙ e))
+    (lt-or-ge words 16384)
+
+-- ---- a full result comes of accepted files
+
+no-full : {n d : ℕ} → Full (refuse n d) → ⊥
+no-full f = not-refused (sym (f .is))
+
+full-same : {a b : Answer} → a ≡ b → Full a → Full b
+full-same e f = rw e at f
+
+pub full-words : (words : ℕ) (a : Answer) → Full (withWorkspace words a) → Full a
+full-words words a f = record { values = f .values; outputs = f .outputs; is = enough-for words a (λ z. not-refused (sym z)) (f .is) .1 }
+
+pub full-judged : (v : Verdict) (k : List ℕ → Answer) → Full (judged v k) → (ws : List ℕ) × (v ≡ accepted ws) × Full (k ws)
+unfolding judged
+full-judged (accepted ws) k f = (ws, refl, f)
+full-judged (rejected n d) k f = absurd (no-full f)
+
+pub full-twice : (v : Verdict) (w : List ℕ → Verdict) (k : List ℕ → List ℕ → Answer) → Full (judged v (λ x. judged (w x) (k x)))
+    → (x : List ℕ) × (y : List ℕ) × (v ≡ accepted x) × (w x ≡ accepted y) × Full (k x y)
+full-twice v w k f = let r = full-judged v (λ x. judged (w x) (k x)) f in let t = full-judged (w (r .0)) (k (r .0)) (r .2) in (r .0, t .0, r .1, t .1, t .2)
+
+pub full-uncrowded : (ms ws : List ℕ) (a : Answer) → Full (uncrowdedBy ms ws a) → length (pairsOf ms ws) ≤ 8192
+unfolding uncrowdedBy
+full-uncrowded ms ws a f =
+    ⊎-elim
+    (λ (h : 8192 < length (pairsOf ms ws)). absurd (no-full (rw (lt-ltb 8192 (length (pairsOf ms ws)) h) at f)))
+    (λ (h : length (pairsOf ms ws) ≤ 8192). h)
+    (lt-or-ge 8192 (length (pairsOf ms ws)))
+
+result-ok : (file : ℕ) (r : Result ℕ) (s : List ℕ) → inFile file r ≡ accepted s → r ≡ ok s
+result-ok file (ok t) s e = let q : t ≡ s = cc in ap ok q
+result-ok file (bad n) s e = absurd (let z : _≡_ {A = ℕ} 0 1 = cc in omega arith)
+
+-- what is written has the content
+pub wrote : (file : ℕ) (F : Format) (s ws : List ℕ) → writeFile file F ws ≡ accepted s → Below 256 s × (decode F s ≡ ok ws)
+unfolding writeFile
+wrote file F s ws e = let r = written-accepted F ws s .0 (result-ok file (encode F ws) s e) in (λ i h. r .0 i, r .1)
+
+-- ---- 12, or the outputs
+
+module _ (words : ℕ) (a : Answer) {NoFit : ℕ → Type 0} {outputs : List (List ℕ)} where
+  fitted-few : words < 16384 → Fitted words NoFit outputs (withWorkspace words a)
+  fitted-few h =
+      let w = few-words words a h in
+      record {
+        desk = λ d. (λ e. (h, sym (detail-same (sym w ∙ e))), λ e. w ∙ ap (refuse 14) (sym (e .1)));
+        no-fit = λ d. (λ e. absurd (let z = number-same (sym w ∙ e) in omega arith), λ e. absurd (let l = e .0 in omega arith));
+        gives = (λ e. absurd (not-refused (sym e ∙ w)), λ e. absurd (let l = e .0 in omega arith));
+        no-other = inl w;
+      }
+
+  fitted-tight : 16384 ≤ words → (n : ℕ) → a ≡ refuse 12 n → NoFit n → ((d : ℕ) → NoFit d → d ≡ n) → Fitted words NoFit outputs (withWorkspace words a)
+  fitted-tight h n q t only =
+      let w = enough-words words a h ∙ q in
+      record {
+        desk = λ d. (λ e. absurd (let z = number-same (sym w ∙ e) in omega arith), λ e. absurd (let l = e .0 in omega arith));
+        no-fit = λ d. (λ e. (h, rw (detail-same (sym w ∙ e)) at t), λ e. w ∙ ap (refuse 12) (sym (only d (e .1))));
+        gives = (λ e. absurd (not-refused (sym e ∙ w)), λ e. absurd (e .1 n t));
+        no-other = inr (inl (n, w));
+      }
+
+  fitted-given : 16384 ≤ words → a ≡ give [] outputs → ((d : ℕ) → NoFit d → ⊥) → Fitted words NoFit outputs (withWorkspace words a)
+  fitted-given h q fits =
+      let w = enough-words words a h ∙ q in
+      record {
+        desk = λ d. (λ e. absurd (not-refused (sym w ∙ e)), λ e. absurd (let l = e .0 in omega arith));
+        no-fit = λ d. (λ e. absurd (not-refused (sym w ∙ e)), λ e. absurd (fits d (e .1)));
+        gives = (λ e. (h, fits), λ e. w);
+        no-other = inr (inr w);
+      }
+
+  -- an answer that is 12 with what is needed or the outputs, by a test
+  fitted-by : (n : ℕ) → ((a ≡ refuse 12 n) × NoFit n) ⊎ ((a ≡ give [] outputs) × (NoFit n → ⊥)) → ((d : ℕ) → NoFit d → d ≡ n)
+      → Fitted words NoFit outputs (withWorkspace words a)
+  fitted-by n c only =
+      ⊎-elim fitted-few
+      (λ (h : 16384 ≤ words). ⊎-elim
+      (λ t. fitted-tight h n (t .0) (t .1) only)
+      (λ t. fitted-given h (t .0) (λ d x. t .1 (rw (only d x) at x)))
+      c)
+      (lt-or-ge words 16384)
+
+fit-tight : (room : ℕ) (o : List ℕ) → room < length o → fit room o ≡ refuse 12 (length o)
+unfolding fit
+fit-tight room o h = rw (lt-ltb room (length o) h)
+
+fit-given : (room : ℕ) (o : List ℕ) → length o ≤ room → fit room o ≡ give [] (o ∷ [])
+unfolding fit
+fit-given room o h = rw (le-ltb room (length o) h)
+
+-- an output of bytes or words
+pub fitted : (a : Answer) (words room : ℕ) (o : List ℕ) → a ≡ fit room o → Fitted words (Over room o) (o ∷ []) (withWorkspace words a)
+fitted a words room o e =
+    fitted-by words a (length o)
+    (⊎-elim
+    (λ (h : room < length o). inl (e ∙ fit-tight room o h, (h, refl)))
+    (λ (h : length o ≤ room). inr (e ∙ fit-given room o h, λ x. let l = x .0 in omega arith))
+    (lt-or-ge room (length o)))
+    (λ d x. x .1)
+
+or-true : (b : Bool) → (b || true) ≡ true
+or-true true = refl
+or-true false = refl
+
+file-tight : (room : ℕ) (o : List ℕ) → (room < length o) ⊎ (65536 < length o) → fitFile room o ≡ refuse 12 (length o)
+unfolding fitFile
+file-tight room o (inl h) = rw (lt-ltb room (length o) h)
+file-tight room o (inr h) = rw (lt-ltb 65536 (length o) h, or-true (ltb room (length o)))
+
+file-given : (room : ℕ) (o : List ℕ) → length o ≤ room → length o ≤ 65536 → fitFile room o ≡ give [] (o ∷ [])
+unfolding fitFile
+file-given room o h l = rw (le-ltb room (length o) h, le-ltb 65536 (length o) l)
+
+-- a sheet, a book or an answer
+pub fitted-file : (a : Answer) (words room : ℕ) (o : List ℕ) → a ≡ fitFile room o → Fitted words (OverFile room o) (o ∷ []) (withWorkspace words a)
+fitted-file a words room o e =
+    fitted-by words a (length o)
+    (⊎-elim
+    (λ (h : room < length o). inl (e ∙ file-tight room o (inl h), (inl h, refl)))
+    (λ (h : length o ≤ room). ⊎-elim
+    (λ (l : 65536 < length o). inl (e ∙ file-tight room o (inr l), (inr l, refl)))
+    (λ (l : length o ≤ 65536). inr (e ∙ file-given room o h l, λ x. ⊎-elim (λ (k : room < length o). omega arith) (λ (k : 65536 < length o). omega arith) (x .0)))
+    (lt-or-ge 65536 (length o)))
+    (lt-or-ge room (length o)))
+    (λ d x. x .1)
+
+first-tight : (room room′ : ℕ) (o o′ : List ℕ) → room < length o → fitBoth room room′ o o′ ≡ refuse 12 (length o)
+unfolding fitBoth
+first-tight room room′ o o′ h = rw (lt-ltb room (length o) h)
+
+second-tight : (room room′ : ℕ) (o o′ : List ℕ) → length o ≤ room → room′ < length o′ → fitBoth room room′ o o′ ≡ refuse 12 (length o′)
+unfolding fitBoth
+second-tight room room′ o o′ h l = rw (le-ltb room (length o) h, lt-ltb room′ (length o′) l)
+
+both-given : (room room′ : ℕ) (o o′ : List ℕ) → length o ≤ room → length o′ ≤ room′ → fitBoth room room′ o o′ ≡ give [] (o ∷ o′ ∷ [])
+unfolding fitBoth
+both-given room room′ o o′ h l = rw (le-ltb room (length o) h, le-ltb room′ (length o′) l)
+
+-- two outputs: the first that doesn't fit counts
+pub fitted-both : (a : Answer) (words room room′ : ℕ) (o o′ : List ℕ) → a ≡ fitBoth room room′ o o′
+    → Fitted words (OverEither room room′ o o′) (o ∷ o′ ∷ []) (withWorkspace words a)
+fitted-both a words room room′ o o′ e =
+    ⊎-elim
+    (λ (h : room < length o). fitted-by words a (length o) (inl (e ∙ first-tight room room′ o o′ h, inl (h, refl)))
+    (λ d. ⊎-elim (λ x. x .1) (λ x. absurd (let l = x .0 in omega arith))))
+    (λ (h : length o ≤ room). fitted-by words a (length o′)
+    (⊎-elim
+    (λ (l : room′ < length o′). inl (e ∙ second-tight room room′ o o′ h l, inr (h, (l, refl))))
+    (λ (l : length o′ ≤ room′). inr (e ∙ both-given room room′ o o′ h l, ⊎-elim (λ x. let k = x .0 in omega arith) (λ x. let k = x .1 .0 in omega arith)))
+    (lt-or-ge room′ (length o′)))
+    (λ d. ⊎-elim (λ x. absurd (let l = x .0 in omega arith)) (λ x. x .1 .1)))
+    (lt-or-ge room (length o))
+
+-- ---- readers and writers
+
+lone-reads : {read : List ℕ → ℕ → Answer} (v : List ℕ → Verdict) → ((s : List ℕ) (room : ℕ) → read s room ≡ judged (v s) (fit room))
+    → Reads read (λ s ws. v s ≡ accepted ws)
+lone-reads {read} v is = record {
+  gives = λ s ws e room words. fitted (read s room) words room ws (is s room ∙ goes-on _ e);
+  only = λ s room words f. let r = full-judged _ _ (full-same (is s room) (full-words words (read s room) f)) in (r .0, r .1);
+}
+
+pub pattern-reads : Reads patternRead Question
+unfolding patternRead
+pattern-reads = lone-reads readPattern (λ s room. refl)
+
+pub catalogue-reads : Reads catalogueRead Catalogue
+unfolding catalogueRead
+catalogue-reads = lone-reads readCatalogue (λ s room. refl)
+
+pub record-reads : Reads recordRead Record
+unfolding recordRead
+record-reads = lone-reads readRecord (λ s room. refl)
+
+pub sheet-reads : (p : List ℕ) → Reads (sheetRead p) (λ s ws. (ps : List ℕ) × Question p ps × Sheet ps s ws)
+unfolding sheetRead
+sheet-reads p = record {
+  gives = λ s ws e room words. fitted _ words room ws (goes-on _ (e .1) ∙ goes-on _ (e .2));
+  only = λ s room words f. let r = full-twice _ _ _ (full-words words _ f) in (r .1, (r .0, r .2, r .3));
+}
+
+pub book-reads : (c : List ℕ) → Reads (bookRead c) (λ s ws. (cs : List ℕ) × Catalogue c cs × Book cs s ws)
+unfolding bookRead
+book-reads c = record {
+  gives = λ s ws e room words.
+      fitted _ words room ws (goes-on _ (e .1) ∙ goes-on _ (e .2 .read) ∙ not-crowded (edgeCounts (e .0)) ws _ (e .2 .few));
+  only = λ s room words f.
+      let r = full-twice _ _ _ (full-words words _ f) in
+      (r .1, (r .0, r .2, record { read = r .3; few = full-uncrowded _ _ _ (r .4) }));
+}
+
+lone-writes : {write : List ℕ → ℕ → Answer} {Has : List ℕ → List ℕ → Type 0} (file : ℕ) (F : Format) → ((s ws : List ℕ) → (decode F s ≡ ok ws) ↔ Has s ws)
+    → ((ws : List ℕ) (room : ℕ) → write ws room ≡ judged (writeFile file F ws) (fit room)) → Writes write Over Has
+lone-writes {write} file F has is = record {
+  gives = λ s ws y h room words. fitted (write ws room) words room s (is ws room ∙ goes-on _ (written file F s ws y (has s ws .1 h)));
+  only = λ ws room words f.
+      let r = full-judged _ _ (full-same (is ws room) (full-words words (write ws room) f)) in
+      let w = wrote file F (r .0) ws (r .1) in
+      (r .0, w .0, has (r .0) ws .0 (w .1));
+}
+
+pub pattern-writes : Writes patternWritten Over PatternFile
+unfolding patternWritten
+pattern-writes = lone-writes 1 pattern pattern-accepted (λ ws room. refl)
+
+pub catalogue-writes : Writes catalogueWritten Over CatalogueFile
+unfolding catalogueWritten
+catalogue-writes = lone-writes 2 catalogue catalogue-accepted (λ ws room. refl)
+
+pub record-writes : Writes recordWritten Over RecordFile
+unfolding recordWritten
+record-writes = lone-writes 3 record′ record-accepted (λ ws room. refl)
+
+pub sheet-writes : (p : List ℕ) → Writes (sheetWritten p) OverFile (λ s ws. (ps : List ℕ) × Question p ps × SheetFile (edgesOf ps) s ws)
+unfolding sheetWritten
+sheet-writes p = record {
+  gives = λ s ws y e room words.
+      fitted-file _ words room s (goes-on _ (e .1) ∙ goes-on _ (written 4 (sheet (edgesOf (e .0))) s ws y (sheet-accepted (edgesOf (e .0)) s ws .1 (e .2))));
+  only = λ ws room words f.
+      let r = full-twice _ _ _ (full-words words _ f) in
+      let w = wrote 4 (sheet (edgesOf (r .0))) (r .1) ws (r .3) in
+      (r .1, w .0, (r .0, r .2, sheet-accepted (edgesOf (r .0)) (r .1) ws .0 (w .1)));
+}
+
+pub book-writes : (c : List ℕ) → Writes (bookWritten c) OverFile (λ s ws. (cs : List ℕ) × Catalogue c cs × BookFile (edgeCounts cs) s ws × Uncrowded cs ws)
+unfolding bookWritten
+book-writes c = record {
+  gives = λ s ws y e room words.
+      fitted-file _ words room s
+      (goes-on _ (e .1) ∙ goes-on _ (written 4 (book (edgeCounts (e .0))) s ws y (book-accepted (edgeCounts (e .0)) s ws .1 (e .2))) ∙ not-crowded (edgeCounts (e .0)) ws _ (e .3));
+  only = λ ws room words f.
+      let r = full-twice _ _ _ (full-words words _ f) in
+      let w = wrote 4 (book (edgeCounts (r .0))) (r .1) ws (r .3) in
+      (r .1, w .0, (r .0, r .2, book-accepted (edgeCounts (r .0)) (r .1) ws .0 (w .1), full-uncrowded _ _ _ (r .4)));
+}
+
+-- ---- 10
+
+crowded-is : (ms ws : List ℕ) (a : Answer) → 8192 < length (pairsOf ms ws) → uncrowdedBy ms ws a ≡ refuse 10 4
+unfolding uncrowdedBy
+crowded-is ms ws a h = rw (lt-ltb 8192 (length (pairsOf ms ws)) h)
+
+-- 10 falls exactly to a crowded book, where what would be answered else is not 10
+pub crowded-exactly : (words : ℕ) (a : Answer) (ms ws : List ℕ) (b : Answer) → a ≡ uncrowdedBy ms ws b → ((d : ℕ) → b ≡ refuse 10 d → ⊥) → (d : ℕ)
+    → (withWorkspace words a ≡ refuse 10 d) ↔ ((16384 ≤ words) × (8192 < length (pairsOf ms ws)) × (d ≡ 4))
+crowded-exactly words a ms ws b e n d = (
+  λ x.
+      let w = enough-for words a (λ z. let y = number-same z in omega arith) x in
+      ⊎-elim
+      (λ (h : 8192 < length (pairsOf ms ws)). (w .0, h, sym (detail-same (sym (e ∙ crowded-is ms ws b h) ∙ w .1))))
+      (λ (h : length (pairsOf ms ws) ≤ 8192). absurd (n d (sym (e ∙ not-crowded ms ws b h) ∙ w .1)))
+      (lt-or-ge 8192 (length (pairsOf ms ws))),
+  λ x. enough-words words a (x .0) ∙ e ∙ crowded-is ms ws b (x .1) ∙ ap (refuse 10) (sym (x .2)),
+)
+
+fit-number : (room : ℕ) (o : List ℕ) (n d : ℕ) → fit room o ≡ refuse n d → n ≡ 12
+fit-number room o n d e =
+    ⊎-elim (λ h. number-same (sym e ∙ fit-tight room o h)) (λ h. absurd (not-refused (sym (fit-given room o h) ∙ e))) (lt-or-ge room (length o))
+
+file-number : (room : ℕ) (o : List ℕ) (n d : ℕ) → fitFile room o ≡ refuse n d → n ≡ 12
+file-number room o n d e =
+    ⊎-elim (λ h. number-same (sym e ∙ file-tight room o (inl h)))
+    (λ h. ⊎-elim
+    (λ l. number-same (sym e ∙ file-tight room o (inr l)))
+    (λ l. absurd (not-refused (sym (file-given room o h l) ∙ e)))
+    (lt-or-ge 65536 (length o)))
+    (lt-or-ge room (length o))
+
+pub crowded-read : (c cs s ws : List ℕ) → Catalogue c cs → readBook cs s ≡ accepted ws → (room words d : ℕ)
+    → (withWorkspace words (bookRead c s room) ≡ refuse 10 d) ↔ ((16384 ≤ words) × Crowded cs ws × (d ≡ 4))
+unfolding bookRead
+crowded-read c cs s ws e f room words d =
+    crowded-exactly words _ (edgeCounts cs) ws (fit room ws) (goes-on _ e ∙ goes-on _ f) (λ k x. let z = fit-number room ws 10 k x in omega arith) d
+
+pub crowded-written : (c cs s ws : List ℕ) → Catalogue c cs → Below 256 s → BookFile (edgeCounts cs) s ws → (room words d : ℕ)
+    → (withWorkspace words (bookWritten c ws room) ≡ refuse 10 d) ↔ ((16384 ≤ words) × Crowded cs ws × (d ≡ 4))
+unfolding bookWritten
+crowded-written c cs s ws e y f room words d =
+    crowded-exactly words _ (edgeCounts cs) ws (fitFile room s)
+    (goes-on _ e ∙ goes-on _ (written 4 (book (edgeCounts cs)) s ws y (book-accepted (edgeCounts cs) s ws .1 f)))
+    (λ k x. let z = file-number room s 10 k x in omega arith) d
+
+-- what is answered from a book that isn't crowded
+abbrev uncrowdedAnswer : List ℕ → List ℕ → List ℕ → ℕ → Answer
+uncrowdedAnswer qs cs bs room = pick (coveredBy qs cs) (fitFile room (answerBytes qs (chosenOf qs cs) (extracts cs) (sheetsIn (edgeCounts cs) bs))) (refuse 11 (lacking qs cs))
+
+answer-number : (b : Bool) (room : ℕ) (o : List ℕ) (k d : ℕ) → pick b (fitFile room o) (refuse 11 k) ≡ refuse 10 d → ⊥
+answer-number true room o k d e = let z = file-number room o 10 d e in omega arith
+answer-number false room o k d e = let z = number-same e in omega arith
+
+pub crowded-answer : (q c b qs cs bs : List ℕ) → Question q qs → Catalogue c cs → readBook cs b ≡ accepted bs → (room words d : ℕ)
+    → (withWorkspace words (answerAnswer q c b room) ≡ refuse 10 d) ↔ ((16384 ≤ words) × Crowded cs bs × (d ≡ 4))
+unfolding answerAnswer answerBy answerFor
+crowded-answer q c b qs cs bs e f g room words d =
+    crowded-exactly words _ (edgeCounts cs) bs (uncrowdedAnswer qs cs bs room) (goes-on _ e ∙ goes-on _ f ∙ goes-on _ g)
+    (λ k x. answer-number (coveredBy qs cs) room _ (lacking qs cs) k x) d
+
+-- no other number
+no-other : {words n e : ℕ} {NoFit : ℕ → Type 0} {outputs : List (List ℕ)} {a : Answer} → Fitted words NoFit outputs a → a ≡ refuse n e → (n ≡ 14) ⊎ (n ≡ 12)
+no-other f x =
+    ⊎-elim (λ y. inl (number-same (sym x ∙ y)))
+    (⊎-elim (λ y. inr (number-same (sym x ∙ y .1))) (λ y. absurd (not-refused (sym y ∙ x))))
+    (f .no-other)
+
+-- ---- covered and uncovered queries
+
+-- an edge of the query that is matched is so by a view that fits the query as a whole
+module _ (Q : Pattern) (Ps : List Pattern) (e : Pair) where
+  pub listed-matched : Listed Q Ps e → Matched Q Ps e
+  listed-matched o = record { extract = o .view; given = o .given; link = o .at; below = o .below; lists = o .lists; whole = listed-whole Q Ps e o }
+
+  pub matched-listed : Matched Q Ps e → Listed Q Ps e
+  matched-listed o = record { view = o .extract; given = o .given; at = o .link; below = o .below; lists = o .lists }
+
+  pub matched-whole : T (matched Q Ps e) ↔ Matched Q Ps e
+  matched-whole = (λ t. listed-matched (matched-say Q Ps e t), λ m. matched-by Q Ps e (matched-listed m))
+
+-- a list that has a member stands at a place
+pub place-below : (ls : List (List ℕ)) (i : ℕ) {c : ℕ} → In c (getD ls i []) → i < length ls
+place-below ls i {c} m =
+    ⊎-elim (λ (h : i < length ls). h)
+    (λ (h : length ls ≤ i). absurd (not-in-none (subst (λ l. In c l) (List·getD-eq-default ls [] {n = i} h) m)))
+    (lt-or-ge i (length ls))
+
+-- an edge of the query that a view matches is listed under an edge of the view
+module _ (Q : Pattern) (e : Pair) (P : Pattern) where
+  link-of : T (matchedBy Q e P) → (f : ℕ) × In (code (e .0) (e .1)) (getD (matchSets P (asGraph Q)) f [])
+  unfolding matchedBy lists
+  link-of t =
+      let l = some-in (lists e) (matchSets P (asGraph Q)) t in
+      let o = place-of [] (l .1) in
+      (o .at, subst (λ m. In (code (e .0) (e .1)) m) (o .holds) (member-in (l .0) (test-is (lists e (l .0)) .1 (l .2))))
+
+  by-link : (f : ℕ) → In (code (e .0) (e .1)) (getD (matchSets P (asGraph Q)) f []) → T (matchedBy Q e P)
+  unfolding matchedBy
+  by-link f i = in-some (lists e) (in-at (matchSets P (asGraph Q)) f [] (place-below (matchSets P (asGraph Q)) f i)) (lists-by e i)
+
+module _ (q c qs cs : List ℕ) (p : Question q qs) (d : Catalogue c cs) where
+  pub covers-plain : (set : ℕ) → Covers set qs cs ↔ ((i : ℕ) → i < edgesOf qs → MatchedIn (patternOf qs) (extracts cs) set (linkOf qs i))
+  covers-plain set =
+      let Q = patternOf qs in
+      let Ps = extracts cs in
+      let x = covers-exactly (mapping Q Ps) set (length Ps) (edgesOf qs) in
+      let b = question-bounds q qs p in
+      let n = few-views c cs d in (
+        λ h i l.
+            let o = x .0 h i l in
+            let k = o .below in
+            let r = link-of Q (linkOf qs i) (extractOf cs (o .at)) (matched-exactly Q Ps (b .few-edges) i (o .at) (omega (arith, b .many)) k (omega arith) .0 (o .holds .1)) in
+            record { extract = o .at; given = k; in-set = test-is _ .0 (o .holds .0); link = r .0; lists = r .1 },
+        λ f. x .1 (λ i l.
+            let m = f i l in
+            let k = m .given in
+            let t = matched-exactly Q Ps (b .few-edges) i (m .extract) (omega (arith, b .many)) k (omega arith) .1 (by-link Q (linkOf qs i) (extractOf cs (m .extract)) (m .link) (m .lists)) in
+            record { at = m .extract; below = k; holds = (test-is _ .1 (m .in-set), t) }),
+      )
+
+  pub shown-both : Uncovered qs cs → (room room′ : ℕ) → showAnswer q c room room′ ≡ fitBoth room room′ (recordBytes (firstOf qs)) (recordBytes (secondOf qs cs))
+  unfolding showAnswer showFor judged
+  shown-both n room room′ = rw (p, d, n)
+
+  shown-none : Covered qs cs → (room room′ : ℕ) → showAnswer q c room room′ ≡ refuse 13 0
+  unfolding showAnswer showFor judged
+  shown-none h room room′ = rw (p, d, h)
+
+  -- 13 falls exactly to a covered query
+  pub shown-exactly : (room room′ words e : ℕ) → (withWorkspace words (showAnswer q c room room′) ≡ refuse 13 e) ↔ ((16384 ≤ words) × Covered qs cs × (e ≡ 0))
+  shown-exactly room room′ words e = (
+    λ x.
+        let w = enough-for words (showAnswer q c room room′) (λ z. let y = number-same z in omega arith) x in
+        ⊎-elim
+        (λ h. (w .0, h, sym (detail-same (sym (shown-none h room room′) ∙ w .1))))
+        (λ n. absurd (⊎-elim (λ y. omega arith) (λ y. omega arith) (no-other (fitted-both (showAnswer q c room room′) words room room′ _ _ (shown-both n room room′)) x)))
+        (test-cases (coveredBy qs cs)),
+    λ x. enough-words words _ (x .0) ∙ shown-none (x .1) room room′ ∙ ap (refuse 13) (sym (x .2)),
+  )
+
+  -- a showing is given of an uncovered query alone
+  pub full-shown : (room room′ : ℕ) → Full (showAnswer q c room room′) → Uncovered qs cs
+  full-shown room room′ f = ⊎-elim (λ h. absurd (no-full (full-same (shown-none h room room′) f))) (λ n. n) (test-cases (coveredBy qs cs))
+
+  -- ---- accepted books
+  module _ (b bs : List ℕ) (k : Book cs b bs) where
+    pub refused-by : Uncovered qs cs → (room : ℕ) → answerAnswer q c b room ≡ refuse 11 (lacking qs cs)
+    unfolding answerAnswer
+    refused-by n room = answer-uncovered q c qs cs p d b bs k chosen room n
+
+    pub given-by : Covered qs cs → (room : ℕ) → answerAnswer q c b room ≡ fitFile room (sheetBytes (answerOf (chosenOf qs cs) qs cs bs))
+    unfolding answerAnswer answerBytes
+    given-by h room = answer-covered q c qs cs p d b bs k chosen room h
+
+    -- 11 falls exactly to an uncovered query
+    pub refused-exactly : (room words e : ℕ) → (withWorkspace words (answerAnswer q c b room) ≡ refuse 11 e) ↔ ((16384 ≤ words) × Uncovered qs cs × (e ≡ lacking qs cs))
+    refused-exactly room words e = (
+      λ x.
+          let w = enough-for words (answerAnswer q c b room) (λ z. let y = number-same z in omega arith) x in
+          ⊎-elim
+          (λ h. absurd (⊎-elim (λ y. omega arith) (λ y. omega arith) (no-other (fitted-file (answerAnswer q c b room) words room _ (given-by h room)) x)))
+          (λ n. (w .0, n, sym (detail-same (sym (refused-by n room) ∙ w .1))))
+          (test-cases (coveredBy qs cs)),
+      λ x. enough-words words _ (x .0) ∙ refused-by (x .1) room ∙ ap (refuse 11) (sym (x .2)),
+    )
+
+    -- an answer is given to a covered query alone
+    pub full-answered : (room : ℕ) → Full (answerAnswer q c b room) → Covered qs cs
+    full-answered room f = ⊎-elim (λ h. h) (λ n. absurd (no-full (full-same (refused-by n room) f))) (test-cases (coveredBy qs cs))

@@ -1,0 +1,93 @@
+-- Sheets from a record: read back as the match sets, of the length that is told, the same for every order of the record's edges.
+use Prim.Native.Nat.{ℕ, _+_, _*_, _/_, _%_, _<_}
+use mathlib.Core.Path.{_≡_, refl, sym, ap, _∙_}
+use mathlib.Core.List.{List, [], _∷_}
+use lib.ListN.{length, length-map, List·getD-map}
+use lib.Dec.{T}
+use native.Mathlib.Omega.{arith}
+use Rattle.packed.specs.Formats.{code}
+use Rattle.packed.specs.Contents.{edgesOf, viewsOf, edgeCounts, ends, fieldsOf, total, sheetsIn}
+use Rattle.packed.specs.Calls.{Answer, give, withWorkspace, Verdict, accepted, rejected, judged, readPattern, readCatalogue, fitFile}
+use Rattle.matching.specs.Lists.{In}
+use Rattle.matching.specs.Simulation.{Pattern, patternOf, graphOf, sound, matchSets}
+use Rattle.matching.specs.Search.{sheetBytes, bookBytes, viewSheets, searchAnswer, makeBookAnswer}
+use Rattle.matching.proofs.ListLaws.{in-at, length-each}
+use Rattle.matching.proofs.MatchSetLaws.{order-free}
+use Rattle.matching.proofs.PatternLaws.{sound-of}
+use Rattle.matching.proofs.ViewLaws.{all-ahead, in-follow}
+use Rattle.matching.proofs.SheetBytes.{search-back, search-size}
+use Rattle.matching.proofs.BookBytes.{map-same}
+use Rattle.matching.proofs.JoinLaws.{answer-each}
+use Rattle.containment.specs.Answer.{viewsIn}
+use Rattle.containment.specs.Demands.{Question, Catalogue, Record, Sheet, Book, extracts, sheetOf, bookOf, answerOf, SameLinks}
+use Rattle.containment.proofs.QuoteLaws.{place-of}
+use Rattle.containment.proofs.CoveredBytes.{question-is, catalogue-is, record-is, question-bounds, answer-sheet, given-file}
+use Rattle.containment.proofs.DemandRules.{goes-on, enough-for, not-refused}
+
+-- ---- the fields of a pair
+pub pair-fields : (a b : ℕ) (l : List ℕ) → b < 4096 → ends (code a b ∷ l) ≡ a ∷ b ∷ ends l
+unfolding ends
+pair-fields a b l h = let x : code a b / 4096 ≡ a = omega arith in let y : code a b % 4096 ≡ b = omega arith in rw (x, y)
+
+-- ---- the sheet that a search gives
+module _ (p r ps rs : List ℕ) (e : Question p ps) (f : Record r rs) where
+  pub searched : (room : ℕ) → searchAnswer p r room ≡ fitFile room (sheetOf (patternOf ps) rs)
+  unfolding searchAnswer
+  searched room = goes-on _ e ∙ goes-on _ f
+
+  pub searched-back : (out : List ℕ) (room words : ℕ) → withWorkspace words (searchAnswer p r room) ≡ give [] (out ∷ [])
+      → Sheet ps out (fieldsOf (matchSets (patternOf ps) (graphOf rs)))
+  searched-back out room words g =
+      let w = enough-for words (searchAnswer p r room) (λ z. not-refused (sym z)) g in
+      let o = given-file room (sheetOf (patternOf ps) rs) out (sym (searched room) ∙ w .1) in
+      rw (o .0) (search-back p r ps rs (question-is p ps e) (record-is r rs f) (o .1))
+
+  pub searched-length : length (sheetOf (patternOf ps) rs) ≡ (14 * edgesOf ps + 24 * total (matchSets (patternOf ps) (graphOf rs)) + 7) / 8
+  searched-length = search-size p r ps rs (question-is p ps e) (record-is r rs f)
+
+pub book-made : (c r cs rs : List ℕ) → Catalogue c cs → Record r rs → (room : ℕ) → makeBookAnswer c r room ≡ fitFile room (bookOf cs rs)
+unfolding makeBookAnswer
+book-made c r cs rs e f room = goes-on _ e ∙ goes-on _ f
+
+-- an answer is as long as such a sheet
+pub answer-size : (q qs cs b bs : List ℕ) → Question q qs → Book cs b bs → (set : ℕ)
+    → length (sheetBytes (answerOf set qs cs bs)) ≡ (14 * edgesOf qs + 24 * total (answerOf set qs cs bs) + 7) / 8
+answer-size q qs cs b bs p k set =
+    let Q = patternOf qs in
+    let vs = viewsIn set (extracts cs) (sheetsIn (edgeCounts cs) bs) in
+    let n : length (answerOf set qs cs bs) ≡ edgesOf qs = ap length (answer-each Q vs) ∙ length-each _ (Q .edges) ∙ question-bounds q qs p .many in
+    rw n at (answer-sheet cs b bs k Q set .size)
+
+-- ---- the order of a record's edges
+judged-same : (v : Verdict) (k l : List ℕ → Answer) → ((ws : List ℕ) → k ws ≡ l ws) → judged v k ≡ judged v l
+unfolding judged
+judged-same (accepted ws) k l h = h ws
+judged-same (rejected n d) k l h = refl
+
+module _ (r r′ rs rs′ : List ℕ) (e : Record r rs) (e′ : Record r′ rs′) (s : SameLinks rs rs′) where
+  same-sets : (P : Pattern) → matchSets P (graphOf rs) ≡ matchSets P (graphOf rs′)
+  same-sets P =
+      order-free P (graphOf rs) (graphOf rs′)
+      (record { same-labels = s .kinds; more = s .there }) (record { same-labels = sym (s .kinds); more = s .back })
+
+  pub order-sheets : (p : List ℕ) (room : ℕ) → searchAnswer p r room ≡ searchAnswer p r′ room
+  unfolding searchAnswer
+  order-sheets p room =
+      judged-same (readPattern p) _ _
+      (λ ps. goes-on _ e ∙ ap (λ (ls : List (List ℕ)). fitFile room (sheetBytes ls)) (same-sets (patternOf ps)) ∙ sym (goes-on _ e′))
+
+  pub order-books : (c : List ℕ) (room : ℕ) → makeBookAnswer c r room ≡ makeBookAnswer c r′ room
+  unfolding makeBookAnswer viewSheets
+  order-books c room =
+      judged-same (readCatalogue c) _ _
+      (λ cs. goes-on _ e
+      ∙ ap (λ (ls : List (List (List ℕ))). fitFile room (bookBytes ls)) (map-same _ _ (viewsOf cs) (λ v i. same-sets (patternOf v)))
+      ∙ sym (goes-on _ e′))
+
+-- ---- the patterns of a catalogue
+pub views-sound : (c cs : List ℕ) → Catalogue c cs → (P : Pattern) → In P (extracts cs) → T (sound P)
+views-sound c cs e P i =
+    let o = place-of (patternOf []) i in
+    let l : o .at < length (viewsOf cs) = omega (arith, o .below, length-map (viewsOf cs) patternOf) in
+    let q = in-follow (all-ahead c cs (catalogue-is c cs e) .follow) (in-at (viewsOf cs) (o .at) [] l) in
+    rw (o .holds ∙ List·getD-map patternOf (viewsOf cs) (o .at) []) (sound-of (q .1))
