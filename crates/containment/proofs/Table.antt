@@ -220,11 +220,13 @@ patterns =
     ∷ call (patternWritten (fields "2 2 0 0 0 1 0 2") 99) (refuse 4 1)
     -- the same where a field can't hold it
     ∷ call (patternWritten (fields "1 1 0 16 0") 99) (refuse 4 1)
-    -- a link twice, one after the other, and with another between
+    -- a link twice: the first again, at once and with another between, and one that is not the first
     ∷ call (patternRead (hex "10 40 00 08 08") 99) (refuse 5 1)
     ∷ call (patternWritten (fields "2 2 0 0 0 1 0 1") 99) (refuse 5 1)
     ∷ call (patternRead (hex "10 60 00 08 80 08") 99) (refuse 5 1)
     ∷ call (patternWritten (fields "2 3 0 0 0 1 1 0 0 1") 99) (refuse 5 1)
+    ∷ call (patternRead (hex "10 60 00 80 08 08") 99) (refuse 5 1)
+    ∷ call (patternWritten (fields "2 3 0 0 1 0 0 1 0 1") 99) (refuse 5 1)
     -- front to back: 5 before a later 4, and 4 before a later 5
     ∷ call (patternRead (hex "10 60 00 08 08 10") 99) (refuse 5 1)
     ∷ call (patternWritten (fields "2 3 0 0 0 1 0 1 0 2") 99) (refuse 5 1)
@@ -310,11 +312,13 @@ records =
     ∷ call (recordWritten (fields "2 1 0 0 2 0") 99) (refuse 4 3)
     ∷ call (recordRead (hex "00 10 00 20 00 00 00 00 00 00 00 00 00 00 40") 99) (refuse 4 3)
     ∷ call (recordWritten (fields "2 1 0 0 0 2") 99) (refuse 4 3)
-    -- a link twice, one after the other, and with another between: 0 → 1, 1 → 0, 0 → 1
+    -- a link twice: the first again, at once and with another between (0 → 1, 1 → 0, 0 → 1), and one that is not the first
     ∷ call (recordRead (hex "00 10 00 40 00 00 00 00 00 00 00 00 00 00 20 00 00 20") 99) (refuse 5 3)
     ∷ call (recordWritten (fields "2 2 0 0 0 1 0 1") 99) (refuse 5 3)
     ∷ call (recordRead (hex "00 10 00 60 00 00 00 00 00 00 00 00 00 00 20 02 00 00 00 00 20") 99) (refuse 5 3)
     ∷ call (recordWritten (fields "2 3 0 0 0 1 1 0 0 1") 99) (refuse 5 3)
+    ∷ call (recordRead (hex "00 10 00 60 00 00 00 00 00 00 00 00 02 00 00 00 00 20 00 00 20") 99) (refuse 5 3)
+    ∷ call (recordWritten (fields "2 3 0 0 1 0 0 1 0 1") 99) (refuse 5 3)
     -- front to back: 5 before a later 4 and before a later 2, and 4 before a later 5
     ∷ call (recordRead (hex "00 10 00 60 00 00 00 00 00 00 00 00 00 00 20 00 00 20 00 00 40") 99) (refuse 5 3)
     ∷ call (recordWritten (fields "2 3 0 0 0 1 0 1 0 2") 99) (refuse 5 3)
@@ -366,11 +370,13 @@ sheets =
     -- and none equals the one before
     ∷ call (sheetRead oneLink (hex "00 08 00 00 04 00 00 04") 99) (refuse 6 4)
     ∷ call (sheetWritten oneLink (fields "2 0 1 0 1") 99) (refuse 6 4)
-    -- a zero count first, and last
+    -- a zero count first, last, and between
     ∷ call (sheetRead extract1 (hex "00 00 00 10 00 00 10") 99) (refuse 8 4)
     ∷ call (sheetWritten extract1 (fields "0 1 0 1") 99) (refuse 8 4)
     ∷ call (sheetRead extract1 (hex "00 04 00 00 04 00 00") 99) (refuse 8 4)
     ∷ call (sheetWritten extract1 (fields "1 0 1 0") 99) (refuse 8 4)
+    ∷ call (sheetRead d (hex "00 04 00 00 04 00 00 00 40 00 00 40 01 00 00 01") 99) (refuse 8 4)
+    ∷ call (sheetWritten d (fields "1 0 1 0 1 0 1 1 0 1") 99) (refuse 8 4)
     -- 8 is judged after all lists: 2, 3 and 6 in a later one stand before it
     ∷ call (sheetRead extract1 (hex "00 00 00 10") 99) (refuse 2 4)
     ∷ call (sheetWritten extract1 (fields "0 1") 99) (refuse 2 4)
