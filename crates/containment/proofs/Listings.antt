@@ -1,18 +1,17 @@
--- What holds of the listing: how that of an uncovered question goes, and that a buffer of 4,096 bytes takes every line.
+-- What holds of the listing: how that of an uncovered question goes, what the call that writes a line settles, and how long a line gets.
 use Prim.Native.Nat.{ℕ, _+_, _-_, _<_, _≤_}
 use mathlib.Core.Path.{_≡_, refl, sym, ap, _∙_}
-use mathlib.Core.Bool.{false}
 use mathlib.Core.List.{List, [], _∷_, _++_}
 use lib.ListN.{length, getD, drop, length-append}
 use native.Mathlib.Omega.{arith}
-use borrow.Author.Tests.{le-ltb}
+use borrow.Author.Tests.{lt-ltb, le-ltb}
 use Rattle.packed.specs.Contents.{edgesOf}
-use Rattle.packed.specs.Refusals.{told, numberOf}
-use Rattle.packed.specs.Calls.{give, toldOf, judged, Settled, withWorkspace}
+use Rattle.packed.specs.Refusals.{Told, told, numberOf}
+use Rattle.packed.specs.Calls.{give, toldOf, fronts, outputsOf, fit, judged, Settled, Answered, withWorkspace}
 use Rattle.matching.specs.Simulation.{patternOf}
 use Rattle.containment.specs.Choice.{everyView, coversIn}
 use Rattle.containment.specs.Quote.{QuoteValues, flat, blank, one, mapping, valuesFrom, quoteValues, quoteAnswer, quoteTold}
-use Rattle.containment.specs.Listing.{bytes, linesAfter, chosenLine, lineOf}
+use Rattle.containment.specs.Listing.{linesAfter, chosenLine, lineOf, lineAnswer}
 use Rattle.containment.specs.Demands.{Question, Catalogue, extracts, Uncovered, UncoveredListing, Listings}
 use Rattle.containment.specs.declared.quote_type.Coverage.{Coverage}
 use Rattle.containment.specs.declared.quote_type.Coverage.the-variants as coverage-is
@@ -82,8 +81,26 @@ module _ (q c qs cs : List ℕ) (eq : Question q qs) (ec : Catalogue c cs) (no :
         nothing-after = λ j h. line-beyond r j (λ z. omega arith) (omega arith);
       }
 
+-- ---- the call
+module _ (q : Quote) (k : ℕ) (r : Told) (out out′ : List ℕ) (a : Answered (lineAnswer q k (length out)) r out out′) where
+  refuses : length out < length (lineOf q k) → (r ≡ told 12 (length (lineOf q k) ∷ [])) × (out′ ≡ out)
+  unfolding lineAnswer fit toldOf outputsOf
+  refuses h =
+      let e = lt-ltb (length out) (length (lineOf q k)) h in
+      let o : out′ ∷ [] ≡ out ∷ [] = a .output ∙ rw e in
+      (a .result ∙ rw e, cc)
+
+  writes : length (lineOf q k) ≤ length out → (r ≡ told 0 (length (lineOf q k) ∷ [])) × (out′ ≡ lineOf q k ++ drop (length (lineOf q k)) out)
+  unfolding lineAnswer fit toldOf outputsOf fronts
+  writes h =
+      let e = le-ltb (length out) (length (lineOf q k)) h in
+      let o : out′ ∷ [] ≡ (lineOf q k ++ drop (length (lineOf q k)) out) ∷ [] = a .output ∙ rw e in
+      (a .result ∙ rw e, cc)
+
 pub listings : Listings
 listings = record {
   uncovered = λ q c qs cs work work′ eq ec no r l s. listing q c qs cs eq ec no r (tells q c qs cs eq ec no r l s);
+  refuses = refuses;
+  writes = writes;
   longest = line-length;
 }

@@ -16,7 +16,7 @@ use Rattle.packed.specs.Formats.{code}
 use Rattle.packed.specs.Plain.{Below, PatternFile, CatalogueFile, RecordFile, SheetFile, BookFile}
 use Rattle.packed.specs.Contents.{edgesOf, viewsOf, edgeCounts, ends, fieldsOf, total, sheetsIn}
 use Rattle.packed.specs.Refusals.{Told, told}
-use Rattle.packed.specs.Calls.{Answer, give, refuse, fronts, Settled, withWorkspace, accepted, readPattern, readCatalogue, readRecord, readSheet, readBook, pairsOf, fitFile, patternRead, catalogueRead, recordRead, sheetRead, bookRead, patternWritten, catalogueWritten, recordWritten, sheetWritten, bookWritten}
+use Rattle.packed.specs.Calls.{Answer, give, refuse, fronts, Settled, Answered, withWorkspace, accepted, readPattern, readCatalogue, readRecord, readSheet, readBook, pairsOf, fitFile, patternRead, catalogueRead, recordRead, sheetRead, bookRead, patternWritten, catalogueWritten, recordWritten, sheetWritten, bookWritten}
 use Rattle.matching.specs.Lists.{In}
 use Rattle.matching.specs.Simulation.{Pair, Pattern, Graph, patternOf, graphOf, asGraph, bit, IsSim, sim, sound, matchSets}
 use Rattle.matching.specs.Join.{without, answerSets}
@@ -447,5 +447,10 @@ pub record Listings : Type 0 where
   pub uncovered : (q c qs cs work work′ : List ℕ) → Question q qs → Catalogue c cs → Uncovered qs cs → (r : Quote) → 16384 ≤ length work
       → Settled blank (withWorkspace (length work) (quoteAnswer q c)) (quoteTold r) [] [] work work′
       → UncoveredListing r (mapping (patternOf qs) (extracts cs)) (edgesOf qs)
-  -- so that a buffer of 4,096 bytes takes every line
+  -- "an output needs more bytes than were lent": 12 with the length of the line, and the buffer is untouched; else the whole line
+  pub refuses : (q : Quote) (k : ℕ) (r : Told) (out out′ : List ℕ) → Answered (lineAnswer q k (length out)) r out out′ → length out < length (lineOf q k)
+      → (r ≡ told 12 (length (lineOf q k) ∷ [])) × (out′ ≡ out)
+  pub writes : (q : Quote) (k : ℕ) (r : Told) (out out′ : List ℕ) → Answered (lineAnswer q k (length out)) r out out′ → length (lineOf q k) ≤ length out
+      → (r ≡ told 0 (length (lineOf q k) ∷ [])) × (out′ ≡ lineOf q k ++ drop (length (lineOf q k)) out)
+  -- 4,096 bytes take every line
   pub longest : (q : Quote) (k : ℕ) → length (lineOf q k) ≤ 4096

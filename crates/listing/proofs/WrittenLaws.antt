@@ -1,5 +1,5 @@
 -- Laws of a line buffer: texts written one after the other, numbers from their last digit to their first, the end of a line, the whole line.
-use Prim.Native.Nat.{ℕ, zero, suc, _+_, _-_, _/_, _%_, _^_, _≤_, _<_}
+use Prim.Native.Nat.{ℕ, suc, _+_, _-_, _/_, _%_, _^_, _≤_, _<_}
 use mathlib.Core.Path.{_≡_, refl, ap, sym, _∙_}
 use mathlib.Core.List.{List, [], _∷_, _++_, append-assoc, append-nil}
 use lib.ListN.{length, getD, take, drop, set, length-append}
@@ -9,14 +9,15 @@ use native.Mathlib.Omega.{arith}
 use native.Mathlib.Nat.{add-zero, zero-add}
 use native.Mathlib.Numerals.{add-one}
 use borrow.Author.Tests.{lt-ltb, le-ltb, eq-eqb, ne-eqb}
-use Rattle.packed.specs.Calls.{give, toldOf, fronts, outputsOf, fit, Answered}
+use Rattle.packed.specs.Calls.{toldOf, fronts, outputsOf, fit, Answered}
 use Rattle.packed.specs.Format.{pick}
 use Rattle.packed.specs.Refusals.{told, numberOf, detailOf}
 use Rattle.packed.specs.declared.reply.Refusal.{Refusal}
 use Rattle.packed.proofs.Sets.{sets-append, sets-front}
 use Rattle.containment.specs.Listing.{decimal, concat, orNone, bytes, lineOf, lineAnswer}
 use Rattle.containment.specs.declared.quote_type.Quote.{Quote}
-use Rattle.containment.proofs.ListingLaws.{decimal-one, decimal-more, line-length}
+use Rattle.containment.proofs.ListingLaws.{decimal-one, decimal-more}
+use Rattle.containment.proofs.Listings.{listings}
 use Rattle.containment.proofs.Numbered.{refusal-numbered}
 use Rattle.listing.specs.Written.{Written}
 
@@ -145,22 +146,17 @@ module _ (out text : List ℕ) {n : ℕ} (long : n ≡ 0 + length text) where
 
 -- 4,096 bytes take every line, which then stands at the front
 module _ (q : Quote) (k : ℕ) (out : List ℕ) (room : 4096 ≤ length out) where
-  line-fits : lineAnswer q k (length out) ≡ give [] (lineOf q k ∷ [])
-  unfolding lineAnswer fit
-  line-fits = rw (le-ltb (length out) (length (lineOf q k)) (omega (arith, line-length q k)))
+  fits : length (lineOf q k) ≤ length out
+  fits = omega (arith, listings .longest q k)
 
   pub line-whole : {n : ℕ} {out′ : List ℕ} → Answered (lineAnswer q k (length out)) (told 0 (n ∷ [])) out out′ → (take n out′ ≡ lineOf q k) × (n ≤ 4096)
-  unfolding toldOf outputsOf fronts
   line-whole {n} {out′} a =
-      let r : told 0 (n ∷ []) ≡ told 0 (length (lineOf q k) ∷ []) = a .result ∙ rw line-fits in
-      let o : out′ ∷ [] ≡ (lineOf q k ++ drop (length (lineOf q k)) out) ∷ [] = a .output ∙ rw line-fits in
-      let n-is : n ≡ length (lineOf q k) = cc in
-      let out-is : out′ ≡ lineOf q k ++ drop (length (lineOf q k)) out = cc in
-      (ap (take n) out-is ∙ take-at (lineOf q k) (drop (length (lineOf q k)) out) n (sym n-is), omega (arith, line-length q k))
+      let w = listings .writes q k (told 0 (n ∷ [])) out out′ a fits in
+      let e : n ≡ length (lineOf q k) = cc (w .0) in
+      (ap (take n) (w .1) ∙ take-at (lineOf q k) (drop (length (lineOf q k)) out) n (sym e), omega (arith, listings .longest q k))
 
   pub line-never-refused : (x : Refusal) {out′ : List ℕ} → Answered (lineAnswer q k (length out)) (told (numberOf x) (detailOf x ∷ [])) out out′ → ⊥
-  unfolding toldOf
-  line-never-refused x a =
-      let r : told (numberOf x) (detailOf x ∷ []) ≡ told 0 (length (lineOf q k) ∷ []) = a .result ∙ rw line-fits in
-      let z : numberOf x ≡ 0 = cc in
+  line-never-refused x {out′} a =
+      let w = listings .writes q k (told (numberOf x) (detailOf x ∷ [])) out out′ a fits in
+      let z : numberOf x ≡ 0 = cc (w .0) in
       omega (arith, refusal-numbered x .least)

@@ -2,7 +2,6 @@
 ghost use mathlib.Core.Path.{_≡_};
 ghost use Prim.Native.Nat.{_+_, _*_, _%_, _^_, _<_, _≤_};
 ghost use lib.ListN.{length, getD, set};
-ghost use lib.Seq.{sets};
 ghost use lib.Dec.{eqb};
 ghost use Rattle.packed.specs.Calls.{Answered};
 ghost use Rattle.packed.specs.Format.{pick};
