@@ -173,6 +173,10 @@ pub counts-few : (n : ℕ) (w c : List ℕ) → Counts n w c → n ≤ 8192 → 
 counts-few n w c t h e =
     ⊎-elim (λ (l : e < 32). omega (arith, counts-most n w c t e l)) (λ (l : 32 ≤ e). omega (arith, List·getD-eq-default c 0 {n = e} (omega (arith, t .long)))) (lt-or-ge e 32)
 
+-- each count has room in its field
+pub counts-fit : (n : ℕ) (w c : List ℕ) → Counts n w c → n ≤ 8192 → (e : ℕ) → getD c e 0 < 2 ^ 14
+counts-fit n w c t h e = omega (arith, counts-few n w c t h e)
+
 -- ---- one more list
 
 from-next : (e m : ℕ) (ps qs : List ℕ) → markedFrom e (suc m) ps qs ≡ markedFrom e m ps qs ++ (marked (e + m) ps qs ∷ [])

@@ -5,7 +5,7 @@ use native.Mathlib.Omega.{arith}
 use lib.ListN.{length}
 use borrow.Author.Needs.{needs}
 use Rattle.packed.specs.Matches.{ListsWritten}
-use Rattle.packed.proofs.MatchLaws.{counts-most, lists-start, lists-put}
+use Rattle.packed.proofs.MatchLaws.{counts-fit, lists-start, lists-put}
 use Rattle.packed.proofs.matches.write_lists.Statement.{statement}
 use Rattle.packed.proofs.matches.write_lists.Tie as tie
 
@@ -31,8 +31,7 @@ put-bits-requires : tie.Need-put-bits-requires Inv-loop μ-loop
 put-bits-requires c κs =
     let l = c .before .before .loop in
     let p = c .before .before .before .before .before .pre .0 .most in
-    let h = counts-most _ _ _ (c .before .before .before .before .before .pre .1) (l .e) (omega arith) in
-    (omega arith, omega (arith, l .inv .2 .most), omega (arith, h))
+    (omega arith, omega (arith, l .inv .2 .most), counts-fit _ _ _ (c .before .before .before .before .before .pre .1) p _)
 
 add-write-list : tie.Need-add-write-list Inv-loop μ-loop
 add-write-list c = search needs
