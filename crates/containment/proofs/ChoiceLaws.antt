@@ -115,9 +115,6 @@ module _ (t : List ℕ) where
   unfolding taken
   taken-skips m a set e h = let g = rw e at h in rw (e, add-one a, g)
 
-  pub taken-end : (m k a set : ℕ) → set ≡ taken t m a → a ≡ k → (set ≡ taken t m k) × (set < 2 ^ k)
-  taken-end m k a set e q = let f : set ≡ taken t m k = rw q at e in (f, rw f (taken-small m k))
-
   taken-more : (m a b : ℕ) → bit (taken t m a) b ≡ true → bit (taken t m (suc a)) b ≡ true
   unfolding taken
   taken-more m a b h =
@@ -183,9 +180,6 @@ module _ (t : List ℕ) where
       pub turn-needs : (two : ℕ) → two ≡ 2 ^ a → bit r a ≡ true → coversIn t (r - two) k m ≡ false → r ≡ kept t m k set (a + 1)
       unfolding kept
       turn-needs two p h g = let h′ = rw e at h in let g′ = rw (p, e) at g in rw (e, add-one a, h′, g′)
-
-    pub kept-end : (a r : ℕ) → r ≡ kept t m k set a → a ≡ k → set < 2 ^ k → (r ≡ kept t m k set k) × (r < 2 ^ k)
-    kept-end a r e q l = let f : r ≡ kept t m k set k = rw q at e in let p = kept-le k in (f, rw f (omega arith))
 
     kept-covers : coversIn t set k m ≡ true → (a : ℕ) → coversIn t (kept t m k set a) k m ≡ true
     unfolding kept

@@ -88,7 +88,7 @@ fn is_added(mapping: &[u32; 512], set: u32, a: usize, m: usize) -> bool
 // Going up the catalogue, each view that matches an edge not matched before.
 fn take_views(mapping: &[u32; 512], k: usize, m: usize) -> u32
     requires { ⌜ (m ≤ 32) × (k ≤ 16) ⌝ }
-    ensures { λ r. ⌜ (r ≡ taken (now (mapping .entry)) m k) × (r < 2 ^ k) ⌝ }
+    ensures { λ r. ⌜ r ≡ taken (now (mapping .entry)) m k ⌝ }
 {
     let mut set: u32 = 0;
     let mut a: usize = 0;
@@ -103,8 +103,8 @@ fn take_views(mapping: &[u32; 512], k: usize, m: usize) -> u32
 
 // Going up again, the set without each view that the others can spare.
 fn drop_views(mapping: &[u32; 512], first: u32, k: usize, m: usize) -> u32
-    requires { ⌜ (m ≤ 32) × (k ≤ 16) × (first < 2 ^ k) ⌝ }
-    ensures { λ r. ⌜ (r ≡ kept (now (mapping .entry)) m k first k) × (r < 2 ^ k) ⌝ }
+    requires { ⌜ (m ≤ 32) × (k ≤ 16) ⌝ }
+    ensures { λ r. ⌜ r ≡ kept (now (mapping .entry)) m k first k ⌝ }
 {
     let mut set = first;
     let mut a: usize = 0;

@@ -1,11 +1,11 @@
 -- `containment::choose::drop_views` meets its contract.
 use borrow.Author.Needs.{needs}
-use mathlib.Core.Path.{_≡_, refl, sym, _∙_}
+use mathlib.Core.Path.{_≡_, refl, ap, sym, _∙_}
 use mathlib.Core.Logic.{⊎-elim}
 use Prim.Native.Nat.{_≤_, _-_}
 use native.Mathlib.Omega.{arith}
 use Rattle.containment.specs.Choice.{kept}
-use Rattle.containment.proofs.ChoiceLaws.{turn-drops, turn-lacks, turn-needs, kept-end}
+use Rattle.containment.proofs.ChoiceLaws.{turn-drops, turn-lacks, turn-needs}
 use Rattle.containment.proofs.SetBits.{bit-le}
 use Rattle.containment.proofs.choose.drop_views.Statement.{statement}
 use Rattle.containment.proofs.choose.drop_views.Tie as tie
@@ -52,7 +52,9 @@ loop-again c =
     )
 
 returns : tie.Need-returns Inv-loop μ-loop
-returns c = kept-end _ _ _ _ _ _ (c .before .loop .inv .1) (omega arith) (c .before .before .pre .2)
+returns c =
+    let e : c .before .loop .a ≡ c .before .before .args .k = omega arith in
+    c .before .loop .inv .1 ∙ ap (kept _ _ _ _) e
 
 pub drop-views-spec : {M : Type 1} → statement M
 drop-views-spec =

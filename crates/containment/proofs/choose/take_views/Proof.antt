@@ -6,7 +6,7 @@ use Prim.Native.Nat.{ℕ, _≤_, _+_, _-_}
 use native.Mathlib.Omega.{arith}
 use lib.Pow.{pow-lt}
 use Rattle.containment.specs.Choice.{taken}
-use Rattle.containment.proofs.ChoiceLaws.{taken-small, taken-adds, taken-skips, taken-end}
+use Rattle.containment.proofs.ChoiceLaws.{taken-small, taken-adds, taken-skips}
 use Rattle.containment.proofs.choose.take_views.Statement.{statement}
 use Rattle.containment.proofs.choose.take_views.Tie as tie
 
@@ -50,7 +50,9 @@ loop-again c =
     )
 
 returns : tie.Need-returns Inv-loop μ-loop
-returns c = taken-end _ _ _ _ _ (c .before .loop .inv .1) (omega arith)
+returns c =
+    let e : c .before .loop .a ≡ c .before .before .args .k = omega arith in
+    rw (← e) (c .before .loop .inv .1)
 
 pub take-views-spec : {M : Type 1} → statement M
 take-views-spec =
