@@ -17,6 +17,9 @@ use packed::reply::Refusal;
 use packed::reply::Reply;
 use packed::workspace;
 
+// How many words of the workspace a call leaves zero.
+const CLEARED: usize = 16384;
+
 // Searches a record for a pattern: writes the pattern's sheet.
 pub fn search(pattern: &[u8], record: &[u8], out: &mut [u8], work: &mut [u32]) -> Reply
     ensures { λ r. ⌜ Settled [] (withWorkspace (length (now (work .entry))) (searchAnswer (now (pattern .entry)) (now («record» .entry)) (length (now (out .entry))))) (replyTold r) (now (out .entry) ∷ []) (now (out .exit) ∷ []) (now (work .entry)) (now (work .exit)) ⌝ }
@@ -25,7 +28,7 @@ pub fn search(pattern: &[u8], record: &[u8], out: &mut [u8], work: &mut [u32]) -
         return Reply::Refused(Refusal::SmallWorkspace);
     }
     let r = calls::search(pattern, record, out, &mut work[0..16384]);
-    workspace::clear(work, 16384);
+    workspace::clear(work, CLEARED);
     r
 }
 
@@ -37,6 +40,6 @@ pub fn make_book(catalogue: &[u8], record: &[u8], out: &mut [u8], work: &mut [u3
         return Reply::Refused(Refusal::SmallWorkspace);
     }
     let r = calls::make_book(catalogue, record, out, &mut work[0..16384]);
-    workspace::clear(work, 16384);
+    workspace::clear(work, CLEARED);
     r
 }

@@ -1,4 +1,5 @@
 -- `matching::sweep::prune` meets its contract.
+use native.Mathlib.Omega.{arith}
 use borrow.Author.Needs.{needs}
 use Rattle.matching.specs.Sweeps.{sumOf}
 use Rattle.matching.proofs.Pruning.{Pruning, pruning-start, pruning-more, pruning-end, pruning-less, shaped-kept, cleared-edges, pruned-cleared, fair-pairs}
@@ -28,7 +29,7 @@ sweep-requires c κs =
 
 loop-less : tie.Need-loop-less Inv-loop μ-loop
 loop-less c =
-    pruning-less (shaped-kept (c .before .before .before .before .before .before .before .before .before .before .before .before .before .before .before .pre .1) (cleared-edges (c .before .before .before .before .before .before .before .before .before .before .before .before .clear .ensures))) (c .before .before .before .before .before .before .loop .inv) (c .before .before .before .sweep .ensures) (c .if1 .left)
+    pruning-less (shaped-kept (c .before .before .before .before .before .before .before .before .before .before .before .before .before .before .before .pre .1) (cleared-edges (c .before .before .before .before .before .before .before .before .before .before .before .before .clear .ensures))) (c .before .before .before .before .before .before .loop .inv) (c .before .before .before .sweep .ensures) (λ e. omega (arith, c .if1 .left))
 
 loop-again : tie.Need-loop-again Inv-loop μ-loop
 loop-again c =
