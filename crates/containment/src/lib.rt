@@ -1,6 +1,6 @@
 // Containment of a query in views: quotes, answers from a book, and why a query is not covered.
 mod calls;
-pub mod choose;
+mod choose;
 mod query;
 pub mod quote_type;
 pub mod show;

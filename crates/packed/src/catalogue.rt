@@ -106,7 +106,7 @@ fn write_views(words: &[u32], out: &mut [u8]) -> Part
 }
 
 // A whole catalogue: its bytes stand at the front of out as far as it goes.
-pub fn judge_catalogue_fields(words: &[u32], out: &mut [u8]) -> Part
+pub(crate) fn judge_catalogue_fields(words: &[u32], out: &mut [u8]) -> Part
     ensures { λ r. ⌜ JudgesFields (encode catalogue (now (words .entry))) 2 r (now (out .entry)) (now (out .exit)) ⌝ }
 {
     let p = write_views(words, out);

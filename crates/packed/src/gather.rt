@@ -10,15 +10,15 @@ use crate::bits;
 use crate::distinct;
 
 // How many different pairs stand at the front of the workspace, and how many more wait from word 8192 on.
-pub struct Gather {
-    pub held: usize,
-    pub fill: usize,
+struct Gather {
+    held: usize,
+    fill: usize,
 }
 
 // A place in the bits of a book, with what was gathered up to it.
-pub struct Walk {
-    pub at: usize,
-    pub gather: Gather,
+struct Walk {
+    at: usize,
+    gather: Gather,
 }
 
 fn no_pairs() -> Gather
@@ -153,7 +153,7 @@ fn gather_pair_fields(words: &[u32], first: usize, n: u32, work: &mut [u32], g: 
 }
 
 // The different pairs of m lists among fields, ascending at the front of the workspace, and their number.
-pub fn gather_fields(words: &[u32], m: u32, work: &mut [u32]) -> usize
+pub(crate) fn gather_fields(words: &[u32], m: u32, work: &mut [u32]) -> usize
     requires { ⌜ (m ≤ 512) × (length (now work) ≡ 16384) ⌝ }
     ensures { λ r. ⌜ Different (pairsFrom (now (words .entry)) 0 m) r (now (work .exit)) ⌝ }
 {

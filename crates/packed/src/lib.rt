@@ -2,11 +2,11 @@
 //
 // Each call is lent an output and a workspace of at least 16,384 words. It answers how much of the output it wrote, or a refusal that
 // leaves the output untouched. The first 16,384 words of the workspace are zero afterwards, unless there were fewer.
-pub mod bits;
+mod bits;
 pub mod by_value;
 mod calls;
 pub mod catalogue;
-pub mod distinct;
+mod distinct;
 mod field;
 pub mod gather;
 pub mod graph;
@@ -15,7 +15,7 @@ pub mod pattern;
 pub mod record;
 pub mod reply;
 pub mod sheet;
-pub mod sort;
+mod sort;
 pub mod workspace;
 
 ghost use mathlib.Core.List.{[], _∷_};

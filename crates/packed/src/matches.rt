@@ -29,7 +29,7 @@ fn add_bits(c: &mut [u32; 32], x: u32)
 }
 
 // How many pairs each list has.
-pub fn counts(work: &[u32], n: usize) -> [u32; 32]
+fn counts(work: &[u32], n: usize) -> [u32; 32]
     requires { ⌜ (n ≤ 8192) × (16384 ≤ length (now work)) ⌝ }
     ensures { λ r. ⌜ Counts n (now (work .entry)) r ⌝ }
 {

@@ -330,7 +330,7 @@ fn write_fields(words: &[u32], first: usize, file: u32, out: &mut [u8], start: u
 }
 
 // A pattern at the front of out: the next byte and the next word.
-pub fn write_pattern(words: &[u32], first: usize, file: u32, out: &mut [u8]) -> Part
+pub(crate) fn write_pattern(words: &[u32], first: usize, file: u32, out: &mut [u8]) -> Part
     requires { ⌜ first ≤ length (now words) ⌝ }
     ensures { λ r. ⌜ WritesBytes (whole pattern) (now (words .entry)) first (now (out .entry)) 0 44 file r (now (out .exit)) ⌝ }
 {
@@ -343,7 +343,7 @@ pub fn write_pattern(words: &[u32], first: usize, file: u32, out: &mut [u8]) -> 
 }
 
 // A whole pattern, a file of its own: its bytes stand at the front of out as far as it goes.
-pub fn judge_pattern_fields(words: &[u32], out: &mut [u8]) -> Part
+pub(crate) fn judge_pattern_fields(words: &[u32], out: &mut [u8]) -> Part
     ensures { λ r. ⌜ JudgesFields (encode pattern (now (words .entry))) 1 r (now (out .entry)) (now (out .exit)) ⌝ }
 {
     let p = write_pattern(words, 0, 1, out);

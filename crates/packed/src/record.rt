@@ -129,7 +129,7 @@ fn read_fields(s: &[u8], words: &mut [u32], work: &mut [u32]) -> Loaded
 
 // A whole record: its content goes to the front of the words as far as they go. On acceptance the codes of its edges stand at the
 // front of the workspace, ascending.
-pub fn judge_record(s: &[u8], words: &mut [u32], work: &mut [u32]) -> Part
+pub(crate) fn judge_record(s: &[u8], words: &mut [u32], work: &mut [u32]) -> Part
     requires { ⌜ (length (now s) ≤ 65536) × (length (now work) ≡ 16384) ⌝ }
     ensures { λ r. ⌜ Judges (decode record′ (now (s .entry))) 3 r (now (words .entry)) (now (words .exit)) ⌝ }
 {

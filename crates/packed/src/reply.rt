@@ -41,7 +41,7 @@ pub enum Reply {
 }
 
 // One field of a file.
-pub enum Field {
+pub(crate) enum Field {
     Value(u32),
     Refused(Refusal),
 }
@@ -53,13 +53,13 @@ pub enum Part {
 }
 
 // Two fields of one kind, one after the other.
-pub enum Two {
+pub(crate) enum Two {
     Values(u32, u32),
     Refused(Refusal),
 }
 
 // A part of a file that was read or written up to its edges, and how many edges were loaded.
-pub struct Loaded {
+pub(crate) struct Loaded {
     pub part: Part,
     pub edges: usize,
 }

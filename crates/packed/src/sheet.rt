@@ -98,7 +98,7 @@ fn read_sheet(s: &[u8], byte: usize, m: u32, words: &mut [u32], first: usize) ->
 }
 
 // A whole sheet, a file of its own: its content goes to the front of the words as far as they go.
-pub fn judge_sheet(s: &[u8], m: u32, words: &mut [u32]) -> Part
+pub(crate) fn judge_sheet(s: &[u8], m: u32, words: &mut [u32]) -> Part
     requires { ⌜ length (now s) ≤ 65536 ⌝ }
     ensures { λ r. ⌜ Judges (decode (sheet m) (now (s .entry))) 4 r (now (words .entry)) (now (words .exit)) ⌝ }
 {
@@ -226,7 +226,7 @@ fn write_sheet(words: &[u32], first: usize, m: u32, out: &mut [u8]) -> Part
 }
 
 // A whole sheet, a file of its own: its bytes go to the front of out as far as it goes.
-pub fn judge_sheet_fields(words: &[u32], m: u32, out: &mut [u8]) -> Part
+pub(crate) fn judge_sheet_fields(words: &[u32], m: u32, out: &mut [u8]) -> Part
     requires { ⌜ m ≤ 32 ⌝ }
     ensures { λ r. ⌜ JudgesFields (encode (sheet m) (now (words .entry))) 4 r (now (out .entry)) (now (out .exit)) ⌝ }
 {
@@ -262,7 +262,7 @@ fn write_sheets(words: &[u32], counts: [u32; 16], k: usize, out: &mut [u8]) -> P
 }
 
 // A whole book: its bytes go to the front of out as far as it goes.
-pub fn judge_book_fields(words: &[u32], counts: [u32; 16], k: usize, out: &mut [u8]) -> Part
+pub(crate) fn judge_book_fields(words: &[u32], counts: [u32; 16], k: usize, out: &mut [u8]) -> Part
     requires { ⌜ (k ≤ 16) × Small counts ⌝ }
     ensures { λ r. ⌜ JudgesFields (encode (book (take k counts)) (now (words .entry))) 4 r (now (out .entry)) (now (out .exit)) ⌝ }
 {

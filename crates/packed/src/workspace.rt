@@ -18,7 +18,7 @@ pub fn clear(work: &mut [u32], n: usize)
 }
 
 // The words stand at the front of out, whose others are unchanged.
-pub fn copy_words(words: &[u32], out: &mut [u32])
+pub(crate) fn copy_words(words: &[u32], out: &mut [u32])
     requires { ⌜ length (now words) ≤ length (now out) ⌝ }
     ensures { λ r. ⌜ now (out .exit) ≡ now (words .entry) ++ drop (length (now (words .entry))) (now (out .entry)) ⌝ }
 {
@@ -29,20 +29,8 @@ pub fn copy_words(words: &[u32], out: &mut [u32])
     }
 }
 
-// The bytes stand at the front of out, whose others are unchanged.
-pub fn copy_bytes(bytes: &[u8], out: &mut [u8])
-    requires { ⌜ length (now bytes) ≤ length (now out) ⌝ }
-    ensures { λ r. ⌜ now (out .exit) ≡ now (bytes .entry) ++ drop (length (now (bytes .entry))) (now (out .entry)) ⌝ }
-{
-    let mut i = 0;
-    while i < bytes.len() {
-        out[i] = bytes[i];
-        i += 1;
-    }
-}
-
 // The word i is v, where there is a word i.
-pub fn store(words: &mut [u32], i: usize, v: u32)
+pub(crate) fn store(words: &mut [u32], i: usize, v: u32)
     ensures { λ r. ⌜ now (words .exit) ≡ set (now (words .entry)) i v ⌝ }
 {
     if i < words.len() {
