@@ -78,7 +78,7 @@ pub fn place(temporary: &[u8], name: &[u8]) -> bool {
 }
 
 // Makes the file of this name, or puts another in its place, with just these bytes.
-pub fn write(name: &[u8], temporary: &[u8], bytes: &[u8]) -> bool {
+pub(crate) fn write(name: &[u8], temporary: &[u8], bytes: &[u8]) -> bool {
     if !make(temporary, bytes) {
         return false;
     }
