@@ -23,7 +23,7 @@ use Rattle.matching.proofs.Listed.{listed-exactly, matches-related, related-mat
 use Rattle.matching.proofs.AllOrNone.{sets-even}
 use Rattle.matching.proofs.RecordLaws.{graph-narrow}
 use Rattle.containment.specs.Choice.{everyView, coversIn, chosen}
-use Rattle.containment.specs.Quote.{one, mapping, valuesFrom, quoteValues, flat, quoteAnswer}
+use Rattle.containment.specs.Quote.{QuoteValues, flat, one, mapping, valuesFrom, quoteValues, quoteAnswer}
 use Rattle.containment.specs.Answer.{Choose, answerFor, answerBy, answerAnswer}
 use Rattle.containment.specs.Show.{showFor, showAnswer}
 use Rattle.containment.specs.Listing.{lineOf, lineAnswer}
@@ -177,9 +177,13 @@ maps-exactly q c qs cs eq ec i a f h l k =
     Iff·trans (Iff·symm (test-is _)) (mapping-exactly (patternOf qs) (extracts cs) (b .few-edges) i a (omega (arith, b .many)) l (omega arith) f k)
 
 -- the values of a quote
+abbrev valuesBy : List ℕ → List ℕ → Bool → ℕ → QuoteValues
+valuesBy qs cs b set =
+    record { covered = one b; mapping = mapping (patternOf qs) (extracts cs); edges = edgesOf qs; chosen = set; lowest = pick b 0 (lacking qs cs) }
+
 quote-values : (q c qs cs : List ℕ) → Question q qs → Catalogue c cs → (b : Bool) → coveredBy qs cs ≡ b
-    → quoteAnswer q c ≡ give (one b ∷ (mapping (patternOf qs) (extracts cs) ++ (edgesOf qs ∷ chosenOf qs cs ∷ pick b 0 (lacking qs cs) ∷ []))) []
-unfolding quoteAnswer quoteValues valuesFrom flat
+    → quoteAnswer q c ≡ give (flat (valuesBy qs cs b (chosenOf qs cs))) []
+unfolding quoteAnswer quoteValues valuesFrom
 quote-values q c qs cs eq ec b h = goes-on _ eq ∙ goes-on _ ec ∙ rw (question-bounds q qs eq .many, h)
 
 one-same : (a b : Bool) → one a ≡ one b → a ≡ b
@@ -190,17 +194,18 @@ one-same false false e = refl
 
 -- which is all that it says of coverage
 quote-says : (q c qs cs : List ℕ) → Question q qs → Catalogue c cs → (b : Bool) (words : ℕ)
-    → ((vs : List ℕ) × (withWorkspace words (quoteAnswer q c) ≡ give (one b ∷ vs) [])) ↔ ((16384 ≤ words) × (coveredBy qs cs ≡ b))
+    → ((v : QuoteValues) × (withWorkspace words (quoteAnswer q c) ≡ give (flat v) []) × (v .covered ≡ one b)) ↔ ((16384 ≤ words) × (coveredBy qs cs ≡ b))
+unfolding flat
 quote-says q c qs cs eq ec b words = (
   λ x.
       let w = enough-for words (quoteAnswer q c) (λ z. not-refused (sym z)) (x .1) in
       let e = sym (quote-values q c qs cs eq ec (coveredBy qs cs) refl) ∙ w .1 in
       (w .0, one-same (coveredBy qs cs) b (cc)),
-  λ x. (_, enough-words words (quoteAnswer q c) (x .0) ∙ quote-values q c qs cs eq ec b (x .1)),
+  λ x. (valuesBy qs cs b (chosenOf qs cs), enough-words words (quoteAnswer q c) (x .0) ∙ quote-values q c qs cs eq ec b (x .1), refl),
 )
 
 pub demand-2 : Demand2
-unfolding fieldsOf ends flat
+unfolding fieldsOf ends
 demand-2 = record {
   simulates = sim-is;
   greatest = sim-most;
@@ -225,7 +230,7 @@ demand-2 = record {
   values-covered = λ q c qs cs eq ec h. quote-values q c qs cs eq ec true h;
   values-uncovered = λ q c qs cs eq ec n.
       quote-values q c qs cs eq ec false n
-      ∙ ap (λ (set : ℕ). give (0 ∷ (mapping (patternOf qs) (extracts cs) ++ (edgesOf qs ∷ set ∷ lacking qs cs ∷ []))) [])
+      ∙ ap (λ (set : ℕ). give (flat (valuesBy qs cs false set)) [])
       (chosen-none (mapping (patternOf qs) (extracts cs)) (edgesOf qs) (length (extracts cs)) n);
   maps = maps-exactly;
   choice-covers = λ qs cs h. chosen-covers (mapping (patternOf qs) (extracts cs)) (edgesOf qs) (length (extracts cs)) h;

@@ -3,7 +3,7 @@
 -- The contract of each client call is `Settled` (packed/specs/Calls.antt) over one of the answers named here: it says of the result, of every
 -- lent byte and of every word of the workspace what they are once that answer is known. So what is said here of answers holds of the programs.
 -- An answer is a function of the bytes and fields that are lent, of the length of each output (`room`) and of the workspace (`words`).
--- Proofs: proofs/DemandsOneTwo.antt and proofs/DemandThree.antt, by proofs/DemandRules.antt, DemandSheets.antt and DemandJoin.antt; and
+-- Proofs: proofs/DemandsOneTwo.antt and proofs/DemandThree.antt, by proofs/DemandRules.antt, DemandSheets.antt and DemandJoin.antt; of the listing,
 -- proofs/Listings.antt.
 use Prim.Native.Nat.{ℕ, _+_, _-_, _*_, _/_, _^_, _<_, _≤_}
 use mathlib.Core.Path.{_≡_}
@@ -14,7 +14,7 @@ use lib.ListN.{length, getD, drop, replicate}
 use lib.Dec.{T}
 use Rattle.packed.specs.Formats.{code}
 use Rattle.packed.specs.Plain.{Below, PatternFile, CatalogueFile, RecordFile, SheetFile, BookFile}
-use Rattle.packed.specs.Contents.{edgesOf, viewsOf, edgeCounts, ends, fieldsOf, total, sheetsIn}
+use Rattle.packed.specs.Contents.{edgesOf, viewsOf, edgeCounts, sheetsIn, ends, fieldsOf, total}
 use Rattle.packed.specs.Refusals.{Told, told}
 use Rattle.packed.specs.Calls.{Answer, give, refuse, fronts, Settled, Answered, withWorkspace, accepted, readPattern, readCatalogue, readRecord, readSheet, readBook, pairsOf, fitFile, patternRead, catalogueRead, recordRead, sheetRead, bookRead, patternWritten, catalogueWritten, recordWritten, sheetWritten, bookWritten}
 use Rattle.matching.specs.Lists.{In}
@@ -22,7 +22,7 @@ use Rattle.matching.specs.Simulation.{Pair, Pattern, Graph, patternOf, graphOf,
 use Rattle.matching.specs.Join.{without, answerSets}
 use Rattle.matching.specs.Search.{sheetBytes, bookBytes, viewSheets, searchAnswer, makeBookAnswer}
 use Rattle.containment.specs.Choice.{everyView, coversIn, lowestUnmatched, chosen}
-use Rattle.containment.specs.Quote.{noPattern, mapping, blank, flat, quoteAnswer, quoteTold}
+use Rattle.containment.specs.Quote.{noPattern, mapping, QuoteValues, flat, blank, quoteAnswer, quoteTold}
 use Rattle.containment.specs.Answer.{viewsIn, answerBy, answerAnswer}
 use Rattle.containment.specs.Show.{graphFields, fewerFields, recordBytes, fitBoth, showAnswer}
 use Rattle.containment.specs.Listing.{bytes, linkLine, lineOf, lineAnswer}
@@ -309,9 +309,9 @@ pub record Demand2 : Type 1 where
       → Covers set qs cs ↔ ((i : ℕ) → i < edgesOf qs → MatchedIn (patternOf qs) (extracts cs) set (linkOf qs i))
   -- which is the first value that the call gives, where enough words are lent: 1, or 0 for an uncovered question
   pub says-covered : (q c qs cs : List ℕ) → Question q qs → Catalogue c cs → (words : ℕ)
-      → ((vs : List ℕ) × (withWorkspace words (quoteAnswer q c) ≡ give (1 ∷ vs) [])) ↔ ((16384 ≤ words) × Covered qs cs)
+      → ((v : QuoteValues) × (withWorkspace words (quoteAnswer q c) ≡ give (flat v) []) × (v .covered ≡ 1)) ↔ ((16384 ≤ words) × Covered qs cs)
   pub says-uncovered : (q c qs cs : List ℕ) → Question q qs → Catalogue c cs → (words : ℕ)
-      → ((vs : List ℕ) × (withWorkspace words (quoteAnswer q c) ≡ give (0 ∷ vs) [])) ↔ ((16384 ≤ words) × Uncovered qs cs)
+      → ((v : QuoteValues) × (withWorkspace words (quoteAnswer q c) ≡ give (flat v) []) × (v .covered ≡ 0)) ↔ ((16384 ≤ words) × Uncovered qs cs)
   -- the other values: the masks of what matches each link, the number of links, the chosen set, the lowest unmatched link; what has no meaning is 0
   pub values-covered : (q c qs cs : List ℕ) → Question q qs → Catalogue c cs → Covered qs cs
       → quoteAnswer q c ≡ give (flat (record { covered = 1; mapping = mapping (patternOf qs) (extracts cs); edges = edgesOf qs; chosen = chosenOf qs cs; lowest = 0 })) []
