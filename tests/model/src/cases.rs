@@ -1,97 +1,46 @@
-//! What the program `cases` has to print: it follows the lines of its standard input, and so does the model.
+//! The cases, by sections: files and contents written out, limits, damaged files, the worked cases, searches beside the
+//! plain one, questions and their answers, and the refusals of every call.
 
-mod content;
-mod damage;
-mod limits;
-mod small;
+mod questions;
+mod refusals;
+mod searches;
+mod table;
+mod worked;
 
-use crate::files::*;
+use crate::replay::*;
 
-#[derive(Clone, Copy, PartialEq, Eq)]
-pub enum Kind {
-    Pattern,
-    Catalogue,
-    Record,
-    Sheet,
-    Book,
+/// The file of cases, and what the program has to print.
+pub fn written() -> (Vec<u8>, String) {
+    let mut script = Script::new();
+    lend_most(&mut script);
+    table::write(&mut script);
+    worked::write(&mut script);
+    searches::write(&mut script);
+    questions::write(&mut script);
+    refusals::write(&mut script);
+    script.name("all calls\n");
+    script.all();
+    assert!(script.file.len() < 300_000, "{} bytes", script.file.len());
+    (script.file, script.printed)
 }
 
-/// A sheet is read beside a pattern and a book beside a catalogue; for the others `beside` is not used.
-fn read(kind: Kind, beside: &[u8], file: &[u8], room: usize, work: usize) -> Result<Vec<u32>, Refusal> {
-    match kind {
-        Kind::Pattern => read_pattern(file, room, work),
-        Kind::Catalogue => read_catalogue(file, room, work),
-        Kind::Record => read_record(file, room, work),
-        Kind::Sheet => read_sheet(beside, file, room, work),
-        Kind::Book => read_book(beside, file, room, work),
-    }
+/// More than a call asks for.
+fn lend_most(script: &mut Script) {
+    script.set(ROOM, ROOM_MOST);
+    script.set(SECOND, 180);
+    script.set(WORK, WORK_MOST);
 }
 
-fn write(kind: Kind, beside: &[u8], fields: &[u32], room: usize, work: usize) -> Result<Vec<u8>, Refusal> {
-    match kind {
-        Kind::Pattern => write_pattern(fields, room, work),
-        Kind::Catalogue => write_catalogue(fields, room, work),
-        Kind::Record => write_record(fields, room, work),
-        Kind::Sheet => write_sheet(beside, fields, room, work),
-        Kind::Book => write_book(beside, fields, room, work),
-    }
-}
+/// The question and the catalogue of the requirements, and parts of the catalogue.
+const D: [u8; 8] = [0x20, 0x80, 0x08, 0x86, 0x02, 0x04, 0x26, 0x46];
+const C: [u8; 17] =
+    [0x18, 0x10, 0x20, 0x08, 0x08, 0x18, 0x40, 0x08, 0xc0, 0x44, 0x80, 0x18, 0x40, 0x10, 0xc0, 0x44, 0x80];
+const ONE: [u8; 4] = [0x10, 0x20, 0x08, 0x08];
+/// A catalogue that has extract 1 of C alone.
+const SLOW: [u8; 7] = [0x08, 0x18, 0x40, 0x08, 0xc0, 0x44, 0x80];
 
-/// What the program lends to a reader and to a writer.
-const ROOM_WORDS: usize = 45_000;
-const ROOM_BYTES: usize = 65_540;
-
-/// A check sum: one step, and over a list.
-fn step(sum: u64, value: u64) -> u64 {
-    (sum * 69_069 + value + 1) % 4_294_967_291
-}
-
-fn sum<T: Copy + Into<u64>>(values: &[T]) -> u64 {
-    values.iter().fold(1, |sum, &value| step(sum, value.into()))
-}
-
-fn refusal(refusal: Refusal) -> String {
-    format!("refused {} {}", refusal.number, refusal.detail)
-}
-
-// A line of the table.
-
-fn kind(line: &str) -> Kind {
-    match line.split_whitespace().nth(1) {
-        Some("pattern") => Kind::Pattern,
-        Some("catalogue") => Kind::Catalogue,
-        Some("record") => Kind::Record,
-        Some("sheet") => Kind::Sheet,
-        Some("book") => Kind::Book,
-        _ => panic!("no kind: {line}"),
-    }
-}
-
-/// The name, what stands beside, and the last part.
-fn fields(line: &str) -> (&str, Vec<u8>, &str) {
-    let (name, rest) = line.split_once(':').unwrap();
-    let (beside, last) = rest.split_once('|').unwrap_or((rest, ""));
-    (name, bytes(beside), last)
-}
-
-fn bytes(text: &str) -> Vec<u8> {
-    text.split_whitespace().map(|byte| u8::from_str_radix(byte, 16).unwrap()).collect()
-}
-
-fn numbers(text: &str) -> Vec<u32> {
-    text.split_whitespace().filter_map(|number| number.parse().ok()).collect()
-}
-
-pub fn print(table: &str) {
-    for line in table.lines() {
-        match line.split_whitespace().next() {
-            Some("read") => small::read_line(line),
-            Some("write") => small::write_line(line),
-            Some("zeros") => small::zeros_line(line),
-            Some("limit") => limits::line(line),
-            Some("damage") => damage::damage_line(line),
-            Some("sample") => damage::sample_line(line),
-            _ => (),
-        }
-    }
+/// The writer's output becomes a part of its own.
+fn keep_as(script: &mut Script, part: usize) {
+    script.empty(part);
+    script.keep(part);
 }

@@ -1,7 +1,8 @@
-//! The rule by which the programs draw their files.
+//! What the model draws for the cases: patterns, questions and catalogues whole, and by which numbers records and lists
+//! are drawn.
 
 use crate::files::*;
-use std::collections::BTreeSet;
+use crate::rule::{below, next, Drawn, Lists};
 
 pub struct Rule {
     state: u32,
@@ -14,11 +15,8 @@ impl Rule {
 
     /// The next number below n, 0 where there is none.
     pub fn draw(&mut self, n: u32) -> u32 {
-        self.state = self.state.wrapping_mul(1_664_525).wrapping_add(1_013_904_223);
-        if n == 0 {
-            return 0;
-        }
-        self.state / 65_536 % n
+        self.state = next(self.state);
+        below(self.state, n as usize) as u32
     }
 }
 
@@ -166,55 +164,6 @@ pub fn draw_files(rule: &mut Rule, size: u32, full: bool, kinds: Kinds) -> (Vec<
 
 // Records.
 
-fn bit(rule: &mut Rule, kinds: Kinds) -> u32 {
-    1 << kind(rule, kinds)
-}
-
-/// The kinds of a record's item: one; up to three; none, all or one; any.
-fn item(rule: &mut Rule, kinds: Kinds, form: u32) -> u32 {
-    match form {
-        0 => bit(rule, kinds),
-        1 => bit(rule, kinds) | bit(rule, kinds) | bit(rule, kinds),
-        2 => match rule.draw(4) {
-            0 => 0,
-            1 => u32::MAX,
-            _ => bit(rule, kinds),
-        },
-        _ => rule.draw(65_536) * 65_536 + rule.draw(65_536),
-    }
-}
-
-/// The link t of a record with n items: any; to an item near by; chains of 64; rings; at one of four items; forward.
-/// An end that is no item makes no link.
-fn record_link(rule: &mut Rule, form: u32, t: u32, n: u32) -> (u32, u32) {
-    match form {
-        0 => (rule.draw(n), rule.draw(n)),
-        1 => {
-            let from = rule.draw(n);
-            (from, (from + rule.draw(4)) % n)
-        }
-        2 => {
-            let from = t % n;
-            (from, if from % 64 == 63 { n } else { from + 1 })
-        }
-        3 => (t % n, (t + 1) % n),
-        4 => {
-            let other = rule.draw(n);
-            let hub = rule.draw(4);
-            if rule.draw(2) == 0 {
-                (hub, other)
-            } else {
-                (other, hub)
-            }
-        }
-        _ => {
-            let a = rule.draw(n);
-            let b = rule.draw(n);
-            (a.min(b), a.max(b))
-        }
-    }
-}
-
 /// The number of items of a record. Every second record of a group may have fewer.
 pub fn draw_items(rule: &mut Rule, size: u32, case: u32) -> u32 {
     if case % 2 == 0 {
@@ -223,77 +172,49 @@ pub fn draw_items(rule: &mut Rule, size: u32, case: u32) -> u32 {
     size - rule.draw(size / 4 + 1)
 }
 
-/// The content of a record with n items.
-pub fn draw_record(rule: &mut Rule, n: u32, kinds: Kinds) -> Vec<u32> {
-    let form = rule.draw(4);
-    let items: Vec<u32> = (0..n).map(|_| item(rule, kinds, form)).collect();
-    let form = rule.draw(6);
-    let want = rule.draw(4 * n + 1).min(8_192);
-    let mut links = Vec::new();
-    let mut seen = BTreeSet::new();
-    for t in 0..4 * want {
-        if links.len() < want as usize {
-            let (from, to) = record_link(rule, form, t, n);
-            if from < n && to < n && seen.insert((from, to)) {
-                links.push((from, to));
-            }
-        }
+/// A record with n items.
+pub fn draw_record(rule: &mut Rule, n: u32, kinds: Kinds) -> Drawn {
+    Drawn {
+        seed: rule.draw(65_536),
+        items: n as usize,
+        links: rule.draw(4 * n + 1).min(8_192) as usize,
+        kind: kinds.first as usize,
+        kinds: kinds.number as usize,
+        item_form: rule.draw(4) as usize,
+        link_form: rule.draw(6) as usize,
     }
-    content(&items, &links)
 }
 
 // Books of no record.
 
-/// A list of some pairs of items below a number, ascending.
-fn draw_list(rule: &mut Rule, most: u32, items: u32) -> Vec<(u32, u32)> {
-    let count = 1 + rule.draw(most);
-    let codes = items * items;
-    let gap = (2 * codes / count).clamp(1, codes);
-    let mut list = Vec::new();
-    let mut code = rule.draw(gap);
-    for _ in 0..count {
-        if code < codes {
-            list.push((code / items, code % items));
-        }
-        code += 1 + rule.draw(gap);
-    }
-    list
-}
-
-/// A book that may belong to no record: one sheet in eight has no pairs.
-pub fn draw_book(rule: &mut Rule, catalogue: &Catalogue) -> Book {
-    let lists: usize = catalogue.iter().map(|extract| extract.links.len()).sum();
+/// The lists of a book for so many links in all: how many pairs each has at most, and below which number their items are.
+pub fn draw_lists(rule: &mut Rule, links: usize) -> Lists {
     let pairs = [64, 512, 4_096, 21_000][rule.draw(4) as usize];
-    let most = (1 + pairs / lists.max(1) as u32).min(8_192);
+    let most = (1 + pairs / links.max(1)).min(8_192);
     let items = [2, 4, 8, 16, 64, 256, 1_024, 4_096][rule.draw(8) as usize];
-    let mut book = Vec::new();
-    for extract in catalogue {
-        let empty = rule.draw(8) == 0;
-        let list = |_| if empty { Vec::new() } else { draw_list(rule, most, items) };
-        book.push(extract.links.iter().map(list).collect());
-    }
-    book
+    let gap = (2 * items * items / most).clamp(1, (items * items).min(65_536));
+    Lists { least: 1, most, first: 0, step: 1, gap, items }
 }
 
 // Files that are wrong.
 
-/// The programs keep these files in so many bytes, which is over their most.
-pub const QUESTION_ROOM: usize = 48;
-pub const CATALOGUE_ROOM: usize = 720;
+pub enum Damage {
+    /// So many bytes are left.
+    Cut(usize),
+    /// So many bytes there are with what follows in the memory.
+    Longer(usize),
+    /// This bit is turned.
+    Turned(usize),
+}
 
 /// A byte less, a byte more, more than the most, fewer bytes, or one bit turned.
-pub fn damage(rule: &mut Rule, file: &mut Vec<u8>, room: usize) {
-    let length = file.len();
+pub fn draw_damage(rule: &mut Rule, length: usize, room: usize) -> Damage {
     match rule.draw(8) {
-        0 => file.truncate(length.saturating_sub(1)),
-        1 => file.resize(length + 1, 0),
-        2 => file.resize(room, 0),
-        3 => file.truncate(rule.draw(length as u32) as usize),
-        _ => {
-            let bit = rule.draw(8 * length as u32) as usize;
-            if let Some(byte) = file.get_mut(bit / 8) {
-                *byte ^= 128 >> (bit % 8);
-            }
-        }
+        0 => Damage::Cut(length.saturating_sub(1)),
+        1 => Damage::Longer(length + 1),
+        2 => Damage::Longer(room),
+        3 => Damage::Cut(rule.draw(length as u32) as usize),
+        _ if length == 0 => Damage::Longer(1),
+        _ => Damage::Turned((rule.draw(length as u32) * 8 + rule.draw(8)) as usize),
     }
 }

@@ -1,14 +1,15 @@
-//! `model cases` prints what the program `cases` has to print, from the same table; `model crosscheck`, `model quotes`
-//! and `model answers` what the programs of these names have to print.
+//! `model cases` writes the cases that the program `replay` runs, and what it has to print.
 
-const TABLE: &str = concat!(env!("CARGO_MANIFEST_DIR"), "/../../crates/cases/stdin");
+const CRATE: &str = concat!(env!("CARGO_MANIFEST_DIR"), "/../../crates/replay/");
 
 fn main() {
     match std::env::args().nth(1).as_deref() {
-        Some("cases") => model::cases::print(&std::fs::read_to_string(TABLE).expect(TABLE)),
-        Some("crosscheck") => model::crosscheck::print(),
-        Some("quotes") => model::quotes::print(),
-        Some("answers") => model::answers::print(),
-        _ => eprintln!("usage: model cases | crosscheck | quotes | answers"),
+        Some("cases") => {
+            let (cases, printed) = model::cases::written();
+            std::fs::create_dir_all(format!("{CRATE}data")).unwrap();
+            std::fs::write(format!("{CRATE}data/cases"), cases).unwrap();
+            std::fs::write(format!("{CRATE}stdout"), printed).unwrap();
+        }
+        _ => eprintln!("usage: model cases"),
     }
 }

@@ -1,4 +1,4 @@
-//! Quoting a question with a catalogue, the listing of a quote, and showing why a question is uncovered.
+//! Quoting a question with a catalogue, and showing why a question is uncovered.
 
 use crate::files::*;
 use crate::matching::sheet;
@@ -85,27 +85,6 @@ pub fn quote(question: &[u8], catalogue: &[u8], work_words: usize) -> Result<Quo
     Ok(Quote { covered, mapping, chosen, lowest_unmatched })
 }
 
-/// A line: a word and what follows it, or `none`.
-fn line(word: &str, parts: Vec<String>) -> String {
-    if parts.is_empty() {
-        return format!("{word} none\n");
-    }
-    format!("{word} {}\n", parts.join(" "))
-}
-
-/// What the quoting program prints.
-pub fn listing(quote: &Result<Quote, Refusal>) -> String {
-    let quote = match quote {
-        Ok(quote) => quote,
-        Err(Refusal { number, detail }) => return format!("refused {number} {detail}\n"),
-    };
-    let mut text = String::from(if quote.covered { "quote covered\n" } else { "quote uncovered\n" });
-    for (e, matches) in quote.mapping.iter().enumerate() {
-        text += &line(&format!("link {e} by"), matches.iter().map(|(a, b)| format!("{a}.{b}")).collect());
-    }
-    text + &line("extracts", quote.chosen.iter().map(|a| a.to_string()).collect())
-}
-
 /// A record's file: 12 if it doesn't fit.
 fn write(record: &Record, room: usize, work_words: usize) -> Result<Vec<u8>, Refusal> {
     let mut fields = vec![record.kinds.len() as u32, record.links.len() as u32];
@@ -150,10 +129,6 @@ mod tests {
         quote(&D, catalogue, WORK).unwrap()
     }
 
-    fn listed(catalogue: &[u8]) -> String {
-        listing(&quote(&D, catalogue, WORK))
-    }
-
     fn slow_to_fast() -> Vec<u8> {
         write_catalogue(&[1, 2, 1, 1, 2, 0, 1], ENOUGH, WORK).unwrap()
     }
@@ -169,8 +144,6 @@ mod tests {
         let mapping = vec![vec![(0, 0), (1, 0)], vec![(2, 0)], vec![(1, 1)], vec![(2, 1)]];
         let quote = Quote { covered: true, mapping, chosen: vec![1, 2], lowest_unmatched: None };
         assert_eq!(quoted(&C), quote);
-        let text = "quote covered\nlink 0 by 0.0 1.0\nlink 1 by 2.0\nlink 2 by 1.1\nlink 3 by 2.1\nextracts 1 2\n";
-        assert_eq!(listed(&C), text);
     }
 
     #[test]
@@ -178,8 +151,6 @@ mod tests {
         let mapping = vec![vec![(0, 0)], vec![], vec![(0, 1)], vec![]];
         let quote = Quote { covered: false, mapping, chosen: vec![], lowest_unmatched: Some(1) };
         assert_eq!(quoted(&SLOW), quote);
-        let text = "quote uncovered\nlink 0 by 0.0\nlink 1 by none\nlink 2 by 0.1\nlink 3 by none\nextracts none\n";
-        assert_eq!(listed(&SLOW), text);
         let (first, second) = show(&D, &SLOW, ENOUGH, ENOUGH, WORK).unwrap();
         let fields = |links: &[u32]| {
             let mut fields = vec![4, links.len() as u32 / 2, 1, 2, 4, 8];
@@ -230,7 +201,6 @@ mod tests {
             assert_eq!(quote(question, catalogue, work), refused(number, detail));
             assert_eq!(show(question, catalogue, 0, 0, work), refused(number, detail));
         }
-        assert_eq!(listing(&refused(SHORT, CATALOGUE)), "refused 2 2\n");
         assert_eq!(show(&D, &C, 0, 0, WORK), refused(COVERED, 0));
         let (first, second) = show(&D, &SLOW, ENOUGH, ENOUGH, WORK).unwrap();
         assert_eq!(show(&D, &SLOW, first.len() - 1, 0, WORK), refused(NO_FIT, first.len()));

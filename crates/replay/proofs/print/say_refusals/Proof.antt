@@ -1,0 +1,42 @@
+-- `replay::print::say_refusals` is safe and ends.
+use Prim.Native.Nat.{_-_}
+use borrow.Author.Needs.{needs}
+use Rattle.replay.proofs.print.say_refusals.Statement.{statement}
+use Rattle.replay.proofs.print.say_refusals.Tie as tie
+
+abbrev Inv-loop : tie.InvT-loop
+Inv-loop block cells cell₀ cell = Unit
+
+abbrev μ-loop : tie.MeasureT-loop
+μ-loop block cells cell₀ cell = 80 - cell
+
+loop-holds : tie.Need-loop-holds Inv-loop μ-loop
+loop-holds c = search needs
+
+say-refusal-requires : tie.Need-say-refusal-requires Inv-loop μ-loop
+say-refusal-requires c κs = search needs
+
+add-cell : tie.Need-add-cell Inv-loop μ-loop
+add-cell c = search needs
+
+loop-less : tie.Need-loop-less Inv-loop μ-loop
+loop-less c = search needs
+
+loop-again : tie.Need-loop-again Inv-loop μ-loop
+loop-again c = search needs
+
+returns : tie.Need-returns Inv-loop μ-loop
+returns c = search needs
+
+pub say-refusals-spec : {M : Type 1} → statement M
+say-refusals-spec =
+    tie.close
+    (tie.spec
+    Inv-loop
+    μ-loop
+    loop-holds
+    say-refusal-requires
+    add-cell
+    loop-less
+    loop-again
+    returns)

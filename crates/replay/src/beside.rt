@@ -1,0 +1,79 @@
+// A search that is made apart from the library's: what the reader says of both files goes through plain simulation and the writer.
+ghost use mathlib.Core.Path.{_≡_};
+ghost use lib.ListN.{length};
+use crate::calls;
+use crate::calls::Outcome;
+use crate::slices;
+
+fn pattern_words() -> [u32; 82]
+    ensures { λ r. ⌜ 82 ≡ length r ⌝ }
+{
+    [0; 82]
+}
+
+fn record_words() -> [u32; 20482]
+    ensures { λ r. ⌜ 20482 ≡ length r ⌝ }
+{
+    [0; 20482]
+}
+
+// What is said first of the two files: a refusal, or that both were read.
+fn first_refusal(number: usize, value: usize, other: usize, other_value: usize) -> Outcome {
+    if number == 0 {
+        calls::refused(other, other_value)
+    } else {
+        calls::refused(number, value)
+    }
+}
+
+fn read_both(
+    pattern: &[u8],
+    record: &[u8],
+    p: &mut [u32],
+    r: &mut [u32],
+    work: &mut [u32],
+) -> Outcome {
+    let a = yuthaqim::yuthaqim_read_pattern(pattern, p, work);
+    let b = yuthaqim::yuthaqim_read_record(record, r, work);
+    first_refusal(a.number, a.value, b.number, b.value)
+}
+
+fn write_sheet(
+    o: Outcome,
+    pattern: &[u8],
+    content: &[u32],
+    out: &mut [u8],
+    work: &mut [u32],
+) -> Outcome {
+    if o.number != 0 {
+        return o;
+    }
+    let r = yuthaqim::yuthaqim_write_sheet(pattern, content, out, work);
+    calls::wrote_bytes(r.number, r.value, out)
+}
+
+fn search_in(
+    pattern: &[u8],
+    record: &[u8],
+    p: &mut [u32],
+    r: &mut [u32],
+    out: &mut [u8],
+    words: &mut [u32],
+    work: &mut [u32],
+) -> Outcome {
+    let o = read_both(pattern, record, p, r, work);
+    let n = slices::least(plain::sheet(p, r, words), words.len());
+    write_sheet(o, pattern, &words[0..n], out, work)
+}
+
+pub fn search(
+    pattern: &[u8],
+    record: &[u8],
+    out: &mut [u8],
+    words: &mut [u32],
+    work: &mut [u32],
+) -> Outcome {
+    let mut p = pattern_words();
+    let mut r = record_words();
+    search_in(pattern, record, &mut p, &mut r, out, words, work)
+}

@@ -1,0 +1,151 @@
+//! Questions and catalogues that are drawn: quotes and showings; answers from the book of a record beside searches of it;
+//! answers from books of no record; all on damaged files too.
+
+use super::searches::{lay_record, places};
+use super::*;
+use crate::drawing::*;
+use crate::files::*;
+use crate::quoting::quote;
+
+/// The most items of a question, whether question and catalogue are as large as can be, the most items of a record; how
+/// many questions, how many of them have a record, and how many a book of no record.
+const GROUPS: [(u32, bool, u32, u32, u32, u32); 9] = [
+    (2, false, 4, 60, 60, 0),
+    (4, false, 16, 60, 60, 60),
+    (4, false, 1_024, 30, 30, 30),
+    (4, false, 4_096, 20, 20, 20),
+    (8, false, 64, 100, 60, 100),
+    (16, false, 256, 40, 40, 40),
+    (16, false, 4_096, 20, 20, 20),
+    (16, false, 0, 40, 0, 40),
+    (16, true, 256, 40, 20, 30),
+];
+
+/// More bytes than a question and a catalogue may have.
+const QUESTION_ROOM: usize = 48;
+const CATALOGUE_ROOM: usize = 720;
+
+struct Files {
+    question: Vec<u8>,
+    catalogue: Vec<u8>,
+    extracts: Vec<Pattern>,
+}
+
+impl Files {
+    fn draw(rule: &mut Rule, size: u32, full: bool, kinds: Kinds) -> Files {
+        let (question, catalogue) = draw_files(rule, size, full, kinds);
+        let extracts = judge_catalogue(&catalogue).unwrap();
+        Files { question, catalogue, extracts }
+    }
+
+    fn lay_question(&self, script: &mut Script) {
+        let start = PLACES[QUESTION_PART];
+        script.place(QUESTION_PART, start, start + self.question.len());
+    }
+
+    fn is_covered(&self) -> bool {
+        quote(&self.question, &self.catalogue, WORK_WORDS).unwrap().covered
+    }
+}
+
+/// A quote, also with too few words to work in, and showings.
+fn quotes(script: &mut Script) {
+    script.once(QUOTE);
+    script.set(WORK, WORK_WORDS - 1);
+    script.once(QUOTE);
+    script.set(WORK, WORK_MOST);
+    script.round(SHOW_UNCOVERED);
+}
+
+/// The book of a record, where it fits, and the answers from it, beside searches where the question is covered.
+fn answers(script: &mut Script, rule: &mut Rule, files: &Files, items: u32, kinds: Kinds) {
+    lay_record(script, rule, items, kinds);
+    script.once(MAKE_BOOK);
+    if !script.is_accepted() {
+        return;
+    }
+    keep_as(script, BOOK_PART);
+    script.round(ANSWER);
+    if files.is_covered() {
+        script.hold();
+        script.round(SEARCH);
+        script.same();
+    }
+}
+
+/// A book that may belong to no record, sheet by sheet: a crowded one can't be written whole. One sheet in eight has no
+/// pairs.
+fn lay_book(script: &mut Script, rule: &mut Rule, files: &Files) {
+    let lists = draw_lists(rule, files.extracts.iter().map(|extract| extract.links.len()).sum());
+    script.seed(rule.draw(65_536));
+    script.empty(BOOK_PART);
+    let patterns: Vec<Vec<u8>> = files.extracts.iter().map(pattern_file).collect();
+    for (extract, (start, end)) in files.extracts.iter().zip(places(&patterns)) {
+        script.place(QUESTION_PART, start, end);
+        script.set(CONTENT, 0);
+        match rule.draw(8) {
+            0 => script.fields(&vec![0; extract.links.len()]),
+            _ => script.lists(extract.links.len(), lists),
+        }
+        script.once(WRITE_SHEET);
+        script.keep(BOOK_PART);
+    }
+    files.lay_question(script);
+}
+
+fn damage(script: &mut Script, rule: &mut Rule, part: usize, room: usize) {
+    let start = script.register(START + part);
+    match draw_damage(rule, script.register(END + part) - start, room) {
+        Damage::Cut(length) | Damage::Longer(length) => script.set(END + part, start + length),
+        Damage::Turned(bit) => script.flip(part, bit),
+    }
+}
+
+/// Good files, then with the book damaged, with the catalogue damaged too, and with all three damaged.
+fn case(script: &mut Script, rule: &mut Rule, size: u32, full: bool, record: Option<u32>, book: bool, sweep: bool) -> bool {
+    let kinds = draw_kinds(rule);
+    let files = Files::draw(rule, size, full, kinds);
+    script.bytes(QUESTION_PART, &files.question);
+    script.bytes(CATALOGUE_PART, &files.catalogue);
+    if sweep {
+        for (reader, stride) in [(READ_PATTERN, 5), (READ_CATALOGUE, 31)] {
+            script.once(reader);
+            script.flips(part_of(reader), stride);
+        }
+    }
+    quotes(script);
+    if let Some(items) = record {
+        answers(script, rule, &files, items, kinds);
+    }
+    if book {
+        lay_book(script, rule, &files);
+        script.round(ANSWER);
+        damage(script, rule, BOOK_PART, ROOM_MOST);
+        script.round(ANSWER);
+    }
+    for (part, room) in [(CATALOGUE_PART, CATALOGUE_ROOM), (QUESTION_PART, QUESTION_ROOM)] {
+        damage(script, rule, part, room);
+        quotes(script);
+        if book {
+            script.round(ANSWER);
+        }
+    }
+    files.is_covered()
+}
+
+pub fn write(script: &mut Script) {
+    let mut rule = Rule::new();
+    for (size, full, items, questions, records, books) in GROUPS {
+        let mut covered = 0;
+        for question in 0..questions {
+            let record = (question < records).then(|| draw_items(&mut rule, items, question));
+            covered += u32::from(case(script, &mut rule, size, full, record, question < books, question % 2 == 0));
+        }
+        let full = if full { ", full" } else { "" };
+        script.name(&format!(
+            "{size} items{full}, {records} records of {items}, {books} books of no record: {questions} questions, \
+             {covered} covered\n"
+        ));
+        script.group();
+    }
+}

@@ -1,0 +1,179 @@
+//! Every call on files of which each has one fault, for each refusal one, and on files that are cut at each byte or have
+//! each bit turned.
+
+use super::*;
+use crate::files::*;
+
+/// The calls that read files, and which.
+const CALLS: [(usize, &[usize]); 12] = [
+    (READ_PATTERN, &[QUESTION_PART]),
+    (READ_CATALOGUE, &[CATALOGUE_PART]),
+    (READ_RECORD, &[RECORD_PART]),
+    (READ_SHEET, &[QUESTION_PART, BOOK_PART]),
+    (READ_BOOK, &[CATALOGUE_PART, BOOK_PART]),
+    (WRITE_SHEET, &[QUESTION_PART]),
+    (WRITE_BOOK, &[CATALOGUE_PART]),
+    (SEARCH, &[QUESTION_PART, RECORD_PART]),
+    (MAKE_BOOK, &[CATALOGUE_PART, RECORD_PART]),
+    (QUOTE, &[QUESTION_PART, CATALOGUE_PART]),
+    (ANSWER, &[QUESTION_PART, CATALOGUE_PART, BOOK_PART]),
+    (SHOW_UNCOVERED, &[QUESTION_PART, CATALOGUE_PART]),
+];
+
+/// A file for each refusal that falls to it.
+type Faulty = &'static [(u32, &'static [u8])];
+
+const PATTERNS: Faulty = &[
+    (LONG, &[0; PATTERN_BYTES + 1]),
+    (SHORT, &[]),
+    (COUNT, &[0x88]),
+    (STRAY, &[0x08, 0x20, 0x01]),
+    (TWICE, &[0x08, 0x40, 0x00, 0x00]),
+    (LOOSE, &[0x10, 0x20, 0x00, 0x00]),
+    (TAIL, &[0x10, 0x20, 0x08, 0x09]),
+];
+const CATALOGUES: Faulty = &[
+    (LONG, &[0; CATALOGUE_BYTES + 1]),
+    (SHORT, &[]),
+    (COUNT, &[0x88]),
+    (STRAY, &[0x08, 0x08, 0x20, 0x01]),
+    (TWICE, &[0x08, 0x08, 0x40, 0x00, 0x00]),
+    (LOOSE, &[0x08, 0x10, 0x20, 0x00, 0x00]),
+    (TAIL, &[0x09]),
+];
+const RECORDS: Faulty = &[
+    (LONG, &[0; RECORD_BYTES + 1]),
+    (SHORT, &[]),
+    (COUNT, &[0x80, 0x08]),
+    (STRAY, &[0x00, 0x00, 0x00, 0x20, 0x00, 0x00, 0x00]),
+    (TWICE, &[0x00, 0x08, 0x00, 0x40, 0x00, 0x00, 0x00, 0x00, 0x00, 0x00, 0x00, 0x00, 0x00, 0x00]),
+    (TAIL, &[0x00, 0x00, 0x00, 0x01]),
+];
+/// Of D.
+const SHEETS: Faulty = &[
+    (LONG, &[0; BOOK_BYTES + 1]),
+    (SHORT, &[]),
+    (COUNT, &[0x80, 0x04]),
+    (ORDER, &[0x00, 0x08, 0x01, 0x40, 0x00, 0x01, 0x00, 0x24]),
+    (UNEVEN, &[0x00, 0x00, 0x00, 0x10, 0x00, 0x00, 0x00, 0x00, 0x00, 0x00]),
+    (TAIL, &[0; 8]),
+];
+/// Of C, and of its extract 1 alone.
+const BOOKS: Faulty = &[
+    (LONG, &[0; BOOK_BYTES + 1]),
+    (SHORT, &[]),
+    (COUNT, &[0x80, 0x04]),
+    (ORDER, &[0x00, 0x08, 0x01, 0x40, 0x00, 0x01, 0x00, 0x24]),
+    (UNEVEN, &[0x00, 0x00, 0x00, 0x00, 0x00, 0x10, 0x00, 0x00, 0x00]),
+    (TAIL, &[0x00, 0x01]),
+];
+
+fn faulty(call: usize, part: usize) -> Faulty {
+    match part {
+        BOOK_PART if call == READ_SHEET => SHEETS,
+        _ => [PATTERNS, CATALOGUES, RECORDS, BOOKS][part],
+    }
+}
+
+/// A file of zeros stands in the memory already.
+fn lay(script: &mut Script, part: usize, file: &[u8]) {
+    if file.len() > 32 {
+        script.place(part, ZEROS, ZEROS + file.len());
+    } else {
+        script.bytes(part, file);
+    }
+}
+
+/// What a call is made on: its files but for a book, and the call whose output is the sheet or book.
+struct Good {
+    question: Vec<u8>,
+    catalogue: Vec<u8>,
+    record: Vec<u8>,
+    made: usize,
+}
+
+impl Good {
+    /// A book is made before the catalogue is laid that may stand in for the one it was made with.
+    fn lay_book(&self, script: &mut Script) {
+        script.once(self.made);
+        keep_as(script, BOOK_PART);
+    }
+
+    fn lay(&self, script: &mut Script, part: usize) {
+        match part {
+            QUESTION_PART => script.bytes(part, &self.question),
+            CATALOGUE_PART => script.bytes(part, &self.catalogue),
+            RECORD_PART => script.bytes(part, &self.record),
+            _ => self.lay_book(script),
+        }
+    }
+
+    fn lay_all(&self, script: &mut Script) {
+        for part in [QUESTION_PART, CATALOGUE_PART, RECORD_PART, BOOK_PART] {
+            self.lay(script, part);
+        }
+    }
+}
+
+/// Files of the worked cases. A showing wants an uncovered question.
+fn small(call: usize) -> Good {
+    Good {
+        question: D.to_vec(),
+        catalogue: if call == SHOW_UNCOVERED { SLOW.to_vec() } else { C.to_vec() },
+        record: write_record(&[3, 2, 1, 6, 8, 0, 1, 1, 2], RECORD_BYTES, WORK_WORDS).unwrap(),
+        made: if call == READ_SHEET { SEARCH } else { MAKE_BOOK },
+    }
+}
+
+/// The largest question, and a catalogue that has it as its only extract, on a record of every kind.
+fn large() -> Good {
+    let pattern = super::table::pattern(16, 32);
+    let catalogue = [vec![1], pattern.clone()].concat();
+    let links: Vec<u32> = (0..64).flat_map(|link| [link % 16, (link * 3 + link / 16) % 16]).collect();
+    let record = [vec![16, 64], vec![u32::MAX; 16], links].concat();
+    Good {
+        question: write_pattern(&pattern, PATTERN_BYTES, WORK_WORDS).unwrap(),
+        catalogue: write_catalogue(&catalogue, CATALOGUE_BYTES, WORK_WORDS).unwrap(),
+        record: write_record(&record, RECORD_BYTES, WORK_WORDS).unwrap(),
+        made: MAKE_BOOK,
+    }
+}
+
+/// A call on its good files, then with a part cut at bytes and with bits turned, so many on each time.
+fn sweep(script: &mut Script, call: usize, part: usize, stride: usize) {
+    script.once(call);
+    assert!(script.is_accepted());
+    script.cuts(part, stride);
+    script.flips(part, stride);
+}
+
+pub fn write(script: &mut Script) {
+    for (call, parts) in CALLS {
+        let good = small(call);
+        good.lay_all(script);
+        for &part in parts {
+            for &(number, file) in faulty(call, part) {
+                script.content(&[0; 5][..if call == WRITE_SHEET { 4 } else { 5 }]);
+                lay(script, part, file);
+                script.round(call);
+                assert_eq!(script.refusal(), Some(number), "{call} {part}");
+                good.lay(script, part);
+            }
+            script.content(&[0; 5][..if call == WRITE_SHEET { 4 } else { 5 }]);
+            sweep(script, call, part, 1);
+        }
+    }
+    script.name("every call on files with one fault\n");
+    script.group();
+    let good = large();
+    good.lay_all(script);
+    for (call, parts) in CALLS {
+        if [SEARCH, MAKE_BOOK, QUOTE, ANSWER].contains(&call) {
+            for &part in parts {
+                sweep(script, call, part, if part == BOOK_PART { 101 } else { 1 });
+            }
+        }
+    }
+    script.name("calls on large files with one fault\n");
+    script.group();
+}

@@ -1,0 +1,75 @@
+//! Searches and books of records that are drawn, from no items to the most, each search beside the plain one and each book
+//! beside the searches of its extracts.
+
+use super::*;
+use crate::drawing::*;
+use crate::files::*;
+
+/// How many items at most, and how many searches and records at least.
+const SIZES: [(u32, usize, usize); 7] =
+    [(0, 33, 4), (4, 340, 40), (16, 307, 40), (64, 270, 30), (256, 185, 20), (1_024, 92, 12), (4_096, 116, 16)];
+
+/// Where the extracts of a catalogue stand in its file.
+pub fn places(extracts: &[Vec<u8>]) -> Vec<(usize, usize)> {
+    let mut at = PLACES[CATALOGUE_PART] + 1;
+    let mut places = Vec::new();
+    for extract in extracts {
+        places.push((at, at + extract.len()));
+        at += extract.len();
+    }
+    places
+}
+
+/// A record that is drawn, written and kept.
+pub fn lay_record(script: &mut Script, rule: &mut Rule, n: u32, kinds: Kinds) {
+    let drawn = draw_record(rule, n, kinds);
+    script.record(drawn);
+    script.once(WRITE_RECORD);
+    keep_as(script, RECORD_PART);
+}
+
+fn draw_extracts(rule: &mut Rule, kinds: Kinds) -> Vec<Vec<u8>> {
+    let number = rule.draw(17);
+    let extract = |_| write_pattern(&draw_pattern(rule, kinds), PATTERN_BYTES, WORK_WORDS).unwrap();
+    (0..number).map(extract).collect()
+}
+
+/// A record and a catalogue: a search for each extract, then the book. How many searches there are.
+fn case(script: &mut Script, rule: &mut Rule, n: u32) -> usize {
+    let kinds = draw_kinds(rule);
+    lay_record(script, rule, n, kinds);
+    let extracts = draw_extracts(rule, kinds);
+    let mut catalogue = vec![(extracts.len() << 3) as u8];
+    catalogue.extend(extracts.concat());
+    script.bytes(CATALOGUE_PART, &catalogue);
+    script.empty(BOOK_PART);
+    for (start, end) in places(&extracts) {
+        script.place(QUESTION_PART, start, end);
+        script.round(PLAIN);
+        script.hold();
+        script.round(SEARCH);
+        script.same();
+        script.keep(BOOK_PART);
+        script.short(QUESTION_PART);
+        script.short(RECORD_PART);
+    }
+    script.round(MAKE_BOOK);
+    script.matches(BOOK_PART);
+    script.short(CATALOGUE_PART);
+    script.short(RECORD_PART);
+    extracts.len()
+}
+
+pub fn write(script: &mut Script) {
+    let mut rule = Rule::new();
+    for (size, searches, records) in SIZES {
+        let (mut searched, mut record) = (0, 0);
+        while searched < searches || record < records as u32 {
+            let n = draw_items(&mut rule, size, record);
+            searched += case(script, &mut rule, n);
+            record += 1;
+        }
+        script.name(&format!("{size} items: {record} records, {searched} extracts\n"));
+        script.group();
+    }
+}

@@ -1,0 +1,152 @@
+//! The worked cases of the requirements that are more than one file, and a few that are as large as can be.
+
+use super::*;
+use crate::files::*;
+use crate::rule::Lists;
+
+/// A call on what is laid, and its outcome.
+fn say(script: &mut Script, name: &str, call: usize) {
+    script.name(&format!("{name}: "));
+    script.once(call);
+    script.outcome();
+}
+
+fn catalogue(fields: &[u32]) -> Vec<u8> {
+    write_catalogue(fields, CATALOGUE_BYTES, WORK_WORDS).unwrap()
+}
+
+fn pattern(fields: &[u32]) -> Vec<u8> {
+    write_pattern(fields, PATTERN_BYTES, WORK_WORDS).unwrap()
+}
+
+fn record(kinds: &[u32], links: &[(u32, u32)]) -> Vec<u8> {
+    let mut fields = vec![kinds.len() as u32, links.len() as u32];
+    fields.extend(kinds);
+    fields.extend(links.iter().flat_map(|&(from, to)| [from, to]));
+    write_record(&fields, RECORD_BYTES, WORK_WORDS).unwrap()
+}
+
+/// D with a catalogue: the quote and the showing.
+fn quoted(script: &mut Script, name: &str, fields: &[u32]) {
+    script.bytes(CATALOGUE_PART, &catalogue(fields));
+    say(script, &format!("{name}, quote"), QUOTE);
+    say(script, &format!("{name}, show"), SHOW_UNCOVERED);
+    if script.is_accepted() {
+        shown(script, name);
+    }
+}
+
+/// The extracts' lists are the same on both shown records, and the question's sheets are not.
+fn shown(script: &mut Script, name: &str) {
+    let (first, second) = script.lengths();
+    keep_as(script, BOOK_PART);
+    let start = PLACES[BOOK_PART];
+    script.set(END + BOOK_PART, start + first + second);
+    script.place(RECORD_PART, start, start + first);
+    script.once(MAKE_BOOK);
+    script.hold();
+    script.place(RECORD_PART, start + first, start + first + second);
+    script.once(MAKE_BOOK);
+    script.same();
+    say(script, &format!("{name}, search the second"), SEARCH);
+    script.place(RECORD_PART, start, start + first);
+    say(script, &format!("{name}, search the first"), SEARCH);
+}
+
+/// A pattern on a record.
+fn searched(script: &mut Script, name: &str, pattern: &[u8], record: &[u8]) {
+    script.bytes(QUESTION_PART, pattern);
+    script.bytes(RECORD_PART, record);
+    beside_plain(script, name);
+}
+
+fn beside_plain(script: &mut Script, name: &str) {
+    script.once(PLAIN);
+    script.hold();
+    say(script, &format!("{name}, search"), SEARCH);
+    script.same();
+}
+
+/// The book of a record, the answer from it, and the search.
+fn answered(script: &mut Script, name: &str) {
+    say(script, &format!("{name}, make_book"), MAKE_BOOK);
+    keep_as(script, BOOK_PART);
+    say(script, &format!("{name}, answer"), ANSWER);
+    beside_plain(script, name);
+}
+
+/// The content of a ring of n items, all with the same kinds.
+fn ring(n: u32, kinds: u32) -> Vec<u32> {
+    let mut fields = vec![n, n];
+    fields.extend(vec![kinds; n as usize]);
+    fields.extend((0..n).flat_map(|item| [item, (item + 1) % n]));
+    fields
+}
+
+/// An extract twice: the first sheet lists the most pairs that a book may have, the second, which isn't chosen, the
+/// pair of item 0 and another.
+fn crowd(script: &mut Script, name: &str, other: u32) {
+    script.bytes(QUESTION_PART, &ONE);
+    script.bytes(CATALOGUE_PART, &catalogue(&[2, 2, 1, 0, 1, 0, 1, 2, 1, 0, 1, 0, 1]));
+    script.empty(BOOK_PART);
+    script.set(CONTENT, 0);
+    script.lists(1, Lists { least: BOOK_PAIRS, most: 0, first: 0, step: 2_048, gap: 0, items: 4_096 });
+    script.once(WRITE_SHEET);
+    script.keep(BOOK_PART);
+    script.content(&[1, 0, other]);
+    script.once(WRITE_SHEET);
+    script.keep(BOOK_PART);
+    say(script, &format!("{name}, answer"), ANSWER);
+    say(script, &format!("{name}, read"), READ_BOOK);
+    if script.is_accepted() {
+        say(script, &format!("{name}, write"), WRITE_BOOK);
+    }
+}
+
+const C_FIELDS: [u32; 25] = [3, 2, 1, 0, 1, 0, 1, 3, 2, 0, 1, 3, 0, 1, 1, 2, 3, 2, 0, 2, 3, 0, 1, 1, 2];
+
+pub fn write(script: &mut Script) {
+    script.bytes(QUESTION_PART, &D);
+    quoted(script, "K1: D by itself", &[1, 4, 4, 0, 1, 2, 3, 0, 1, 0, 2, 1, 3, 2, 3]);
+    quoted(script, "K2: C", &C_FIELDS);
+    quoted(script, "K3: extract 1 of C", &[1, 3, 2, 0, 1, 3, 0, 1, 1, 2]);
+    quoted(script, "K4: no extracts", &[0]);
+    quoted(script, "K5: slow run to fast run", &[1, 2, 1, 1, 2, 0, 1]);
+
+    let k6 = record(&[1, 2, 8, 2], &[(0, 1), (0, 3), (1, 2)]);
+    let k9 = record(&[1, 6, 8], &[(0, 1), (1, 2)]);
+    let to_itself = pattern(&[1, 1, 5, 0, 0]);
+    searched(script, "K6: extract 1 of C", &SLOW[1..], &k6);
+    searched(script, "K7: both ways", &to_itself, &record(&[32, 32], &[(0, 1), (1, 0)]));
+    searched(script, "K8: a chain", &to_itself, &record(&[32, 32, 32], &[(0, 1), (1, 2)]));
+    searched(script, "K9: D", &D, &k9);
+    searched(script, "K10: an empty record", &ONE, &record(&[], &[]));
+
+    script.bytes(QUESTION_PART, &D);
+    script.bytes(CATALOGUE_PART, &C);
+    script.bytes(RECORD_PART, &k9);
+    answered(script, "K9: D by C");
+    script.bytes(RECORD_PART, &k6);
+    answered(script, "K6: D by C");
+    script.bytes(CATALOGUE_PART, &SLOW);
+    script.bytes(RECORD_PART, &k9);
+    answered(script, "K9: D by extract 1 of C");
+
+    script.bytes(QUESTION_PART, &pattern(&ring(8, 0)));
+    script.bytes(CATALOGUE_PART, &catalogue(&[1, 1, 1, 0, 0, 0]));
+    ring_record(script);
+    answered(script, "a ring of 8 on a ring of 4096");
+    crowd(script, "8192 different pairs", 0);
+    crowd(script, "8193 different pairs", 2);
+    script.name("the worked cases\n");
+    script.group();
+}
+
+/// A ring of 4,096 items of kind 0.
+fn ring_record(script: &mut Script) {
+    let drawn = crate::rule::Drawn { items: 4_096, links: 4_096, kinds: 1, link_form: 3, ..Default::default() };
+    script.record(drawn);
+    assert_eq!(script.content_now(), ring(4_096, 1));
+    script.once(WRITE_RECORD);
+    keep_as(script, RECORD_PART);
+}

@@ -1,0 +1,129 @@
+//! What a call answered, as the program has it.
+
+use super::{ANSWER, PLAIN, QUOTE, SEARCH};
+use crate::files::Refusal;
+use crate::quoting::Quote;
+
+/// FNV-1a, a number at a time.
+pub const DIGEST_START: u64 = 0xcbf2_9ce4_8422_2325;
+
+fn step(digest: u64, value: u64) -> u64 {
+    (digest ^ value).wrapping_mul(0x100_0000_01b3)
+}
+
+fn over<T: Copy + Into<u64>>(digest: u64, values: &[T]) -> u64 {
+    values.iter().fold(digest, |digest, &value| step(digest, value.into()))
+}
+
+/// What a call wrote.
+#[derive(Clone, Debug, PartialEq)]
+pub enum Output {
+    Nothing,
+    Words(Vec<u32>),
+    Bytes(Vec<u8>),
+}
+
+/// 0 or the refusal's number; the written length, or a refusal's detail; a second length, or what a quote adds; and a
+/// digest of what was written.
+#[derive(Clone, Debug, PartialEq)]
+pub struct Outcome {
+    pub number: u64,
+    pub value: u64,
+    pub other: u64,
+    pub digest: u64,
+    pub output: Output,
+}
+
+impl Outcome {
+    fn refused(refusal: Refusal) -> Outcome {
+        let (number, value) = (refusal.number.into(), refusal.detail as u64);
+        Outcome { number, value, other: 0, digest: DIGEST_START, output: Output::Nothing }
+    }
+
+    pub fn words(result: Result<Vec<u32>, Refusal>) -> Outcome {
+        match result {
+            Ok(words) => {
+                let (value, digest) = (words.len() as u64, over(DIGEST_START, &words));
+                Outcome { number: 0, value, other: 0, digest, output: Output::Words(words) }
+            }
+            Err(refusal) => Outcome::refused(refusal),
+        }
+    }
+
+    pub fn bytes(result: Result<Vec<u8>, Refusal>) -> Outcome {
+        match result {
+            Ok(bytes) => {
+                let (value, digest) = (bytes.len() as u64, over(DIGEST_START, &bytes));
+                Outcome { number: 0, value, other: 0, digest, output: Output::Bytes(bytes) }
+            }
+            Err(refusal) => Outcome::refused(refusal),
+        }
+    }
+
+    pub fn shown(result: Result<(Vec<u8>, Vec<u8>), Refusal>) -> Outcome {
+        match result {
+            Ok((first, second)) => {
+                let (value, other) = (first.len() as u64, second.len() as u64);
+                let both = [first, second].concat();
+                let digest = over(DIGEST_START, &both);
+                Outcome { number: 0, value, other, digest, output: Output::Bytes(both) }
+            }
+            Err(refusal) => Outcome::refused(refusal),
+        }
+    }
+
+    /// A quote's digest is that of its mapping, 16 masks of extract links for each of 32 question links, then how many
+    /// links there are, whether it is covered, the chosen extracts and the lowest unmatched link.
+    pub fn quoted(result: Result<Quote, Refusal>) -> Outcome {
+        let mut mapping = [0u32; 512];
+        match result {
+            Ok(quote) => {
+                for (e, matches) in quote.mapping.iter().enumerate() {
+                    for (a, b) in matches {
+                        mapping[16 * e + a] |= 1 << b;
+                    }
+                }
+                let chosen = quote.chosen.iter().map(|a| 1 << a).sum();
+                let lowest = quote.lowest_unmatched.unwrap_or(0) as u64;
+                let covered = u64::from(quote.covered);
+                let rest = [quote.mapping.len() as u64, covered, chosen, lowest];
+                let digest = over(over(DIGEST_START, &mapping), &rest);
+                let other = if quote.covered { chosen } else { lowest };
+                Outcome { number: 0, value: covered, other, digest, output: Output::Nothing }
+            }
+            Err(refusal) => {
+                let digest = over(over(DIGEST_START, &mapping), &[0u64; 4]);
+                Outcome { digest, ..Outcome::refused(refusal) }
+            }
+        }
+    }
+
+    pub fn written(&self) -> usize {
+        match &self.output {
+            Output::Nothing => 0,
+            Output::Words(words) => words.len(),
+            Output::Bytes(bytes) => bytes.len(),
+        }
+    }
+
+    /// How much it needs of its output.
+    pub fn needed(&self) -> usize {
+        match self.number {
+            0 | 12 => self.value as usize,
+            _ => 0,
+        }
+    }
+
+    pub fn over(&self, digest: u64) -> u64 {
+        over(digest, &[self.number, self.value, self.other, self.digest])
+    }
+
+    /// Whether a quote is covered, or a sheet lists pairs: its first count has 14 bits.
+    pub fn is_listing(&self, call: usize) -> bool {
+        match &self.output {
+            _ if self.number != 0 => false,
+            Output::Bytes(sheet) if [SEARCH, ANSWER, PLAIN].contains(&call) => sheet[0] != 0 || sheet[1] >= 4,
+            _ => call == QUOTE && self.value == 1,
+        }
+    }
+}

@@ -1,0 +1,133 @@
+//! The rule by which the program `replay` and the model draw the content of records and lists alike, so that large files
+//! need not stand among the cases.
+
+use std::collections::BTreeSet;
+
+pub fn next(state: u32) -> u32 {
+    state.wrapping_mul(1_664_525).wrapping_add(1_013_904_223)
+}
+
+/// The number below n that a state stands for, 0 where there is none.
+pub fn below(state: u32, n: usize) -> usize {
+    if n == 0 {
+        return 0;
+    }
+    (state / 65_536) as usize % n
+}
+
+/// How a record is drawn: so many items, and so many links where four times as many tries give them; the kinds from the
+/// first on; the form of the items and of the links.
+#[derive(Clone, Copy, Debug, Default)]
+pub struct Drawn {
+    pub seed: u32,
+    pub items: usize,
+    pub links: usize,
+    pub kind: usize,
+    pub kinds: usize,
+    pub item_form: usize,
+    pub link_form: usize,
+}
+
+/// An item or a link is drawn by the four states that follow one.
+fn four(state: &mut u32) -> [u32; 4] {
+    [(); 4].map(|()| {
+        *state = next(*state);
+        *state
+    })
+}
+
+impl Drawn {
+    fn bit(&self, state: u32) -> u32 {
+        1 << ((self.kind + below(state, self.kinds)) % 32)
+    }
+
+    /// The kinds of item v: one; up to three; none, all or one; any; by its place.
+    fn item(&self, v: usize, [a, b, c, _]: [u32; 4]) -> u32 {
+        match self.item_form {
+            0 => self.bit(a),
+            1 => self.bit(a) | self.bit(b) | self.bit(c),
+            2 => match below(b, 4) {
+                0 => 0,
+                1 => u32::MAX,
+                _ => self.bit(a),
+            },
+            3 => (below(a, 65_536) * 65_536 + below(b, 65_536)) as u32,
+            _ => (v % 4_097 * 1_048_573) as u32,
+        }
+    }
+
+    /// The link t: any; to an item near by; chains of 64; a ring; at one of four items; forward; a different one at each
+    /// t. An end that is no item makes no link.
+    fn link(&self, t: usize, [a, b, c, d]: [u32; 4]) -> (usize, usize) {
+        let n = self.items;
+        let (from, to, few) = (below(a, n), below(b, n), below(c, 4));
+        let rest = |x: usize| if n == 0 { 0 } else { x % n };
+        let place = rest(t);
+        match self.link_form {
+            0 => (from, to),
+            1 => (from, rest(from + few)),
+            2 => (place, if place % 64 == 63 { n } else { place + 1 }),
+            3 => (place, rest(t + 1)),
+            4 => match below(d, 2) {
+                0 => (few, from),
+                _ => (from, few),
+            },
+            5 => (from.min(to), from.max(to)),
+            _ => {
+                let from = rest(t * 5);
+                (from, rest(from * 7 + t.checked_div(n).unwrap_or(0)))
+            }
+        }
+    }
+
+    /// The content of the record.
+    pub fn content(&self) -> Vec<u32> {
+        let mut state = self.seed;
+        let kinds: Vec<u32> = (0..self.items).map(|v| self.item(v, four(&mut state))).collect();
+        let mut links = Vec::new();
+        let mut seen = BTreeSet::new();
+        for t in 0..4 * self.links {
+            let (from, to) = self.link(t, four(&mut state));
+            let is_link = from < self.items && to < self.items;
+            if links.len() < 2 * self.links && is_link && seen.insert((from, to)) {
+                links.extend([from as u32, to as u32]);
+            }
+        }
+        let mut fields = vec![self.items as u32, links.len() as u32 / 2];
+        fields.extend(kinds);
+        fields.extend(links);
+        fields
+    }
+}
+
+/// How lists are drawn: at least so many pairs and something below the most; the codes of pairs from the first on, from
+/// each to the next a step and something below the gap, as far as they stand for pairs of items.
+#[derive(Clone, Copy, Debug, Default)]
+pub struct Lists {
+    pub least: usize,
+    pub most: usize,
+    pub first: usize,
+    pub step: usize,
+    pub gap: usize,
+    pub items: usize,
+}
+
+impl Lists {
+    /// A list with its count.
+    pub fn content(&self, state: &mut u32) -> Vec<u32> {
+        *state = next(*state);
+        let count = self.least + below(*state, self.most);
+        *state = next(*state);
+        let mut code = self.first + below(*state, self.gap);
+        let mut fields = vec![0];
+        for _ in 0..count {
+            if code < self.items * self.items {
+                fields.extend([(code / self.items) as u32, (code % self.items) as u32]);
+                fields[0] += 1;
+            }
+            *state = next(*state);
+            code += self.step + below(*state, self.gap);
+        }
+        fields
+    }
+}
