@@ -147,6 +147,13 @@ fn sweep(script: &mut Script, call: usize, part: usize, stride: usize) {
     script.flips(part, stride);
 }
 
+/// Questions of zeros, from no bytes to some more than they may have.
+fn zeros(script: &mut Script, call: usize) {
+    script.place(QUESTION_PART, ZEROS, ZEROS + PATTERN_BYTES + 16);
+    script.once(call);
+    script.cuts(QUESTION_PART, 1);
+}
+
 pub fn write(script: &mut Script) {
     for (call, parts) in CALLS {
         let good = small(call);
@@ -161,6 +168,10 @@ pub fn write(script: &mut Script) {
             }
             script.content(&[0; 5][..if call == WRITE_SHEET { 4 } else { 5 }]);
             sweep(script, call, part, 1);
+            if part == QUESTION_PART {
+                zeros(script, call);
+                good.lay(script, part);
+            }
         }
     }
     script.name("every call on files with one fault\n");
