@@ -34,7 +34,7 @@ impl Workload {
 
 /// The workloads at a size: the full one divided by a power of two up to 8.
 pub fn all(part: usize) -> Vec<Workload> {
-    let makers = [layered, star, chain, one_kind, nothing, everything];
+    let makers = [layered, star, chain, cascade, one_kind, nothing, everything];
     makers.map(|make| make(ITEMS / part, LINKS / part)).into()
 }
 
@@ -231,6 +231,25 @@ fn chain(items: usize, _: usize) -> Workload {
     let about = "a chain through all items with links to the next and the one after, numbers shuffled; question of a \
                  self link, which nothing matches in the end; 15 extracts, 2 of which cascade like it";
     workload("chain", about, &mut rule, (kinds, links), ring(&[0]), extracts)
+}
+
+/// A chain through all items of one kind, numbers shuffled, and a ring of sixteen items of that kind: each item of the
+/// chain loses its sixteen partners one after the other, from the chain's end. No record is known that takes longer.
+fn cascade(items: usize, _: usize) -> Workload {
+    let mut rule = Rule::new(8);
+    let order = rule.order(items);
+    let mut kinds = vec![0; items];
+    for (i, &item) in order.iter().enumerate() {
+        kinds[item] = 1 | 2 << (i % 8);
+    }
+    let links = (1..items).map(|i| (order[i - 1], order[i])).collect();
+    let zeros = [0; 16];
+    let mut extracts = vec![path(&[0, 0]), ring(&zeros), ring(&zeros[..8])];
+    extracts.extend((1..8).map(|kind| path(&[kind, kind + 1])));
+    extracts.extend((1..6).map(|kind| path(&[kind, kind + 1, kind + 2])));
+    let about = "a chain through all items, numbers shuffled; question of sixteen items of one kind in a ring, which nothing \
+                 matches in the end; 15 extracts, 2 of which cascade like it";
+    workload("cascade", about, &mut rule, (kinds, links), ring(&zeros), extracts)
 }
 
 /// All items of one kind. A sixteenth of them, the core, has two links each within the core; the others stand in three

@@ -32,7 +32,7 @@ use Rattle.containment.specs.Show.{graphFields}
 use Rattle.containment.specs.Steps.{Query, Views, Present, Column, codeAt, powers}
 use Rattle.containment.proofs.QueryGraph.{graph-fields, graph-means, powers-length}
 use Rattle.containment.proofs.FieldLaws.{edge-is, number-is}
-use Rattle.containment.proofs.QueryLaws.{plain, some-edges, few-edges, query-number, query-edge}
+use Rattle.containment.proofs.QueryLaws.{plain, fair, some-edges, few-edges, query-number, query-edge}
 use Rattle.containment.proofs.MappingLaws.{column-map, mapping-none, mapping-more, mapping-length, column-clear}
 
 -- ---- the views
@@ -96,6 +96,13 @@ module _ {q : Given} {s : List ℕ} {n m : ℕ} {w : List ℕ} (t : Query q) (h 
 
   pub number-few : m ≤ 32
   number-few = omega (arith, number-same, t .holds .edges, few-edges t)
+
+  pub nodes-few : n ≤ 16
+  unfolding graphFields
+  nodes-few =
+      let e : n ≡ q .nodes = h .nodes ∙ ap nodesOf fields-same ∙ sym (t .holds .nodes) in
+      let f = fair t .nodes in
+      omega arith
 
   sets-query : (P : Pattern) → matchSets P (graphIn s n m w) ≡ matchSets P (asGraph (patternOf (t .content)))
   sets-query P = sets-same h P ∙ ap (matchSets P) (ap graphOf fields-same ∙ graph-means (plain t))

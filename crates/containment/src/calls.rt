@@ -111,6 +111,13 @@ fn note_view(
     before
 }
 
+// A word for each node that a query can have.
+fn no_words() -> [u32; 16]
+    ensures { λ r. ⌜ r ≡ replicate 16 0 ⌝ }
+{
+    [0u32; 16]
+}
+
 // The masks of the k views of a catalogue on the record s of the query, with n nodes and m edges.
 fn note_views(
     q: Pattern,
@@ -125,12 +132,15 @@ fn note_views(
     ensures { λ r. ⌜ ((t : Query q) (v : Views (now (catalogue .entry)) k) → r ≡ mapping (patternOf (t .content)) (map patternOf (viewsOf (v .content)))) ⌝ }
 {
     let mut mapping = no_mapping();
+    let mut leave = no_words();
+    let mut arrive = no_words();
+    let mut held = no_words();
     let mut byte: usize = 1;
     let mut a: usize = 0;
     while a < k {
         let v = views::view_at(catalogue, byte);
         let p = v.pattern;
-        matched::match_edges(s, n, m, p, work);
+        matched::match_edges(s, n, m, p, work, &mut leave, &mut arrive, &mut held);
         let more = note_view(mapping, a, q, m, p.edges, work);
         mapping = more;
         byte = v.next;

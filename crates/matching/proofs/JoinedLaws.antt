@@ -4,10 +4,9 @@ use mathlib.Core.Path.{_≡_, refl, sym, ap, subst, _∙_}
 use mathlib.Core.Logic.{inr, ⊎-elim}
 use mathlib.Core.Bool.{Bool}
 use mathlib.Core.List.{List, [], _∷_}
-use lib.ListN.{length, take, drop, getD, replicate, length-replicate, getD-replicate}
+use lib.ListN.{take, drop, getD}
 use lib.Dec.{T}
 use native.Mathlib.Omega.{arith}
-use lib.Pow.{pow-pos}
 use Rattle.packed.specs.Formats.{code}
 use Rattle.packed.specs.Contents.{distinct}
 use Rattle.packed.specs.BookSheets.{listAt}
@@ -18,15 +17,15 @@ use Rattle.matching.specs.Lists.{In, here, there, gather, keep, upTo}
 use Rattle.matching.specs.Simulation.{Pair, Pattern, has, ascending}
 use Rattle.matching.specs.Join.{View, pairOf, candidates, Kept, join, keptFor, answerSets}
 use Rattle.matching.specs.Steps.{patternIn, Fair, Edges}
-use Rattle.matching.specs.Sweeps.{Has, OneOf, Tabled}
+use Rattle.matching.specs.Sweeps.{Has, OneOf}
 use Rattle.matching.specs.Candidates.{Booked, Blank, Taken, BookListing}
-use Rattle.matching.specs.Support.{fromOf, toOf, Offers, May, Supports, Settled, KeptBy}
+use Rattle.matching.specs.Sweeping.{fromOf, toOf}
+use Rattle.matching.specs.Choices.{Offers, Supports, Chosen}
 use Rattle.matching.specs.Joining.{edgeAt, Agrees, Joined}
 use Rattle.matching.proofs.ListLaws.{same-test, in-cases, in-cast, not-in-none, gather-in, in-gather, keep-in, in-keep}
 use Rattle.matching.proofs.SimLaws.{has-in, in-has}
-use Rattle.matching.proofs.MaskBits.{none-has, not-by}
+use Rattle.matching.proofs.MaskBits.{none-has}
 use Rattle.matching.proofs.UpToLaws.{in-upTo, upTo-in}
-use Rattle.matching.proofs.EdgeMaskLaws.{own-say, own-by}
 use Rattle.matching.proofs.CodeLaws.{ascending-same}
 use Rattle.matching.proofs.MatchedLaws.{row-marked, sets-marked}
 use Rattle.matching.proofs.JoinLaws.{Supported, join-candidate, join-supported, join-most, kept-in, in-kept, pair-code}
@@ -61,25 +60,16 @@ module _ {l : List Kept} where
           (λ m. ⊎-elim (λ (p : (u, v) ≡ (k .0 .1, k .1 .1)). subst (λ (x : Pair). R (x .0) (x .1)) (sym p) (r .1)) (λ n. absurd (not-in-none n)) (in-cases m))
           (in-cases j)
 
--- the masks of the nodes before any is dropped: each has every node of a query
-pub all-long : {ok : List ℕ} → ok ≡ replicate 4096 65535 → length ok ≡ 4096
-all-long e = ap length e ∙ length-replicate {A = ℕ} 4096 65535
-
-all-has : (u : ℕ) → u < 16 → Has 65535 u
-all-has u l = not-by 16 0 u (pow-pos 16) l (none-has u)
-
-module _ (q : Given) (t : List ℕ) (set : ℕ) {s counts : List ℕ} {k d : ℕ} {w w₁ w₂ w₃ ok ok′ numbers leaving arriving : List ℕ}
-    (fair : Fair q) (id : (e : ℕ) → e < 32 → getD numbers e 0 ≡ e)
+module _ (q : Given) (t : List ℕ) (set : ℕ) {s counts : List ℕ} {k d : ℕ} {w w₁ w₂ w₃ : List ℕ} (fair : Fair q)
     (book : Booked s counts k d w) (blank : Blank d w w₁) (taken : Taken d (BookListing s counts k t set (q .edges)) w₁ w₂)
-    (all : ok ≡ replicate 4096 65535) (settled : Settled q d w₂ ok ok′)
-    (L : Tabled numbers (q .from) (q .edges) leaving) (A : Tabled numbers (q .to) (q .edges) arriving) (kept : KeptBy d ok′ leaving arriving w₂ w₃) where
+    (chosen : Chosen (q .from) (q .to) (q .edges) d w₂ w₃) where
   abbrev Q : Pattern
   Q = patternIn q
 
   abbrev Takes : ℕ → ℕ → Type 0
   Takes c n = BookListing s counts k t set (q .edges) c n
 
-  -- the mask of the pair i before and after the cut has the edge n
+  -- the pair i is held for the edge n before and after the choice
   abbrev Before : ℕ → ℕ → Type 0
   Before i n = Has (getD w₂ (8192 + i) 0) n
 
@@ -99,8 +89,8 @@ module _ (q : Given) (t : List ℕ) (set : ℕ) {s counts : List ℕ} {k d : ℕ
   edges : Edges w w₃
   edges =
       record {
-        long = kept .around .long ∙ taken .around .long ∙ blank .around .long;
-        same = λ i l. kept .around .low i l ∙ twice i l;
+        long = chosen .falls .long ∙ taken .around .long ∙ blank .around .long;
+        same = λ i l. chosen .falls .low i l ∙ twice i l;
       }
 
   pairs-marked : MarkedPairs d w₃
@@ -115,7 +105,7 @@ module _ (q : Given) (t : List ℕ) (set : ℕ) {s counts : List ℕ} {k d : ℕ
         rises = λ i j l h. rw (edges .same i (short i (omega arith)), edges .same j (short j h)) (p .rises i j l h);
       }
 
-  -- ---- the masks before the cut
+  -- ---- what is held before the choice
   before-say : (i n : ℕ) → i < d → Before i n → Takes (getD w i 0) n
   before-say i n l h =
       subst (λ (c : ℕ). Takes c n) (once i (short i l))
@@ -132,38 +122,11 @@ module _ (q : Given) (t : List ℕ) (set : ℕ) {s counts : List ℕ} {k d : ℕ
       book .each (h .at) (h .below) .each (a .at) (a .below) .present c (a .holds .0)
 
   -- ---- and after it
-  after-say : (i n : ℕ) → i < d → After i n → (n < q .edges) × Before i n × Has (getD ok′ (fromOf w₂ i) 0) (getD (q .from) n 0) × Has (getD ok′ (toOf w₂ i) 0) (getD (q .to) n 0)
-  after-say i n l h =
-      let r = kept .each numbers (q .from) (q .to) (q .edges) L A i l .why n h in
-      let a = own-say numbers (q .from) (Has (getD ok′ (fromOf w₂ i) 0)) (fair .edges) id (r .1) in
-      let b = own-say numbers (q .to) (Has (getD ok′ (toOf w₂ i) 0)) (fair .edges) id (r .2) in
-      (a .0, r .0, a .1, b .1)
+  after-say : (i n : ℕ) → i < d → After i n → (n < q .edges) × Takes (getD w i 0) n
+  after-say i n l h = let r = before-say i n l (chosen .falls .part i n l h) in (r .holds .1 .edge, r)
 
-  after-by : (i n : ℕ) → i < d → n < q .edges → Before i n → Has (getD ok′ (fromOf w₂ i) 0) (getD (q .from) n 0) → Has (getD ok′ (toOf w₂ i) 0) (getD (q .to) n 0) → After i n
-  after-by i n l m b x y = kept .each numbers (q .from) (q .to) (q .edges) L A i l .hit n (b, own-by numbers (q .from) (Has (getD ok′ (fromOf w₂ i) 0)) (fair .edges) id m x, own-by numbers (q .to) (Has (getD ok′ (toOf w₂ i) 0)) (fair .edges) id m y)
-
-  -- ---- what may stand for what
   ends-below : (i : ℕ) → i < d → (fromOf w₂ i < 4096) × (toOf w₂ i < 4096)
   ends-below i l = let h = book .pool .small i l in let e = twice i (short i l) in (omega arith, omega arith)
-
-  -- the edges that leave a node of the query have, where v may stand for it, pairs that begin at v and are kept
-  follows : (u v : ℕ) → May ok′ u v → (n : ℕ) → n < q .edges → getD (q .from) n 0 ≡ u → OneOf d (λ j. (fromOf w₂ j ≡ v) × After j n)
-  follows u v m n l e =
-      let o = settled .supports u v m n l e in
-      let h = o .holds in
-      record {
-        at = o .at;
-        below = o .below;
-        holds = (
-          h .0,
-          after-by (o .at) n (o .below) l (h .1)
-              (subst (λ (x : ℕ). Has (getD ok′ x 0) (getD (q .from) n 0)) (sym (h .0)) (subst (Has (getD ok′ v 0)) (sym e) (m .has)))
-              (h .2 .has),
-        );
-      }
-
-  may-all : (u v : ℕ) → u < 16 → v < 4096 → May ok u v
-  may-all u v h l = record { node = l; has = subst (λ (x : ℕ). Has x u) (sym (ap (λ (a : List ℕ). getD a v 0) all ∙ getD-replicate 4096 v 65535 0 l)) (all-has u h) }
 
   -- ---- the query's edges
   in-edges : (n : ℕ) → n < q .edges → In (edgeAt q n) (Q .edges)
@@ -183,42 +146,42 @@ module _ (q : Given) (t : List ℕ) (set : ℕ) {s counts : List ℕ} {k d : ℕ
 
     -- ---- what is marked is in the join
     -- the pair f is marked with the edge e
-    abbrev Chosen : Pair → Pair → Type 0
-    Chosen e f = OneOf (q .edges) (λ n. (e ≡ edgeAt q n) × OneOf d (λ i. (f ≡ pair i) × After i n))
+    abbrev Marks : Pair → Pair → Type 0
+    Marks e f = OneOf (q .edges) (λ n. (e ≡ edgeAt q n) × OneOf d (λ i. (f ≡ pair i) × After i n))
 
     candidate : (i n : ℕ) → i < d → After i n → In (pair i) (candidates Q vs (edgeAt q n))
     unfolding pair
     candidate i n l h =
         let r = after-say i n l h in
-        subst (λ (c : ℕ). In (pairOf c) (candidates Q vs (edgeAt q n))) (sym (twice i (short i l))) (g .to n (getD w i 0) (r .0) (before-say i n l (r .1)))
+        subst (λ (c : ℕ). In (pairOf c) (candidates Q vs (edgeAt q n))) (sym (twice i (short i l))) (g .to n (getD w i 0) (r .0) (r .1))
 
     -- the edges that leave u keep pairs that begin at v
-    chosen-from : (u v : ℕ) → May ok′ u v → (e : Pair) → In e (Q .edges) → e .0 ≡ u → (f : Pair) × Chosen e f × (f .0 ≡ v)
+    marks-from : (u v : ℕ) → ((n : ℕ) → n < q .edges → getD (q .from) n 0 ≡ u → OneOf d (λ j. (fromOf w₂ j ≡ v) × After j n))
+        → (e : Pair) → In e (Q .edges) → e .0 ≡ u → (f : Pair) × Marks e f × (f .0 ≡ v)
     unfolding pair pairOf
-    chosen-from u v m e j p =
+    marks-from u v h e j p =
         let o = edges-in j in
-        let r = follows u v m (o .at) (o .below) (sym (ap (λ (x : Pair). x .0) (o .holds)) ∙ p) in
+        let r = h (o .at) (o .below) (sym (ap (λ (x : Pair). x .0) (o .holds)) ∙ p) in
         (pair (r .at), record { at = o .at; below = o .below; holds = (o .holds, record { at = r .at; below = r .below; holds = (refl, r .holds .1) }) }, r .holds .0)
 
-    supports : (i n : ℕ) → i < d → After i n → Supported Q Chosen (edgeAt q n) (pair i)
+    supports : (i n : ℕ) → i < d → After i n → Supported Q Marks (edgeAt q n) (pair i)
     unfolding pair pairOf
     supports i n l h =
-        let r = after-say i n l h in
-        let b = ends-below i l in
+        let m = after-say i n l h .0 in
         record {
-          tail = chosen-from (getD (q .from) n 0) (fromOf w₂ i) (record { node = b .0; has = r .2 });
-          head = chosen-from (getD (q .to) n 0) (toOf w₂ i) (record { node = b .1; has = r .3 });
+          tail = marks-from (getD (q .from) n 0) (fromOf w₂ i) (λ k b e. chosen .tail i n k l m b h e);
+          head = marks-from (getD (q .to) n 0) (toOf w₂ i) (λ k b e. chosen .head i n k l m b h e);
         }
 
     after-joined : (i n : ℕ) → i < d → n < q .edges → After i n → In (edgeAt q n, pair i) J
     after-joined i n l m h =
-        join-most Q vs Chosen
+        join-most Q vs Marks
         (λ e f c. let o = c .holds .1 in (
           in-cast (sym (c .holds .0)) (in-edges (c .at) (c .below)),
           subst (λ (x : Pair). In f (candidates Q vs x)) (sym (c .holds .0)) (in-cast (sym (o .holds .0)) (candidate (o .at) (c .at) (o .below) (o .holds .1))),
         ))
         (λ e f c. let o = c .holds .1 in
-        subst (λ (x : Pair). Supported Q Chosen x f) (sym (c .holds .0)) (subst (Supported Q Chosen (edgeAt q (c .at))) (sym (o .holds .0)) (supports (o .at) (c .at) (o .below) (o .holds .1))))
+        subst (λ (x : Pair). Supported Q Marks x f) (sym (c .holds .0)) (subst (Supported Q Marks (edgeAt q (c .at))) (sym (o .holds .0)) (supports (o .at) (c .at) (o .below) (o .holds .1))))
         (edgeAt q n) (pair i) (record { at = n; below = m; holds = (refl, record { at = i; below = l; holds = (refl, h) }) })
 
     -- ---- what is in the join is marked
@@ -241,7 +204,7 @@ module _ (q : Given) (t : List ℕ) (set : ℕ) {s counts : List ℕ} {k d : ℕ
     unfolding pair
     joined-before i n l m j = before-by i n l (joined-takes n (getD w i 0) m (subst (λ (c : ℕ). In (edgeAt q n, pairOf c) J) (twice i (short i l)) j))
 
-    offers : (n : ℕ) → n < q .edges → {f : Pair} → In (edgeAt q n, f) J → Offers q d w₂ (λ u v. T (stands J u v)) (f .0) n
+    offers : (n : ℕ) → n < q .edges → {f : Pair} → In (edgeAt q n, f) J → Offers (q .to) d w₂ (λ u v. T (stands J u v)) (f .0) n
     unfolding pair pairOf
     offers n l {f} j =
         let o = joined-at n l j in
@@ -252,55 +215,38 @@ module _ (q : Given) (t : List ℕ) (set : ℕ) {s counts : List ℕ} {k d : ℕ
           holds = (sym (ap (λ (x : Pair). x .0) (o .holds)), joined-before (o .at) n (o .below) l i, head-stands i);
         }
 
-    stands-supports : Supports q d w₂ (λ u v. T (stands J u v))
-    stands-supports u v h =
-        stands-all (λ x y. (n : ℕ) → n < q .edges → getD (q .from) n 0 ≡ x → Offers q d w₂ (λ a b. T (stands J a b)) y n)
+    stands-supports : Supports (q .from) (q .to) (q .edges) (λ e. Unit {0}) d w₂ (λ u v. T (stands J u v))
+    stands-supports u v h n l a =
+        stands-all (λ x y. getD (q .from) n 0 ≡ x → Offers (q .to) d w₂ (λ a b. T (stands J a b)) y n)
         (λ e f j. let r = join-supported Q vs j in (
-          λ n l p. from n l (r .tail (edgeAt q n) (in-edges n l) p),
-          λ n l p. from n l (r .head (edgeAt q n) (in-edges n l) p),
+          λ p. from (r .tail (edgeAt q n) (in-edges n l) p),
+          λ p. from (r .head (edgeAt q n) (in-edges n l) p),
         ))
         h
       where
-        from : (n : ℕ) → n < q .edges → {y : ℕ} → (f : Pair) × In (edgeAt q n, f) J × (f .0 ≡ y) → Offers q d w₂ (λ a b. T (stands J a b)) y n
-        from n l (f, j, p) = subst (λ (y : ℕ). Offers q d w₂ (λ a b. T (stands J a b)) y n) p (offers n l j)
+        from : {y : ℕ} → (f : Pair) × In (edgeAt q n, f) J × (f .0 ≡ y) → Offers (q .to) d w₂ (λ a b. T (stands J a b)) y n
+        from (f, j, p) = subst (λ (y : ℕ). Offers (q .to) d w₂ (λ a b. T (stands J a b)) y n) p (offers n l j)
 
-    stands-all-ones : (u v : ℕ) → T (stands J u v) → May ok u v
+    stands-below : (u v : ℕ) → T (stands J u v) → v < 4096
     unfolding pair pairOf
-    stands-all-ones u v h = stands-all (May ok) may h
+    stands-below u v h = stands-all (λ x y. y < 4096) below h
       where
-        at : (n i : ℕ) → n < q .edges → i < d → {e f : Pair} → e ≡ edgeAt q n → f ≡ pair i → May ok (e .0) (f .0) × May ok (e .1) (f .1)
-        at n i l m {e} {f} p r =
-            let b = ends-below i m in
-            let c = fair .from n l in
-            let a = fair .to n l in
-            let o = fair .nodes in
-            subst (λ (x : Pair). May ok (x .0) (f .0) × May ok (x .1) (f .1)) (sym p)
-            (subst (λ (x : Pair). May ok (getD (q .from) n 0) (x .0) × May ok (getD (q .to) n 0) (x .1)) (sym r)
-            (may-all (getD (q .from) n 0) (fromOf w₂ i) (omega arith) (b .0), may-all (getD (q .to) n 0) (toOf w₂ i) (omega arith) (b .1)))
-
-        may : (e f : Pair) → In (e, f) J → May ok (e .0) (f .0) × May ok (e .1) (f .1)
-        may e f j =
+        below : (e f : Pair) → In (e, f) J → (f .0 < 4096) × (f .1 < 4096)
+        below e f j =
             let c = edges-in (join-candidate Q vs j .0) in
-            let i : In (edgeAt q (c .at), f) J = subst (λ (x : Pair). In (x, f) J) (c .holds) j in
-            let o = joined-at (c .at) (c .below) i in
-            at (c .at) (o .at) (c .below) (o .below) (c .holds) (o .holds)
-
-    stands-stays : (u v : ℕ) → T (stands J u v) → May ok′ u v
-    stands-stays = settled .holds (stands J) stands-supports stands-all-ones
+            let o = joined-at (c .at) (c .below) (subst (λ (x : Pair). In (x, f) J) (c .holds) j) in
+            subst (λ (x : Pair). (x .0 < 4096) × (x .1 < 4096)) (sym (o .holds)) (ends-below (o .at) (o .below))
 
     joined-after : (i n : ℕ) → i < d → n < q .edges → In (edgeAt q n, pair i) J → After i n
     unfolding pair pairOf
-    joined-after i n l m j =
-        after-by i n l m (joined-before i n l m j)
-        (stands-stays (getD (q .from) n 0) (fromOf w₂ i) (tail-stands j) .has)
-        (stands-stays (getD (q .to) n 0) (toOf w₂ i) (head-stands j) .has)
+    joined-after i n l m j = chosen .stays (stands J) stands-supports stands-below i n l m (tail-stands j) (head-stands j) (joined-before i n l m j)
 
     -- ---- the lists
     row : (n : ℕ) → n < q .edges → distinct (marked n (take d w₃) (take d (drop 8192 w₃))) ≡ ascending (keptFor J (edgeAt q n))
     row n l =
         row-marked pairs-marked n pair test
         (λ i m. same-test _ _ (λ h. in-has (in-kept Q vs (after-joined i n m l h))) (λ h. joined-after i n m l (kept-in Q vs (has-in (pair i) h))))
-        (λ i m. kept .around .low i (short i m) ∙ sym (unfold pair in pair-code (getD w₂ i 0)))
+        (λ i m. chosen .falls .low i (short i m) ∙ sym (unfold pair in pair-code (getD w₂ i 0)))
         ∙ ascending-same (keep test (upTo pair d)) (keptFor J (edgeAt q n))
         (λ f j. has-in f (keep-in test (upTo pair d) j .1))
         (λ f j. let o = joined-at n l (kept-in Q vs j) in in-keep test (in-cast (sym (o .holds)) (in-upTo pair d (o .at) (o .below))) (in-has j))

@@ -2,10 +2,11 @@
 use mathlib.Core.Path.{_≡_, refl, ap, _∙_, sym, subst}
 use mathlib.Core.Logic.{_⊎_, inl, inr, ⊎-elim}
 use Prim.Native.Nat.{ℕ, zero, suc, _≤_, _<_, _+_, _-_, _/_, _%_, _^_, min, max, zero-le}
-use native.Mathlib.Nat.{zero-div, mod-lt, div-one, pow-suc, zero-lt-suc}
+use native.Mathlib.Nat.{zero-div, mod-lt, div-one, div-eq-of-lt, pow-suc, zero-lt-suc}
 use native.Mathlib.Omega.{arith}
 use lib.Arith.{digits-mod, bin-ind}
-use lib.Pow.{shr-shr, pow-pos, lt-of-le-ones}
+use lib.Pow.{shr-shr, pow-mono, pow-pos, lt-of-le-ones}
+use lib.Count.{trailingZeros, under}
 use lib.Bits.{bitAnd, bitOr, bitXor, differ, and-shr, or-shr, xor-shr, and-step, or-step, xor-step}
 use lib.Dec.{eqb→eq}
 use Rattle.packed.proofs.OrderCases.{lt-or-ge, eq-or-ne}
@@ -170,12 +171,33 @@ not-say w a k h l i j = let e = say _ k i in let f = say a k j in let g = bin-no
 pub not-by : (w a k : ℕ) → a < 2 ^ w → k < w → (Has a k → ⊥) → Has ((2 ^ w - 1) - a) k
 not-by w a k h l n = by _ k (bin-not w a k h l ∙ (let f = lacks a k n in omega arith))
 
+-- x without its low a bits
+pub above-say : (x a k : ℕ) → Has (x / 2 ^ a) k → Has x (a + k)
+above-say x a k h = by x (a + k) (sym (bin-from x a k) ∙ say (x / 2 ^ a) k h)
+
+pub above-by : (x a k : ℕ) → Has x (a + k) → Has (x / 2 ^ a) k
+above-by x a k h = by (x / 2 ^ a) k (bin-from x a k ∙ say x (a + k) h)
+
 -- four bits of x, from bit a on
 pub four-say : (x a b : ℕ) → b < 4 → Has (x / 2 ^ a % 16) b → Has x (a + b)
 four-say x a b l h = by x (a + b) (sym (bin-from x a b) ∙ sym (bin-four (x / 2 ^ a) b l) ∙ say _ b h)
 
 pub four-by : (x a b : ℕ) → b < 4 → Has x (a + b) → Has (x / 2 ^ a % 16) b
 four-by x a b l h = by _ b (bin-four (x / 2 ^ a) b l ∙ bin-from x a b ∙ say x (a + b) h)
+
+-- the lowest member, if there is one
+pub lowest-has : (d x : ℕ) → 0 < x → x < 2 ^ d → (trailingZeros d x < d) × Has x (trailingZeros d x)
+unfolding trailingZeros
+lowest-has zero x p l = absurd (omega arith)
+lowest-has (suc d) x p l = let q = pow-suc 2 d in go (x % 2) refl (λ e. lowest-has d (x / 2) (omega arith) (omega arith))
+  where
+    go : (r : ℕ) → x % 2 ≡ r → (x % 2 ≡ 0 → (trailingZeros d (x / 2) < d) × Has (x / 2) (trailingZeros d (x / 2)))
+        → (under r (trailingZeros d (x / 2)) < suc d) × Has x (under r (trailingZeros d (x / 2)))
+    go zero e f =
+        let h = f e in
+        let i = h .0 in
+        ((let z : suc (trailingZeros d (x / 2)) < suc d = omega arith in z), by x _ (sym (bin-half x (trailingZeros d (x / 2))) ∙ say _ _ (h .1)))
+    go (suc r) e f = (zero-lt-suc d, by x 0 (bin-low x ∙ (let l = mod-lt x (zero-lt-suc 1) in let y : x % 2 ≡ 1 = omega arith in y)))
 
 -- ---- order
 imp-le : (x y : ℕ) → x < 2 → (x ≡ 1 → y ≡ 1) → x ≤ y
@@ -186,6 +208,12 @@ imp-le (suc (suc x)) y l h = omega arith
 -- a part is no greater
 pub part-le : (a b : ℕ) → ((k : ℕ) → Has a k → Has b k) → a ≤ b
 part-le a b h = bins-le a b (λ k. imp-le (bin a k) (bin b k) (bin-lt a k) (λ e. say b k (h k (by a k e))))
+
+-- the members of a number below 2 ^ w
+pub has-lt : (w x k : ℕ) → x < 2 ^ w → Has x k → k < w
+has-lt w x k l h =
+    ⊎-elim (λ (z : k < w). z)
+    (λ (z : w ≤ k). absurd (let p = pow-mono z in let e = has-say x k h in let f : x / 2 ^ k ≡ 0 = div-eq-of-lt (omega arith) in omega arith)) (lt-or-ge k w)
 
 -- a mask of numbers below w
 pub few-lt : (w x : ℕ) → ((k : ℕ) → Has x k → k < w) → x < 2 ^ w
@@ -203,13 +231,6 @@ module _ {A B : ℕ → Type 0} where
       record {
         hit = λ k. ⊎-elim (λ p. or-left a b k (m .hit k p)) (λ p. or-right a b k (n .hit k p));
         why = λ k h. ⊎-elim (λ p. inl (m .why k p)) (λ p. inr (n .why k p)) (or-cases a b k h);
-      }
-
-  pub mask-and : {a b : ℕ} → Mask A a → Mask B b → Mask (λ k. A k × B k) (bitAnd a b)
-  mask-and {a} {b} m n =
-      record {
-        hit = λ k p. and-by a b k (m .hit k (p .0)) (n .hit k (p .1));
-        why = λ k h. (let i = and-say a b k h in (m .why k (i .0), n .why k (i .1)));
       }
 
 -- one number, where S holds

@@ -19,7 +19,7 @@ use Rattle.packed.proofs.SheetLaws.{Rising, rising-none, rising-next, Fit, fit-
 use Rattle.packed.proofs.MatchLaws.{fit-lists}
 use Rattle.matching.specs.Lists.{_and_, In, each, keep, put, upTo}
 use Rattle.matching.specs.Simulation.{Pair, Pattern, Graph, bit, has, sim, row, ascending, matchSets}
-use Rattle.matching.specs.Steps.{patternIn, graphIn, Fair, Ready, Codes, Edges, Simulated, Marks}
+use Rattle.matching.specs.Steps.{patternIn, graphIn, Ready, Edges}
 use Rattle.matching.specs.Matched.{Proper, Rises, Matched}
 use Rattle.matching.proofs.ListLaws.{and-left, and-right, both, same-test}
 use Rattle.matching.proofs.SimLaws.{has-in, in-has}
@@ -111,23 +111,17 @@ module _ {n : ℕ} {w : List ℕ} (k : MarkedPairs n w) where
 pub edges-twice : {w w₁ w₂ : List ℕ} → Edges w w₁ → Edges w₁ w₂ → Edges w w₂
 edges-twice a b = record { long = b .long ∙ a .long; same = λ k l. b .same k l ∙ a .same k l }
 
--- the simulation leaves what marking the edges needs
-pub codes-simulated : {p : Given} {s : List ℕ} {n m : ℕ} {w w₁ : List ℕ} → Ready s n m w → Simulated p s n m w w₁ → Codes n m w₁
-codes-simulated {m = m} r t =
-    let e = t .edges .same in
-    let q = r .edges in
-    record {
-      nodes = r .nodes;
-      edges = r .edges;
-      long = t .edges .long ∙ r .long;
-      codes = λ i l. rw (e i l) (r .codes i l);
-      from = λ i l. rw (e i (omega arith)) (r .from i l);
-      to = λ i l. rw (e i (omega arith)) (r .to i l);
-      small = t .means .small;
-    }
+-- each edge is held for the edges of the pattern whose ends have its own as partners
+pub record Lists (p : Given) (s : List ℕ) (n m : ℕ) (w w′ : List ℕ) : Type 0 where
+  pub edges : Edges w w′
+  pub say : (i e : ℕ) → i < m → e < p .edges → T (bit (getD w′ (8192 + i) 0) e)
+      → In (getD (p .from) e 0, getD w i 0 / 4096) (sim (patternIn p) (graphIn s n m w)) × In (getD (p .to) e 0, getD w i 0 % 4096) (sim (patternIn p) (graphIn s n m w))
+  pub by : (i e : ℕ) → i < m → e < p .edges → In (getD (p .from) e 0, getD w i 0 / 4096) (sim (patternIn p) (graphIn s n m w))
+      → In (getD (p .to) e 0, getD w i 0 % 4096) (sim (patternIn p) (graphIn s n m w)) → T (bit (getD w′ (8192 + i) 0) e)
+  pub only : (i e : ℕ) → i < m → e < 32 → T (bit (getD w′ (8192 + i) 0) e) → e < p .edges
 
 -- ---- the match sets
-module _ {p : Given} {s : List ℕ} {n m : ℕ} {w w₁ w₂ : List ℕ} (fair : Fair p) (ready : Ready s n m w) (t : Simulated p s n m w w₁) (k : Marks p n m w₁ w₂) where
+module _ {p : Given} {s : List ℕ} {n m : ℕ} {w w₂ : List ℕ} (ready : Ready s n m w) (k : Lists p s n m w w₂) where
   abbrev P : Pattern
   P = patternIn p
 
@@ -143,32 +137,13 @@ module _ {p : Given} {s : List ℕ} {n m : ℕ} {w w₁ w₂ : List ℕ} (fair :
   abbrev passes : ℕ → Pair → Bool
   passes e f = has (ends e .0, f .0) (sim P G) and has (ends e .1, f .1) (sim P G)
 
-  stays : Edges w w₂
-  stays = edges-twice (t .edges) (k .edges)
-
   long : length w₂ ≡ 16384
-  long = stays .long ∙ ready .long
+  long = k .edges .long ∙ ready .long
 
   -- the mask of an edge names an edge of the pattern exactly if the ends of both are partners
   test : (e i : ℕ) → e < p .edges → i < m → bit (getD w₂ (8192 + i) 0) e ≡ passes e (edge i)
-  test e i l h = same-test _ _ to from
-    where
-      q : getD w₁ i 0 ≡ getD w i 0
-      q = let b = ready .edges in t .edges .same i (omega arith)
-
-      to : T (bit (getD w₂ (8192 + i) 0) e) → T (passes e (edge i))
-      to z =
-          let f = fair .edges in
-          let r = k .to i e h (omega arith) z in
-          both _ _
-          (in-has (subst (λ x. In (ends e .0, x / 4096) (sim P G)) q (t .means .to _ _ (subst (λ x. x / 4096 < n) (sym q) (ready .from i h)) (r .1))))
-          (in-has (subst (λ x. In (ends e .1, x % 4096) (sim P G)) q (t .means .to _ _ (subst (λ x. x % 4096 < n) (sym q) (ready .to i h)) (r .2))))
-
-      from : T (passes e (edge i)) → T (bit (getD w₂ (8192 + i) 0) e)
-      from z =
-          k .from i e h l
-          (subst (λ x. T (bit (getD w₁ (8192 + x / 4096) 0) (ends e .0))) (sym q) (t .means .from _ _ (has-in _ (and-left _ _ z)) .1))
-          (subst (λ x. T (bit (getD w₁ (8192 + x % 4096) 0) (ends e .1))) (sym q) (t .means .from _ _ (has-in _ (and-right _ _ z)) .1))
+  test e i l h =
+      same-test _ _ (λ z. let r = k .say i e h l z in both _ _ (in-has (r .0)) (in-has (r .1))) (λ z. k .by i e h l (has-in _ (and-left _ _ z)) (has-in _ (and-right _ _ z)))
 
   module _ (proper : Proper p) (rises : Rises m w) where
     pairs-marked : MarkedPairs m w₂
@@ -178,19 +153,19 @@ module _ {p : Given} {s : List ℕ} {n m : ℕ} {w w₁ w₂ : List ℕ} (fair :
         record {
           long = omega arith;
           most = ready .edges;
-          small = λ i l. rw (stays .same i (omega arith)) (ready .codes i (omega arith));
-          rises = λ i j l h. rw (stays .same i (omega arith), stays .same j (omega arith)) (rises i j l h);
+          small = λ i l. rw (k .edges .same i (omega arith)) (ready .codes i (omega arith));
+          rises = λ i j l h. rw (k .edges .same i (omega arith), k .edges .same j (omega arith)) (rises i j l h);
         }
 
     edge-row : (e : ℕ) → e < p .edges → distinct (marked e (take m w₂) (take m (drop 8192 w₂))) ≡ ascending (row G (sim P G) (ends e))
     unfolding row graphIn
     edge-row e l =
         row-marked pairs-marked e edge (passes e) (λ i h. test e i l h)
-        (λ i h. let b = ready .edges in stays .same i (omega arith) ∙ omega arith)
+        (λ i h. let b = ready .edges in k .edges .same i (omega arith) ∙ omega arith)
 
     edge-sets : matchesOf m (p .edges) w₂ ≡ matchSets P G
     unfolding patternIn
     edge-sets = sets-marked pairs-marked (p .edges) ends (row G (sim P G)) edge-row ∙ sym (sets-all-or-none P G (proper .sound))
 
     pub matches : Matched p s n m w w₂
-    matches = record { edges = stays; marked = pairs-marked; sets = edge-sets; only = λ i e l h z. k .to i e l h z .0 }
+    matches = record { edges = k .edges; marked = pairs-marked; sets = edge-sets; only = k .only }

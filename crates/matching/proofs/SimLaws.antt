@@ -82,7 +82,3 @@ module _ (P : Pattern) (G : Graph) where
       _
       (λ x q. in-start (s .fit (x .0) (x .1) q))
       (u, v) r
-
-  -- what a program needs that prunes in its own order: it may drop what is not followed, and it may stop at a simulation
-  pub sim-kept : (R : ℕ → ℕ → Type 0) → ((a b : ℕ) → In (a, b) (sim P G) → R a b) → (u v : ℕ) → In (u, v) (sim P G) → (w : ℕ) → In (u, w) (P .edges) → (z : ℕ) × In (v, z) (G .edges) × R w z
-  sim-kept R f u v i w j = let n = sim-is .follow u v i w j in (n .0, n .1, f w (n .0) (n .2))

@@ -39,7 +39,8 @@ candidates Q vs e = each pairOf (gather (λ v. under e (matchSets (v .pattern) (
 abbrev pub Kept : Type 0
 Kept = Pair × Pair
 
--- each edge of Q that leaves an end of the edge k .0 keeps some pair that begins at the same end of the pair k .1
+-- the one test of whether a pair may be kept for an edge: each edge of Q that leaves an end of the edge k .0 keeps some pair that begins at
+-- the same end of the pair k .1
 unfoldable pub supported : Pattern → List Kept → Kept → Bool
 supported Q l k =
     every

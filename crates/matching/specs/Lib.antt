@@ -6,9 +6,12 @@ pub mod Join
 -- inner
 pub mod Steps
 pub mod Sweeps
-pub mod EdgeMasks
 pub mod Matched
 pub mod Books
 pub mod Candidates
-pub mod Support
 pub mod Joining
+pub mod Sweeping
+pub mod Choices
+pub mod Rows
+pub mod Starting
+pub mod Late

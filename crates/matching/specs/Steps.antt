@@ -1,13 +1,12 @@
--- inner: what the steps of matching do to the workspace: the codes of m edges from word 0 on, and the candidate masks of n nodes from 8192 on.
+-- inner: what matching finds in the workspace: the codes of m edges from word 0 on.
 use Prim.Native.Nat.{ℕ, _+_, _*_, _/_, _%_, _^_, _<_, _≤_}
 use mathlib.Core.Path.{_≡_}
 use mathlib.Core.List.{List}
 use lib.ListN.{length, getD, take}
-use lib.Dec.{T}
 use Rattle.packed.specs.Bits.{field}
 use Rattle.packed.specs.declared.by_value.Pattern.{Pattern as Given}
-use Rattle.matching.specs.Lists.{In, upTo}
-use Rattle.matching.specs.Simulation.{Pattern, Graph, bit, sim}
+use Rattle.matching.specs.Lists.{upTo}
+use Rattle.matching.specs.Simulation.{Pair, Pattern, Graph}
 
 -- the pattern that is given by value
 unfoldable pub patternIn : Given → Pattern
@@ -39,37 +38,7 @@ pub record Ready (s : List ℕ) (n m : ℕ) (w : List ℕ) : Type 0 where
   pub from : (i : ℕ) → i < m → getD w i 0 / 4096 < n
   pub to : (i : ℕ) → i < m → getD w i 0 % 4096 < n
 
--- the edges stand in the workspace, and the masks of the nodes from 8192 on have 16 bits
-pub record Codes (n m : ℕ) (w : List ℕ) : Type 0 where
-  pub nodes : n ≤ 4096
-  pub edges : m ≤ 8192
-  pub long : length w ≡ 16384
-  pub codes : (i : ℕ) → i < 8192 → getD w i 0 < 2 ^ 24
-  pub from : (i : ℕ) → i < m → getD w i 0 / 4096 < n
-  pub to : (i : ℕ) → i < m → getD w i 0 % 4096 < n
-  pub small : (v : ℕ) → v < n → getD w (8192 + v) 0 < 2 ^ 16
-
 -- the words below 8192 are as they were
 pub record Edges (w w′ : List ℕ) : Type 0 where
   pub long : length w′ ≡ length w
   pub same : (k : ℕ) → k < 8192 → getD w′ k 0 ≡ getD w k 0
-
--- the masks of n nodes, from 8192 on, hold exactly the greatest simulation
-pub record Means (P : Pattern) (G : Graph) (n : ℕ) (w : List ℕ) : Type 0 where
-  pub to : (v u : ℕ) → v < n → T (bit (getD w (8192 + v) 0) u) → In (u, v) (sim P G)
-  pub from : (v u : ℕ) → In (u, v) (sim P G) → (v < n) × T (bit (getD w (8192 + v) 0) u)
-  pub small : (v : ℕ) → v < n → getD w (8192 + v) 0 < 2 ^ 16
-
--- what the simulation leaves
-pub record Simulated (p : Given) (s : List ℕ) (n m : ℕ) (w w′ : List ℕ) : Type 0 where
-  pub edges : Edges w w′
-  pub means : Means (patternIn p) (graphIn s n m w) n w′
-
--- the mask of the edge i of the graph, at 8192 + i, names the edge e of the pattern exactly if the masks that the nodes had have its ends
-pub record Marks (p : Given) (n m : ℕ) (w w′ : List ℕ) : Type 0 where
-  pub edges : Edges w w′
-  pub to : (i e : ℕ) → i < m → e < 32 → T (bit (getD w′ (8192 + i) 0) e)
-      → (e < p .edges) × T (bit (getD w (8192 + getD w i 0 / 4096) 0) (getD (p .from) e 0)) × T (bit (getD w (8192 + getD w i 0 % 4096) 0) (getD (p .to) e 0))
-  pub from : (i e : ℕ) → i < m → e < p .edges
-      → T (bit (getD w (8192 + getD w i 0 / 4096) 0) (getD (p .from) e 0)) → T (bit (getD w (8192 + getD w i 0 % 4096) 0) (getD (p .to) e 0))
-      → T (bit (getD w′ (8192 + i) 0) e)

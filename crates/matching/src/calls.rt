@@ -1,10 +1,11 @@
 // The client calls with room to work in: 16,384 words, which are left in any state.
 ghost use mathlib.Core.Path.{_≡_};
-ghost use lib.ListN.{length};
+ghost use lib.ListN.{length, replicate};
 ghost use Rattle.packed.specs.Refusals.{replyTold};
 ghost use Rattle.packed.specs.Calls.{Answered};
 ghost use Rattle.matching.specs.Search.{searchFor, searchAnswer, makeBookAnswer};
 ghost use Rattle.matching.specs.Steps.{patternIn, Fair};
+ghost use Rattle.matching.specs.Starting.{Room};
 ghost use Rattle.matching.specs.Matched.{Proper};
 ghost use Rattle.matching.specs.Books.{Catalogued, Bookable, Sized, Fits, Filled, BookAnswered};
 use crate::matched;
@@ -20,6 +21,13 @@ use packed::reply::Part;
 use packed::reply::Refusal;
 use packed::reply::Reply;
 
+// A word for each node that a record can have.
+fn no_words() -> [u32; 4096]
+    ensures { λ r. ⌜ r ≡ replicate 4096 0 ⌝ }
+{
+    [0u32; 4096]
+}
+
 // Searches a record for a pattern by value.
 fn search_for(p: Pattern, record: &[u8], out: &mut [u8], work: &mut [u32]) -> Reply
     requires { ⌜ (length (now work) ≡ 16384) × Fair p × Proper p ⌝ }
@@ -31,7 +39,10 @@ fn search_for(p: Pattern, record: &[u8], out: &mut [u8], work: &mut [u32]) -> Re
     let g = graph::load_record(record, work);
     match g {
         Graph::Of(n, m) => {
-            matched::match_edges(record, n, m, p, work);
+            let mut leave = no_words();
+            let mut arrive = no_words();
+            let mut held = no_words();
+            matched::match_edges(record, n, m, p, work, &mut leave, &mut arrive, &mut held);
             let edges = p.edges as u32;
             let size = matches::sheet_size(work, m, edges);
             if (out.len() < size) | (65536 < size) {
@@ -62,9 +73,19 @@ pub fn search(pattern: &[u8], record: &[u8], out: &mut [u8], work: &mut [u32]) -
 }
 
 // How many bytes the book of the k views of a catalogue takes.
-fn book_size(catalogue: &[u8], k: u32, record: &[u8], n: usize, m: usize, work: &mut [u32]) -> usize
-    requires { ⌜ Bookable (now catalogue) k (now «record») n m (now work) ⌝ }
-    ensures { λ r. ⌜ Sized (now (catalogue .entry)) (now («record» .entry)) n m (now (work .entry)) r (now (work .exit)) ⌝ }
+fn book_size(
+    catalogue: &[u8],
+    k: u32,
+    record: &[u8],
+    n: usize,
+    m: usize,
+    work: &mut [u32],
+    leave: &mut [u32],
+    arrive: &mut [u32],
+    held: &mut [u32],
+) -> usize
+    requires { ⌜ Bookable (now catalogue) k (now «record») n m (now work) × Room n (now leave) (now arrive) (now held) ⌝ }
+    ensures { λ r. ⌜ Sized (now (catalogue .entry)) (now («record» .entry)) n m (now (work .entry)) r (now (work .exit)) × Room n (now (leave .exit)) (now (arrive .exit)) (now (held .exit)) ⌝ }
 {
     let mut size: usize = 0;
     let mut byte: usize = 1;
@@ -72,7 +93,7 @@ fn book_size(catalogue: &[u8], k: u32, record: &[u8], n: usize, m: usize, work: 
     while 0 < left {
         let v = views::view_at(catalogue, byte);
         let p = v.pattern;
-        matched::match_edges(record, n, m, p, work);
+        matched::match_edges(record, n, m, p, work, leave, arrive, held);
         size += matches::sheet_size(work, m, p.edges as u32);
         byte = v.next;
         left -= 1;
@@ -89,8 +110,11 @@ fn write_book(
     m: usize,
     out: &mut [u8],
     work: &mut [u32],
+    leave: &mut [u32],
+    arrive: &mut [u32],
+    held: &mut [u32],
 )
-    requires { ⌜ Bookable (now catalogue) k (now «record») n m (now work) × Fits (now catalogue) (now «record») n m (now work) (now out) ⌝ }
+    requires { ⌜ Bookable (now catalogue) k (now «record») n m (now work) × Fits (now catalogue) (now «record») n m (now work) (now out) × Room n (now leave) (now arrive) (now held) ⌝ }
     ensures { λ r. ⌜ Filled (now (catalogue .entry)) (now («record» .entry)) n m (now (work .entry)) (now (out .entry)) (now (out .exit)) ⌝ }
 {
     let mut at: usize = 0;
@@ -99,7 +123,7 @@ fn write_book(
     while 0 < left {
         let v = views::view_at(catalogue, byte);
         let p = v.pattern;
-        matched::match_edges(record, n, m, p, work);
+        matched::match_edges(record, n, m, p, work, leave, arrive, held);
         at += matches::write_sheet(work, m, p.edges as u32, &mut out[at..]);
         byte = v.next;
         left -= 1;
@@ -117,11 +141,35 @@ fn make_book_of(catalogue: &[u8], k: u32, record: &[u8], out: &mut [u8], work: &
     let g = graph::load_record(record, work);
     match g {
         Graph::Of(n, m) => {
-            let total = book_size(catalogue, k, record, n, m, work);
+            let mut leave = no_words();
+            let mut arrive = no_words();
+            let mut held = no_words();
+            let total = book_size(
+                catalogue,
+                k,
+                record,
+                n,
+                m,
+                work,
+                &mut leave,
+                &mut arrive,
+                &mut held,
+            );
             if (out.len() < total) | (65536 < total) {
                 return Reply::Refused(Refusal::NoRoom(total));
             }
-            write_book(catalogue, k, record, n, m, out, work);
+            write_book(
+                catalogue,
+                k,
+                record,
+                n,
+                m,
+                out,
+                work,
+                &mut leave,
+                &mut arrive,
+                &mut held,
+            );
             Reply::Done(total)
         }
         Graph::Refused(x) => Reply::Refused(x),

@@ -6,7 +6,6 @@ ghost use lib.ListN.{length, getD};
 ghost use Rattle.packed.specs.Walks.{listsEnd};
 ghost use Rattle.matching.specs.Sweeps.{Has, Mask};
 ghost use Rattle.matching.specs.Candidates.{Pool, Beyond, PlaceIn, Walkable, Sheeted, Booked, Blank, Taken, Listing, SheetListing, BookListing};
-use crate::sweep;
 use packed::gather;
 
 // A place after first, at most d, from which on all codes are greater; reached by steps that double.
@@ -64,6 +63,19 @@ fn take_list(s: &[u8], start: usize, n: u32, x: u32, work: &mut [u32], d: usize)
     }
 }
 
+// Bit k, where x has f.
+pub fn one_where(x: u32, f: u32, k: u32) -> u32
+    requires { ⌜ (f < 32) × (k < 32) ⌝ }
+    ensures { λ r. ⌜ Mask (λ j. (k ≡ j) × Has x f) r ⌝ }
+{
+    let d = x >> f;
+    let b = d % 2;
+    if b == 1 {
+        return 1 << k;
+    }
+    0
+}
+
 // The edges below m that the edge f of the view a matches.
 fn matched_by(t: &[u32; 512], a: usize, f: u32, m: usize) -> u32
     requires { ⌜ (a < 16) × (f < 32) × (m ≤ 32) ⌝ }
@@ -73,7 +85,7 @@ fn matched_by(t: &[u32; 512], a: usize, f: u32, m: usize) -> u32
     let mut e: usize = 0;
     while e < m {
         let at = 16 * e + a;
-        r = r | sweep::fit_one(t[at], f, e as u32);
+        r = r | one_where(t[at], f, e as u32);
         e += 1;
     }
     r

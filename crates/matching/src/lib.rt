@@ -1,11 +1,16 @@
 // Matching by simulation: searching a record for a pattern, and making the book of a catalogue from a record.
 mod calls;
 mod candidates;
+mod ends;
+mod engine;
+mod index;
 pub mod join;
-mod marks;
+mod link_tables;
+mod marked;
 pub mod matched;
-mod support;
-mod sweep;
+mod start;
+mod sweeps;
+mod turns;
 pub mod views;
 
 ghost use mathlib.Core.List.{[], _∷_};

@@ -1,15 +1,33 @@
 // A pattern matched with a record whose edges stand in the workspace.
 ghost use Rattle.matching.specs.Steps.{Fair, Ready};
+ghost use Rattle.matching.specs.Starting.{Room};
 ghost use Rattle.matching.specs.Matched.{Matched, Proper, Rises};
-use crate::marks;
-use crate::sweep;
+use crate::engine;
+use crate::link_tables;
+use crate::start;
 use packed::by_value::Pattern;
 
-// The edges are marked with the edges of the pattern that list them.
-pub fn match_edges(s: &[u8], n: usize, m: usize, p: Pattern, work: &mut [u32])
-    requires { ⌜ Fair p × Proper p × Ready (now s) n m (now work) × Rises m (now work) ⌝ }
-    ensures { λ r. ⌜ Matched p (now (s .entry)) n m (now (work .entry)) (now (work .exit)) ⌝ }
+// The edges are marked with the edges of the pattern that list them. The lent arrays have room for n nodes.
+pub fn match_edges(
+    s: &[u8],
+    n: usize,
+    m: usize,
+    p: Pattern,
+    work: &mut [u32],
+    leave: &mut [u32],
+    arrive: &mut [u32],
+    out: &mut [u32],
+)
+    requires { ⌜ Fair p × Proper p × Ready (now s) n m (now work) × Rises m (now work) × Room n (now leave) (now arrive) (now out) ⌝ }
+    ensures { λ r. ⌜ Matched p (now (s .entry)) n m (now (work .entry)) (now (work .exit)) × Room n (now (leave .exit)) (now (arrive .exit)) (now (out .exit)) ⌝ }
 {
-    sweep::simulate(s, n, m, p, work);
-    marks::mark_edges(work, n, m, p);
+    let from = p.from;
+    let to = p.to;
+    let edges = p.edges;
+    let all = link_tables::all(edges);
+    start::hold(work, m, all);
+    start::spread(s, n, p, leave, arrive, out);
+    let leaving = link_tables::table(&from, &from, edges);
+    let arriving = link_tables::table(&from, &to, edges);
+    engine::rest(work, m, n, leave, arrive, out, 0, all, &leaving, &arriving);
 }

@@ -13,6 +13,7 @@ use Rattle.matching.proofs.RecordLaws.{ready-by, rises-by}
 use Rattle.matching.proofs.BookLaws.{size-is, bytes-are}
 use Rattle.matching.proofs.AnswerFits.{fitted-tight, fitted-given, search-found}
 use borrow.Author.Needs.{needs}
+use Rattle.matching.proofs.StartLaws.{room-blank}
 use Rattle.matching.proofs.calls.search_for.Statement.{statement}
 use Rattle.matching.proofs.calls.search_for.Tie as tie
 
@@ -27,10 +28,29 @@ load-record-requires c κs = search needs
 enum-known-g : tie.Need-enum-known-g
 enum-known-g c = search needs
 
+no-words-requires : tie.Need-no-words-requires
+no-words-requires c κs = search needs
+
+no-words-requires-2 : tie.Need-no-words-requires-2
+no-words-requires-2 c κs = search needs
+
+no-words-requires-3 : tie.Need-no-words-requires-3
+no-words-requires-3 c κs = search needs
+
+slice-aggregate-match-edges : tie.Need-slice-aggregate-match-edges
+slice-aggregate-match-edges c = search needs
+
+slice-aggregate-match-edges-2 : tie.Need-slice-aggregate-match-edges-2
+slice-aggregate-match-edges-2 c = search needs
+
+slice-aggregate-match-edges-3 : tie.Need-slice-aggregate-match-edges-3
+slice-aggregate-match-edges-3 c = search needs
+
 match-edges-requires : tie.Need-match-edges-requires
 match-edges-requires c κs =
-    let h = rw (c .before .before .g .given .1) at (c .before .before .before .before .before .before .load-record .ensures) in
-    (c .before .before .before .before .before .before .before .before .before .before .before .before .pre .1, c .before .before .before .before .before .before .before .before .before .before .before .before .pre .2, ready-by h (omega (arith, c .before .before .before .before .before .before .before .before .if1 .left)), rises-by h)
+    let h = rw (c .before .before .before .before .before .before .before .before .g .given .1) at (c .before .before .before .before .before .before .before .before .before .before .before .before .load-record .ensures) in
+    let r = ready-by h (omega (arith, c .before .before .before .before .before .before .before .before .before .before .before .before .before .before .if1 .left)) in
+    (c .before .before .before .before .before .before .before .before .before .before .before .before .before .before .before .before .before .before .pre .1, c .before .before .before .before .before .before .before .before .before .before .before .before .before .before .before .before .before .before .pre .2, r, rises-by h, room-blank 4096 _ (r .nodes) (c .before .before .before .before .before .before .no-words .ensures) (c .before .before .before .before .before .no-words2 .ensures) (c .before .before .before .before .no-words3 .ensures))
 
 cast-edges : tie.Need-cast-edges
 cast-edges c = search needs
@@ -43,12 +63,12 @@ same-length c = search needs
 
 returns-2 : tie.Need-returns-2
 returns-2 c =
-    let a = c .before .before .before .before .before .before .before .before .before .before .before .before .before .before .before .before .before .before .before .args in
-    let h = rw (c .before .before .before .before .before .before .before .before .before .g .given .1) at (c .before .before .before .before .before .before .before .before .before .before .before .before .before .load-record .ensures) in
-    fitted-tight (a .out .now) _ (search-found (patternIn (a .p)) (length (a .out .now)) (c .before .before .before .before .before .before .before .before .before .before .before .before .before .before .before .if1 .left) h) (c .before .sheet-size .ensures ∙ size-is (c .before .before .before .before .before .before .match-edges .ensures)) (c .if2 .taken)
+    let a = c .before .before .before .before .before .before .before .before .before .before .before .before .before .before .before .before .before .before .before .before .before .before .before .before .before .before .before .before .args in
+    let h = rw (c .before .before .before .before .before .before .before .before .before .before .before .before .before .before .before .before .before .before .g .given .1) at (c .before .before .before .before .before .before .before .before .before .before .before .before .before .before .before .before .before .before .before .before .before .before .load-record .ensures) in
+    fitted-tight (a .out .now) _ (search-found (patternIn (a .p)) (length (a .out .now)) (c .before .before .before .before .before .before .before .before .before .before .before .before .before .before .before .before .before .before .before .before .before .before .before .before .if1 .left) h) (c .before .sheet-size .ensures ∙ size-is (c .before .before .before .before .before .before .before .before .before .match-edges .ensures .0)) (c .if2 .taken)
 
 write-sheet-requires : tie.Need-write-sheet-requires
-write-sheet-requires c κs = search needs
+write-sheet-requires c κs = (c .before .before .before .before .before .before .before .before .before .before .before .match-edges .ensures .0 .marked, c .before .before .before .before .before .before .before .before .before .before .before .before .before .before .before .before .before .before .before .before .before .before .before .before .before .before .before .before .before .before .pre .1 .edges)
 
 enum-known-g-2 : tie.Need-enum-known-g-2
 enum-known-g-2 c = search needs
@@ -61,11 +81,11 @@ same-length-3 c = search needs
 
 returns-3 : tie.Need-returns-3
 returns-3 c =
-    let a = c .before .before .before .before .before .before .before .before .before .before .before .before .before .before .before .before .before .before .before .before .before .before .before .before .args in
-    let h = rw (c .before .before .before .before .before .before .before .before .before .before .before .before .before .before .g .given .1) at (c .before .before .before .before .before .before .before .before .before .before .before .before .before .before .before .before .before .before .load-record .ensures) in
-    let q = c .before .before .before .before .before .before .before .before .before .before .before .match-edges .ensures in
+    let a = c .before .before .before .before .before .before .before .before .before .before .before .before .before .before .before .before .before .before .before .before .before .before .before .before .before .before .before .before .before .before .before .before .before .args in
+    let h = rw (c .before .before .before .before .before .before .before .before .before .before .before .before .before .before .before .before .before .before .before .before .before .before .before .g .given .1) at (c .before .before .before .before .before .before .before .before .before .before .before .before .before .before .before .before .before .before .before .before .before .before .before .before .before .before .before .load-record .ensures) in
+    let q = c .before .before .before .before .before .before .before .before .before .before .before .before .before .before .match-edges .ensures .0 in
     let x = c .before .before .write-sheet .ensures in
-    fitted-given (a .out .now) _ (search-found (patternIn (a .p)) (length (a .out .now)) (c .before .before .before .before .before .before .before .before .before .before .before .before .before .before .before .before .before .before .before .before .if1 .left) h) (c .before .before .before .before .before .before .sheet-size .ensures ∙ size-is q) (c .before .before .before .before .before .if2 .left) (x .front ∙ ap (sets (a .out .now) 0) (bytes-are q x))
+    fitted-given (a .out .now) _ (search-found (patternIn (a .p)) (length (a .out .now)) (c .before .before .before .before .before .before .before .before .before .before .before .before .before .before .before .before .before .before .before .before .before .before .before .before .before .before .before .before .before .if1 .left) h) (c .before .before .before .before .before .before .sheet-size .ensures ∙ size-is q) (c .before .before .before .before .before .if2 .left) (x .front ∙ ap (sets (a .out .now) 0) (bytes-are q x))
 
 same-length-4 : tie.Need-same-length-4
 same-length-4 c = search needs
@@ -77,21 +97,4 @@ returns-4 c =
     body-refused (read-finds 40964 3 record′ (a .«record» .now) (c .before .before .before .before .before .before .before .if1 .left)) (a .out .now) refl (λ rs. fitFile (length (a .out .now)) (sheetBytes (matchSets (patternIn (a .p)) (graphOf rs)))) (c .before .g2 .given .0 .0) q
 
 pub search-for-spec : {M : Type 1} → statement M
-search-for-spec =
-    tie.close
-    (tie.spec
-    returns
-    load-record-requires
-    enum-known-g
-    match-edges-requires
-    cast-edges
-    sheet-size-requires
-    same-length
-    returns-2
-    write-sheet-requires
-    enum-known-g-2
-    same-length-2
-    same-length-3
-    returns-3
-    same-length-4
-    returns-4)
+search-for-spec = tie.close (tie.spec returns load-record-requires enum-known-g no-words-requires no-words-requires-2 no-words-requires-3 slice-aggregate-match-edges slice-aggregate-match-edges-2 slice-aggregate-match-edges-3 match-edges-requires cast-edges sheet-size-requires same-length returns-2 write-sheet-requires enum-known-g-2 same-length-2 same-length-3 returns-3 same-length-4 returns-4)

@@ -26,17 +26,17 @@ mul-at c = search needs
 add-at : tie.Need-add-at Inv-loop μ-loop
 add-at c = search needs
 
-mul-fit-one : tie.Need-mul-fit-one Inv-loop μ-loop
-mul-fit-one c = search needs
+mul-one-where : tie.Need-mul-one-where Inv-loop μ-loop
+mul-one-where c = search needs
 
-element-copy-out-fit-one : tie.Need-element-copy-out-fit-one Inv-loop μ-loop
-element-copy-out-fit-one c = search needs
+element-copy-out-one-where : tie.Need-element-copy-out-one-where Inv-loop μ-loop
+element-copy-out-one-where c = search needs
 
-cast-fit-one : tie.Need-cast-fit-one Inv-loop μ-loop
-cast-fit-one c = search needs
+cast-one-where : tie.Need-cast-one-where Inv-loop μ-loop
+cast-one-where c = search needs
 
-fit-one-requires : tie.Need-fit-one-requires Inv-loop μ-loop
-fit-one-requires c κs = search needs
+one-where-requires : tie.Need-one-where-requires Inv-loop μ-loop
+one-where-requires c κs = search needs
 
 add-e : tie.Need-add-e Inv-loop μ-loop
 add-e c = search needs
@@ -46,7 +46,7 @@ loop-less c = search needs
 
 loop-again : tie.Need-loop-again Inv-loop μ-loop
 loop-again c =
-    (omega arith, union-more (λ e k. (e ≡ k) × Has (getD (now (c .before .before .before .before .args .t)) (16 * e + c .before .before .before .before .args .a) 0) (c .before .before .before .before .args .f)) _ (c .before .before .before .loop .inv .1) (c .fit-one .ensures))
+    (omega arith, union-more (λ e k. (e ≡ k) × Has (getD (now (c .before .before .before .before .args .t)) (16 * e + c .before .before .before .before .args .a) 0) (c .before .before .before .before .args .f)) _ (c .before .before .before .loop .inv .1) (c .one-where .ensures))
 
 returns : tie.Need-returns Inv-loop μ-loop
 returns c =
@@ -61,10 +61,10 @@ matched-by-spec =
     loop-holds
     mul-at
     add-at
-    mul-fit-one
-    element-copy-out-fit-one
-    cast-fit-one
-    fit-one-requires
+    mul-one-where
+    element-copy-out-one-where
+    cast-one-where
+    one-where-requires
     add-e
     loop-less
     loop-again

@@ -1,0 +1,146 @@
+-- Where the pairs that begin at a node stand, and what they offer.
+use mathlib.Core.Path.{_≡_, refl, ap, _∙_, sym, subst}
+use mathlib.Core.Logic.{_⊎_, inl, inr, ⊎-elim}
+use mathlib.Core.List.{List}
+use Prim.Native.Nat.{ℕ, zero, suc, _≤_, _<_, _+_, _-_, _*_, _^_, zero-le}
+use native.Mathlib.Nat.{eq-or-lt-of-le}
+use native.Mathlib.Numerals.{add-one}
+use native.Mathlib.Omega.{arith}
+use lib.ListN.{length, getD, set, length-set}
+use lib.Seq.{getD-set-same, getD-set-other}
+use lib.Bits.{bitAnd, bitXor}
+use Rattle.packed.proofs.OrderCases.{lt-or-ge, eq-or-ne}
+use Rattle.matching.specs.Simulation.{bit}
+use Rattle.matching.specs.Sweeps.{Has, Mask, OneOf}
+use Rattle.matching.specs.Sweeping.{fromOf, toOf, Ends}
+use Rattle.matching.proofs.ListLaws.{decide}
+use Rattle.matching.proofs.MaskBits.{none-has, and-say, and-by, minus-say, minus-by, one-last, one-more, one-cases}
+use Rattle.matching.specs.Late.{Ordered, Before, Cut, Firsts, FirstsMade, Offered, Looked}
+
+has-or : (x k : ℕ) → Has x k ⊎ (Has x k → ⊥)
+has-or x k = decide (bit x k)
+
+-- ---- the first pair that does not begin below v
+module _ {d : ℕ} {w : List ℕ} {v i : ℕ} (h : Before d w v i) where
+  pub before-more : i < d → fromOf w i < v → Before d w v (i + 1)
+  before-more l f =
+      record {
+        upto = omega arith;
+        below = λ j q. ⊎-elim (λ (z : j < i). h .below j z)
+            (λ (z : i ≤ j). let y : i ≡ j = omega arith in subst (λ (k : ℕ). fromOf w k < v) y f) (lt-or-ge j i);
+      }
+
+  pub before-cut : Ordered d w → v ≤ fromOf w i → Cut d w v i
+  before-cut p f =
+      record {
+        before = h;
+        above = λ j a b. ⊎-elim (λ (e : i ≡ j). subst (λ (k : ℕ). v ≤ fromOf w k) e f) (λ (z : i < j). let y = p i j z b in omega arith) (eq-or-lt-of-le a);
+      }
+
+  pub before-end : d ≤ i → Cut d w v i
+  before-end l = record { before = h; above = λ j a b. absurd (omega arith) }
+
+-- ---- the index, node by node
+pub record Indexing (d n : ℕ) (w first₀ first : List ℕ) (i v : ℕ) : Type 0 where
+  pub upto : v ≤ n + 1
+  pub before : Before d w v i
+  pub long : length first ≡ length first₀
+  pub done : (k : ℕ) → k < v → Cut d w k (getD first k 0)
+  pub later : (k : ℕ) → v ≤ k → getD first k 0 ≡ getD first₀ k 0
+
+pub indexing-start : (d n : ℕ) (w first : List ℕ) → Indexing d n w first first 0 0
+indexing-start d n w first =
+    record {
+      upto = zero-le;
+      before = record { upto = zero-le; below = λ j l. absurd (omega arith) };
+      long = refl;
+      done = λ k l. absurd (omega arith);
+      later = λ k l. refl;
+    }
+
+module _ {d n : ℕ} {w first₀ first : List ℕ} {i v : ℕ} (h : Indexing d n w first₀ first i v) where
+  pub indexing-more : n < length first₀ → v ≤ n → (r : ℕ) → Cut d w v r → Indexing d n w first₀ (set first v r) r (v + 1)
+  indexing-more len l r c =
+      let new : getD (set first v r) v 0 ≡ r = getD-set-same first v r 0 (let z = h .long in omega arith) in
+      record {
+        upto = omega arith;
+        before = record { upto = c .before .upto; below = λ j q. (let y = c .before .below j q in omega arith) };
+        long = length-set first v r ∙ h .long;
+        done = λ k q. ⊎-elim
+            (λ (e : k ≡ v). subst (λ (x : ℕ). Cut d w x (getD (set first v r) x 0)) (sym e) (subst (Cut d w v) (sym new) c))
+            (λ (e : k ≡ v → ⊥). subst (Cut d w k) (sym (getD-set-other first v k r 0 e))
+            (h .done k (⊎-elim (λ (z : k < v). z) (λ (z : v ≤ k). absurd (e (omega arith))) (lt-or-ge k v)))) (eq-or-ne k v);
+        later = λ k q. getD-set-other first v k r 0 (λ e. omega arith) ∙ h .later k (omega arith);
+      }
+
+  pub indexing-end : n < v → FirstsMade d n w first₀ first
+  indexing-end l = record { long = h .long; firsts = record { each = λ k q. h .done k (omega arith) }; later = λ k q. h .later k (let z = h .upto in omega arith) }
+
+-- ---- the pairs that begin at v are exactly those from first[v] up to first[v + 1]
+module _ {d n : ℕ} {w first : List ℕ} (F : Firsts d n w first) (v : ℕ) (l : v < n) (j : ℕ) where
+  pub in-range : j < d → fromOf w j ≡ v → (getD first v 0 ≤ j) × (j < getD first (v + 1) 0)
+  in-range q e = (
+    ⊎-elim (λ (z : j < getD first v 0). absurd (let y = F .each v (omega arith) .before .below j z in omega arith)) (λ (z : getD first v 0 ≤ j). z) (lt-or-ge j (getD first v 0)),
+    ⊎-elim (λ (z : j < getD first (v + 1) 0). z)
+        (λ (z : getD first (v + 1) 0 ≤ j). absurd (let y = F .each (v + 1) (omega arith) .above j z q in omega arith)) (lt-or-ge j (getD first (v + 1) 0)),
+  )
+
+  pub of-range : getD first v 0 ≤ j → j < getD first (v + 1) 0 → (j < d) × (fromOf w j ≡ v)
+  of-range a b =
+      let u = F .each (v + 1) (omega arith) .before .upto in
+      let x = F .each (v + 1) (omega arith) .before .below j b in
+      let y = F .each v (omega arith) .above j a (omega arith) in
+      (omega arith, omega arith)
+
+pub ends-part : {n d l b : ℕ} {w : List ℕ} → Ends n d w → n ≤ l → b ≤ d → Ends l b w
+ends-part E p q =
+    record {
+      most = (let z = E .most in omega arith);
+      long = E .long;
+      from = λ i k. (let z = E .from i (omega arith) in omega arith);
+      to = λ i k. (let z = E .to i (omega arith) in omega arith);
+    }
+
+pub range-rises : {d n : ℕ} {w first : List ℕ} → Firsts d n w first → (v : ℕ) → v < n → (getD first v 0 ≤ getD first (v + 1) 0) × (getD first (v + 1) 0 ≤ d)
+range-rises {d} {n} {w} {first} F v l =
+    let k = getD first (v + 1) 0 in
+    let a = F .each v (omega arith) in
+    let b = F .each (v + 1) (omega arith) in
+    let u = a .before .upto in (
+      ⊎-elim (λ (z : k < getD first v 0). absurd (let x = a .before .below k z in let y = b .above k (omega arith) (omega arith) in omega arith)) (λ (z : getD first v 0 ≤ k). z) (lt-or-ge k (getD first v 0)),
+      b .before .upto,
+    )
+
+-- ---- what the pairs of a range offer
+module _ (w : List ℕ) (a : ℕ) (arrive : List ℕ) (want : ℕ) where
+  pub looked-start : Looked w a a arrive want want
+  looked-start =
+      record {
+        part = λ e h. h;
+        missing = λ e h o. (let p = o .below in let q = o .holds .0 in omega arith);
+        found = λ e h n. absurd (n h);
+      }
+
+  module _ {i r : ℕ} (h : Looked w a i arrive want r) where
+    pub looked-more : a ≤ i → Looked w a (i + 1) arrive want (bitXor r (bitAnd r (bitAnd (getD w (8192 + i) 0) (getD arrive (toOf w i) 0))))
+    looked-more l =
+        let x = bitAnd (getD w (8192 + i) 0) (getD arrive (toOf w i) 0) in
+        record {
+          part = λ e p. h .part e (minus-say r x e p .0);
+          missing = λ e p o. (let m = minus-say r x e p in ⊎-elim (λ q. h .missing e (m .0) q) (λ q. m .1 (and-by _ _ e (q .1) (q .2))) (one-cases i o));
+          found = λ e p n. ⊎-elim
+              (λ (q : Has r e). ⊎-elim (λ (y : Has x e). let z = and-say _ _ e y in one-last i (l, z .0, z .1)) (λ y. absurd (n (minus-by r x e q y))) (has-or x e))
+              (λ q. one-more i (h .found e p q)) (has-or r e);
+        }
+
+    -- nothing is missing any more
+    pub looked-all : (b : ℕ) → i ≤ b → r ≡ 0 → Looked w a b arrive want 0
+    looked-all b l z =
+        record {
+          part = λ e p. absurd (none-has e p);
+          missing = λ e p o. none-has e p;
+          found = λ e p n. (let o = h .found e p (λ q. none-has e (subst (λ (y : ℕ). Has y e) z q)) in record { at = o .at; below = (let u = o .below in omega arith); holds = o .holds });
+        }
+
+pub looked-cast : {w : List ℕ} {a b a′ b′ : ℕ} {arrive : List ℕ} {want r : ℕ} → a ≡ a′ → b ≡ b′ → Looked w a b arrive want r → Looked w a′ b′ arrive want r
+looked-cast {w} {a} {b} {a′} {b′} {arrive} {want} {r} e f h = subst (λ (x : ℕ). Looked w x b′ arrive want r) e (subst (λ (y : ℕ). Looked w a y arrive want r) f h)

@@ -1,0 +1,209 @@
+-- A sweep and the settling after it: what they keep, and what holds when nothing is lost.
+use mathlib.Core.Path.{_≡_, refl, ap, _∙_, sym, subst}
+use mathlib.Core.Logic.{_⊎_, inl, inr, ⊎-elim}
+use mathlib.Core.List.{List}
+use mathlib.Core.Bool.{Bool}
+use Prim.Native.Nat.{ℕ, _≤_, _<_, _+_, _-_, _/_, _%_, _^_}
+use native.Mathlib.Omega.{arith}
+use lib.ListN.{length, getD}
+use lib.Dec.{T}
+use lib.Bits.{bitAnd}
+use Rattle.packed.proofs.OrderCases.{lt-or-ge}
+use Rattle.matching.specs.Simulation.{bit}
+use Rattle.matching.specs.Sweeps.{Has, Mask, OneOf}
+use Rattle.matching.proofs.ListLaws.{decide}
+use Rattle.matching.proofs.MaskBits.{none-has, and-say, and-by, not-say, not-by}
+use Rattle.matching.proofs.SoundLaws.{sound-none, sound-then, swept-same, from-same, to-same, held-say, held-by, swept-sound, left-lost, Loses, loses-none, losing-sound}
+use Rattle.matching.specs.Sweeping.{fromOf, toOf, Ends, Starts, heldAt, Swept, missing, Settled}
+use Rattle.matching.specs.Choices.{Falls, Rests, Prepared, Fixed}
+
+-- ---- one node
+module _ (due : ℕ) (leave out : List ℕ) (v e : ℕ) (s : getD out v 0 < 2 ^ 32) (l : e < 32) where
+  miss-say : Has (missing due leave out v) e → Has (getD leave v 0) e × Has due e × (Has (getD out v 0) e → ⊥)
+  unfolding missing
+  miss-say h =
+      let p = and-say _ _ e h in
+      let q = and-say _ _ e (p .0) in
+      (q .0, q .1, not-say 32 (getD out v 0) e s l (p .1))
+
+  miss-by : Has (getD leave v 0) e → Has due e → (Has (getD out v 0) e → ⊥) → Has (missing due leave out v) e
+  unfolding missing
+  miss-by a b n = and-by _ _ e (and-by _ _ e a b) (not-by 32 (getD out v 0) e s l n)
+
+-- ---- a sweep
+module _ {n free d : ℕ} {w leave arrive out w′ out₁ : List ℕ} (P : Prepared n d w leave arrive out) (W : Swept d leave arrive free w out w′ out₁) where
+  wide : (v : ℕ) → v < n → v < length out
+  wide v l = let z = P .nodes in omega arith
+
+  out-say : (v e : ℕ) → v < n → Has (getD out₁ v 0) e → OneOf d (λ i. (fromOf w i ≡ v) × Has (heldAt w′ i) e)
+  out-say v e l h =
+      ⊎-elim (λ (p : Has (getD out v 0) e). absurd (none-has e (subst (λ (x : ℕ). Has x e) (P .clear v l) p)))
+      (λ o. record { at = o .at; below = o .below; holds = (o .holds .0, subst (λ (x : ℕ). Has x e) (sym (W .held (o .at) (o .below))) (o .holds .1)) })
+      (W .each v (wide v l) .why e h)
+
+  out-by : (v e : ℕ) → v < n → (i : ℕ) → i < d → fromOf w i ≡ v → Has (heldAt w′ i) e → Has (getD out₁ v 0) e
+  out-by v e l i li f h = W .each v (wide v l) .hit e (inr (record { at = i; below = li; holds = (f, subst (λ (x : ℕ). Has x e) (W .held i li) h) }))
+
+  pub swept-falls : Falls free d w w′
+  swept-falls =
+      let most = P .ends .most in
+      record {
+        long = W .around .long;
+        low = W .around .low;
+        same = swept-same most W;
+        part = λ i e l h. held-say most W i e l h .0;
+        untouched = λ i e l f h. held-by most W i e l h (inl f);
+      }
+
+  pub swept-within : (i e : ℕ) → i < d → Has (heldAt w′ i) e → Has free e ⊎ (Has (getD leave (fromOf w′ i) 0) e × Has (getD arrive (toOf w′ i) 0) e)
+  swept-within i e l h =
+      let most = P .ends .most in
+      ⊎-elim (λ f. inl f)
+      (λ b. inr (
+        subst (λ (x : ℕ). Has (getD leave x 0) e) (sym (from-same most W i l)) (b .0),
+        subst (λ (x : ℕ). Has (getD arrive x 0) e) (sym (to-same most W i l)) (b .1),
+      ))
+      (held-say most W i e l h .1)
+
+-- ---- a round
+module _ {n free due d : ℕ} {leaving arriving w leave arrive out w′ out₁ : List ℕ} {r : ℕ} {leave′ arrive′ out′ : List ℕ} (P : Prepared n d w leave arrive out)
+    (W : Swept d leave arrive free w out w′ out₁) (E : Settled n due leaving arriving leave arrive out₁ r leave′ arrive′ out′) where
+  -- the masks of the nodes from n on stay
+  leave-beyond : (v : ℕ) → n ≤ v → getD leave′ v 0 ≡ getD leave v 0
+  leave-beyond v l = E .leaves .high v (omega arith)
+
+  arrive-beyond : (v : ℕ) → n ≤ v → getD arrive′ v 0 ≡ getD arrive v 0
+  arrive-beyond v l = E .arrives .high v (omega arith)
+
+  loses : (v : ℕ) → Loses due d leaving arriving w′ leave arrive leave′ arrive′ v
+  loses v =
+      let most = P .ends .most in
+      ⊎-elim
+      (λ (l : v < n). record {
+        miss = missing due leave out₁ v;
+        in-due = λ e k h. miss-say due leave out₁ v e (E .short v l) k h .1;
+        unmet = λ e k h o.
+            (let y = miss-say due leave out₁ v e (E .short v l) k h in
+            y .2 (out-by P W v e l (o .at) (o .below) (sym (from-same most W (o .at) (o .below)) ∙ o .holds .0) (o .holds .1)));
+        leave-lost = λ a m t. left-lost (E .leave-left v l) a a m t;
+        arrive-lost = left-lost (E .arrive-left v l);
+      })
+      (λ (l : n ≤ v). loses-none (leave-beyond v l) (arrive-beyond v l))
+      (lt-or-ge v n)
+
+  module _ (z : r ≡ 0) where
+    leave-same : (v : ℕ) → getD leave′ v 0 ≡ getD leave v 0
+    leave-same v = ⊎-elim (λ (l : v < n). E .leave-left v l .stays (E .none z v l)) (λ (l : n ≤ v). leave-beyond v l) (lt-or-ge v n)
+
+    arrive-same : (v : ℕ) → getD arrive′ v 0 ≡ getD arrive v 0
+    arrive-same v = ⊎-elim (λ (l : v < n). E .arrive-left v l .stays (E .none z v l)) (λ (l : n ≤ v). arrive-beyond v l) (lt-or-ge v n)
+
+    rests : Rests n free due d w′ leave′ arrive′
+    rests =
+        record {
+          within = λ i e l h. ⊎-elim (λ f. inl f)
+              (λ b. inr (
+                subst (λ (x : ℕ). Has x e) (sym (leave-same (fromOf w′ i))) (b .0),
+                subst (λ (x : ℕ). Has x e) (sym (arrive-same (toOf w′ i))) (b .1),
+              ))
+              (swept-within P W i e l h);
+          held = λ v e l u le h. ⊎-elim
+              (λ (p : Has (getD out₁ v 0) e). let o = out-say P W v e l p in record { at = o .at; below = o .below; holds = (from-same (P .ends .most) W (o .at) (o .below) ∙ o .holds .0, o .holds .1) })
+              (λ (p : Has (getD out₁ v 0) e → ⊥). absurd (none-has e (subst (λ (x : ℕ). Has x e) (E .none z v l)
+              (miss-by due leave out₁ v e (E .short v l) le (subst (λ (x : ℕ). Has x e) (leave-same v) h) u p))))
+              (decide (bit (getD out₁ v 0) e));
+        }
+
+  pub round-fixed : Fixed n free due d leaving arriving w leave arrive out r w′ leave′ arrive′ out′
+  round-fixed =
+      record {
+        falls = swept-falls P W;
+        leave-long = E .leaves .long;
+        arrive-long = E .arrives .long;
+        out-long = E .outs .long ∙ W .long;
+        clear = E .clear;
+        sound = λ from to m T₁ T₂ apart. sound-then from to m (swept-same (P .ends .most) W) (swept-sound (P .ends .most) W from to m due) (losing-sound loses from to m free T₁ T₂ apart);
+        rests = rests;
+      }
+
+-- ---- rounds one after the other
+pub prepared-starts : {n d : ℕ} {w leave arrive out : List ℕ} → Prepared n d w leave arrive out → Starts d w out
+prepared-starts P = record { order = P .order; clear = λ i l. P .clear _ (P .ends .from i l) }
+
+pub prepared-ends : {n d : ℕ} {w leave arrive out : List ℕ} → Prepared n d w leave arrive out → Ends (length out) d w
+prepared-ends P =
+    record {
+      most = P .ends .most;
+      long = P .ends .long;
+      from = λ i l. (let a = P .ends .from i l in let b = P .nodes in omega arith);
+      to = λ i l. (let a = P .ends .to i l in let b = P .nodes in omega arith);
+    }
+
+pub fixed-none : {n free due d : ℕ} {leaving arriving w leave arrive out : List ℕ} (r : ℕ) → (r ≡ 0 → ⊥) → Prepared n d w leave arrive out
+    → Fixed n free due d leaving arriving w leave arrive out r w leave arrive out
+fixed-none r nz P =
+    record {
+      falls = record { long = refl; low = λ k l. refl; same = λ i l. refl; part = λ i e l h. h; untouched = λ i e l f h. h };
+      leave-long = refl;
+      arrive-long = refl;
+      out-long = refl;
+      clear = P .clear;
+      sound = λ from to m T₁ T₂ apart. sound-none from to m;
+      rests = λ z. absurd (nz z);
+    }
+
+module _ {n free due d : ℕ} {leaving arriving w leave arrive out : List ℕ} {r : ℕ} {w₁ leave₁ arrive₁ out₁ : List ℕ}
+    (A : Fixed n free due d leaving arriving w leave arrive out r w₁ leave₁ arrive₁ out₁) where
+  pub fixed-prepared : Prepared n d w leave arrive out → Prepared n d w₁ leave₁ arrive₁ out₁
+  fixed-prepared P =
+      record {
+        ends =
+            record {
+              most = P .ends .most;
+              long = A .falls .long ∙ P .ends .long;
+              from = λ i l. (let z = P .ends .from i l in let y = ap (λ (x : ℕ). x / 4096) (A .falls .same i l) in omega arith);
+              to = λ i l. (let z = P .ends .to i l in let y = ap (λ (x : ℕ). x % 4096) (A .falls .same i l) in omega arith);
+            };
+        order = λ i j p q.
+            (let a = P .order i j p q in
+            let b = ap (λ (x : ℕ). x / 4096) (A .falls .same i (omega arith)) in
+            let c = ap (λ (x : ℕ). x / 4096) (A .falls .same j q) in
+            omega arith);
+        nodes = (let z = P .nodes in let y = A .out-long in omega arith);
+        leave-long = A .leave-long ∙ P .leave-long ∙ sym (A .out-long);
+        arrive-long = A .arrive-long ∙ P .arrive-long ∙ sym (A .out-long);
+        clear = A .clear;
+      }
+
+  pub fixed-then : {r₂ : ℕ} {w₂ leave₂ arrive₂ out₂ : List ℕ} → Fixed n free due d leaving arriving w₁ leave₁ arrive₁ out₁ r₂ w₂ leave₂ arrive₂ out₂
+      → Fixed n free due d leaving arriving w leave arrive out r₂ w₂ leave₂ arrive₂ out₂
+  fixed-then B =
+      record {
+        falls =
+            record {
+              long = B .falls .long ∙ A .falls .long;
+              low = λ k l. B .falls .low k l ∙ A .falls .low k l;
+              same = λ i l. B .falls .same i l ∙ A .falls .same i l;
+              part = λ i e l h. A .falls .part i e l (B .falls .part i e l h);
+              untouched = λ i e l f h. B .falls .untouched i e l f (A .falls .untouched i e l f h);
+            };
+        leave-long = B .leave-long ∙ A .leave-long;
+        arrive-long = B .arrive-long ∙ A .arrive-long;
+        out-long = B .out-long ∙ A .out-long;
+        clear = B .clear;
+        sound = λ from to m T₁ T₂ apart. sound-then from to m (A .falls .same) (A .sound from to m T₁ T₂ apart) (B .sound from to m T₁ T₂ apart);
+        rests = B .rests;
+      }
+
+  -- the answer may be told otherwise, where it is 0 at the same time
+  pub fixed-told : (r₂ : ℕ) → (r₂ ≡ 0 → r ≡ 0) → Fixed n free due d leaving arriving w leave arrive out r₂ w₁ leave₁ arrive₁ out₁
+  fixed-told r₂ f =
+      record {
+        falls = A .falls;
+        leave-long = A .leave-long;
+        arrive-long = A .arrive-long;
+        out-long = A .out-long;
+        clear = A .clear;
+        sound = A .sound;
+        rests = λ z. A .rests (f z);
+      }

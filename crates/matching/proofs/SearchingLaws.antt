@@ -1,0 +1,127 @@
+-- The search: all links are due at once and none is free. What is left is the greatest simulation.
+use mathlib.Core.Path.{_≡_, refl, ap, _∙_, sym, subst}
+use mathlib.Core.Logic.{_⊎_, inl, inr, ⊎-elim}
+use mathlib.Core.List.{List}
+use Prim.Native.Nat.{ℕ, _≤_, _<_, _/_, _%_}
+use native.Mathlib.Omega.{arith}
+use lib.ListN.{length, getD}
+use lib.Dec.{T}
+use Rattle.matching.specs.Lists.{In}
+use Rattle.matching.specs.Simulation.{Pair, Pattern, Graph, has, fits, sim, IsSim}
+use Rattle.matching.specs.Sweeps.{Has, OneOf}
+use Rattle.matching.proofs.MaskBits.{none-has}
+use Rattle.matching.proofs.SimLaws.{fits-say, has-in, in-has, sim-is, sim-most}
+use Rattle.matching.specs.Sweeping.{fromOf, toOf, Ends, heldAt, Tabled}
+use Rattle.matching.specs.Choices.{Safe, Shape, May, Prepared, Fixed}
+use Rattle.matching.proofs.RoundLaws.{fixed-prepared}
+use Rattle.matching.proofs.RestingLaws.{Stands, safe-may, rests-supports}
+
+-- the edges are those from f e to t e, for e below m
+pub record Numbered (edges : List Pair) (m : ℕ) (f t : ℕ → ℕ) : Type 0 where
+  pub has : (e : ℕ) → e < m → In (f e, t e) edges
+  pub is : (u x : ℕ) → In (u, x) edges → OneOf m (λ e. (f e ≡ u) × (t e ≡ x))
+
+-- each pair is held for all links, and the masks have those whose end fits
+pub record Begun (P : Pattern) (G : Graph) (from to : List ℕ) (m n d : ℕ) (w leave arrive : List ℕ) : Type 0 where
+  pub links : Numbered (P .edges) m (λ e. getD from e 0) (λ e. getD to e 0)
+  pub pairs : Numbered (G .edges) d (fromOf w) (toOf w)
+  pub nodes : length (G .labels) ≡ n
+  pub held : (i e : ℕ) → i < d → e < m → Has (heldAt w i) e
+  pub leave-by : (v e : ℕ) → e < m → T (fits P G (getD from e 0, v)) → Has (getD leave v 0) e
+  pub leave-say : (v e : ℕ) → e < m → Has (getD leave v 0) e → T (fits P G (getD from e 0, v))
+  pub arrive-by : (v e : ℕ) → e < m → T (fits P G (getD to e 0, v)) → Has (getD arrive v 0) e
+  pub arrive-say : (v e : ℕ) → e < m → Has (getD arrive v 0) e → T (fits P G (getD to e 0, v))
+
+-- u is an end of a link
+abbrev pub EndOf : List ℕ → List ℕ → ℕ → ℕ → Type 0
+EndOf from to m u = OneOf m (λ e. (getD from e 0 ≡ u) ⊎ (getD to e 0 ≡ u))
+
+module _ (P : Pattern) (G : Graph) (from to : List ℕ) (m n d : ℕ) (w leave arrive : List ℕ) (B : Begun P G from to m n d w leave arrive) where
+  begun-shape : Shape from to m leave arrive
+  begun-shape =
+      record {
+        out-out = λ v e k le lk q h. B .leave-by v k lk (subst (λ (x : ℕ). T (fits P G (x, v))) q (B .leave-say v e le h));
+        out-in = λ v e k le lk q h. B .arrive-by v k lk (subst (λ (x : ℕ). T (fits P G (x, v))) q (B .leave-say v e le h));
+        in-out = λ v e k le lk q h. B .leave-by v k lk (subst (λ (x : ℕ). T (fits P G (x, v))) q (B .arrive-say v e le h));
+        in-in = λ v e k le lk q h. B .arrive-by v k lk (subst (λ (x : ℕ). T (fits P G (x, v))) q (B .arrive-say v e le h));
+      }
+
+  begun-safe : (free : ℕ) → Safe from to m free d w leave arrive (λ u v. T (has (u, v) (sim P G)))
+  begun-safe free =
+      record {
+        supports = λ u v p e le nf q.
+            (let i : In (u, getD to e 0) (P .edges) = subst (λ (x : ℕ). In (x, getD to e 0) (P .edges)) q (B .links .has e le) in
+            let s = sim-is P G .follow u v (has-in (u, v) p) (getD to e 0) i in
+            let o = B .pairs .is v (s .0) (s .1) in
+            record {
+              at = o .at;
+              below = o .below;
+              holds = (o .holds .0, B .held (o .at) e (o .below) le, subst (λ (x : ℕ). T (has (getD to e 0, x) (sim P G))) (sym (o .holds .1)) (in-has (s .2)));
+            });
+        leaves = λ u v e p le q. B .leave-by v e le (subst (λ (x : ℕ). T (fits P G (x, v))) (sym q) (sim-is P G .fit u v (has-in (u, v) p)));
+        arrives = λ u v e p le q. B .arrive-by v e le (subst (λ (x : ℕ). T (fits P G (x, v))) (sym q) (sim-is P G .fit u v (has-in (u, v) p)));
+      }
+
+  module _ {due : ℕ} {leaving arriving out : List ℕ} {r : ℕ} {w′ leave′ arrive′ out′ : List ℕ} (T₁ : Tabled from from m leaving) (T₂ : Tabled from to m arriving)
+      (all : (e : ℕ) → e < m → Has due e) (E : Prepared n d w leave arrive out) (F : Fixed n 0 due d leaving arriving w leave arrive out r w′ leave′ arrive′ out′) where
+    apart : (e : ℕ) → Has due e → Has 0 e → ⊥
+    apart e y h = none-has e h
+
+    -- the simulation is kept, after any number of rounds
+    pub search-keeps : (u v : ℕ) → In (u, v) (sim P G) → Stands from to m n leave′ arrive′ u v
+    search-keeps u v i =
+        let f = fits-say P G {u = u} {v = v} (sim-is P G .fit u v i) in
+        let l = f .right in
+        let g = B .nodes in
+        (safe-may from to m (F .sound from to m T₁ T₂ apart .safe (λ a b. has (a, b) (sim P G)) (begun-safe 0)) u v (in-has i), omega arith)
+
+    -- where nothing was lost, what may stand is a simulation
+    stands-sim : r ≡ 0 → IsSim P G (λ u v. Stands from to m n leave′ arrive′ u v × EndOf from to m u)
+    stands-sim z =
+        let s = F .sound from to m T₁ T₂ apart in
+        record {
+          fit = λ u v p.
+              (let e = p .1 .at in
+              let le = p .1 .below in
+              ⊎-elim
+              (λ (q : getD from e 0 ≡ u). subst (λ (x : ℕ). T (fits P G (x, v))) q (B .leave-say v e le (s .leave-part v e (p .0 .0 .leaves e le q))))
+              (λ (q : getD to e 0 ≡ u). subst (λ (x : ℕ). T (fits P G (x, v))) q (B .arrive-say v e le (s .arrive-part v e (p .0 .0 .arrives e le q))))
+              (p .1 .holds));
+          follow = λ u v p x j.
+              (let k = B .links .is u x j in
+              let e = k .at in
+              let o = rests-supports from to m (T₁ .few) (fixed-prepared F E .ends) apart (s .shape begun-shape) (F .rests z) u v (p .0) e (k .below) (all e (k .below)) (k .holds .0) in
+              let i = o .at in
+              let c = F .falls .same i (o .below) in
+              let g : fromOf w i ≡ v = sym (ap (λ (y : ℕ). y / 4096) c) ∙ o .holds .0 in (
+                toOf w′ i,
+                subst (λ (y : ℕ). In (v, y) (G .edges)) (sym (ap (λ (y : ℕ). y % 4096) c)) (subst (λ (y : ℕ). In (y, toOf w i) (G .edges)) g (B .pairs .has i (o .below))),
+                (
+                  subst (λ (y : ℕ). Stands from to m n leave′ arrive′ y (toOf w′ i)) (k .holds .1) (o .holds .2),
+                  record { at = e; below = k .below; holds = inr (k .holds .1) },
+                ),
+              ));
+        }
+
+    -- so for the ends of links it is the greatest simulation
+    pub search-greatest : r ≡ 0 → (u v : ℕ) → EndOf from to m u → Stands from to m n leave′ arrive′ u v → In (u, v) (sim P G)
+    search-greatest z u v k p = sim-most P G _ (stands-sim z) u v (p, k)
+
+    -- a pair is held for a link where its ends are partners of the link's ends
+    pub held-say : r ≡ 0 → (i e : ℕ) → i < d → e < m → Has (heldAt w′ i) e → In (getD from e 0, fromOf w i) (sim P G) × In (getD to e 0, toOf w i) (sim P G)
+    held-say z i e l le h =
+        let s = F .sound from to m T₁ T₂ apart .shape begun-shape in
+        let b = ⊎-elim (λ f. absurd (none-has e f)) (λ b. b) (F .rests z .within i e l h) in
+        let n′ = fixed-prepared F E .ends in
+        let c = F .falls .same i l in (
+          subst (λ (y : ℕ). In (getD from e 0, y / 4096) (sim P G)) c
+              (search-greatest z (getD from e 0) (fromOf w′ i) (record { at = e; below = le; holds = inl refl })
+              (record { leaves = λ k lk q. s .out-out _ e k le lk (sym q) (b .0); arrives = λ k lk q. s .out-in _ e k le lk (sym q) (b .0) }, n′ .from i l)),
+          subst (λ (y : ℕ). In (getD to e 0, y % 4096) (sim P G)) c
+              (search-greatest z (getD to e 0) (toOf w′ i) (record { at = e; below = le; holds = inr refl })
+              (record { leaves = λ k lk q. s .in-out _ e k le lk (sym q) (b .1); arrives = λ k lk q. s .in-in _ e k le lk (sym q) (b .1) }, n′ .to i l)),
+        )
+
+    pub held-by : (i e : ℕ) → i < d → e < m → In (getD from e 0, fromOf w i) (sim P G) → In (getD to e 0, toOf w i) (sim P G) → Has (heldAt w′ i) e
+    held-by i e l le a b =
+        F .sound from to m T₁ T₂ apart .stays (λ u v. has (u, v) (sim P G)) (begun-safe 0) i e l le (in-has a) (in-has b) (B .held i e l le)

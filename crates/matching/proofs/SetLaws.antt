@@ -1,0 +1,241 @@
+-- Sets of numbers, 32 to a word, and the nodes that are marked by them.
+use mathlib.Core.Path.{_≡_, refl, ap, _∙_, sym, subst}
+use mathlib.Core.Logic.{_⊎_, inl, inr, ⊎-elim}
+use mathlib.Core.List.{List}
+use Prim.Native.Nat.{ℕ, zero, suc, _≤_, _<_, _+_, _-_, _*_, _/_, _%_, _^_, zero-le}
+use native.Mathlib.Nat.{eq-or-lt-of-le}
+use native.Mathlib.Numerals.{add-one}
+use native.Mathlib.Omega.{arith}
+use lib.ListN.{length, getD, set, replicate, length-set}
+use lib.Seq.{getD-set-same, getD-set-other}
+use lib.Bits.{bitAnd, bitOr, bitXor}
+use Rattle.packed.proofs.OrderCases.{lt-or-ge, eq-or-ne}
+use Rattle.matching.specs.Simulation.{bit}
+use Rattle.matching.specs.Sweeps.{Has, Mask, OneOf}
+use Rattle.matching.specs.Sweeping.{fromOf, toOf, sumTo, heldAt}
+use Rattle.matching.proofs.Masks.{bit-self, bit-one}
+use Rattle.matching.proofs.MaskBits.{none-has, or-left, or-right, or-cases, and-by, minus-say, minus-by, part-le, one-last, one-more, one-cases}
+use Rattle.matching.specs.Late.{Member, Added, FirstWord, Drawn, Marked, Marks, Full, Taken, MarkedStart, MarkedBefore, Backs}
+use Rattle.matching.proofs.EndLaws.{ends-at, ends-of}
+use Rattle.matching.proofs.RowLaws.{zeros}
+
+-- ---- one word of a list is set
+module _ (s : List ℕ) (at y x : ℕ) where
+  same-word : at < length s → x / 32 ≡ at → getD (set s at y) (x / 32) 0 ≡ y
+  same-word l e = ap (λ (k : ℕ). getD (set s at y) k 0) e ∙ getD-set-same s at y 0 l
+
+  other-word : (x / 32 ≡ at → ⊥) → getD (set s at y) (x / 32) 0 ≡ getD s (x / 32) 0
+  other-word n = getD-set-other s at (x / 32) y 0 n
+
+pub cast : {a b : ℕ} (k : ℕ) → a ≡ b → Has a k → Has b k
+cast k e h = subst (λ (x : ℕ). Has x k) e h
+
+-- ---- sums
+sum-same : (n : ℕ) (s s′ : List ℕ) → ((v : ℕ) → v < n → getD s′ v 0 ≡ getD s v 0) → sumTo n s′ ≡ sumTo n s
+unfolding sumTo
+sum-same zero s s′ e = refl
+sum-same (suc n) s s′ e = let a = sum-same n s s′ (λ v l. e v (omega arith)) in let b = e n (omega arith) in omega arith
+
+pub sum-set : (n : ℕ) (s : List ℕ) (at y : ℕ) → at < n → at < length s → sumTo n (set s at y) + getD s at 0 ≡ sumTo n s + y
+unfolding sumTo
+sum-set zero s at y l m = absurd (omega arith)
+sum-set (suc n) s at y l m =
+    ⊎-elim
+    (λ (e : n ≡ at).
+    let a = sum-same n s (set s at y) (λ v q. getD-set-other s at v y 0 (λ z. omega arith)) in
+    let b : getD (set s at y) n 0 ≡ y = ap (λ (k : ℕ). getD (set s at y) k 0) e ∙ getD-set-same s at y 0 m in
+    let f = ap (λ (k : ℕ). getD s k 0) e in
+    omega arith)
+    (λ (e : n ≡ at → ⊥).
+    let a = sum-set n s at y (⊎-elim (λ (z : at < n). z) (λ (z : n ≤ at). absurd (e (omega arith))) (lt-or-ge at n)) m in
+    let b = getD-set-other s at n y 0 e in
+    omega arith)
+    (eq-or-ne n at)
+
+pub sum-bound : (n : ℕ) (s : List ℕ) → ((k : ℕ) → getD s k 0 < 2 ^ 32) → sumTo n s ≤ n * 2 ^ 32
+unfolding sumTo
+sum-bound zero s h = zero-le
+sum-bound (suc n) s h = let a = sum-bound n s h in let b = h n in omega arith
+
+-- a mask that loses a member falls
+pub minus-lt : (a b k : ℕ) → Has a k → Has b k → bitXor a (bitAnd a b) < a
+minus-lt a b k h i =
+    let l = part-le (bitXor a (bitAnd a b)) a (λ e p. minus-say a b e p .0) in
+    ⊎-elim (λ (e : bitXor a (bitAnd a b) ≡ a). absurd (minus-say a b k (cast k (sym e) h) .1 i)) (λ (z : bitXor a (bitAnd a b) < a). z) (eq-or-lt-of-le l)
+
+-- ---- adding
+pub add-by : (s : List ℕ) (v b : ℕ) → length s ≡ 256 → v < 8192 → b ≡ 2 ^ (v % 32) → Added v s (set s (v / 32) (bitOr (getD s (v / 32) 0) b))
+add-by s v b len l e =
+    let old = getD s (v / 32) 0 in
+    let y = bitOr old b in
+    let in-s : v / 32 < length s = omega arith in
+    record {
+      long = length-set s (v / 32) y;
+      hit = cast (v % 32) (sym (same-word s (v / 32) y v in-s refl)) (or-right old b (v % 32) (cast (v % 32) (sym e) (bit-self (v % 32))));
+      keeps = λ x h. ⊎-elim
+          (λ (q : x / 32 ≡ v / 32). cast (x % 32) (sym (same-word s (v / 32) y x in-s q)) (or-left old b (x % 32) (cast (x % 32) (ap (λ (k : ℕ). getD s k 0) q) h)))
+          (λ q. cast (x % 32) (sym (other-word s (v / 32) y x q)) h) (eq-or-ne (x / 32) (v / 32));
+      why = λ x h. ⊎-elim
+          (λ (q : x / 32 ≡ v / 32). ⊎-elim
+          (λ p. inl (cast (x % 32) (sym (ap (λ (k : ℕ). getD s k 0) q)) p))
+          (λ p. inr (let z = bit-one (v % 32) (x % 32) (cast (x % 32) e p) in omega arith))
+          (or-cases old b (x % 32) (cast (x % 32) (same-word s (v / 32) y x in-s q) h)))
+          (λ q. inl (cast (x % 32) (other-word s (v / 32) y x q) h)) (eq-or-ne (x / 32) (v / 32));
+    }
+
+-- ---- taking
+pub none-taken : (s : List ℕ) → ((x : ℕ) → x < 8192 → Member s x → ⊥) → Drawn s 8192 s
+none-taken s n =
+    record {
+      long = refl;
+      upto = omega arith;
+      none = λ l. n;
+      was = λ l. absurd (omega arith);
+      keeps = λ x q h. h;
+      why = λ x h. (h, λ l. absurd (omega arith));
+      fell = λ l. absurd (omega arith);
+    }
+
+pub no-word : (s : List ℕ) (at : ℕ) → FirstWord s at → 256 ≤ at → Drawn s 8192 s
+no-word s at f l = none-taken s (λ x q h. none-has (x % 32) (cast (x % 32) (f .passed (x / 32) (omega arith)) h))
+
+module _ (s : List ℕ) (at : ℕ) (l : at < 256) (p : ℕ) (m : p < 32) (h : Has (getD s at 0) p) where
+  pub take-by : length s ≡ 256 → (b : ℕ) → b ≡ 2 ^ p → Drawn s (32 * at + p) (set s at (bitXor (getD s at 0) (bitAnd (getD s at 0) b)))
+  take-by len b e =
+      let old = getD s at 0 in
+      let y = bitXor old (bitAnd old b) in
+      let in-s : at < length s = omega arith in
+      let has-b : Has b p = cast p (sym e) (bit-self p) in
+      let r = 32 * at + p in
+      let word : r / 32 ≡ at = omega arith in
+      let place : r % 32 ≡ p = omega arith in
+      record {
+        long = length-set s at y;
+        upto = omega arith;
+        none = λ q. absurd (omega arith);
+        was = λ q. subst (λ (k : ℕ). Has (getD s (r / 32) 0) k) (sym place) (cast p (sym (ap (λ (k : ℕ). getD s k 0) word)) h);
+        keeps = λ x q h. ⊎-elim
+            (λ (z : x / 32 ≡ at). cast (x % 32) (sym (same-word s at y x in-s z)) (minus-by old b (x % 32) (cast (x % 32) (ap (λ (k : ℕ). getD s k 0) z) h)
+            (λ i. q (let u = bit-one p (x % 32) (cast (x % 32) e i) in omega arith))))
+            (λ z. cast (x % 32) (sym (other-word s at y x z)) h) (eq-or-ne (x / 32) at);
+        why = λ x h. ⊎-elim
+            (λ (z : x / 32 ≡ at).
+            let i = minus-say old b (x % 32) (cast (x % 32) (same-word s at y x in-s z) h) in
+            (cast (x % 32) (sym (ap (λ (k : ℕ). getD s k 0) z)) (i .0), λ q u. i .1 (subst (Has b) (let t : p ≡ x % 32 = omega arith in t) has-b)))
+            (λ (z : x / 32 ≡ at → ⊥). (cast (x % 32) (other-word s at y x z) h, λ q u. z (omega arith))) (eq-or-ne (x / 32) at);
+        fell = λ q. (let u = sum-set 256 s at y l in-s in let t = minus-lt old b p h has-b in omega arith);
+      }
+
+-- ---- marking nodes
+pub added-marks : {v x : ℕ} {s s′ : List ℕ} → v < 4096 → (x ≡ v) ⊎ (x ≡ 4096 + v) → Added x s s′ → Marks v s s′
+added-marks {v} {x} {s} {s′} l is A =
+    record {
+      long = A .long;
+      hit = ⊎-elim (λ (e : x ≡ v). inl (subst (Member s′) e (A .hit))) (λ (e : x ≡ 4096 + v). inr (subst (Member s′) e (A .hit))) is;
+      keeps = λ y h. ⊎-elim (λ m. inl (A .keeps y m)) (λ m. inr (A .keeps (4096 + y) m)) h;
+      why = λ y k h. ⊎-elim
+          (λ (m : Member s′ y). ⊎-elim (λ p. inl (inl p)) (λ (e : y ≡ x). inr (⊎-elim (λ (q : x ≡ v). e ∙ q) (λ (q : x ≡ 4096 + v). absurd (omega arith)) is)) (A .why y m))
+          (λ (m : Member s′ (4096 + y)). ⊎-elim (λ p. inl (inr p)) (λ (e : 4096 + y ≡ x). inr (⊎-elim (λ (q : x ≡ v). absurd (omega arith)) (λ (q : x ≡ 4096 + v). let z : y ≡ v = omega arith in z) is)) (A .why (4096 + y) m))
+          h;
+    }
+
+module _ {s : List ℕ} {x : ℕ} {s′ : List ℕ} (L : Drawn s x s′) where
+  drawn-why : (y : ℕ) → Marked s′ y → Marked s y
+  drawn-why y h = ⊎-elim (λ m. inl (L .why y m .0)) (λ m. inr (L .why (4096 + y) m .0)) h
+
+  pub drawn-first : x < 4096 → Taken s x s′
+  drawn-first l =
+      record {
+        long = L .long;
+        none = λ k. absurd (omega arith);
+        was = λ k. inl (L .was (omega arith));
+        keeps = λ y k n h. ⊎-elim (λ m. inl (L .keeps y n m)) (λ m. inr (L .keeps (4096 + y) (λ e. omega arith) m)) h;
+        why = drawn-why;
+        fell = λ k. L .fell (omega arith);
+      }
+
+  pub drawn-second : 4096 ≤ x → Taken s (x - 4096) s′
+  drawn-second l =
+      let u = L .upto in
+      record {
+        long = L .long;
+        none = λ k y q h. ⊎-elim (L .none (omega arith) y (omega arith)) (L .none (omega arith) (4096 + y) (omega arith)) h;
+        was = λ k. inr (subst (Member s) (let e : x ≡ 4096 + (x - 4096) = omega arith in e) (L .was (omega arith)));
+        keeps = λ y k n h. ⊎-elim (λ m. inl (L .keeps y (λ e. omega arith) m)) (λ m. inr (L .keeps (4096 + y) (λ e. n (omega arith)) m)) h;
+        why = drawn-why;
+        fell = λ k. L .fell (omega arith);
+      }
+
+pub blank-unmarked : (v : ℕ) → Marked (replicate 256 0) v → ⊥
+blank-unmarked v h =
+    ⊎-elim (λ m. none-has (v % 32) (cast (v % 32) (zeros 256 (v / 32)) m)) (λ m. none-has ((4096 + v) % 32) (cast ((4096 + v) % 32) (zeros 256 ((4096 + v) / 32)) m)) h
+
+-- the nodes below v are marked, and no other
+pub full-start : (s : List ℕ) → length s ≡ 256 → ((v : ℕ) → v < 4096 → Marked s v → ⊥) → Full 0 s
+full-start s e n = record { long = e; each = λ x l. absurd (omega arith); why = λ x l h. absurd (n x l h) }
+
+pub full-more : {v : ℕ} {s s′ : List ℕ} → Full v s → Marks v s s′ → Full (v + 1) s′
+full-more {v} {s} {s′} F M =
+    record {
+      long = M .long ∙ F .long;
+      each = λ x l. ⊎-elim (λ (q : x < v). M .keeps x (F .each x q)) (λ (q : v ≤ x). subst (Marked s′) (let e : v ≡ x = omega arith in e) (M .hit)) (lt-or-ge x v);
+      why = λ x l h. ⊎-elim (λ p. let z = F .why x l p in omega arith) (λ (e : x ≡ v). omega arith) (M .why x l h);
+    }
+
+-- ---- marking the starts of pairs
+module _ (w : List ℕ) (lost : ℕ) (leave : List ℕ) where
+  pub start-whole : (i : ℕ) (s : List ℕ) → bitAnd (heldAt w i) (bitAnd (getD leave (fromOf w i) 0) lost) ≡ 0 → MarkedStart w lost leave i s s
+  start-whole i s z =
+      record { long = refl; keeps = λ x h. h; hit = λ e a b c. absurd (none-has e (cast e z (and-by _ _ e a (and-by _ _ e b c)))); why = λ x l h. inl h }
+
+  pub start-marked : (i : ℕ) {s s′ : List ℕ} → Marks (fromOf w i) s s′ → MarkedStart w lost leave i s s′
+  start-marked i m =
+      record {
+        long = m .long;
+        keeps = m .keeps;
+        hit = λ e a b c. m .hit;
+        why = λ x l h. ⊎-elim (λ p. inl p) (λ p. inr (sym p)) (m .why x l h);
+      }
+
+  -- the pairs whose numbers stand in rev from a up to k
+  pub record MarkedRange (rev : List ℕ) (a k : ℕ) (s s′ : List ℕ) : Type 0 where
+    pub long : length s′ ≡ length s
+    pub keeps : (x : ℕ) → Marked s x → Marked s′ x
+    pub hit : (j e : ℕ) → a ≤ j → j < k → Has (heldAt w (getD rev j 0)) e → Has (getD leave (fromOf w (getD rev j 0)) 0) e → Has lost e → Marked s′ (fromOf w (getD rev j 0))
+    pub why : (x : ℕ) → x < 4096 → Marked s′ x → Marked s x ⊎ OneOf k (λ j. (a ≤ j) × (fromOf w (getD rev j 0) ≡ x))
+
+  pub range-start : (rev : List ℕ) (a k : ℕ) (s : List ℕ) → k ≡ a → MarkedRange rev a k s s
+  range-start rev a k s z = record { long = refl; keeps = λ x h. h; hit = λ j e l m. absurd (omega arith); why = λ x l h. inl h }
+
+  pub range-next : {rev : List ℕ} {a k : ℕ} {s₀ s s′ : List ℕ} → MarkedRange rev a k s₀ s → a ≤ k → {i : ℕ} → i ≡ getD rev k 0 → MarkedStart w lost leave i s s′ → MarkedRange rev a (k + 1) s₀ s′
+  range-next {rev} {a} {k} {s₀} {s} {s′} h m {i} y R =
+      let r = subst (λ (i : ℕ). MarkedStart w lost leave i s s′) y R in
+      record {
+        long = r .long ∙ h .long;
+        keeps = λ x p. r .keeps x (h .keeps x p);
+        hit = λ j e n l x y z. ⊎-elim
+            (λ (q : j < k). r .keeps _ (h .hit j e n q x y z))
+            (λ (q : k ≤ j).
+            let i : k ≡ j = omega arith in
+            subst (λ (j : ℕ). Has (heldAt w (getD rev j 0)) e → Has (getD leave (fromOf w (getD rev j 0)) 0) e → Has lost e → Marked s′ (fromOf w (getD rev j 0))) i (r .hit e) x y z)
+            (lt-or-ge j k);
+        why = λ x l p. ⊎-elim (λ q. ⊎-elim (λ u. inl u) (λ u. inr (one-more k u)) (h .why x l q)) (λ q. inr (one-last k (m, q))) (r .why x l p);
+      }
+
+  pub range-end : {d n : ℕ} {back rev : List ℕ} {v k : ℕ} {s s′ : List ℕ} → Backs d n w back rev → v < n → MarkedRange rev (getD back v 0) k s s′ → k ≡ getD back (v + 1) 0
+      → MarkedBefore d w v lost leave s s′
+  range-end {d} {n} {back} {rev} {v} {k} {s} {s′} B l h z =
+      record {
+        long = h .long;
+        keeps = h .keeps;
+        hit = λ i e m t x y u.
+            (let o = ends-at B v l i m t in
+            let q = o .holds .1 in
+            let b = o .below in
+            subst (λ (i : ℕ). Has (heldAt w i) e → Has (getD leave (fromOf w i) 0) e → Has lost e → Marked s′ (fromOf w i)) q (h .hit (o .at) e (o .holds .0) (omega arith)) x y u);
+        why = λ x lx p. ⊎-elim (λ q. inl q)
+            (λ o. inr (
+            let r = ends-of B v l (o .at) (o .holds .0) (let b = o .below in omega arith) in
+            record { at = getD rev (o .at) 0; below = r .0; holds = (o .holds .1, r .1) }))
+            (h .why x lx p);
+      }

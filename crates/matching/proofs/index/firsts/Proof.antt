@@ -1,0 +1,60 @@
+-- `matching::index::firsts` meets its contract.
+use borrow.Author.Needs.{needs}
+use native.Mathlib.Omega.{arith}
+use Prim.Native.Nat.{_-_, _≤_, _+_}
+use Rattle.matching.proofs.IndexLaws.{Indexing, indexing-start, indexing-more, indexing-end}
+use Rattle.matching.proofs.index.firsts.Statement.{statement}
+use Rattle.matching.proofs.index.firsts.Tie as tie
+
+abbrev Inv-loop : tie.InvT-loop
+Inv-loop work d n first₀ i₀ v₀ first i v = Indexing d n work first₀ first i v
+
+abbrev μ-loop : tie.MeasureT-loop
+μ-loop work d n first₀ i₀ v₀ first i v = (n + 1) - v
+
+loop-holds : tie.Need-loop-holds Inv-loop μ-loop
+loop-holds c = indexing-start _ _ _ _
+
+skip-requires : tie.Need-skip-requires Inv-loop μ-loop
+skip-requires c κs = (c .before .before .before .before .pre .0, c .before .before .before .before .pre .1, c .before .before .before .before .pre .2, c .before .loop .inv .before)
+
+cast-first : tie.Need-cast-first Inv-loop μ-loop
+cast-first c = omega (arith, c .skip .ensures .before .upto, c .before .before .before .before .before .pre .0)
+
+mul-first : tie.Need-mul-first Inv-loop μ-loop
+mul-first c = search needs
+
+slice-write-first : tie.Need-slice-write-first Inv-loop μ-loop
+slice-write-first c = omega (arith, c .before .before .loop .inv .long, c .before .before .before .before .before .pre .3)
+
+add-v : tie.Need-add-v Inv-loop μ-loop
+add-v c = search needs
+
+loop-less : tie.Need-loop-less Inv-loop μ-loop
+loop-less c = search needs
+
+loop-again : tie.Need-loop-again Inv-loop μ-loop
+loop-again c = indexing-more (c .before .before .loop .inv) (c .before .before .before .before .before .pre .3) (c .before .loop-test .taken) _ (c .skip .ensures)
+
+same-length : tie.Need-same-length Inv-loop μ-loop
+same-length c = c .before .loop .inv .long
+
+returns : tie.Need-returns Inv-loop μ-loop
+returns c = indexing-end (c .before .loop .inv) (omega arith)
+
+pub firsts-spec : {M : Type 1} → statement M
+firsts-spec =
+    tie.close
+    (tie.spec
+    Inv-loop
+    μ-loop
+    loop-holds
+    skip-requires
+    cast-first
+    mul-first
+    slice-write-first
+    add-v
+    loop-less
+    loop-again
+    same-length
+    returns)

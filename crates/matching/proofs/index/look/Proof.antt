@@ -1,0 +1,80 @@
+-- `matching::index::look` meets its contract.
+use borrow.Author.Needs.{needs}
+use native.Mathlib.Omega.{arith}
+use Prim.Native.Nat.{ℕ, _-_, _≤_}
+use mathlib.Core.Path.{_≡_, subst}
+use Rattle.matching.specs.Late.{Looked}
+use Rattle.matching.proofs.IndexLaws.{looked-start, looked-more, looked-all}
+use Rattle.matching.proofs.index.look.Statement.{statement}
+use Rattle.matching.proofs.index.look.Tie as tie
+
+abbrev Inv-loop : tie.InvT-loop
+Inv-loop work a b arrive want miss₀ i₀ miss i = (a ≤ i) × (i ≤ b) × Looked work a i arrive want miss
+
+abbrev μ-loop : tie.MeasureT-loop
+μ-loop work a b arrive want miss₀ i₀ miss i = b - i
+
+loop-holds : tie.Need-loop-holds Inv-loop μ-loop
+loop-holds c = (omega arith, c .pre .0, looked-start _ _ _ _)
+
+returns : tie.Need-returns Inv-loop μ-loop
+returns c = looked-all _ _ _ _ (c .before .before .loop .inv .2) _ (c .before .before .loop .inv .1) (c .if1 .taken)
+
+mul-t : tie.Need-mul-t Inv-loop μ-loop
+mul-t c = search needs
+
+shared-slice-read-t : tie.Need-shared-slice-read-t Inv-loop μ-loop
+shared-slice-read-t c = search needs
+
+cast-t : tie.Need-cast-t Inv-loop μ-loop
+cast-t c = search needs
+
+add-at : tie.Need-add-at Inv-loop μ-loop
+add-at c = search needs
+
+mul-offer : tie.Need-mul-offer Inv-loop μ-loop
+mul-offer c = search needs
+
+shared-slice-read-offer : tie.Need-shared-slice-read-offer Inv-loop μ-loop
+shared-slice-read-offer c = search needs
+
+mul-offer-2 : tie.Need-mul-offer-2 Inv-loop μ-loop
+mul-offer-2 c = search needs
+
+shared-slice-read-offer-2 : tie.Need-shared-slice-read-offer-2 Inv-loop μ-loop
+shared-slice-read-offer-2 c = omega (arith, c .before .before .before .before .before .before .pre .1 .to (c .before .before .before .before .before .loop .i) (omega arith))
+
+add-i : tie.Need-add-i Inv-loop μ-loop
+add-i c = search needs
+
+loop-less : tie.Need-loop-less Inv-loop μ-loop
+loop-less c = search needs
+
+loop-again : tie.Need-loop-again Inv-loop μ-loop
+loop-again c = (omega arith, omega arith, looked-more _ _ _ _ (c .before .before .before .before .before .loop .inv .2) (c .before .before .before .before .before .loop .inv .0))
+
+returns-2 : tie.Need-returns-2 Inv-loop μ-loop
+returns-2 c =
+    let e : c .before .loop .i ≡ c .before .before .args .b = omega arith in
+    subst (λ (k : ℕ). Looked (c .before .before .args .work .now) (c .before .before .args .a) k (c .before .before .args .arrive .now) (c .before .before .args .want) (c .before .loop .miss)) e (c .before .loop .inv .2)
+
+pub look-spec : {M : Type 1} → statement M
+look-spec =
+    tie.close
+    (tie.spec
+    Inv-loop
+    μ-loop
+    loop-holds
+    returns
+    mul-t
+    shared-slice-read-t
+    cast-t
+    add-at
+    mul-offer
+    shared-slice-read-offer
+    mul-offer-2
+    shared-slice-read-offer-2
+    add-i
+    loop-less
+    loop-again
+    returns-2)

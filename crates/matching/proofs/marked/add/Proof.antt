@@ -1,0 +1,38 @@
+-- `matching::marked::add` meets its contract.
+use Prim.Native.Nat.{_^_, _%_}
+use native.Mathlib.Omega.{arith}
+use native.Mathlib.Nat.{one-mul, mod-eq-of-lt}
+use lib.Pow.{pow-lt}
+use Rattle.matching.proofs.SetLaws.{add-by}
+use borrow.Author.Needs.{needs}
+use Rattle.matching.proofs.marked.add.Statement.{statement}
+use Rattle.matching.proofs.marked.add.Tie as tie
+
+mul-old : tie.Need-mul-old
+mul-old c = search needs
+
+slice-read-old : tie.Need-slice-read-old
+slice-read-old c = search needs
+
+cast-bit : tie.Need-cast-bit
+cast-bit c = search needs
+
+shl-bit : tie.Need-shl-bit
+shl-bit c = search needs
+
+mul-set : tie.Need-mul-set
+mul-set c = search needs
+
+slice-write-set : tie.Need-slice-write-set
+slice-write-set c = search needs
+
+same-length : tie.Need-same-length
+same-length c = search needs
+
+returns : tie.Need-returns
+returns c = add-by _ (c .before .args .x) _ (c .before .pre .0) (c .before .pre .1) (rw (one-mul (2 ^ (c .before .args .x % 32))) (mod-eq-of-lt (pow-lt {j = 32} (omega arith))))
+
+pub add-spec : {M : Type 1} → statement M
+add-spec =
+    tie.close
+    (tie.spec mul-old slice-read-old cast-bit shl-bit mul-set slice-write-set same-length returns)

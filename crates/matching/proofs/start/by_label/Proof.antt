@@ -1,0 +1,89 @@
+-- `matching::start::by_label` meets its contract.
+use borrow.Author.Needs.{needs}
+use native.Mathlib.Omega.{arith}
+use Prim.Native.Nat.{_-_, _≤_}
+use Rattle.matching.specs.Starting.{ByLabel}
+use Rattle.matching.proofs.StartLaws.{label-start, label-more, label-end}
+use Rattle.matching.proofs.start.by_label.Statement.{statement}
+use Rattle.matching.proofs.start.by_label.Tie as tie
+
+abbrev Inv-loop : tie.InvT-loop
+Inv-loop labels ends m t₀ e₀ t e = (e ≤ m) × ByLabel labels ends e t
+
+abbrev μ-loop : tie.MeasureT-loop
+μ-loop labels ends m t₀ e₀ t e = m - e
+
+no-links-requires : tie.Need-no-links-requires Inv-loop μ-loop
+no-links-requires c κs = search needs
+
+loop-holds : tie.Need-loop-holds Inv-loop μ-loop
+loop-holds c = (omega arith, label-start _ _ (c .no-links .ensures))
+
+mul-u : tie.Need-mul-u Inv-loop μ-loop
+mul-u c = search needs
+
+element-copy-out-u : tie.Need-element-copy-out-u Inv-loop μ-loop
+element-copy-out-u c = search needs
+
+cast-u : tie.Need-cast-u Inv-loop μ-loop
+cast-u c = omega (arith, c .before .before .before .before .pre .1 (c .before .before .loop .e) (c .before .loop-test .taken))
+
+mul-l : tie.Need-mul-l Inv-loop μ-loop
+mul-l c = omega (arith, c .before .before .before .before .pre .1 (c .before .before .loop .e) (c .before .loop-test .taken))
+
+element-copy-out-l : tie.Need-element-copy-out-l Inv-loop μ-loop
+element-copy-out-l c = omega (arith, c .before .before .before .before .pre .1 (c .before .before .loop .e) (c .before .loop-test .taken))
+
+cast-l : tie.Need-cast-l Inv-loop μ-loop
+cast-l c = omega (arith, c .before .before .before .before .before .pre .2 (c .before .before .before .loop .e) (c .before .before .loop-test .taken))
+
+mul-old : tie.Need-mul-old Inv-loop μ-loop
+mul-old c = omega (arith, c .before .before .before .before .before .pre .2 (c .before .before .before .loop .e) (c .before .before .loop-test .taken))
+
+array-read-old : tie.Need-array-read-old Inv-loop μ-loop
+array-read-old c = omega (arith, c .before .before .before .before .before .pre .2 (c .before .before .before .loop .e) (c .before .before .loop-test .taken), c .before .before .before .loop .inv .1 .long)
+
+one-requires : tie.Need-one-requires Inv-loop μ-loop
+one-requires c κs = search needs
+
+mul-t : tie.Need-mul-t Inv-loop μ-loop
+mul-t c = omega (arith, c .before .before .before .before .before .before .pre .2 (c .before .before .before .before .loop .e) (c .before .before .before .loop-test .taken))
+
+array-write-t : tie.Need-array-write-t Inv-loop μ-loop
+array-write-t c = omega (arith, c .before .before .before .before .before .before .pre .2 (c .before .before .before .before .loop .e) (c .before .before .before .loop-test .taken), c .before .before .before .before .loop .inv .1 .long)
+
+add-e : tie.Need-add-e Inv-loop μ-loop
+add-e c = search needs
+
+loop-less : tie.Need-loop-less Inv-loop μ-loop
+loop-less c = search needs
+
+loop-again : tie.Need-loop-again Inv-loop μ-loop
+loop-again c = (omega arith, label-more _ _ (c .before .before .before .before .loop .inv .1) (c .before .before .before .before .before .before .pre .2 (c .before .before .before .before .loop .e) (c .before .before .before .loop-test .taken)) _ (c .one .ensures))
+
+returns : tie.Need-returns Inv-loop μ-loop
+returns c = (let l = c .before .loop .inv .0 in label-end _ _ _ (c .before .loop .inv .1) (omega arith))
+
+pub by-label-spec : {M : Type 1} → statement M
+by-label-spec =
+    tie.close
+    (tie.spec
+    Inv-loop
+    μ-loop
+    no-links-requires
+    loop-holds
+    mul-u
+    element-copy-out-u
+    cast-u
+    mul-l
+    element-copy-out-l
+    cast-l
+    mul-old
+    array-read-old
+    one-requires
+    mul-t
+    array-write-t
+    add-e
+    loop-less
+    loop-again
+    returns)

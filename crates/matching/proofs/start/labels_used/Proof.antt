@@ -1,0 +1,59 @@
+-- `matching::start::labels_used` meets its contract.
+use borrow.Author.Needs.{needs}
+use native.Mathlib.Omega.{arith}
+use Prim.Native.Nat.{ℕ, _-_, _≤_, _<_}
+use denote.Ref.{now}
+use lib.ListN.{getD}
+use Rattle.matching.specs.Sweeps.{Has}
+use Rattle.matching.proofs.StartLaws.{used-more}
+use Rattle.matching.proofs.start.labels_used.Statement.{statement}
+use Rattle.matching.proofs.start.labels_used.Tie as tie
+
+abbrev Inv-loop : tie.InvT-loop
+Inv-loop labels n r₀ u₀ r u = (u ≤ n) × ((j : ℕ) → j < u → Has r (getD labels j 0))
+
+abbrev μ-loop : tie.MeasureT-loop
+μ-loop labels n r₀ u₀ r u = n - u
+
+loop-holds : tie.Need-loop-holds Inv-loop μ-loop
+loop-holds c = (omega arith, λ j l. absurd (omega arith))
+
+mul-one : tie.Need-mul-one Inv-loop μ-loop
+mul-one c = search needs
+
+element-copy-out-one : tie.Need-element-copy-out-one Inv-loop μ-loop
+element-copy-out-one c = search needs
+
+cast-one : tie.Need-cast-one Inv-loop μ-loop
+cast-one c = omega (arith, c .before .before .before .pre .1 (c .before .before .loop .u) (c .before .loop-test .taken))
+
+one-requires : tie.Need-one-requires Inv-loop μ-loop
+one-requires c κs = omega (arith, c .before .before .before .pre .1 (c .before .before .loop .u) (c .before .loop-test .taken))
+
+add-u : tie.Need-add-u Inv-loop μ-loop
+add-u c = search needs
+
+loop-less : tie.Need-loop-less Inv-loop μ-loop
+loop-less c = search needs
+
+loop-again : tie.Need-loop-again Inv-loop μ-loop
+loop-again c = (omega arith, used-more (now (c .before .before .before .before .args .labels)) _ (c .before .before .before .loop .r) (c .before .before .before .loop .inv .1) (c .one .result) (c .one .ensures))
+
+returns : tie.Need-returns Inv-loop μ-loop
+returns c = λ j l. c .before .loop .inv .1 j (omega arith)
+
+pub labels-used-spec : {M : Type 1} → statement M
+labels-used-spec =
+    tie.close
+    (tie.spec
+    Inv-loop
+    μ-loop
+    loop-holds
+    mul-one
+    element-copy-out-one
+    cast-one
+    one-requires
+    add-u
+    loop-less
+    loop-again
+    returns)

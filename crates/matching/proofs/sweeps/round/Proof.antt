@@ -1,0 +1,37 @@
+use Rattle.matching.proofs.RoundLaws.{round-fixed, prepared-ends, prepared-starts}
+use borrow.Author.Needs.{needs}
+use Rattle.matching.proofs.sweeps.round.Statement.{statement}
+use Rattle.matching.proofs.sweeps.round.Tie as tie
+
+sweep-requires : tie.Need-sweep-requires
+sweep-requires c κs = (prepared-ends (c .before .before .before .before .before .before .before .before .pre), c .before .before .before .before .before .before .before .before .pre .leave-long, c .before .before .before .before .before .before .before .before .pre .arrive-long, prepared-starts (c .before .before .before .before .before .before .before .before .pre))
+
+settle-requires : tie.Need-settle-requires
+settle-requires c κs = search needs
+
+same-length : tie.Need-same-length
+same-length c = search needs
+
+same-length-2 : tie.Need-same-length-2
+same-length-2 c = search needs
+
+same-length-3 : tie.Need-same-length-3
+same-length-3 c = search needs
+
+same-length-4 : tie.Need-same-length-4
+same-length-4 c = search needs
+
+returns : tie.Need-returns
+returns c = round-fixed (c .before .before .before .before .before .before .before .before .before .before .before .before .before .before .before .before .before .before .before .before .before .before .before .pre) (c .before .before .before .before .before .before .before .before .before .before .before .before .before .before .sweep .ensures) (c .before .before .before .before .before .before .settle .ensures)
+
+pub round-spec : {M : Type 1} → statement M
+round-spec =
+    tie.close
+    (tie.spec
+    sweep-requires
+    settle-requires
+    same-length
+    same-length-2
+    same-length-3
+    same-length-4
+    returns)

@@ -1,0 +1,118 @@
+-- `matching::turns::look_at` meets its contract.
+use native.Mathlib.Omega.{arith}
+use borrow.Author.Needs.{needs}
+use mathlib.Core.Path.{_≡_, sym, subst}
+use Prim.Native.Nat.{ℕ, _+_, _≤_, _<_}
+use lib.ListN.{length, getD, length-set}
+use Rattle.matching.specs.Sweeping.{Ends}
+use Rattle.matching.proofs.IndexLaws.{range-rises, ends-part, looked-cast}
+use Rattle.matching.proofs.TurnLaws.{turned-none, turned-some}
+use Rattle.matching.proofs.turns.look_at.Statement.{statement}
+use Rattle.matching.proofs.turns.look_at.Tie as tie
+
+add-next : tie.Need-add-next
+add-next c = search needs
+
+mul-wide : tie.Need-mul-wide
+mul-wide c = search needs
+
+shared-slice-read-wide : tie.Need-shared-slice-read-wide
+shared-slice-read-wide c = omega (arith, c .before .before .before .before .before .before .before .before .pre .3, c .before .before .before .before .before .before .before .before .pre .4, c .before .before .before .before .before .before .before .before .pre .5)
+
+wide-requires : tie.Need-wide-requires
+wide-requires c κs = search needs
+
+mul-wide-2 : tie.Need-mul-wide-2
+mul-wide-2 c = search needs
+
+shared-slice-read-wide-2 : tie.Need-shared-slice-read-wide-2
+shared-slice-read-wide-2 c = omega (arith, c .before .before .before .before .before .before .before .before .before .before .pre .3, c .before .before .before .before .before .before .before .before .before .before .pre .4, c .before .before .before .before .before .before .before .before .before .before .pre .5)
+
+wide-requires-2 : tie.Need-wide-requires-2
+wide-requires-2 c κs = search needs
+
+mul-here : tie.Need-mul-here
+mul-here c = search needs
+
+slice-read-here : tie.Need-slice-read-here
+slice-read-here c = omega (arith, c .before .before .before .before .before .before .before .before .before .before .before .before .pre .3, c .before .before .before .before .before .before .before .before .before .before .before .before .pre .6)
+
+look-requires : tie.Need-look-requires
+look-requires c κs =
+    let r = range-rises (c .before .before .before .before .before .before .before .before .before .before .before .before .before .pre .1) (c .before .before .before .before .before .before .before .before .before .before .before .before .before .args .v) (c .before .before .before .before .before .before .before .before .before .before .before .before .before .pre .3) in
+    (omega (arith, r .0, c .before .before .before .before .wide .ensures, c .before .before .wide2 .ensures), ends-part (c .before .before .before .before .before .before .before .before .before .before .before .before .before .pre .0) (c .before .before .before .before .before .before .before .before .before .before .before .before .before .pre .7) (omega (arith, r .1, c .before .before .wide2 .ensures)))
+
+same-length : tie.Need-same-length
+same-length c = search needs
+
+returns : tie.Need-returns
+returns c = turned-none _ _ _ _ _ _ (c .before .before .before .before .before .before .before .before .before .before .before .before .before .before .before .pre .1) (c .before .before .before .before .before .before .before .before .before .before .before .before .before .before .before .pre .3) (looked-cast (c .before .before .before .before .before .before .wide .ensures) (c .before .before .before .before .wide2 .ensures) (c .before .look .ensures)) (c .if1 .taken)
+
+look-up-requires : tie.Need-look-up-requires
+look-up-requires c κs = search needs
+
+look-up-requires-2 : tie.Need-look-up-requires-2
+look-up-requires-2 c κs = search needs
+
+mul-there : tie.Need-mul-there
+mul-there c = search needs
+
+slice-read-there : tie.Need-slice-read-there
+slice-read-there c = omega (arith, c .before .before .before .before .before .before .before .before .before .before .before .before .before .before .before .before .before .before .pre .3, c .before .before .before .before .before .before .before .before .before .before .before .before .before .before .before .before .before .before .pre .7)
+
+mul-leave : tie.Need-mul-leave
+mul-leave c = search needs
+
+slice-write-leave : tie.Need-slice-write-leave
+slice-write-leave c = omega (arith, c .before .before .before .before .before .before .before .before .before .before .before .before .before .before .before .before .before .before .pre .3, c .before .before .before .before .before .before .before .before .before .before .before .before .before .before .before .before .before .before .pre .6)
+
+mul-arrive : tie.Need-mul-arrive
+mul-arrive c = search needs
+
+slice-write-arrive : tie.Need-slice-write-arrive
+slice-write-arrive c = omega (arith, c .before .before .before .before .before .before .before .before .before .before .before .before .before .before .before .before .before .before .pre .3, c .before .before .before .before .before .before .before .before .before .before .before .before .before .before .before .before .before .before .pre .7)
+
+mark-before-requires : tie.Need-mark-before-requires
+mark-before-requires c κs = (c .before .before .before .before .before .before .before .before .before .before .before .before .before .before .before .before .before .before .before .before .pre .0, c .before .before .before .before .before .before .before .before .before .before .before .before .before .before .before .before .before .before .before .before .pre .2, c .before .before .before .before .before .before .before .before .before .before .before .before .before .before .before .before .before .before .before .before .pre .3, c .before .before .before .before .before .before .before .before .before .before .before .before .before .before .before .before .before .before .before .before .pre .4, simp length-set (c .before .before .before .before .before .before .before .before .before .before .before .before .before .before .before .before .before .before .before .before .pre .6), c .before .before .before .before .before .before .before .before .before .before .before .before .before .before .before .before .before .before .before .before .pre .5, c .before .before .before .before .before .before .before .before .before .before .before .before .before .before .before .before .before .before .before .before .pre .8)
+
+same-length-2 : tie.Need-same-length-2
+same-length-2 c = search needs
+
+same-length-3 : tie.Need-same-length-3
+same-length-3 c = search needs
+
+same-length-4 : tie.Need-same-length-4
+same-length-4 c = search needs
+
+returns-2 : tie.Need-returns-2
+returns-2 c = turned-some _ _ _ _ _ _ (c .before .before .before .before .before .before .before .before .before .before .before .before .before .before .before .before .before .before .before .before .before .before .before .pre .1) (c .before .before .before .before .before .before .before .before .before .before .before .before .before .before .before .before .before .before .before .before .before .before .before .pre .3) (looked-cast (c .before .before .before .before .before .before .before .before .before .before .before .before .before .before .wide .ensures) (c .before .before .before .before .before .before .before .before .before .before .before .before .wide2 .ensures) (c .before .before .before .before .before .before .before .before .before .look .ensures)) (c .before .before .before .before .before .before .before .before .before .before .before .before .before .before .before .before .before .before .before .before .before .before .before .pre .0) (c .before .before .before .before .before .before .before .look-up .ensures) (c .before .before .before .before .before .before .look-up2 .ensures) (c .before .before .before .before .before .before .before .before .before .before .before .before .before .before .before .before .before .before .before .before .before .before .before .pre .6) (c .before .before .before .before .before .before .before .before .before .before .before .before .before .before .before .before .before .before .before .before .before .before .before .pre .7) (c .before .before .before .before .before .before .before .before .if1 .left) (c .before .before .mark-before .ensures)
+
+pub look-at-spec : {M : Type 1} → statement M
+look-at-spec =
+    tie.close
+    (tie.spec
+    add-next
+    mul-wide
+    shared-slice-read-wide
+    wide-requires
+    mul-wide-2
+    shared-slice-read-wide-2
+    wide-requires-2
+    mul-here
+    slice-read-here
+    look-requires
+    same-length
+    returns
+    look-up-requires
+    look-up-requires-2
+    mul-there
+    slice-read-there
+    mul-leave
+    slice-write-leave
+    mul-arrive
+    slice-write-arrive
+    mark-before-requires
+    same-length-2
+    same-length-3
+    same-length-4
+    returns-2)

@@ -1,0 +1,59 @@
+-- `matching::turns::mark_start` meets its contract.
+use native.Mathlib.Omega.{arith}
+use borrow.Author.Needs.{needs}
+use Rattle.matching.proofs.SetLaws.{start-whole, start-marked}
+use Rattle.matching.proofs.turns.mark_start.Statement.{statement}
+use Rattle.matching.proofs.turns.mark_start.Tie as tie
+
+mul-f : tie.Need-mul-f
+mul-f c = search needs
+
+shared-slice-read-f : tie.Need-shared-slice-read-f
+shared-slice-read-f c = search needs
+
+cast-f : tie.Need-cast-f
+cast-f c = omega (arith, c .before .before .before .before .before .pre .2)
+
+add-at : tie.Need-add-at
+add-at c = search needs
+
+mul-hurt : tie.Need-mul-hurt
+mul-hurt c = search needs
+
+shared-slice-read-hurt : tie.Need-shared-slice-read-hurt
+shared-slice-read-hurt c = search needs
+
+mul-hurt-2 : tie.Need-mul-hurt-2
+mul-hurt-2 c = search needs
+
+shared-slice-read-hurt-2 : tie.Need-shared-slice-read-hurt-2
+shared-slice-read-hurt-2 c = omega (arith, c .before .before .before .before .before .before .before .pre .3)
+
+returns : tie.Need-returns
+returns c = start-whole _ _ _ _ _ (c .if1 .taken)
+
+mark-requires : tie.Need-mark-requires
+mark-requires c κs = (c .before .before .before .before .before .before .before .before .before .pre .2, c .before .before .before .before .before .before .before .before .before .pre .4, c .before .before .before .before .before .before .before .before .before .pre .5)
+
+same-length : tie.Need-same-length
+same-length c = search needs
+
+returns-2 : tie.Need-returns-2
+returns-2 c = start-marked _ _ _ _ (c .before .before .mark .ensures)
+
+pub mark-start-spec : {M : Type 1} → statement M
+mark-start-spec =
+    tie.close
+    (tie.spec
+    mul-f
+    shared-slice-read-f
+    cast-f
+    add-at
+    mul-hurt
+    shared-slice-read-hurt
+    mul-hurt-2
+    shared-slice-read-hurt-2
+    returns
+    mark-requires
+    same-length
+    returns-2)

@@ -1,0 +1,57 @@
+-- `matching::turns::settle` meets its contract.
+use native.Mathlib.Omega.{arith}
+use borrow.Author.Needs.{needs}
+use mathlib.Core.Path.{_≡_, _∙_, sym}
+use Prim.Native.Nat.{ℕ, _≤_, _<_}
+use Rattle.matching.proofs.TurnLaws.{Turning, measure, turning-start, turning-node, turning-more, turning-less, turning-end}
+use Rattle.matching.proofs.turns.settle.Statement.{statement}
+use Rattle.matching.proofs.turns.settle.Tie as tie
+
+abbrev Inv-loop : tie.InvT-loop
+Inv-loop work n d first back rev due leaving arriving leave₀ arrive₀ set₀ leave arrive set = Turning n due d leaving arriving work leave₀ arrive₀ leave arrive set
+
+abbrev μ-loop : tie.MeasureT-loop
+μ-loop work n d first back rev due leaving arriving leave₀ arrive₀ set₀ leave arrive set = measure n leave set
+
+loop-holds : tie.Need-loop-holds Inv-loop μ-loop
+loop-holds c = turning-start _ _ _ _ _ _ _ _ _ (c .before .before .before .before .before .before .before .pre .7)
+
+take-requires : tie.Need-take-requires Inv-loop μ-loop
+take-requires c κs = c .before .loop .inv .long
+
+look-at-requires : tie.Need-look-at-requires Inv-loop μ-loop
+look-at-requires c κs = (c .before .before .before .before .before .before .before .before .before .before .before .before .before .before .before .before .pre .0, c .before .before .before .before .before .before .before .before .before .before .before .before .before .before .before .before .pre .1, c .before .before .before .before .before .before .before .before .before .before .before .before .before .before .before .before .pre .2, turning-node (c .before .before .before .before .before .before .before .before .loop .inv) (c .before .before .before .before .before .before .take .ensures) (omega (arith, c .before .before .before .if1 .left)), c .before .before .before .before .before .before .before .before .before .before .before .before .before .before .before .before .pre .3, c .before .before .before .before .before .before .before .before .before .before .before .before .before .before .before .before .pre .4, omega (arith, c .before .before .before .before .before .before .before .before .loop .inv .leave-long, c .before .before .before .before .before .before .before .before .before .before .before .before .before .before .before .before .pre .5), omega (arith, c .before .before .before .before .before .before .before .before .loop .inv .arrive-long, c .before .before .before .before .before .before .before .before .before .before .before .before .before .before .before .before .pre .6), c .before .before .before .before .before .before .take .ensures .long ∙ c .before .before .before .before .before .before .before .before .loop .inv .long)
+
+loop-less : tie.Need-loop-less Inv-loop μ-loop
+loop-less c = turning-less (c .before .before .before .before .before .before .before .before .before .before .before .before .before .before .before .loop .inv) (c .before .before .before .before .before .before .before .before .before .before .before .before .before .take .ensures) (c .before .before .before .before .before .before .look-at .ensures) (c .before .before .before .before .before .before .before .before .before .before .before .before .before .before .before .before .before .before .before .before .before .before .before .pre .3) (omega (arith, c .before .before .before .before .before .before .before .before .before .before .if1 .left)) (λ k. c .slice-known7 .given k .fits)
+
+loop-again : tie.Need-loop-again Inv-loop μ-loop
+loop-again c = turning-more (c .before .before .before .before .before .before .before .before .before .before .before .before .before .before .before .loop .inv) (c .before .before .before .before .before .before .before .before .before .before .before .before .before .take .ensures) (c .before .before .before .before .before .before .look-at .ensures) (c .before .before .before .before .before .before .before .before .before .before .before .before .before .before .before .before .before .before .before .before .before .before .before .pre .3)
+
+same-length : tie.Need-same-length Inv-loop μ-loop
+same-length c = c .before .before .before .before .before .loop .inv .leave-long
+
+same-length-2 : tie.Need-same-length-2 Inv-loop μ-loop
+same-length-2 c = c .before .before .before .before .before .loop .inv .arrive-long
+
+same-length-3 : tie.Need-same-length-3 Inv-loop μ-loop
+same-length-3 c = c .before .before .before .take .ensures .long ∙ c .before .before .before .before .before .loop .inv .long ∙ sym (c .before .before .before .before .before .before .before .before .before .before .before .before .before .pre .7 .long)
+
+returns : tie.Need-returns Inv-loop μ-loop
+returns c = turning-end (c .before .before .before .before .before .loop .inv) (c .before .before .before .take .ensures) (c .before .before .before .before .before .before .before .before .before .before .before .before .before .pre .3) (omega (arith, c .if1 .taken))
+
+pub settle-spec : {M : Type 1} → statement M
+settle-spec =
+    tie.close
+    (tie.spec
+    Inv-loop
+    μ-loop
+    loop-holds
+    take-requires
+    look-at-requires
+    loop-less
+    loop-again
+    same-length
+    same-length-2
+    same-length-3
+    returns)

@@ -1,0 +1,63 @@
+// Where the pairs that begin at a node stand, and what they offer.
+ghost use mathlib.Core.Path.{_≡_};
+ghost use Prim.Native.Nat.{ℕ, _+_, _<_, _≤_};
+ghost use lib.ListN.{length, getD};
+ghost use Rattle.matching.specs.Sweeping.{Ends};
+ghost use Rattle.matching.specs.Late.{Ordered, Cut, Before, FirstsMade, Looked};
+
+pub fn wide(x: u16) -> usize
+    ensures { λ r. ⌜ r ≡ x ⌝ }
+{
+    x as usize
+}
+
+// How many pairs begin below v, where those up to start do.
+fn skip(work: &[u32], start: usize, d: usize, v: usize) -> usize
+    requires { ⌜ (d ≤ 8192) × (length (now work) ≡ 16384) × Ordered d (now work) × Before d (now work) v start ⌝ }
+    ensures { λ r. ⌜ Cut d (now (work .entry)) v r ⌝ }
+{
+    let mut i = start;
+    while i < d {
+        let x = work[i];
+        let f = (x / 4096) as usize;
+        if v <= f {
+            return i;
+        }
+        i += 1;
+    }
+    i
+}
+
+// first[v] is how many pairs begin below v, for each v up to n.
+pub fn firsts(work: &[u32], d: usize, n: usize, first: &mut [u16])
+    requires { ⌜ (d ≤ 8192) × (length (now work) ≡ 16384) × Ordered d (now work) × (n < length (now first)) ⌝ }
+    ensures { λ r. ⌜ FirstsMade d n (now (work .entry)) (now (first .entry)) (now (first .exit)) ⌝ }
+{
+    let mut i: usize = 0;
+    let mut v: usize = 0;
+    while v <= n {
+        i = skip(work, i, d, v);
+        first[v] = i as u16;
+        v += 1;
+    }
+}
+
+// The links of want that no pair from a up to b offers: each offers those that it is held for and that may arrive at its end.
+pub fn look(work: &[u32], a: usize, b: usize, arrive: &[u32], want: u32) -> u32
+    requires { ⌜ (a ≤ b) × Ends (length (now arrive)) b (now work) ⌝ }
+    ensures { λ r. ⌜ Looked (now (work .entry)) a b (now (arrive .entry)) want r ⌝ }
+{
+    let mut miss = want;
+    let mut i = a;
+    while i < b {
+        if miss == 0 {
+            return 0;
+        }
+        let t = (work[i] % 4096) as usize;
+        let at = 8192 + i;
+        let offer = work[at] & arrive[t];
+        miss = miss ^ (miss & offer);
+        i += 1;
+    }
+    miss
+}

@@ -1,0 +1,127 @@
+// The start of a search: every pair is held for all links of the pattern, and each node has the links whose end has one of its labels.
+ghost use mathlib.Core.Path.{_≡_};
+ghost use Prim.Native.Nat.{ℕ, _+_, _*_, _^_, _<_, _≤_};
+ghost use lib.ListN.{length, getD, replicate};
+ghost use Rattle.matching.specs.Steps.{Fair};
+ghost use Rattle.matching.specs.Sweeps.{Has};
+ghost use Rattle.matching.specs.Starting.{Room, Held, ByLabel, OfLabels, Spread};
+use packed::by_value;
+use packed::by_value::Pattern;
+
+// Each of d pairs is held for x.
+pub fn hold(work: &mut [u32], d: usize, x: u32)
+    requires { ⌜ (d ≤ 8192) × (length (now work) ≡ 16384) ⌝ }
+    ensures { λ r. ⌜ Held d x (now (work .entry)) (now (work .exit)) ⌝ }
+{
+    let mut i: usize = 0;
+    while i < d {
+        let at = 8192 + i;
+        work[at] = x;
+        i += 1;
+    }
+}
+
+fn no_links() -> [u32; 32]
+    ensures { λ r. ⌜ r ≡ replicate 32 0 ⌝ }
+{
+    [0u32; 32]
+}
+
+// The link, or the label, k alone.
+fn one(k: usize) -> u32
+    requires { ⌜ k < 32 ⌝ }
+    ensures { λ r. ⌜ r ≡ 2 ^ k ⌝ }
+{
+    1 << k
+}
+
+// For each label the links below m at whose end it stands.
+fn by_label(labels: &[u32; 16], ends: &[u32; 32], m: usize) -> [u32; 32]
+    requires { ⌜ (m ≤ 32) × ((e : ℕ) → e < m → getD (now ends) e 0 < 16) × ((e : ℕ) → e < m → getD (now labels) (getD (now ends) e 0) 0 < 32) ⌝ }
+    ensures { λ r. ⌜ ByLabel (now (labels .entry)) (now (ends .entry)) m r ⌝ }
+{
+    let mut t = no_links();
+    let mut e: usize = 0;
+    while e < m {
+        let u = ends[e] as usize;
+        let l = labels[u] as usize;
+        let old = t[l];
+        t[l] = old | one(e);
+        e += 1;
+    }
+    t
+}
+
+// The labels of the pattern's nodes.
+fn labels_used(labels: &[u32; 16], n: usize) -> u32
+    requires { ⌜ (n ≤ 16) × ((u : ℕ) → u < n → getD (now labels) u 0 < 32) ⌝ }
+    ensures { λ r. ⌜ ((u : ℕ) → u < n → Has r (getD (now (labels .entry)) u 0)) ⌝ }
+{
+    let mut r: u32 = 0;
+    let mut u: usize = 0;
+    while u < n {
+        r = r | one(labels[u] as usize);
+        u += 1;
+    }
+    r
+}
+
+// The lowest member of x.
+pub fn lowest(x: u32) -> usize
+    requires { ⌜ (x ≡ 0 → ⊥) ⌝ }
+    ensures { λ r. ⌜ (r < 32) × Has x r ⌝ }
+{
+    u32::trailing_zeros(x) as usize
+}
+
+// The links that may leave a node, and those that may arrive at it.
+pub struct Links {
+    pub leave: u32,
+    pub arrive: u32,
+}
+
+// What the tables have for the labels x.
+fn links_of(leaving: &[u32; 32], arriving: &[u32; 32], x: u32) -> Links
+    ensures { λ r. ⌜ OfLabels (now (leaving .entry)) x (r .leave) × OfLabels (now (arriving .entry)) x (r .arrive) ⌝ }
+{
+    let mut leave: u32 = 0;
+    let mut arrive: u32 = 0;
+    let mut left = x;
+    while left != 0 {
+        let l = lowest(left);
+        leave = leave | leaving[l];
+        arrive = arrive | arriving[l];
+        let taken = one(l);
+        left = left ^ (left & taken);
+    }
+    Links { leave, arrive }
+}
+
+// Each of n nodes of a record gets the links that its labels allow; nothing is held there yet.
+pub fn spread(
+    s: &[u8],
+    n: usize,
+    p: Pattern,
+    leave: &mut [u32],
+    arrive: &mut [u32],
+    out: &mut [u32],
+)
+    requires { ⌜ Fair p × (length (now s) ≤ 65536) × (27 + 32 * n ≤ 8 * length (now s)) × Room n (now leave) (now arrive) (now out) ⌝ }
+    ensures { λ r. ⌜ Spread p (now (s .entry)) n (now (leave .entry)) (now (arrive .entry)) (now (out .entry)) (now (leave .exit)) (now (arrive .exit)) (now (out .exit)) ⌝ }
+{
+    let labels = p.labels;
+    let from = p.from;
+    let to = p.to;
+    let leaving = by_label(&labels, &from, p.edges);
+    let arriving = by_label(&labels, &to, p.edges);
+    let used = labels_used(&labels, p.nodes);
+    let mut v: usize = 0;
+    while v < n {
+        let x = by_value::labels_at(s, v);
+        let links = links_of(&leaving, &arriving, x & used);
+        leave[v] = links.leave;
+        arrive[v] = links.arrive;
+        out[v] = 0;
+        v += 1;
+    }
+}

@@ -1,0 +1,149 @@
+// Sweeps over the pairs and settling of the nodes: the codes of the d pairs stand from word 0 on, from 8192 on for each the links that it is held for.
+// `due` are the links whose items are being settled, `free` those that are not settled yet.
+ghost use mathlib.Core.Path.{_≡_};
+ghost use Prim.Native.Nat.{ℕ, _+_, _*_, _<_, _≤_};
+ghost use lib.ListN.{length, getD};
+ghost use Rattle.matching.specs.Sweeping.{Ends, Starts, Carried, Swept, LookedUp, Left, Settled};
+ghost use Rattle.matching.specs.Choices.{Prepared, Fixed};
+
+// run, if the pair begins where the last one did.
+fn carried(f: usize, last: usize, run: u32) -> u32
+    ensures { λ r. ⌜ Carried f last run r ⌝ }
+{
+    if f == last { run } else { 0 }
+}
+
+// Every pair keeps what its ends allow, and adds it to what is held at the node where it begins. The pairs stand in the order of these nodes, so what is held at a
+// node is carried on from pair to pair and not read again.
+pub fn sweep(work: &mut [u32], d: usize, leave: &[u32], arrive: &[u32], free: u32, out: &mut [u32])
+    requires { ⌜ Ends (length (now out)) d (now work) × (length (now leave) ≡ length (now out)) × (length (now arrive) ≡ length (now out)) × Starts d (now work) (now out) ⌝ }
+    ensures { λ r. ⌜ Swept d (now (leave .entry)) (now (arrive .entry)) free (now (work .entry)) (now (out .entry)) (now (work .exit)) (now (out .exit)) ⌝ }
+{
+    let mut last: usize = 0;
+    let mut run: u32 = 0;
+    let mut i: usize = 0;
+    while i < d {
+        let x = work[i];
+        let f = (x / 4096) as usize;
+        let t = (x % 4096) as usize;
+        let at = 8192 + i;
+        let both = leave[f] & arrive[t];
+        let old = work[at];
+        let held = old & (free | both);
+        work[at] = held;
+        run = carried(f, last, run) | held;
+        out[f] = run;
+        last = f;
+        i += 1;
+    }
+}
+
+fn wide(x: u32) -> usize
+    ensures { λ r. ⌜ r ≡ x ⌝ }
+{
+    x as usize
+}
+
+// What the table has for the members of x.
+pub fn look_up(t: &[u32; 128], x: u32) -> u32
+    ensures { λ r. ⌜ LookedUp (now (t .entry)) x r ⌝ }
+{
+    let a = wide(x % 16);
+    let b = 16 + wide(x / 16 % 16);
+    let c = 32 + wide(x / 256 % 16);
+    let d = 48 + wide(x / 4096 % 16);
+    let e = 64 + wide(x / 65536 % 16);
+    let f = 80 + wide(x / 1048576 % 16);
+    let g = 96 + wide(x / 16777216 % 16);
+    let h = 112 + wide(x / 268435456 % 16);
+    let low = (t[a] | t[b]) | (t[c] | t[d]);
+    let high = (t[e] | t[f]) | (t[g] | t[h]);
+    low | high
+}
+
+// x without what the table has for the members of miss.
+fn without(t: &[u32; 128], miss: u32, x: u32) -> u32
+    ensures { λ r. ⌜ Left (now (t .entry)) miss x r ⌝ }
+{
+    if miss == 0 {
+        return x;
+    }
+    let gone = look_up(t, miss);
+    let both = x & gone;
+    x ^ both
+}
+
+// Each node loses the items one of whose due links no pair is held for; what is held at the nodes is cleared. The links that were missed.
+pub fn settle(
+    n: usize,
+    leave: &mut [u32],
+    arrive: &mut [u32],
+    out: &mut [u32],
+    due: u32,
+    leaving: &[u32; 128],
+    arriving: &[u32; 128],
+) -> u32
+    requires { ⌜ (n ≤ length (now leave)) × (n ≤ length (now arrive)) × (n ≤ length (now out)) ⌝ }
+    ensures { λ r. ⌜ Settled n due (now (leaving .entry)) (now (arriving .entry)) (now (leave .entry)) (now (arrive .entry)) (now (out .entry)) r (now (leave .exit)) (now (arrive .exit)) (now (out .exit)) ⌝ }
+{
+    let mut lost: u32 = 0;
+    let mut v: usize = 0;
+    while v < n {
+        let a = leave[v];
+        let b = arrive[v];
+        let miss = (a & due) & !out[v];
+        out[v] = 0;
+        leave[v] = without(leaving, miss, a);
+        arrive[v] = without(arriving, miss, b);
+        lost = lost | miss;
+        v += 1;
+    }
+    lost
+}
+
+// One sweep, and the nodes settled. The links that were missed.
+fn round(
+    work: &mut [u32],
+    d: usize,
+    n: usize,
+    leave: &mut [u32],
+    arrive: &mut [u32],
+    out: &mut [u32],
+    free: u32,
+    due: u32,
+    leaving: &[u32; 128],
+    arriving: &[u32; 128],
+) -> u32
+    requires { ⌜ Prepared n d (now work) (now leave) (now arrive) (now out) ⌝ }
+    ensures { λ r. ⌜ Fixed n free due d (now (leaving .entry)) (now (arriving .entry)) (now (work .entry)) (now (leave .entry)) (now (arrive .entry)) (now (out .entry)) r (now (work .exit)) (now (leave .exit)) (now (arrive .exit)) (now (out .exit)) ⌝ }
+{
+    sweep(work, d, leave, arrive, free, out);
+    settle(n, leave, arrive, out, due, leaving, arriving)
+}
+
+// At most twelve rounds. 0, if the last lost nothing.
+pub fn fix(
+    work: &mut [u32],
+    d: usize,
+    n: usize,
+    leave: &mut [u32],
+    arrive: &mut [u32],
+    out: &mut [u32],
+    free: u32,
+    due: u32,
+    leaving: &[u32; 128],
+    arriving: &[u32; 128],
+) -> u32
+    requires { ⌜ Prepared n d (now work) (now leave) (now arrive) (now out) ⌝ }
+    ensures { λ r. ⌜ Fixed n free due d (now (leaving .entry)) (now (arriving .entry)) (now (work .entry)) (now (leave .entry)) (now (arrive .entry)) (now (out .entry)) r (now (work .exit)) (now (leave .exit)) (now (arrive .exit)) (now (out .exit)) ⌝ }
+{
+    let mut left: usize = 12;
+    while left > 0 {
+        let lost = round(work, d, n, leave, arrive, out, free, due, leaving, arriving);
+        if lost == 0 {
+            return 0;
+        }
+        left -= 1;
+    }
+    1
+}
