@@ -94,16 +94,16 @@ pub refused-told : (x : Refusal) (t : List ℕ) → t ≡ replicate 512 0
 unfolding quoteTold
 refused-told x t e = rw e
 
-module _ (t : List ℕ) (m k : ℕ) where
-  pub covered-told : (c : ℕ) → coversIn t everyView k m ≡ true → c ≡ chosen t m k
-      → quoteTold (record { coverage = coverage-is.Covered; mapping = t; edges = m; chosen = c; lowest = 0 }) ≡ told 0 (flat (valuesFrom t m k))
+module _ (t : List ℕ) (set m k : ℕ) where
+  pub covered-told : (c : ℕ) → coversIn t set k m ≡ true → c ≡ chosen t set m k
+      → quoteTold (record { coverage = coverage-is.Covered; mapping = t; edges = m; chosen = c; lowest = 0 }) ≡ told 0 (flat (valuesFrom t set m k))
   unfolding quoteTold valuesFrom
   covered-told c h e = rw (h, e)
 
-  pub uncovered-told : (e : ℕ) → coversIn t everyView k m ≡ false → e ≡ lowestUnmatched t k m
-      → quoteTold (record { coverage = coverage-is.Uncovered; mapping = t; edges = m; chosen = 0; lowest = e }) ≡ told 0 (flat (valuesFrom t m k))
+  pub uncovered-told : (e : ℕ) → coversIn t set k m ≡ false → e ≡ lowestUnmatched t set k m
+      → quoteTold (record { coverage = coverage-is.Uncovered; mapping = t; edges = m; chosen = 0; lowest = e }) ≡ told 0 (flat (valuesFrom t set m k))
   unfolding quoteTold valuesFrom
-  uncovered-told e h q = rw (h, q, chosen-none t m k h)
+  uncovered-told e h q = rw (h, q, chosen-none t set m k h)
 
 -- ---- an accepted query and accepted views
 
@@ -131,10 +131,10 @@ viewPatterns cs = map patternOf (viewsOf cs)
 
 -- how the calls go on with an accepted query
 abbrev pub quoteOn : List ℕ → List ℕ → Answer
-quoteOn c qs = judged (readCatalogue c) (λ cs. give (flat (quoteValues (patternOf qs) (viewPatterns cs))) [])
+quoteOn c qs = judged (readCatalogue c) (λ cs. give (flat (quoteValues everyView (patternOf qs) (viewPatterns cs))) [])
 
 abbrev pub showOn : List ℕ → ℕ → ℕ → List ℕ → Answer
-showOn c room room′ qs = judged (readCatalogue c) (λ cs. showFor qs (viewPatterns cs) room room′)
+showOn c room room′ qs = judged (readCatalogue c) (λ cs. showFor everyView qs (viewPatterns cs) room room′)
 
 module _ {s : List ℕ} {k : ℕ} (v : Views s k) where
   pub views-few : k ≤ 16
@@ -151,36 +151,36 @@ module _ {s : List ℕ} {k : ℕ} (v : Views s k) where
         ∙ sym (edges-in (plain t))
         ∙ sym (t .holds .edges)
 
-    module _ {table : List ℕ} (e : table ≡ mapping (patternOf (t .content)) (viewPatterns (v .content))) where
-      pub quote-given : {r : Told} → r ≡ told 0 (flat (valuesFrom table (q .edges) k))
-          → Answers blank (give (flat (quoteValues (patternOf (t .content)) (viewPatterns (v .content)))) []) r [] []
+    module _ {table : List ℕ} (e : table ≡ mapping (patternOf (t .content)) (viewPatterns (v .content))) (set : ℕ) where
+      pub quote-given : {r : Told} → r ≡ told 0 (flat (valuesFrom table set (q .edges) k))
+          → Answers blank (give (flat (quoteValues set (patternOf (t .content)) (viewPatterns (v .content)))) []) r [] []
       unfolding quoteValues toldOf outputsOf fronts
       quote-given h = record { result = rw (edges-many, views-many) (rw e at h); outputs = refl }
 
       show-by : (room room′ : ℕ)
-          → showFor (t .content) (viewPatterns (v .content)) room room′
-          ≡ pick (coversIn table everyView k (q .edges)) (refuse 13 0)
-          (fitBoth room room′ (recordBytes (graphFields (t .content))) (recordBytes (fewerFields (t .content) (lowestUnmatched table k (q .edges)))))
+          → showFor set (t .content) (viewPatterns (v .content)) room room′
+          ≡ pick (coversIn table set k (q .edges)) (refuse 13 0)
+          (fitBoth room room′ (recordBytes (graphFields (t .content))) (recordBytes (fewerFields (t .content) (lowestUnmatched table set k (q .edges)))))
       unfolding showFor
       show-by room room′ = rw (e, views-many, t .holds .edges)
 
-      pub show-covered : {r : Told} (room room′ : ℕ) (outs : List (List ℕ)) → coversIn table everyView k (q .edges) ≡ true → r ≡ told 13 (0 ∷ [])
-          → Answers [] (showFor (t .content) (viewPatterns (v .content)) room room′) r outs outs
+      pub show-covered : {r : Told} (room room′ : ℕ) (outs : List (List ℕ)) → coversIn table set k (q .edges) ≡ true → r ≡ told 13 (0 ∷ [])
+          → Answers [] (showFor set (t .content) (viewPatterns (v .content)) room room′) r outs outs
       unfolding toldOf outputsOf
       show-covered room room′ outs h g =
-          let a : showFor (t .content) (viewPatterns (v .content)) room room′ ≡ refuse 13 0 = show-by room room′ ∙ rw h in
+          let a : showFor set (t .content) (viewPatterns (v .content)) room room′ ≡ refuse 13 0 = show-by room room′ ∙ rw h in
           record { result = rw a g; outputs = rw a }
 
-      pub show-uncovered : {r : Told} (room room′ n : ℕ) {outs outs′ : List (List ℕ)} → coversIn table everyView k (q .edges) ≡ false
-          → n ≡ lowestUnmatched table k (q .edges)
+      pub show-uncovered : {r : Told} (room room′ n : ℕ) {outs outs′ : List (List ℕ)} → coversIn table set k (q .edges) ≡ false
+          → n ≡ lowestUnmatched table set k (q .edges)
           → Answers [] (fitBoth room room′ (recordBytes (shownFields (t .content) 32)) (recordBytes (shownFields (t .content) n))) r outs outs′
-          → Answers [] (showFor (t .content) (viewPatterns (v .content)) room room′) r outs outs′
+          → Answers [] (showFor set (t .content) (viewPatterns (v .content)) room room′) r outs outs′
       unfolding shownFields
       show-uncovered {r} room room′ n {outs} {outs′} h g b =
-          let l = lowest-below table k (q .edges) .1 h in
+          let l = lowest-below table set k (q .edges) .1 h in
           let x = le-ltb 32 (edgesOf (t .content)) (few-edges t) in
           let y = lt-ltb n (edgesOf (t .content)) (omega (arith, t .holds .edges)) in
-          let d : showFor (t .content) (viewPatterns (v .content)) room room′ ≡ fitBoth room room′ (recordBytes (graphFields (t .content))) (recordBytes (fewerFields (t .content) n)) =
+          let d : showFor set (t .content) (viewPatterns (v .content)) room room′ ≡ fitBoth room room′ (recordBytes (graphFields (t .content))) (recordBytes (fewerFields (t .content) n)) =
           show-by room room′ ∙ rw (h, g) in
           subst (λ a. Answers [] a r outs outs′) (sym d) (rw (x, y) at b)
 

@@ -34,9 +34,9 @@ use Rattle.matching.proofs.UpToLaws.{length-upTo}
 use Rattle.matching.proofs.JoinLaws.{answer-each}
 use Rattle.matching.proofs.PatternLaws.{pattern-same}
 use Rattle.matching.proofs.SheetBytes.{sheet-is, sheet-by}
-use Rattle.containment.specs.Choice.{everyView, coversIn, lowestUnmatched, chosen}
+use Rattle.containment.specs.Choice.{everyView, coversIn, lowestUnmatched, used}
 use Rattle.containment.specs.Quote.{mapping}
-use Rattle.containment.specs.Answer.{viewsIn, answerBytes, answerFor}
+use Rattle.containment.specs.Answer.{viewsIn, answerBytes, answerIn, usedFor}
 use Rattle.containment.specs.Steps.{Query, Views, ViewCounts}
 use Rattle.containment.proofs.QueryLaws.{plain}
 use Rattle.containment.proofs.AnswerLaws.{viewPatterns, views-many, views-by}
@@ -81,7 +81,7 @@ module _ {q : Given} {table : List ℕ} {set : ℕ} {s counts : List ℕ} {k d :
 
 -- ---- how the call goes on, once the files before were accepted
 abbrev pub bookOn : List ℕ → List ℕ → ℕ → List ℕ → Answer
-bookOn qs b room cs = judged (readBook cs b) (λ bs. answerFor chosen qs cs bs room)
+bookOn qs b room cs = judged (readBook cs b) (λ bs. answerIn (usedFor qs cs) qs cs bs room)
 
 abbrev pub answerOn : List ℕ → List ℕ → ℕ → List ℕ → Answer
 answerOn c b room qs = judged (readCatalogue c) (bookOn qs b room)
@@ -97,16 +97,20 @@ counts-by s {k = k} c room e m =
 
 -- ---- what is answered from an accepted book
 
--- the answer by the views in a set
+-- the sheet by the views in a set
 abbrev bySet : Given → List ℕ → List ℕ → ℕ → ℕ → Answer
 bySet q cs bs room set = fitFile room (sheetBytes (answerSets (patternIn q) (viewsIn set (viewPatterns cs) (sheetsIn (edgeCounts cs) bs))))
 
-module _ {q : Given} (t : Query q) {c : List ℕ} {k : ℕ} (v : Views c k) {table : List ℕ} (is : table ≡ mapping (patternOf (t .content)) (viewPatterns (v .content)))
-    (bs : List ℕ) (room : ℕ) where
-  answer-by : answerFor chosen (t .content) (v .content) bs room
-      ≡ uncrowded (v .content) bs (pick (coversIn table everyView k (q .edges)) (bySet q (v .content) bs room (chosen table (q .edges) k)) (refuse 11 (lowestUnmatched table k (q .edges))))
-  unfolding answerFor answerBytes
-  answer-by = rw (pattern-same (plain t) (t .holds), is, views-many v, t .holds .edges)
+module _ {q : Given} (t : Query q) {c : List ℕ} {k : ℕ} (v : Views c k) {table : List ℕ} (is : table ≡ mapping (patternOf (t .content)) (viewPatterns (v .content))) where
+  answer-by : (set : ℕ) (bs : List ℕ) (room : ℕ) → answerIn set (t .content) (v .content) bs room
+      ≡ uncrowded (v .content) bs (pick (coversIn table set k (q .edges)) (bySet q (v .content) bs room set) (refuse 11 (lowestUnmatched table set k (q .edges))))
+  unfolding answerIn answerBytes
+  answer-by set bs room = rw (pattern-same (plain t) (t .holds), is, views-many v, t .holds .edges)
+
+  -- the views that answer
+  pub used-is : {set : ℕ} → set ≡ used table everyView (q .edges) k → set ≡ usedFor (t .content) (v .content)
+  unfolding usedFor
+  used-is e = e ∙ rw (is, views-many v, t .holds .edges)
 
 -- the book was judged, and its pairs were gathered
 module _ {q : Given} (t : Query q) {counts : List ℕ} {k : ℕ} (v : ViewCounts counts k) (s : List ℕ) (short : length s ≤ 65536)
@@ -121,31 +125,34 @@ module _ {q : Given} (t : Query q) {counts : List ℕ} {k : ℕ} (v : ViewCounts
     pub book-booked : d ≤ 8192 → Booked s counts k d w
     book-booked few = booked-by (v .views) counts s (content .fields) (v .are) (content .is) g few short (v .small)
 
-    module _ {table : List ℕ} (is : table ≡ mapping (patternOf (t .content)) (viewPatterns (v .views .content))) (out : List ℕ) where
+    module _ {table : List ℕ} (is : table ≡ mapping (patternOf (t .content)) (viewPatterns (v .views .content))) (set : ℕ) (out : List ℕ) where
+      -- what is answered from the content of the book
+      abbrev answers : List ℕ → Answer
+      answers bs = answerIn set (t .content) (v .views .content) bs (length out)
+
       pairs : bookPairs s 0 (take k counts) ≡ pairsIn (sum (edgeCounts cs)) (content .fields)
       pairs = ap (bookPairs s 0) (v .are) ∙ book-pairs (edgeCounts cs) s (content .fields) (content .is)
 
-      answer-is : answerFor chosen (t .content) cs (content .fields) (length out)
-          ≡ uncrowded cs (content .fields) (pick (coversIn table everyView k (q .edges)) (bySet q cs (content .fields) (length out) (chosen table (q .edges) k)) (refuse 11 (lowestUnmatched table k (q .edges))))
-      answer-is = answer-by t (v .views) is (content .fields) (length out)
+      answer-is : answers (content .fields)
+          ≡ uncrowded cs (content .fields) (pick (coversIn table set k (q .edges)) (bySet q cs (content .fields) (length out) set) (refuse 11 (lowestUnmatched table set k (q .edges))))
+      answer-is = answer-by t (v .views) is set (content .fields) (length out)
 
-      declined : (x : Refusal) → answerFor chosen (t .content) cs (content .fields) (length out) ≡ refuse (numberOf x) (detailOf x)
-          → Answered (bookOn (t .content) s (length out) cs) (replyTold (reply-is.Refused x)) out out
-      declined x e = body-declined (read-finds 65536 4 (book (edgeCounts cs)) s short) out refl content (λ bs. answerFor chosen (t .content) cs bs (length out)) x e
+      declined : (x : Refusal) → answers (content .fields) ≡ refuse (numberOf x) (detailOf x) → Answered (judged (readBook cs s) answers) (replyTold (reply-is.Refused x)) out out
+      declined x e = body-declined (read-finds 65536 4 (book (edgeCounts cs)) s short) out refl content answers x e
 
-      pub crowded-answered : 8192 < d → Answered (bookOn (t .content) s (length out) (v .views .content)) (replyTold (reply-is.Refused (TooManyPairs 4))) out out
+      pub crowded-answered : 8192 < d → Answered (judged (readBook (v .views .content) s) answers) (replyTold (reply-is.Refused (TooManyPairs 4))) out out
       crowded-answered h = declined (TooManyPairs 4) (answer-is ∙ gathered-many (edgeCounts cs) (content .fields) g pairs _ h)
 
-      module _ (few : d ≤ 8192) where
-        pub uncovered-answered : {b : Bool} {e : ℕ} → b ≡ coversIn table everyView k (q .edges) → b ≡ false → e ≡ lowestUnmatched table k (q .edges)
-            → Answered (bookOn (t .content) s (length out) (v .views .content)) (replyTold (reply-is.Refused (NotContained e))) out out
-        uncovered-answered {e = e} b h l = declined (NotContained e) (answer-is ∙ gathered-few (edgeCounts cs) (content .fields) g pairs _ few ∙ rw (← b, h, l))
+      module _ (few : d ≤ 8192) {b : Bool} (is-cover : b ≡ coversIn table set k (q .edges)) where
+        pub uncovered-answered : {e : ℕ} → b ≡ false → e ≡ lowestUnmatched table set k (q .edges)
+            → Answered (judged (readBook (v .views .content) s) answers) (replyTold (reply-is.Refused (NotContained e))) out out
+        uncovered-answered {e = e} h l = declined (NotContained e) (answer-is ∙ gathered-few (edgeCounts cs) (content .fields) g pairs _ few ∙ rw (← is-cover, h, l))
 
-        pub covered-answered : {b : Bool} {set : ℕ} {x : Told} {out′ : List ℕ} → b ≡ coversIn table everyView k (q .edges) → b ≡ true → set ≡ chosen table (q .edges) k
+        pub covered-answered : {x : Told} {out′ : List ℕ} → b ≡ true
             → ((vs : List View) → Agrees q table set s counts k vs → Answered (fitFile (length out) (sheetBytes (answerSets (patternIn q) vs))) x out out′)
-            → Answered (bookOn (t .content) s (length out) (v .views .content)) x out out′
-        covered-answered {set = set} {x} {out′} b h l f =
-            let a : answerFor chosen (t .content) cs (content .fields) (length out) ≡ bySet q cs (content .fields) (length out) set =
-            answer-is ∙ gathered-few (edgeCounts cs) (content .fields) g pairs _ few ∙ rw (← b, h, l) in
-            body-goes-on (read-finds 65536 4 (book (edgeCounts cs)) s short) content (λ bs. answerFor chosen (t .content) cs bs (length out))
+            → Answered (judged (readBook (v .views .content) s) answers) x out out′
+        covered-answered {x} {out′} h f =
+            let a : answers (content .fields) ≡ bySet q cs (content .fields) (length out) set =
+            answer-is ∙ gathered-few (edgeCounts cs) (content .fields) g pairs _ few ∙ rw (← is-cover, h) in
+            body-goes-on (read-finds 65536 4 (book (edgeCounts cs)) s short) content answers
             (subst (λ y. Answered y x out out′) (sym a) (f _ (agrees-by t (v .views) counts s (content .fields) (v .are) (content .is) is set)))

@@ -14,8 +14,8 @@ use Rattle.packed.specs.Format.{pick}
 use Rattle.packed.proofs.OrderCases.{lt-or-ge, trichotomy, or-cases, and-both, and-cases}
 use Rattle.matching.specs.Simulation.{bit}
 use Rattle.matching.specs.Sweeps.{OneOf}
-use Rattle.containment.specs.Choice.{matches, matchedIn, coversIn, everyView, lowestUnmatched, addsTo, taken, kept, chosen}
-use Rattle.containment.proofs.SetBits.{test-cases, never, bit-lt, bit-over, bit-zero, bit-every, more-self, more-has, less-self, less-say, less-by}
+use Rattle.containment.specs.Choice.{matches, matchedIn, coversIn, lowestUnmatched, addsTo, taken, kept, chosen, used}
+use Rattle.containment.proofs.SetBits.{test-cases, never, bit-lt, bit-over, bit-zero, more-self, more-has, less-self, less-say, less-by}
 
 -- by the two cases of a test
 pick-cases : {A : Type 0} (P : A → Type 0) (b : Bool) (x y : A) → (b ≡ true → P x) → (b ≡ false → P y) → P (pick b x y)
@@ -72,14 +72,6 @@ module _ (t : List ℕ) where
   pub covers-exactly : (set k m : ℕ) → (coversIn t set k m ≡ true) ↔ ((e : ℕ) → e < m → MatchedBy t set e k)
   covers-exactly set k m = (covers-say set k m, covers-by set k m)
 
-  -- the query is covered exactly if each edge is matched by a view
-  pub covered-exactly : (k m : ℕ) → k ≤ 16 → (coversIn t everyView k m ≡ true) ↔ ((e : ℕ) → e < m → OneOf k (λ a. matches t e a ≡ true))
-  covered-exactly k m few = (
-    λ h e l. let o = covers-say everyView k m h e l in record { at = o .at; below = o .below; holds = o .holds .1 },
-    λ f. covers-by everyView k m
-        (λ e l. let o = f e l in let b = o .below in record { at = o .at; below = b; holds = (bit-every (o .at) (omega arith), o .holds) }),
-  )
-
   -- a greater set covers what a smaller one does
   covers-more : (set more k m : ℕ) → ((a : ℕ) → bit set a ≡ true → bit more a ≡ true) → coversIn t set k m ≡ true → coversIn t more k m ≡ true
   covers-more set more k m f h =
@@ -98,58 +90,67 @@ module _ (t : List ℕ) where
       rw (f, g) (or-true (addsTo t set a m)))
       (lt-or-ge e m)
 
-  pub taken-small : (m a : ℕ) → taken t m a < 2 ^ a
-  unfolding taken
-  taken-small m zero = omega arith
-  taken-small m (suc a) =
-      let i = taken-small m a in
-      let p = pow-suc 2 a in
-      pick-cases (λ (x : ℕ). x < 2 ^ suc a) (addsTo t (taken t m a) a m) (taken t m a + 2 ^ a) (taken t m a) (λ h. omega arith) (λ h. omega arith)
+  -- ---- from a set
+  module _ (set m : ℕ) where
+    -- whether the view a is taken
+    abbrev takes : ℕ → Bool
+    takes a = bit set a && addsTo t (taken t set m a) a m
 
-  -- a turn: the view a is taken, or left
-  pub taken-adds : (m a set : ℕ) → set ≡ taken t m a → addsTo t set a m ≡ true → set + 2 ^ a ≡ taken t m (a + 1)
-  unfolding taken
-  taken-adds m a set e h = let g = rw e at h in rw (e, add-one a, g)
+    -- the views taken after a turn, by cases: with a, or as before
+    taken-step : (P : ℕ → Type 0) (a : ℕ) → (takes a ≡ true → P (taken t set m a + 2 ^ a)) → (takes a ≡ false → P (taken t set m a)) → P (taken t set m (suc a))
+    unfolding taken
+    taken-step P a f g = pick-cases P (takes a) (taken t set m a + 2 ^ a) (taken t set m a) f g
 
-  pub taken-skips : (m a set : ℕ) → set ≡ taken t m a → addsTo t set a m ≡ false → set ≡ taken t m (a + 1)
-  unfolding taken
-  taken-skips m a set e h = let g = rw e at h in rw (e, add-one a, g)
+    pub taken-small : (a : ℕ) → taken t set m a < 2 ^ a
+    unfolding taken
+    taken-small zero = omega arith
+    taken-small (suc a) =
+        let i = taken-small a in
+        let p = pow-suc 2 a in
+        taken-step (λ (x : ℕ). x < 2 ^ suc a) a (λ h. omega arith) (λ h. omega arith)
 
-  taken-more : (m a b : ℕ) → bit (taken t m a) b ≡ true → bit (taken t m (suc a)) b ≡ true
-  unfolding taken
-  taken-more m a b h =
-      pick-cases (λ (x : ℕ). bit x b ≡ true) (addsTo t (taken t m a) a m) (taken t m a + 2 ^ a) (taken t m a)
-      (λ _. more-has (taken t m a) a (bit-over _ a (taken-small m a)) b h) (λ _. h)
+    -- a turn: the view a is taken, or left
+    pub taken-adds : (a first : ℕ) → first ≡ taken t set m a → (bit set a && addsTo t first a m) ≡ true → first + 2 ^ a ≡ taken t set m (a + 1)
+    unfolding taken
+    taken-adds a first e h = let g = rw e at h in rw (e, add-one a, g)
 
-  taken-added : (m a : ℕ) → addsTo t (taken t m a) a m ≡ true → bit (taken t m (suc a)) a ≡ true
-  unfolding taken
-  taken-added m a h = rw h (more-self (taken t m a) a (bit-over _ a (taken-small m a)))
+    pub taken-skips : (a first : ℕ) → first ≡ taken t set m a → (bit set a && addsTo t first a m) ≡ false → first ≡ taken t set m (a + 1)
+    unfolding taken
+    taken-skips a first e h = let g = rw e at h in rw (e, add-one a, g)
 
-  -- an edge matched by the taken views stays matched
-  taken-still : (m k e : ℕ) → matchedIn t (taken t m k) e k ≡ true → MatchedBy t (taken t m (suc k)) e (suc k)
-  taken-still m k e h =
-      let o = matched-say (taken t m k) e k h in
-      let l = o .below in
-      record { at = o .at; below = omega arith; holds = (taken-more m k (o .at) (o .holds .0), o .holds .1) }
+    taken-more : (a b : ℕ) → bit (taken t set m a) b ≡ true → bit (taken t set m (suc a)) b ≡ true
+    taken-more a b h = taken-step (λ (x : ℕ). bit x b ≡ true) a (λ _. more-has (taken t set m a) a (bit-over _ a (taken-small a)) b h) (λ _. h)
 
-  -- an edge matched by a view is matched by a taken view
-  taken-matches : (m k e a : ℕ) → e < m → a < k → matches t e a ≡ true → matchedIn t (taken t m k) e k ≡ true
-  taken-matches m zero e a l p h = absurd (omega arith)
-  taken-matches m (suc k) e a l p h =
-      matched-by (taken t m (suc k)) e (suc k)
-      (⊎-elim (λ (q : a < k). taken-still m k e (taken-matches m k e a l q h))
-      (λ (q : k ≤ a).
-      let s : a ≡ k = omega arith in
-      let g : matches t e k ≡ true = rw s at h in
-      ⊎-elim (taken-still m k e)
-      (λ n. record { at = k; below = omega arith; holds = (taken-added m k (adds-by (taken t m k) k m e l g n), g) })
-      (test-cases (matchedIn t (taken t m k) e k)))
-      (lt-or-ge a k))
+    taken-added : (a : ℕ) → bit set a ≡ true → addsTo t (taken t set m a) a m ≡ true → bit (taken t set m (suc a)) a ≡ true
+    unfolding taken
+    taken-added a s h = rw (s, h) (more-self (taken t set m a) a (bit-over _ a (taken-small a)))
 
-  taken-covers : (set m k : ℕ) → coversIn t set k m ≡ true → coversIn t (taken t m k) k m ≡ true
-  taken-covers set m k h =
-      covers-by (taken t m k) k m
-      (λ e l. let o = covers-say set k m h e l in matched-say (taken t m k) e k (taken-matches m k e (o .at) l (o .below) (o .holds .1)))
+    -- an edge matched by the taken views stays matched
+    taken-still : (k e : ℕ) → matchedIn t (taken t set m k) e k ≡ true → MatchedBy t (taken t set m (suc k)) e (suc k)
+    taken-still k e h =
+        let o = matched-say (taken t set m k) e k h in
+        let l = o .below in
+        record { at = o .at; below = omega arith; holds = (taken-more k (o .at) (o .holds .0), o .holds .1) }
+
+    -- an edge matched by a view of the set is matched by a taken view
+    taken-matches : (k e a : ℕ) → e < m → a < k → bit set a ≡ true → matches t e a ≡ true → matchedIn t (taken t set m k) e k ≡ true
+    taken-matches zero e a l p s h = absurd (omega arith)
+    taken-matches (suc k) e a l p s h =
+        matched-by (taken t set m (suc k)) e (suc k)
+        (⊎-elim (λ (q : a < k). taken-still k e (taken-matches k e a l q s h))
+        (λ (q : k ≤ a).
+        let z : a ≡ k = omega arith in
+        let f : bit set k ≡ true = rw z at s in
+        let g : matches t e k ≡ true = rw z at h in
+        ⊎-elim (taken-still k e)
+        (λ n. record { at = k; below = omega arith; holds = (taken-added k f (adds-by (taken t set m k) k m e l g n), g) })
+        (test-cases (matchedIn t (taken t set m k) e k)))
+        (lt-or-ge a k))
+
+    taken-covers : (k : ℕ) → coversIn t set k m ≡ true → coversIn t (taken t set m k) k m ≡ true
+    taken-covers k h =
+        covers-by (taken t set m k) k m
+        (λ e l. let o = covers-say set k m h e l in matched-say (taken t set m k) e k (taken-matches k e (o .at) l (o .below) (o .holds .0) (o .holds .1)))
 
   -- ---- the views kept
   module _ (m k set : ℕ) where
@@ -215,69 +216,73 @@ module _ (t : List ℕ) where
         (test-cases (coversIn t (kept t m k set c - 2 ^ a) k m))
 
   -- ---- the chosen views
-  module _ (m k : ℕ) where
-    chosen-covered : coversIn t everyView k m ≡ true → chosen t m k ≡ kept t m k (taken t m k) k
+  module _ (set m k : ℕ) where
+    chosen-covered : coversIn t set k m ≡ true → chosen t set m k ≡ kept t m k (taken t set m k) k
     unfolding chosen
     chosen-covered h = rw h
 
     -- in two passes
-    pub chosen-by : (first r : ℕ) → coversIn t everyView k m ≡ true → first ≡ taken t m k → r ≡ kept t m k first k → r ≡ chosen t m k
+    pub chosen-by : (first r : ℕ) → coversIn t set k m ≡ true → first ≡ taken t set m k → r ≡ kept t m k first k → r ≡ chosen t set m k
     chosen-by first r h p q = let c = chosen-covered h in let q′ = rw p at q in cc
 
-    -- none for a query that is not covered
-    pub chosen-none : coversIn t everyView k m ≡ false → chosen t m k ≡ 0
+    -- none from a set that doesn't cover the query
+    pub chosen-none : coversIn t set k m ≡ false → chosen t set m k ≡ 0
     unfolding chosen
     chosen-none h = rw h
 
     -- they are among the k views
-    pub chosen-small : chosen t m k < 2 ^ k
+    pub chosen-small : chosen t set m k < 2 ^ k
     unfolding chosen
     chosen-small =
-        let l = kept-le m k (taken t m k) k in
-        let s = taken-small m k in
+        let l = kept-le m k (taken t set m k) k in
+        let s = taken-small set m k in
         let p = pow-pos k in
-        pick-cases (λ (x : ℕ). x < 2 ^ k) (coversIn t everyView k m) (kept t m k (taken t m k) k) 0 (λ _. omega arith) (λ _. p)
+        pick-cases (λ (x : ℕ). x < 2 ^ k) (coversIn t set k m) (kept t m k (taken t set m k) k) 0 (λ _. omega arith) (λ _. p)
 
-    -- they cover a query that is covered
-    pub chosen-covers : coversIn t everyView k m ≡ true → coversIn t (chosen t m k) k m ≡ true
-    chosen-covers h = rw (chosen-covered h) (kept-covers m k (taken t m k) (taken-covers everyView m k h) k)
+    -- they cover a query that the set covers
+    pub chosen-covers : coversIn t set k m ≡ true → coversIn t (chosen t set m k) k m ≡ true
+    chosen-covers h = rw (chosen-covered h) (kept-covers m k (taken t set m k) (taken-covers set m k h) k)
 
     -- and none of them can be dropped
-    pub chosen-needed : (a : ℕ) → bit (chosen t m k) a ≡ true → coversIn t (chosen t m k - 2 ^ a) k m ≡ false
+    pub chosen-needed : (a : ℕ) → bit (chosen t set m k) a ≡ true → coversIn t (chosen t set m k - 2 ^ a) k m ≡ false
     chosen-needed a h =
         ⊎-elim
-        (λ y. let e = chosen-covered y in rw e (kept-needed m k (taken t m k) k a (bit-lt (chosen t m k) a k h chosen-small) (rw e at h)))
+        (λ y. let e = chosen-covered y in rw e (kept-needed m k (taken t set m k) k a (bit-lt (chosen t set m k) a k h chosen-small) (rw e at h)))
         (λ n. never (sym h ∙ ap (λ (x : ℕ). bit x a) (chosen-none n) ∙ bit-zero a))
-        (test-cases (coversIn t everyView k m))
+        (test-cases (coversIn t set k m))
+
+    -- ---- the views that answer
+    pub used-covered : coversIn t set k m ≡ true → used t set m k ≡ chosen t set m k
+    unfolding used
+    used-covered h = rw h
+
+    pub used-uncovered : coversIn t set k m ≡ false → used t set m k ≡ set
+    unfolding used
+    used-uncovered h = rw h
 
 -- ---- the lowest unmatched edge
--- r is the lowest of m edges that no view matches, or m
-pub record Lowest (t : List ℕ) (k m r : ℕ) : Type 0 where
+-- r is the lowest of m edges that no view of the set matches, or m
+pub record Lowest (t : List ℕ) (set k m r : ℕ) : Type 0 where
   pub within : r ≤ m
-  pub lower : (e : ℕ) → e < r → matchedIn t everyView e k ≡ true
-  pub here : r < m → matchedIn t everyView r k ≡ false
+  pub lower : (e : ℕ) → e < r → matchedIn t set e k ≡ true
+  pub here : r < m → matchedIn t set r k ≡ false
 
--- none of k views matches the edge e, and one matches each lower edge
-pub record FirstUnmatched (t : List ℕ) (k e : ℕ) : Type 0 where
-  pub unmatched : (a : ℕ) → a < k → matches t e a ≡ false
-  pub lower : (d : ℕ) → d < e → OneOf k (λ a. matches t d a ≡ true)
-
-module _ (t : List ℕ) (k : ℕ) where
-  lowest-is : (m : ℕ) → Lowest t k m (lowestUnmatched t k m)
+module _ (t : List ℕ) (set k : ℕ) where
+  pub lowest-is : (m : ℕ) → Lowest t set k m (lowestUnmatched t set k m)
   unfolding lowestUnmatched
   lowest-is zero = record { within = omega arith; lower = λ e l. absurd (omega arith); here = λ l. absurd (omega arith) }
-  lowest-is (suc m) = step (lowestUnmatched t k m) (lowest-is m)
+  lowest-is (suc m) = step (lowestUnmatched t set k m) (lowest-is m)
     where
-      step : (r : ℕ) → Lowest t k m r → Lowest t k (suc m) (pick (ltb r m) r (pick (matchedIn t everyView m k) (suc m) m))
+      step : (r : ℕ) → Lowest t set k m r → Lowest t set k (suc m) (pick (ltb r m) r (pick (matchedIn t set m k) (suc m) m))
       step r i =
           let w = i .within in
-          pick-cases (Lowest t k (suc m)) (ltb r m) r (pick (matchedIn t everyView m k) (suc m) m)
+          pick-cases (Lowest t set k (suc m)) (ltb r m) r (pick (matchedIn t set m k) (suc m) m)
           (λ h. let l = ltb-true r m h in record { within = omega arith; lower = i .lower; here = λ _. i .here l })
           (λ h.
           let l = ltb-false r m h in
           let q : r ≡ m = omega arith in
-          let lower : (e : ℕ) → e < m → matchedIn t everyView e k ≡ true = λ e p. i .lower e (omega arith) in
-          pick-cases (Lowest t k (suc m)) (matchedIn t everyView m k) (suc m) m
+          let lower : (e : ℕ) → e < m → matchedIn t set e k ≡ true = λ e p. i .lower e (omega arith) in
+          pick-cases (Lowest t set k (suc m)) (matchedIn t set m k) (suc m) m
           (λ y. record {
             within = omega arith;
             lower = λ e p. ⊎-elim (lower e) (λ (g : m ≤ e). let s : e ≡ m = omega arith in rw s y) (lt-or-ge e m);
@@ -285,35 +290,24 @@ module _ (t : List ℕ) (k : ℕ) where
           })
           (λ n. record { within = omega arith; lower = lower; here = λ _. n }))
 
-  not-below : (m r s : ℕ) → Lowest t k m r → Lowest t k m s → r < s → ⊥
+  not-below : (m r s : ℕ) → Lowest t set k m r → Lowest t set k m s → r < s → ⊥
   not-below m r s f g l = let w = g .within in never (sym (g .lower r l) ∙ f .here (omega arith))
 
-  pub lowest-by : (m r : ℕ) → Lowest t k m r → r ≡ lowestUnmatched t k m
+  pub lowest-by : (m r : ℕ) → Lowest t set k m r → r ≡ lowestUnmatched t set k m
   lowest-by m r f =
       let i = lowest-is m in
-      trichotomy r (lowestUnmatched t k m) (λ l. absurd (not-below m _ _ f i l)) (λ e. e) (λ l. absurd (not-below m _ _ i f l))
+      trichotomy r (lowestUnmatched t set k m) (λ l. absurd (not-below m _ _ f i l)) (λ e. e) (λ l. absurd (not-below m _ _ i f l))
 
-  pub lowest-most : (m : ℕ) {r : ℕ} → r ≡ lowestUnmatched t k m → r ≤ m
+  pub lowest-most : (m : ℕ) {r : ℕ} → r ≡ lowestUnmatched t set k m → r ≤ m
   lowest-most m e = omega (arith, e, lowest-is m .within)
 
-  -- one is unmatched exactly if the query is not covered
-  pub lowest-below : (m : ℕ) → (lowestUnmatched t k m < m) ↔ (coversIn t everyView k m ≡ false)
+  -- one is unmatched exactly if the set doesn't cover the query
+  pub lowest-below : (m : ℕ) → (lowestUnmatched t set k m < m) ↔ (coversIn t set k m ≡ false)
   lowest-below m =
       let i = lowest-is m in
       let w = i .within in (
-        λ l. ⊎-elim (λ y. never (sym (matched-by t everyView _ k (covers-say t everyView k m y _ l)) ∙ i .here l)) (λ n. n) (test-cases (coversIn t everyView k m)),
+        λ l. ⊎-elim (λ y. never (sym (matched-by t set _ k (covers-say t set k m y _ l)) ∙ i .here l)) (λ n. n) (test-cases (coversIn t set k m)),
         λ n. ⊎-elim (λ l. l)
-            (λ (g : m ≤ lowestUnmatched t k m). never (sym (covers-by t everyView k m (λ e l. matched-say t everyView e k (i .lower e (omega arith)))) ∙ n))
-            (lt-or-ge (lowestUnmatched t k m) m),
+            (λ (g : m ≤ lowestUnmatched t set k m). never (sym (covers-by t set k m (λ e l. matched-say t set e k (i .lower e (omega arith)))) ∙ n))
+            (lt-or-ge (lowestUnmatched t set k m) m),
       )
-
-  -- and it is the lowest
-  pub lowest-unmatched : (m : ℕ) → k ≤ 16 → lowestUnmatched t k m < m → FirstUnmatched t k (lowestUnmatched t k m)
-  lowest-unmatched m few l =
-      let i = lowest-is m in
-      record {
-        unmatched = λ a p.
-            ⊎-elim (λ y. never (sym (matched-by t everyView _ k (record { at = a; below = p; holds = (bit-every a (omega arith), y) })) ∙ i .here l)) (λ n. n)
-            (test-cases (matches t (lowestUnmatched t k m) a));
-        lower = λ d p. (let o = matched-say t everyView d k (i .lower d p) in record { at = o .at; below = o .below; holds = o .holds .1 });
-      }

@@ -1,8 +1,7 @@
 -- Answering from a book: the views in a set and their sheets, the book that is made from a record, and that every answer is a sheet.
-use Prim.Native.Nat.{ℕ, zero, suc, _+_, _/_, _%_, _^_, _<_, _≤_}
+use Prim.Native.Nat.{ℕ, _+_, _/_, _%_, _^_, _<_, _≤_}
 use mathlib.Core.Path.{_≡_, refl, sym, ap, ap₂, subst, _∙_}
 use mathlib.Core.Bool.{Bool, true, false}
-use mathlib.Core.Logic.{⊎-elim}
 use mathlib.Core.List.{List, [], _∷_, map}
 use lib.ListN.{length, drop, getD, length-map}
 use lib.Seq.{getD-drop}
@@ -24,54 +23,28 @@ use Rattle.packed.proofs.AcceptedBounds.{catalogue-views}
 use Rattle.packed.proofs.WalkLaws.{book-pairs}
 use Rattle.packed.proofs.BookSheetLaws.{sheets-back, sheet-many, list-is, list-small, list-in-book}
 use Rattle.packed.proofs.CallLaws.{overFile, overFile-no, fitFile-fits}
-use Rattle.matching.specs.Lists.{In, here, there, keep, each}
+use Rattle.matching.specs.Lists.{In, keep, each}
 use Rattle.matching.specs.Simulation.{Pattern, Graph, bit, patternOf, graphOf, sound, matchSets}
 use Rattle.matching.specs.Join.{View, answerSets}
-use Rattle.matching.proofs.ByEdge.{matchedBy, matched, covered, viewOf}
+use Rattle.matching.proofs.ByEdge.{covered, viewOf}
 use Rattle.matching.specs.Search.{sheetBytes, viewSheets, searchAnswer}
-use Rattle.matching.specs.Sweeps.{OneOf}
-use Rattle.matching.proofs.ListLaws.{not-in-none, in-cases, in-every, in-some, keep-in, in-keep, keep-length, length-each}
+use Rattle.matching.proofs.ListLaws.{keep-in, in-keep, keep-length, length-each}
 use Rattle.matching.proofs.CodeLaws.{in-member, member-in}
-use Rattle.matching.proofs.MatchSetLaws.{sets-length}
 use Rattle.matching.proofs.PatternLaws.{pattern-is, edges-in, edges-many, sound-of}
 use Rattle.matching.proofs.RecordLaws.{graph-narrow}
-use Rattle.matching.proofs.ViewLaws.{all-ahead, in-follow}
 use Rattle.matching.proofs.SheetBytes.{Sheet, sheet-by, fit-by}
 use Rattle.matching.proofs.BookBytes.{bookFields, counts-are, made-back, made-few}
 use Rattle.matching.proofs.JoinLaws.{answer-each}
 use Rattle.matching.proofs.AnswerLaws.{Stands, answer-all-or-none, answer-listable}
 use Rattle.matching.proofs.Covered.{covered-answer}
 use Rattle.containment.specs.Choice.{everyView, coversIn}
-use Rattle.containment.specs.Quote.{noPattern, mapping}
-use Rattle.containment.specs.Answer.{viewsIn, answerBytes, Choose, answerFor, answerBy}
-use Rattle.containment.specs.Demands.{Question, Catalogue, Record, Book, extracts, Covers, Covered, Uncovered, bookOf, lacking}
+use Rattle.containment.specs.Quote.{mapping}
+use Rattle.containment.specs.Answer.{viewsIn, answerBytes, Choose, answerIn, answerBy}
+use Rattle.containment.specs.Demands.{Question, Catalogue, Record, Book, extracts, Covers, Leaves, bookOf, lackingIn}
 use Rattle.containment.proofs.CandidateLaws.{views-say}
-use Rattle.containment.proofs.ChoiceLaws.{covers-say, covered-exactly}
-use Rattle.containment.proofs.QuoteLaws.{place-of, matched-exactly}
+use Rattle.containment.proofs.QuoteLaws.{place-of, chosenFrom, set-covers-exactly}
 
 -- ---- the views in a set
-
--- those of the views that are in the set
-unfoldable pub chosenFrom : ℕ → List Pattern → List Pattern
-chosenFrom set [] = []
-chosenFrom set (P ∷ Ps) = pick (bit set 0) (P ∷ chosenFrom (set / 2) Ps) (chosenFrom (set / 2) Ps)
-
--- the numbers of the set from 1 on, each one lower
-next-bit : (set a : ℕ) → bit set (1 + a) ≡ bit (set / 2) a
-unfolding bit
-next-bit set a = ap (λ (x : ℕ). eqb (x % 2) 1) (sym (shr-shr set 1 a))
-
-pub chosen-in : (set : ℕ) (Ps : List Pattern) (a : ℕ) → a < length Ps → bit set a ≡ true → In (getD Ps a noPattern) (chosenFrom set Ps)
-unfolding chosenFrom
-chosen-in set [] a l h = absurd (omega arith)
-chosen-in set (P ∷ Ps) zero l h = rw h (here refl)
-chosen-in set (P ∷ Ps) (suc a) l h =
-    let z : suc a ≡ 1 + a = omega arith in
-    later (bit set 0) (chosen-in (set / 2) Ps a (omega arith) (sym (next-bit set a) ∙ ap (bit set) (sym z) ∙ h))
-  where
-    later : (b : Bool) {x : Pattern} {l : List Pattern} → In x l → In x (pick b (P ∷ l) l)
-    later true i = there i
-    later false i = i
 
 -- with their match sets in a graph
 pub sets-chosen : (set : ℕ) (G : Graph) (vs : List (List ℕ))
@@ -88,6 +61,11 @@ sets-chosen set G (v ∷ vs) = step (bit set 0) (chosenFrom (set / 2) (map patte
 abbrev with-sheet : Pattern → List (List ℕ) → View
 with-sheet P ls = record { pattern = P; sheet = ls }
 
+-- the numbers of the set from 1 on, each one lower
+next-bit : (set a : ℕ) → bit set (1 + a) ≡ bit (set / 2) a
+unfolding bit
+next-bit set a = ap (λ (x : ℕ). eqb (x % 2) 1) (sym (shr-shr set 1 a))
+
 -- only the sheets of the views in the set count
 pub views-same : (set : ℕ) (Ps : List Pattern) (xs ys : List (List (List ℕ))) → ((a : ℕ) → T (bit set a) → getD xs a [] ≡ getD ys a [])
     → viewsIn set Ps xs ≡ viewsIn set Ps ys
@@ -100,25 +78,6 @@ views-same set (P ∷ Ps) xs ys h =
     step : (b : Bool) {x y : List (List ℕ)} {s t : List View} → (T b → x ≡ y) → s ≡ t → pick b (with-sheet P x ∷ s) s ≡ pick b (with-sheet P y ∷ t) t
     step true f e = ap₂ (λ (m : List (List ℕ)) (l : List View). with-sheet P m ∷ l) (f tt) e
     step false f e = e
-
--- ---- covering
-
--- what the views in a set cover, all views cover
-pub all-cover : (t : List ℕ) (set k m : ℕ) → k ≤ 16 → coversIn t set k m ≡ true → coversIn t everyView k m ≡ true
-all-cover t set k m few h = covered-exactly t k m few .1 (λ e l. let o = covers-say t set k m h e l in record { at = o .at; below = o .below; holds = o .holds .1 })
-
--- where the table says that the views in a set cover the query, they do
-pub set-covers : (Q : Pattern) (Ps : List Pattern) (set : ℕ) → length Ps ≤ 16 → length (Q .edges) ≤ 32
-    → coversIn (mapping Q Ps) set (length Ps) (length (Q .edges)) ≡ true → T (covered Q (chosenFrom set Ps))
-unfolding covered matched
-set-covers Q Ps set few few-edges h =
-    in-every (matched Q (chosenFrom set Ps)) (Q .edges)
-    (λ e i.
-    let p = place-of (0, 0) i in
-    let o = covers-say (mapping Q Ps) set (length Ps) (length (Q .edges)) h (p .at) (p .below) in
-    let l = o .below in
-    let m = matched-exactly Q Ps few-edges (p .at) (o .at) (p .below) l (omega arith) .0 (o .holds .1) in
-    in-some (matchedBy Q e) (chosen-in set Ps (o .at) l (o .holds .0)) (subst (λ g. T (matchedBy Q g (getD Ps (o .at) noPattern))) (sym (p .holds)) m))
 
 -- ---- accepted files
 pub question-is : (q qs : List ℕ) → Question q qs → decode pattern q ≡ ok qs
@@ -170,29 +129,27 @@ module _ (c r cs rs : List ℕ) (d : Catalogue c cs) (f : Record r rs) where
 
 -- ---- what is answered from an accepted book
 
--- whether the views cover the query, and the chosen set
-abbrev pub coveredBy : List ℕ → List ℕ → Bool
-coveredBy qs cs = coversIn (mapping (patternOf qs) (extracts cs)) everyView (length (extracts cs)) (edgesOf qs)
+-- whether the views in a set cover the query, and whether all do
+abbrev pub coveredIn : ℕ → List ℕ → List ℕ → Bool
+coveredIn set qs cs = coversIn (mapping (patternOf qs) (extracts cs)) set (length (extracts cs)) (edgesOf qs)
 
-abbrev pub setOf : Choose → List ℕ → List ℕ → ℕ
-setOf choose qs cs = choose (mapping (patternOf qs) (extracts cs)) (edgesOf qs) (length (extracts cs))
+abbrev pub coveredBy : List ℕ → List ℕ → Bool
+coveredBy qs cs = coveredIn everyView qs cs
 
 module _ (q c qs cs : List ℕ) (p : Question q qs) (d : Catalogue c cs) where
-  module _ (b bs : List ℕ) (k : Book cs b bs) where
-    pub answer-by : (choose : Choose) (room : ℕ)
-        → answerBy choose q c b room
-        ≡ pick (coveredBy qs cs) (fitFile room (answerBytes qs (setOf choose qs cs) (extracts cs) (sheetsIn (edgeCounts cs) bs))) (refuse 11 (lacking qs cs))
-    unfolding answerBy answerFor uncrowdedBy judged
-    answer-by choose room = rw (p, d, k .read, le-ltb 8192 (length (pairsOf (edgeCounts cs) bs)) (k .few))
+  module _ (b bs : List ℕ) (k : Book cs b bs) (choose : Choose) (room : ℕ) where
+    answer-by : answerBy choose q c b room
+        ≡ pick (coveredIn (choose qs cs) qs cs) (fitFile room (answerBytes qs (choose qs cs) (extracts cs) (sheetsIn (edgeCounts cs) bs))) (refuse 11 (lackingIn (choose qs cs) qs cs))
+    unfolding answerBy answerIn uncrowdedBy judged
+    answer-by = rw (p, d, k .read, le-ltb 8192 (length (pairsOf (edgeCounts cs) bs)) (k .few))
 
-    -- where the views cover the query it is the sheet, fitted
-    pub answer-covered : (choose : Choose) (room : ℕ) → Covered qs cs
-        → answerBy choose q c b room ≡ fitFile room (answerBytes qs (setOf choose qs cs) (extracts cs) (sheetsIn (edgeCounts cs) bs))
-    answer-covered choose room h = answer-by choose room ∙ rw h
+    -- where the set covers the query it is the sheet, fitted
+    pub answer-covered : Covers (choose qs cs) qs cs → answerBy choose q c b room ≡ fitFile room (answerBytes qs (choose qs cs) (extracts cs) (sheetsIn (edgeCounts cs) bs))
+    answer-covered h = answer-by ∙ rw h
 
-    -- else 11 with the lowest unmatched edge
-    pub answer-uncovered : (choose : Choose) (room : ℕ) → Uncovered qs cs → answerBy choose q c b room ≡ refuse 11 (lacking qs cs)
-    answer-uncovered choose room h = answer-by choose room ∙ rw h
+    -- else 11 with the lowest edge that it leaves unmatched
+    pub answer-uncovered : Leaves (choose qs cs) qs cs → answerBy choose q c b room ≡ refuse 11 (lackingIn (choose qs cs) qs cs)
+    answer-uncovered h = answer-by ∙ rw h
 
   -- ---- from the book of a record
   module _ (r rs : List ℕ) (f : Record r rs) where
@@ -206,18 +163,17 @@ module _ (q c qs cs : List ℕ) (p : Question q qs) (d : Catalogue c cs) where
     covered-bytes set h =
         let Q = patternOf qs in
         let z = question-bounds q qs p in
-        let k : T (covered Q (chosenFrom set (extracts cs))) = set-covers Q (extracts cs) set (few-views c cs d) (z .few-edges) (rw (z .many) h) in
+        let k : T (covered Q (chosenFrom set (extracts cs))) = set-covers-exactly Q (extracts cs) set (few-views c cs d) (z .few-edges) .0 (rw (z .many) h) in
         ap sheetBytes
         (ap (answerSets Q) (sets-chosen set (graphOf rs) (viewsOf cs))
         ∙ covered-answer Q (chosenFrom set (extracts cs)) (z .sound) (z .few-nodes) k (graphOf rs) (graph-narrow r rs (record-is r rs f)))
 
-    pub answer-search : (choose : Choose) → Covers (setOf choose qs cs) qs cs → length (bookOf cs rs) ≤ 65536 → (room : ℕ)
+    pub answer-search : (choose : Choose) → Covers (choose qs cs) qs cs → length (bookOf cs rs) ≤ 65536 → (room : ℕ)
         → answerBy choose q c (bookOf cs rs) room ≡ searchAnswer q r room
     answer-search choose h l room =
-        answer-covered (bookOf cs rs) (bookFields (viewSheets cs (graphOf rs))) (made-book c r cs rs d f l) choose room
-        (all-cover (mapping (patternOf qs) (extracts cs)) (setOf choose qs cs) (length (extracts cs)) (edgesOf qs) (few-views c cs d) h)
-        ∙ ap (λ (sheets : List (List (List ℕ))). fitFile room (answerBytes qs (setOf choose qs cs) (extracts cs) sheets)) (made-sheets c r cs rs d f)
-        ∙ ap (fitFile room) (covered-bytes (setOf choose qs cs) h)
+        answer-covered (bookOf cs rs) (bookFields (viewSheets cs (graphOf rs))) (made-book c r cs rs d f l) choose room h
+        ∙ ap (λ (sheets : List (List (List ℕ))). fitFile room (answerBytes qs (choose qs cs) (extracts cs) sheets)) (made-sheets c r cs rs d f)
+        ∙ ap (fitFile room) (covered-bytes (choose qs cs) h)
         ∙ sym (search-found room)
 
 -- ---- an answer from any accepted book is a sheet

@@ -24,15 +24,15 @@ use Rattle.matching.specs.Search.{sheetBytes}
 use Rattle.matching.proofs.ListLaws.{not-in-none, in-at, some-in, in-some}
 use Rattle.matching.proofs.CodeLaws.{member-in}
 use Rattle.matching.proofs.JoinLaws.{lists-by}
-use Rattle.containment.specs.Choice.{chosen}
+use Rattle.containment.specs.Choice.{everyView}
 use Rattle.containment.specs.Quote.{mapping}
-use Rattle.containment.specs.Answer.{answerBytes, answerFor, answerBy, answerAnswer}
+use Rattle.containment.specs.Answer.{answerBytes, answerIn, answerBy, usedFor, answerAnswer}
 use Rattle.containment.specs.Show.{recordBytes, fitBoth, showFor, showAnswer}
-use Rattle.containment.specs.Demands.{Question, Catalogue, Record, Sheet, Uncrowded, Crowded, Book, extracts, extractOf, linkOf, Covers, Covered, Uncovered, lacking, chosenOf, answerOf, firstOf, secondOf, Full, Over, OverFile, OverEither, Fitted, Reads, Writes, Matched, MatchedIn}
+use Rattle.containment.specs.Demands.{Question, Catalogue, Record, Sheet, Uncrowded, Crowded, Book, extracts, extractOf, linkOf, Covers, Covered, Uncovered, lackingIn, lacking, chosenOf, answerOf, firstOf, secondOf, Full, Over, OverFile, OverEither, Fitted, Reads, Writes, Matched, MatchedIn}
 use Rattle.containment.proofs.SetBits.{test-cases}
-use Rattle.containment.proofs.ChoiceLaws.{covers-exactly}
+use Rattle.containment.proofs.ChoiceLaws.{covers-exactly, chosen-covers, used-covered, used-uncovered}
 use Rattle.containment.proofs.QuoteLaws.{test-is, place-of, matched-exactly, Listed, matched-say, matched-by, listed-whole}
-use Rattle.containment.proofs.CoveredBytes.{question-bounds, few-views, coveredBy, answer-covered, answer-uncovered}
+use Rattle.containment.proofs.CoveredBytes.{question-bounds, few-views, coveredIn, coveredBy, answer-covered, answer-uncovered}
 
 -- ---- answers are told apart
 
@@ -364,8 +364,8 @@ crowded-written c cs s ws e y f room words d =
     (λ k x. let z = file-number room s 10 k x in omega arith) d
 
 -- what is answered from a book that isn't crowded
-abbrev uncrowdedAnswer : List ℕ → List ℕ → List ℕ → ℕ → Answer
-uncrowdedAnswer qs cs bs room = pick (coveredBy qs cs) (fitFile room (answerBytes qs (chosenOf qs cs) (extracts cs) (sheetsIn (edgeCounts cs) bs))) (refuse 11 (lacking qs cs))
+abbrev uncrowdedAnswer : ℕ → List ℕ → List ℕ → List ℕ → ℕ → Answer
+uncrowdedAnswer set qs cs bs room = pick (coveredIn set qs cs) (fitFile room (answerBytes qs set (extracts cs) (sheetsIn (edgeCounts cs) bs))) (refuse 11 (lackingIn set qs cs))
 
 answer-number : (b : Bool) (room : ℕ) (o : List ℕ) (k d : ℕ) → pick b (fitFile room o) (refuse 11 k) ≡ refuse 10 d → ⊥
 answer-number true room o k d e = let z = file-number room o 10 d e in omega arith
@@ -373,10 +373,10 @@ answer-number false room o k d e = let z = number-same e in omega arith
 
 pub crowded-answer : (q c b qs cs bs : List ℕ) → Question q qs → Catalogue c cs → readBook cs b ≡ accepted bs → (room words d : ℕ)
     → (withWorkspace words (answerAnswer q c b room) ≡ refuse 10 d) ↔ ((16384 ≤ words) × Crowded cs bs × (d ≡ 4))
-unfolding answerAnswer answerBy answerFor
+unfolding answerAnswer answerBy answerIn
 crowded-answer q c b qs cs bs e f g room words d =
-    crowded-exactly words _ (edgeCounts cs) bs (uncrowdedAnswer qs cs bs room) (goes-on _ e ∙ goes-on _ f ∙ goes-on _ g)
-    (λ k x. answer-number (coveredBy qs cs) room _ (lacking qs cs) k x) d
+    crowded-exactly words _ (edgeCounts cs) bs (uncrowdedAnswer (usedFor qs cs) qs cs bs room) (goes-on _ e ∙ goes-on _ f ∙ goes-on _ g)
+    (λ k x. answer-number (coveredIn (usedFor qs cs) qs cs) room _ (lackingIn (usedFor qs cs) qs cs) k x) d
 
 -- no other number
 no-other : {words n e : ℕ} {NoFit : ℕ → Type 0} {outputs : List (List ℕ)} {a : Answer} → Fitted words NoFit outputs a → a ≡ refuse n e → (n ≡ 14) ⊎ (n ≡ 12)
@@ -417,6 +417,22 @@ module _ (Q : Pattern) (e : Pair) (P : Pattern) where
   by-link : (f : ℕ) → In (code (e .0) (e .1)) (getD (matchSets P (asGraph Q)) f []) → T (matchedBy Q e P)
   unfolding matchedBy
   by-link f i = in-some (lists e) (in-at (matchSets P (asGraph Q)) f [] (place-below (matchSets P (asGraph Q)) f i)) (lists-by e i)
+
+-- the extracts that answer a query: the chosen ones, or all
+module _ (qs cs : List ℕ) where
+  abbrev table : List ℕ
+  table = mapping (patternOf qs) (extracts cs)
+
+  used-chosen : Covered qs cs → usedFor qs cs ≡ chosenOf qs cs
+  unfolding usedFor
+  used-chosen h = used-covered table everyView (edgesOf qs) (length (extracts cs)) h
+
+  used-all : Uncovered qs cs → usedFor qs cs ≡ everyView
+  unfolding usedFor
+  used-all n = used-uncovered table everyView (edgesOf qs) (length (extracts cs)) n
+
+  pub used-covers : Covered qs cs → Covers (usedFor qs cs) qs cs
+  used-covers h = rw (used-chosen h) (chosen-covers table everyView (edgesOf qs) (length (extracts cs)) h)
 
 module _ (q c qs cs : List ℕ) (p : Question q qs) (d : Catalogue c cs) where
   pub covers-plain : (set : ℕ) → Covers set qs cs ↔ ((i : ℕ) → i < edgesOf qs → MatchedIn (patternOf qs) (extracts cs) set (linkOf qs i))
@@ -466,11 +482,15 @@ module _ (q c qs cs : List ℕ) (p : Question q qs) (d : Catalogue c cs) where
   module _ (b bs : List ℕ) (k : Book cs b bs) where
     pub refused-by : Uncovered qs cs → (room : ℕ) → answerAnswer q c b room ≡ refuse 11 (lacking qs cs)
     unfolding answerAnswer
-    refused-by n room = answer-uncovered q c qs cs p d b bs k chosen room n
+    refused-by n room =
+        let e = used-all qs cs n in
+        answer-uncovered q c qs cs p d b bs k usedFor room (rw e n) ∙ ap (λ (set : ℕ). refuse 11 (lackingIn set qs cs)) e
 
     pub given-by : Covered qs cs → (room : ℕ) → answerAnswer q c b room ≡ fitFile room (sheetBytes (answerOf (chosenOf qs cs) qs cs bs))
     unfolding answerAnswer answerBytes
-    given-by h room = answer-covered q c qs cs p d b bs k chosen room h
+    given-by h room =
+        answer-covered q c qs cs p d b bs k usedFor room (used-covers qs cs h)
+        ∙ ap (λ (set : ℕ). fitFile room (sheetBytes (answerOf set qs cs bs))) (used-chosen qs cs h)
 
     -- 11 falls exactly to an uncovered query
     pub refused-exactly : (room words e : ℕ) → (withWorkspace words (answerAnswer q c b room) ≡ refuse 11 e) ↔ ((16384 ≤ words) × Uncovered qs cs × (e ≡ lacking qs cs))

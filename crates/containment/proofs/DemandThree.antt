@@ -6,7 +6,7 @@ use mathlib.Core.List.{List, [], _∷_, map}
 use lib.ListN.{length, getD}
 use lib.Dec.{T}
 use native.Mathlib.Omega.{arith}
-use Rattle.packed.specs.Contents.{edgesOf, edgeCounts, viewsOf, fieldsOf, sheetsIn}
+use Rattle.packed.specs.Contents.{edgeCounts, viewsOf, fieldsOf, sheetsIn}
 use Rattle.packed.specs.Calls.{give, withWorkspace, readSheet, fitFile}
 use Rattle.matching.specs.Lists.{In, here, there}
 use Rattle.matching.specs.Simulation.{Pattern, Graph, bit, patternOf, graphOf, matchSets}
@@ -14,16 +14,13 @@ use Rattle.matching.specs.Join.{without, answerSets}
 use Rattle.matching.specs.Search.{sheetBytes, viewSheets, searchAnswer}
 use Rattle.matching.proofs.BookBytes.{bookFields}
 use Rattle.matching.proofs.Uncovered.{uncovered-views}
-use Rattle.containment.specs.Choice.{chosen}
-use Rattle.containment.specs.Quote.{mapping}
-use Rattle.containment.specs.Answer.{answerBytes, answerAnswer}
+use Rattle.containment.specs.Answer.{answerBytes, usedFor, answerAnswer}
 use Rattle.containment.specs.Show.{recordBytes}
 use Rattle.containment.specs.Demands.{Question, Catalogue, Record, Sheet, Book, extracts, Covered, Uncovered, bookOf, answerOf, lacking, linkOf, firstOf, secondOf, LowestUnmatched, Shown, Demand3, chosenOf, Answers}
 use Rattle.containment.proofs.SetBits.{test-cases}
-use Rattle.containment.proofs.ChoiceLaws.{chosen-covers}
 use Rattle.containment.proofs.ShowLaws.{lowest-of, shows, shows-book}
 use Rattle.containment.proofs.CoveredBytes.{views-same, question-is, catalogue-is, question-bounds, made-sheets, made-book, coveredBy, answer-search, answer-back, given-file}
-use Rattle.containment.proofs.DemandRules.{not-refused, matched-whole, shown-both, shown-exactly, refused-by, given-by, refused-exactly}
+use Rattle.containment.proofs.DemandRules.{not-refused, matched-whole, shown-both, shown-exactly, used-covers, refused-by, given-by, refused-exactly}
 use Rattle.containment.proofs.DemandSheets.{answer-size}
 use Rattle.containment.proofs.DemandJoin.{answer-joins}
 
@@ -31,8 +28,7 @@ module _ (q c qs cs : List ℕ) (p : Question q qs) (d : Catalogue c cs) where
   -- ---- a covered query
   from-book : (r rs : List ℕ) → Record r rs → Covered qs cs → length (bookOf cs rs) ≤ 65536 → (room : ℕ) → answerAnswer q c (bookOf cs rs) room ≡ searchAnswer q r room
   unfolding answerAnswer
-  from-book r rs f h l room =
-      answer-search q c qs cs p d r rs f chosen (chosen-covers (mapping (patternOf qs) (extracts cs)) (edgesOf qs) (length (extracts cs)) h) l room
+  from-book r rs f h l room = answer-search q c qs cs p d r rs f usedFor (used-covers qs cs h) l room
 
   -- ---- an uncovered query
   shown-by : Uncovered qs cs → Shown qs cs
@@ -114,7 +110,7 @@ no-function q c qs cs p d n F h =
 
 pub demand-3 : Demand3
 demand-3 = record {
-  covered-by = λ q c r qs cs rs p d f set h l room words. ap (withWorkspace words) (answer-search q c qs cs p d r rs f (λ t m k. set) h l room);
+  covered-by = λ q c r qs cs rs p d f set h l room words. ap (withWorkspace words) (answer-search q c qs cs p d r rs f (λ _ _. set) h l room);
   covered = λ q c r qs cs rs p d f h l room words. ap (withWorkspace words) (from-book q c qs cs p d r rs f h l room);
   fits = λ c r cs rs d f l. (bookFields (viewSheets cs (graphOf rs)), made-book c r cs rs d f l, made-sheets c r cs rs d f);
   shows = λ q c qs cs p d n room room′ words. ap (withWorkspace words) (shown-both q c qs cs p d n room room′);

@@ -22,9 +22,9 @@ use Rattle.matching.proofs.SimLaws.{sim-is, sim-most}
 use Rattle.matching.proofs.Listed.{listed-exactly, matches-related, related-matches}
 use Rattle.matching.proofs.AllOrNone.{sets-even}
 use Rattle.matching.proofs.RecordLaws.{graph-narrow}
-use Rattle.containment.specs.Choice.{everyView, coversIn, chosen}
+use Rattle.containment.specs.Choice.{everyView, coversIn}
 use Rattle.containment.specs.Quote.{QuoteValues, flat, one, mapping, valuesFrom, quoteValues, quoteAnswer}
-use Rattle.containment.specs.Answer.{Choose, answerFor, answerBy, answerAnswer}
+use Rattle.containment.specs.Answer.{answerIn, answerBy, usedFor, answerAnswer}
 use Rattle.containment.specs.Show.{showFor, showAnswer}
 use Rattle.containment.specs.Listing.{lineOf, lineAnswer}
 use Rattle.containment.specs.Demands.{Full, Settles, Worked, Demand1, Question, Catalogue, Record, Uncrowded, Book, extracts, extractOf, linkOf, Covered, lacking, chosenOf, Matching, Matched, Demand2}
@@ -48,22 +48,22 @@ catalogue-first s h = read-settles 705 2 catalogue-faults s h
 record-first : (s : List ℕ) {k : List ℕ → Answer} → ((ws : List ℕ) → Settles (k ws)) → Settles (judged (readRecord s) k)
 record-first s h = read-settles 40964 3 record-faults s h
 
--- whether the quote says covered
-abbrev covers : List ℕ → List Pattern → Bool
-covers qs Ps = coversIn (mapping (patternOf qs) Ps) everyView (length Ps) (edgesOf qs)
+-- whether the views in a set cover the query
+abbrev covers : ℕ → List ℕ → List Pattern → Bool
+covers set qs Ps = coversIn (mapping (patternOf qs) Ps) set (length Ps) (edgesOf qs)
 
-answer-settles : (choose : Choose) (qs cs bs : List ℕ) (room : ℕ) → Settles (answerFor choose qs cs bs room)
-unfolding answerFor
-answer-settles choose qs cs bs room =
-    uncrowded-settles (edgeCounts cs) bs (either (covers qs (extracts cs)) (fitFile-settles room _) (refuses _ (numbered 11 refl refl)))
+answer-settles : (set : ℕ) (qs cs bs : List ℕ) (room : ℕ) → Settles (answerIn set qs cs bs room)
+unfolding answerIn
+answer-settles set qs cs bs room =
+    uncrowded-settles (edgeCounts cs) bs (either (covers set qs (extracts cs)) (fitFile-settles room _) (refuses _ (numbered 11 refl refl)))
 
-show-settles : (qs : List ℕ) (Ps : List Pattern) (room room′ : ℕ) → Settles (showFor qs Ps room room′)
+show-settles : (set : ℕ) (qs : List ℕ) (Ps : List Pattern) (room room′ : ℕ) → Settles (showFor set qs Ps room room′)
 unfolding showFor
-show-settles qs Ps room room′ = either (covers qs Ps) (refuses 0 (numbered 13 refl refl)) (fitBoth-settles room room′ _ _)
+show-settles set qs Ps room room′ = either (covers set qs Ps) (refuses 0 (numbered 13 refl refl)) (fitBoth-settles room room′ _ _)
 
-full-answer : (choose : Choose) (qs cs bs : List ℕ) (room : ℕ) → Full (answerFor choose qs cs bs room) → Uncrowded cs bs
-unfolding answerFor
-full-answer choose qs cs bs room f = full-uncrowded (edgeCounts cs) bs _ f
+full-answer : (set : ℕ) (qs cs bs : List ℕ) (room : ℕ) → Full (answerIn set qs cs bs room) → Uncrowded cs bs
+unfolding answerIn
+full-answer set qs cs bs room f = full-uncrowded (edgeCounts cs) bs _ f
 
 -- what a workspace holds afterwards
 worked : (work work′ : List ℕ) → work′ ≡ workOf work → Worked work work′
@@ -102,8 +102,8 @@ demand-1 = record {
   quote = λ q c words. workspace-settles words (pattern-first q (λ qs. catalogue-first c (λ cs. gives _ [])));
   answer = λ q c b room words.
       workspace-settles words
-      (pattern-first q (λ qs. catalogue-first c (λ cs. read-settles 65536 4 (book-faults (edgeCounts cs)) b (λ bs. answer-settles chosen qs cs bs room))));
-  show = λ q c room room′ words. workspace-settles words (pattern-first q (λ qs. catalogue-first c (λ cs. show-settles qs (extracts cs) room room′)));
+      (pattern-first q (λ qs. catalogue-first c (λ cs. read-settles 65536 4 (book-faults (edgeCounts cs)) b (λ bs. answer-settles (usedFor qs cs) qs cs bs room))));
+  show = λ q c room room′ words. workspace-settles words (pattern-first q (λ qs. catalogue-first c (λ cs. show-settles everyView qs (extracts cs) room room′)));
   line = λ q k room. fit-settles room (lineOf q k);
   desk = λ a words. few-words words a;
   enough = λ a words. enough-words words a;
@@ -135,7 +135,7 @@ demand-1 = record {
       let w = full-words words (answerAnswer q c b room) f in
       let t = full-twice _ _ _ w in
       let z = full-judged _ _ (t .4) in
-      let k : Book (t .1) b (z .0) = record { read = z .1; few = full-answer chosen _ _ _ room (z .2) } in
+      let k : Book (t .1) b (z .0) = record { read = z .1; few = full-answer _ _ _ _ room (z .2) } in
       (t .0, t .1, z .0, t .2, t .3, k, full-answered q c (t .0) (t .1) (t .2) (t .3) b (z .0) k room w);
   show-gives = λ q c qs cs e f n room room′ words. fitted-both _ words room room′ _ _ (shown-both q c qs cs e f n room room′);
   show-only = λ q c room room′ words f.
@@ -231,11 +231,11 @@ demand-2 = record {
   values-uncovered = λ q c qs cs eq ec n.
       quote-values q c qs cs eq ec false n
       ∙ ap (λ (set : ℕ). give (flat (valuesBy qs cs false set)) [])
-      (chosen-none (mapping (patternOf qs) (extracts cs)) (edgesOf qs) (length (extracts cs)) n);
+      (chosen-none (mapping (patternOf qs) (extracts cs)) everyView (edgesOf qs) (length (extracts cs)) n);
   maps = maps-exactly;
-  choice-covers = λ qs cs h. chosen-covers (mapping (patternOf qs) (extracts cs)) (edgesOf qs) (length (extracts cs)) h;
+  choice-covers = λ qs cs h. chosen-covers (mapping (patternOf qs) (extracts cs)) everyView (edgesOf qs) (length (extracts cs)) h;
   choice-needs = λ qs cs a t h.
-      never (sym h ∙ chosen-needed (mapping (patternOf qs) (extracts cs)) (edgesOf qs) (length (extracts cs)) a (test-is _ .1 t));
+      never (sym h ∙ chosen-needed (mapping (patternOf qs) (extracts cs)) everyView (edgesOf qs) (length (extracts cs)) a (test-is _ .1 t));
   patterns = record { back = λ s ws room room′ words y. pattern-back s ws room room′ words (bytes-by s y); again = pattern-again };
   catalogues = record { back = λ s ws room room′ words y. catalogue-back s ws room room′ words (bytes-by s y); again = catalogue-again };
   records = record { back = λ s ws room room′ words y. record-back s ws room room′ words (bytes-by s y); again = record-again };

@@ -50,7 +50,7 @@ module _ (v : QuoteValues) (none : v .covered ≡ 0) where
 
 -- ---- the listing
 abbrev values : List ℕ → List ℕ → QuoteValues
-values qs cs = quoteValues (patternOf qs) (extracts cs)
+values qs cs = quoteValues everyView (patternOf qs) (extracts cs)
 
 module _ (q c qs cs : List ℕ) (eq : Question q qs) (ec : Catalogue c cs) (no : Uncovered qs cs) (r : Quote) where
   many : length (patternOf qs .edges) ≡ edgesOf qs
@@ -73,7 +73,7 @@ module _ (q c qs cs : List ℕ) (eq : Question q qs) (ec : Catalogue c cs) (no :
       let t′ = mapping (patternOf qs) (extracts cs) in
       let k = length (extracts cs) in
       let last : linesAfter r ≡ edgesOf qs + 1 = rw (t .coverage) (ap (λ (m : ℕ). m + 1) (t .edges ∙ many)) in
-      let none : r .chosen ≡ 0 = t .chosen ∙ chosen-none t′ _ k (ap (coversIn t′ everyView k) many ∙ no) in
+      let none : r .chosen ≡ 0 = t .chosen ∙ chosen-none t′ everyView _ k (ap (coversIn t′ everyView k) many ∙ no) in
       record {
         first = line-first r 0 refl ∙ rw (t .coverage);
         links = λ e h. let n : e + 1 - 1 ≡ e = omega arith in line-link r (e + 1) (λ z. omega arith) (omega arith) ∙ rw (t .mapping, n);

@@ -10,6 +10,7 @@ use lib.Pow.{shr-shr}
 use borrow.Author.Tests.{ne-eqb, lt-ltb}
 use native.Mathlib.Nat.{div-one, pow-suc}
 use native.Mathlib.Omega.{arith}
+use Rattle.packed.specs.Format.{pick}
 use Rattle.packed.specs.Formats.{code}
 use Rattle.packed.specs.Contents.{member}
 use Rattle.matching.specs.Lists.{_or_, In, here, there, some}
@@ -25,8 +26,8 @@ use Rattle.matching.proofs.MatchSetLaws.{sets-length}
 use Rattle.matching.proofs.Listed.{listed-related, related-matches}
 use Rattle.containment.specs.Choice.{matches, coversIn, everyView, lowestUnmatched}
 use Rattle.containment.specs.Quote.{one, maskIn, matchMask, noPattern, maskAt, mapping}
-use Rattle.containment.proofs.SetBits.{never}
-use Rattle.containment.proofs.ChoiceLaws.{covered-exactly, lowest-below, lowest-unmatched}
+use Rattle.containment.proofs.SetBits.{never, bit-half, bit-every}
+use Rattle.containment.proofs.ChoiceLaws.{MatchedBy, matched-say as matched-in-table, matched-by as matched-by-table, covers-exactly, lowest-is, lowest-below}
 
 -- a test as an equation
 pub test-is : (b : Bool) → (b ≡ true) ↔ T b
@@ -37,6 +38,53 @@ test-is false = (λ h. never (sym h), λ h. absurd h)
 pub place-of : {A : Type 0} (d : A) {x : A} {l : List A} → In x l → OneOf (length l) (λ i. x ≡ getD l i d)
 place-of d (here e) = record { at = 0; below = omega arith; holds = e }
 place-of d (there i) = let r = place-of d i in record { at = suc (r .at); below = omega (arith, r .below); holds = r .holds }
+
+-- ---- the views in a set
+
+-- those of the views that are in the set
+unfoldable pub chosenFrom : ℕ → List Pattern → List Pattern
+chosenFrom set [] = []
+chosenFrom set (P ∷ Ps) = pick (bit set 0) (P ∷ chosenFrom (set / 2) Ps) (chosenFrom (set / 2) Ps)
+
+-- they are among all views, by their numbers
+abbrev ChosenAt : ℕ → List Pattern → Pattern → Type 0
+ChosenAt set Ps P = OneOf (length Ps) (λ a. (bit set a ≡ true) × (P ≡ getD Ps a noPattern))
+
+pub chosen-say : (set : ℕ) (Ps : List Pattern) (P : Pattern) → In P (chosenFrom set Ps) → ChosenAt set Ps P
+unfolding chosenFrom
+chosen-say set [] P i = absurd (not-in-none i)
+chosen-say set (R ∷ Ps) P i = step (bit set 0) refl i (λ j. let o = chosen-say (set / 2) Ps P j in record {
+  at = suc (o .at);
+  below = omega (arith, o .below);
+  holds = (bit-half set (o .at) ∙ o .holds .0, o .holds .1);
+})
+  where
+    step : (b : Bool) → bit set 0 ≡ b → In P (pick b (R ∷ chosenFrom (set / 2) Ps) (chosenFrom (set / 2) Ps))
+        → (In P (chosenFrom (set / 2) Ps) → ChosenAt set (R ∷ Ps) P) → ChosenAt set (R ∷ Ps) P
+    step true h j rest = ⊎-elim (λ e. record { at = 0; below = omega arith; holds = (h, e) }) rest (in-cases j)
+    step false h j rest = rest j
+
+pub chosen-in : (set : ℕ) (Ps : List Pattern) (a : ℕ) → a < length Ps → bit set a ≡ true → In (getD Ps a noPattern) (chosenFrom set Ps)
+unfolding chosenFrom
+chosen-in set [] a l h = absurd (omega arith)
+chosen-in set (P ∷ Ps) zero l h = rw h (here refl)
+chosen-in set (P ∷ Ps) (suc a) l h = later (bit set 0) (chosen-in (set / 2) Ps a (omega arith) (sym (bit-half set a) ∙ h))
+  where
+    later : (b : Bool) {x : Pattern} {l : List Pattern} → In x l → In x (pick b (P ∷ l) l)
+    later true i = there i
+    later false i = i
+
+chosen-whole : (set : ℕ) (Ps : List Pattern) → ((a : ℕ) → a < length Ps → bit set a ≡ true) → chosenFrom set Ps ≡ Ps
+unfolding chosenFrom
+chosen-whole set [] h = refl
+chosen-whole set (P ∷ Ps) h =
+    let first = h 0 (omega arith) in
+    let rest = chosen-whole (set / 2) Ps (λ a l. sym (bit-half set a) ∙ h (suc a) (omega arith)) in
+    rw (first, rest)
+
+-- by all views each of them
+pub chosen-every : (Ps : List Pattern) → length Ps ≤ 16 → chosenFrom everyView Ps ≡ Ps
+chosen-every Ps few = chosen-whole everyView Ps (λ a l. bit-every a (omega arith))
 
 -- ---- the mask of a code in lists
 
@@ -161,39 +209,44 @@ module _ (Q : Pattern) (Ps : List Pattern) (few-edges : length (Q .edges) ≤ 32
       let t = test-is (matchedBy Q (edge i) (view a)) in
       (λ p. t .0 (sym e ∙ p), λ p. e ∙ t .1 p)
 
-  module _ (few : length Ps ≤ 16) where
-    -- an edge is matched exactly if a view matches it
-    pub matched-places : (i : ℕ) → i < length (Q .edges) → T (matched Q Ps (getD (Q .edges) i (0, 0))) ↔ OneOf (length Ps) (λ a. matches (mapping Q Ps) i a ≡ true)
+  module _ (few : length Ps ≤ 16) (set : ℕ) where
+    -- an edge is matched by the views in the set exactly if the table has one of them that matches it
+    pub matched-places : (i : ℕ) → i < length (Q .edges) → T (matched Q (chosenFrom set Ps) (getD (Q .edges) i (0, 0))) ↔ MatchedBy (mapping Q Ps) set i (length Ps)
     unfolding matched
     matched-places i h = (
       λ t.
-          let r = some-in (matchedBy Q (edge i)) Ps t in
-          let o = place-of noPattern (r .1) in
+          let r = some-in (matchedBy Q (edge i)) (chosenFrom set Ps) t in
+          let o = chosen-say set Ps (r .0) (r .1) in
           let l = o .below in
-          record { at = o .at; below = l; holds = matched-exactly i (o .at) h l (omega arith) .1 (subst (λ P. T (matchedBy Q (edge i) P)) (o .holds) (r .2)) },
+          record { at = o .at; below = l; holds = (o .holds .0, matched-exactly i (o .at) h l (omega arith) .1 (subst (λ P. T (matchedBy Q (edge i) P)) (o .holds .1) (r .2))) },
       λ o.
           let l = o .below in
-          in-some (matchedBy Q (edge i)) (in-at Ps (o .at) noPattern l) (matched-exactly i (o .at) h l (omega arith) .0 (o .holds)),
+          in-some (matchedBy Q (edge i)) (chosen-in set Ps (o .at) l (o .holds .0)) (matched-exactly i (o .at) h l (omega arith) .0 (o .holds .1)),
     )
 
-    every-edge : T (covered Q Ps) ↔ ((i : ℕ) → i < length (Q .edges) → T (matched Q Ps (edge i)))
-    unfolding covered
-    every-edge = (
-      λ t i h. every-in (matched Q Ps) t (in-at (Q .edges) i (0, 0) h),
-      λ f. in-every (matched Q Ps) (Q .edges) (λ e j. let o = place-of (0, 0) j in subst (λ g. T (matched Q Ps g)) (sym (o .holds)) (f (o .at) (o .below))),
-    )
+every-edge : (Q : Pattern) (Ps : List Pattern) → T (covered Q Ps) ↔ ((i : ℕ) → i < length (Q .edges) → T (matched Q Ps (getD (Q .edges) i (0, 0))))
+unfolding covered
+every-edge Q Ps = (
+  λ t i h. every-in (matched Q Ps) t (in-at (Q .edges) i (0, 0) h),
+  λ f. in-every (matched Q Ps) (Q .edges) (λ e j. let o = place-of (0, 0) j in subst (λ g. T (matched Q Ps g)) (sym (o .holds)) (f (o .at) (o .below))),
+)
 
 -- ---- coverage
--- the quote says covered exactly if every edge of the query is matched
-pub quote-covered-exactly : (Q : Pattern) (Ps : List Pattern) → length Ps ≤ 16 → length (Q .edges) ≤ 32
-    → (coversIn (mapping Q Ps) everyView (length Ps) (length (Q .edges)) ≡ true) ↔ T (covered Q Ps)
-quote-covered-exactly Q Ps few few-edges =
-    let c = covered-exactly (mapping Q Ps) (length Ps) (length (Q .edges)) few in
-    let e = every-edge Q Ps few-edges few in
-    let m = matched-places Q Ps few-edges few in (
+-- the table says that the views in a set cover the query exactly if they do
+pub set-covers-exactly : (Q : Pattern) (Ps : List Pattern) (set : ℕ) → length Ps ≤ 16 → length (Q .edges) ≤ 32
+    → (coversIn (mapping Q Ps) set (length Ps) (length (Q .edges)) ≡ true) ↔ T (covered Q (chosenFrom set Ps))
+set-covers-exactly Q Ps set few few-edges =
+    let c = covers-exactly (mapping Q Ps) set (length Ps) (length (Q .edges)) in
+    let e = every-edge Q (chosenFrom set Ps) in
+    let m = matched-places Q Ps few-edges few set in (
       λ h. e .1 (λ i l. m i l .1 (c .0 h i l)),
       λ t. c .1 (λ i l. m i l .0 (e .0 t i l)),
     )
+
+-- the quote says covered exactly if every edge of the query is matched
+pub quote-covered-exactly : (Q : Pattern) (Ps : List Pattern) → length Ps ≤ 16 → length (Q .edges) ≤ 32
+    → (coversIn (mapping Q Ps) everyView (length Ps) (length (Q .edges)) ≡ true) ↔ T (covered Q Ps)
+quote-covered-exactly Q Ps few few-edges = rw (chosen-every Ps few) at (set-covers-exactly Q Ps everyView few few-edges)
 
 -- a view of the list has an edge whose match set, on the query read as a graph, has the edge e
 pub record Listed (Q : Pattern) (Ps : List Pattern) (e : Pair) : Type 0 where
@@ -250,16 +303,17 @@ pub record LowestEdge (Q : Pattern) (Ps : List Pattern) (i : ℕ) : Type 0 where
   pub unmatched : T (matched Q Ps (getD (Q .edges) i (0, 0))) → ⊥
   pub lower : (j : ℕ) → j < i → T (matched Q Ps (getD (Q .edges) j (0, 0)))
 
-pub lowest-is : (Q : Pattern) (Ps : List Pattern) → length Ps ≤ 16 → length (Q .edges) ≤ 32
-    → coversIn (mapping Q Ps) everyView (length Ps) (length (Q .edges)) ≡ false
-    → LowestEdge Q Ps (lowestUnmatched (mapping Q Ps) (length Ps) (length (Q .edges)))
-lowest-is Q Ps few few-edges n =
+pub lowest-edge : (Q : Pattern) (Ps : List Pattern) (set : ℕ) → length Ps ≤ 16 → length (Q .edges) ≤ 32
+    → coversIn (mapping Q Ps) set (length Ps) (length (Q .edges)) ≡ false
+    → LowestEdge Q (chosenFrom set Ps) (lowestUnmatched (mapping Q Ps) set (length Ps) (length (Q .edges)))
+lowest-edge Q Ps set few few-edges n =
     let t = mapping Q Ps in
-    let m = matched-places Q Ps few-edges few in
-    let l = lowest-below t (length Ps) (length (Q .edges)) .1 n in
-    let f = lowest-unmatched t (length Ps) (length (Q .edges)) few l in
+    let k = length Ps in
+    let m = matched-places Q Ps few-edges few set in
+    let l = lowest-below t set k (length (Q .edges)) .1 n in
+    let f = lowest-is t set k (length (Q .edges)) in
     record {
       below = l;
-      unmatched = λ y. let o = m (lowestUnmatched t (length Ps) (length (Q .edges))) l .0 y in absurd (never (sym (o .holds) ∙ f .unmatched (o .at) (o .below)));
-      lower = λ j k. m j (omega arith) .1 (f .lower j k);
+      unmatched = λ y. never (sym (matched-by-table t set _ k (m _ l .0 y)) ∙ f .here l);
+      lower = λ j p. m j (omega arith) .1 (matched-in-table t set j k (f .lower j p));
     }

@@ -1,14 +1,14 @@
 -- The two records shown for a query that is not covered: both are accepted, every view has the same sheet on both, and the query has not.
 use Prim.Native.Nat.{ℕ, _*_, _/_, _%_, _<_, _≤_}
 use mathlib.Core.Path.{_≡_, refl, sym, ap, ap₂, subst, _∙_}
-use mathlib.Core.Bool.{Bool, false, not}
+use mathlib.Core.Bool.{Bool, not}
 use mathlib.Core.List.{List, [], _∷_, _++_, map}
 use lib.ListN.{length, getD, length-map, length-append}
 use lib.Dec.{T, T-not}
 use native.Mathlib.Omega.{arith}
 use Rattle.packed.specs.Format.{ok, decode}
 use Rattle.packed.specs.Formats.{pattern, catalogue}
-use Rattle.packed.specs.Contents.{edgesOf, viewsOf, ends, fieldsOf, total}
+use Rattle.packed.specs.Contents.{viewsOf, ends, fieldsOf, total}
 use Rattle.packed.specs.Calls.{accepted, readRecord}
 use Rattle.packed.specs.Plain.{PlainPattern}
 use Rattle.packed.proofs.Accepted.{pattern-accepted, record-accepted, record-read}
@@ -28,11 +28,12 @@ use Rattle.matching.proofs.RecordLaws.{graph-narrow, graph-few}
 use Rattle.matching.proofs.SheetBytes.{Sheet, sets-sheet}
 use Rattle.matching.proofs.ViewLaws.{all-ahead, in-follow}
 use Rattle.matching.proofs.Uncovered.{uncovered-views, uncovered-query}
-use Rattle.containment.specs.Choice.{coversIn, everyView, lowestUnmatched}
+use Rattle.containment.specs.Choice.{everyView, lowestUnmatched}
 use Rattle.containment.specs.Quote.{mapping}
 use Rattle.containment.specs.Show.{graphFields, fewerFields, recordBytes}
+use Rattle.containment.specs.Demands.{extracts, Leaves, lackingIn}
 use Rattle.containment.proofs.QueryGraph.{Made, edge-at, graph-made, fewer-made, graph-means, fewer-means}
-use Rattle.containment.proofs.QuoteLaws.{LowestEdge, lowest-is}
+use Rattle.containment.proofs.QuoteLaws.{chosenFrom, chosen-every, LowestEdge, lowest-edge}
 
 -- ---- sheets that differ as lists differ as bytes
 
@@ -151,30 +152,31 @@ module _ {qs : List ℕ} {bs : List Bool} (q : PlainPattern qs bs) where
         }
 
 -- ---- of an accepted question and an accepted catalogue
-abbrev pub viewsIn : List ℕ → List Pattern
-viewsIn cs = map patternOf (viewsOf cs)
-
--- the lowest edge of the query with content qs that no view of the catalogue with content cs matches
-abbrev pub lowestOf : List ℕ → List ℕ → ℕ
-lowestOf qs cs = lowestUnmatched (mapping (patternOf qs) (viewsIn cs)) (length (viewsIn cs)) (edgesOf qs)
-
 module _ (s c qs cs : List ℕ) (p : decode pattern s ≡ ok qs) (d : decode catalogue c ≡ ok cs) where
-  few-views : length (viewsIn cs) ≤ 16
+  few-views : length (extracts cs) ≤ 16
   few-views = let v = catalogue-views c cs d in omega (arith, length-map (viewsOf cs) patternOf, v .many, v .most)
 
-  pub lowest-of : coversIn (mapping (patternOf qs) (viewsIn cs)) everyView (length (viewsIn cs)) (edgesOf qs) ≡ false
-      → LowestEdge (patternOf qs) (viewsIn cs) (lowestOf qs cs)
-  lowest-of n =
+  -- the lowest edge that no view in a set matches
+  lowest-in : (set : ℕ) → Leaves set qs cs → LowestEdge (patternOf qs) (chosenFrom set (extracts cs)) (lackingIn set qs cs)
+  lowest-in set n =
       let q = pattern-accepted s qs .0 p .laid in
       let m = edges-many q in
-      subst (λ (k : ℕ). LowestEdge (patternOf qs) (viewsIn cs) (lowestUnmatched (mapping (patternOf qs) (viewsIn cs)) (length (viewsIn cs)) k)) m
-      (lowest-is (patternOf qs) (viewsIn cs) few-views (omega (arith, number-is q, q .most-edges)) (rw m n))
+      subst (λ (k : ℕ). LowestEdge (patternOf qs) (chosenFrom set (extracts cs)) (lowestUnmatched (mapping (patternOf qs) (extracts cs)) set (length (extracts cs)) k)) m
+      (lowest-edge (patternOf qs) (extracts cs) set few-views (omega (arith, number-is q, q .most-edges)) (rw m n))
 
-  -- where the query is not covered, two accepted records on which every view has the same sheet, byte for byte, and the query has not
-  pub shows : coversIn (mapping (patternOf qs) (viewsIn cs)) everyView (length (viewsIn cs)) (edgesOf qs) ≡ false → Shows qs (viewsIn cs) (lowestOf qs cs)
-  shows n =
-      let o = lowest-of n in
-      shows-by (pattern-accepted s qs .0 p .laid) (viewsIn cs) (lowestOf qs cs) (o .below) (o .unmatched)
+  -- where the views in a set don't cover the query, two accepted records on which each of them has the same sheet, byte for byte, and the query
+  -- has not
+  shows-in : (set : ℕ) → Leaves set qs cs → Shows qs (chosenFrom set (extracts cs)) (lackingIn set qs cs)
+  shows-in set n =
+      let o = lowest-in set n in
+      shows-by (pattern-accepted s qs .0 p .laid) (chosenFrom set (extracts cs)) (lackingIn set qs cs) (o .below) (o .unmatched)
+
+  -- of all views
+  pub lowest-of : Leaves everyView qs cs → LowestEdge (patternOf qs) (extracts cs) (lackingIn everyView qs cs)
+  lowest-of n = rw (chosen-every (extracts cs) few-views) at (lowest-in everyView n)
+
+  pub shows : Leaves everyView qs cs → Shows qs (extracts cs) (lackingIn everyView qs cs)
+  shows n = rw (chosen-every (extracts cs) few-views) at (shows-in everyView n)
 
 -- ---- how long the sheets and the book are on these records
 
@@ -237,19 +239,19 @@ module _ (s c qs cs : List ℕ) (p : decode pattern s ≡ ok qs) (d : decode cat
   pub short-first : Short qs cs (graphFields qs)
   short-first = short-by (graph-made (pattern-accepted s qs .0 p .laid)) few-first
 
-  module _ (n : coversIn (mapping (patternOf qs) (viewsIn cs)) everyView (length (viewsIn cs)) (edgesOf qs) ≡ false) where
-    pub short-second : Short qs cs (fewerFields qs (lowestOf qs cs))
+  module _ (n : Leaves everyView qs cs) where
+    pub short-second : Short qs cs (fewerFields qs (lackingIn everyView qs cs))
     unfolding without
     short-second =
         let q = pattern-accepted s qs .0 p .laid in
-        let e = lowestOf qs cs in
+        let e = lackingIn everyView qs cs in
         let first = graphOf (graphFields qs) in
         short-by (fewer-made q e (omega (arith, lowest-of s c qs cs p d n .below, number-is q)))
         (omega (arith, ap (λ (G : Graph). length (G .edges)) (shows s c qs cs p d n .lacks), keep-length (λ f. not (same (queryEdge qs e) f)) (first .edges), few-first))
 
     -- the two records have the same book
-    pub shows-book : bookBytes (viewSheets cs (graphOf (graphFields qs))) ≡ bookBytes (viewSheets cs (graphOf (fewerFields qs (lowestOf qs cs))))
+    pub shows-book : bookBytes (viewSheets cs (graphOf (graphFields qs))) ≡ bookBytes (viewSheets cs (graphOf (fewerFields qs (lackingIn everyView qs cs))))
     unfolding viewSheets
     shows-book =
-        book-same (λ v. matchSets (patternOf v) (graphOf (graphFields qs))) (λ v. matchSets (patternOf v) (graphOf (fewerFields qs (lowestOf qs cs)))) (viewsOf cs)
+        book-same (λ v. matchSets (patternOf v) (graphOf (graphFields qs))) (λ v. matchSets (patternOf v) (graphOf (fewerFields qs (lackingIn everyView qs cs)))) (viewsOf cs)
         (λ v i. shows s c qs cs p d n .same (patternOf v) (in-map patternOf i))

@@ -17,9 +17,9 @@ use Rattle.matching.specs.Greatest.{settle, greatest}
 use Rattle.matching.specs.Simulation.{same, has, pairs as allPairs, bit, edgesIn, patternOf, graphOf, asGraph, fits, follows, sim, total, row, ascending, matchSets}
 use Rattle.matching.specs.Search.{sheetBytes, bookBytes, searchAnswer, viewSheets, makeBookAnswer}
 use Rattle.matching.specs.Join.{lists as listsHere, pairOf, under, candidates, supported, join, complete, keptFor, answerSets}
-use Rattle.containment.specs.Choice.{matches, matchedIn, coversIn, lowestUnmatched, addsTo, taken, kept, chosen}
+use Rattle.containment.specs.Choice.{matches, matchedIn, coversIn, lowestUnmatched, addsTo, taken, kept, chosen, used}
 use Rattle.containment.specs.Quote.{maskIn, matchMask, maskAt, mapping, valuesFrom, quoteValues, flat, quoteAnswer}
-use Rattle.containment.specs.Answer.{viewsIn, answerBytes, answerFor, answerBy, answerAnswer}
+use Rattle.containment.specs.Answer.{viewsIn, answerBytes, answerIn, answerBy, usedFor, answerAnswer}
 use Rattle.containment.specs.Show.{graphFields, fewerFields, recordBytes, fitBoth, showFor, showAnswer}
 
 -- ---- how a case is written
@@ -537,5 +537,5 @@ unfoldable pub table : List (List Case)
 table = patterns ∷ catalogues ∷ records ∷ sheets ∷ books ∷ searches ∷ quotes ∷ showings ∷ answers ∷ []
 
 pub cases : Agree table
-unfolding Agree table patterns catalogues records sheets books searches quotes showings answers digit hex next turned numbers bitsOf num numFrom bits zeros gap then times whole within scan lay bytesOf decode encode linked edges isEnd allEnds label joined pattern catalogue labels record′ pairs lists sheet book patternSize patternsIn viewsOf edgeCounts codesIn listsIn afterLists ends fieldsOf sheetsIn pairsIn sum member insert distinct withWorkspace readFile writeFile judged pairsOf uncrowdedBy fit fitFile patternRead catalogueRead recordRead sheetRead bookRead patternWritten catalogueWritten recordWritten sheetWritten bookWritten _and_ _or_ _implies_ every some keep gather each below upTo settle greatest same has allPairs bit edgesIn patternOf graphOf asGraph fits follows sim total row ascending matchSets sheetBytes bookBytes searchAnswer viewSheets makeBookAnswer pairOf listsHere under candidates supported join complete keptFor answerSets matches matchedIn coversIn lowestUnmatched addsTo taken kept chosen maskIn matchMask maskAt mapping valuesFrom quoteValues flat quoteAnswer viewsIn answerBytes answerFor answerBy answerAnswer graphFields fewerFields recordBytes fitBoth showFor showAnswer
+unfolding Agree table patterns catalogues records sheets books searches quotes showings answers digit hex next turned numbers bitsOf num numFrom bits zeros gap then times whole within scan lay bytesOf decode encode linked edges isEnd allEnds label joined pattern catalogue labels record′ pairs lists sheet book patternSize patternsIn viewsOf edgeCounts codesIn listsIn afterLists ends fieldsOf sheetsIn pairsIn sum member insert distinct withWorkspace readFile writeFile judged pairsOf uncrowdedBy fit fitFile patternRead catalogueRead recordRead sheetRead bookRead patternWritten catalogueWritten recordWritten sheetWritten bookWritten _and_ _or_ _implies_ every some keep gather each below upTo settle greatest same has allPairs bit edgesIn patternOf graphOf asGraph fits follows sim total row ascending matchSets sheetBytes bookBytes searchAnswer viewSheets makeBookAnswer pairOf listsHere under candidates supported join complete keptFor answerSets matches matchedIn coversIn lowestUnmatched addsTo taken kept chosen used maskIn matchMask maskAt mapping valuesFrom quoteValues flat quoteAnswer viewsIn answerBytes answerIn answerBy usedFor answerAnswer graphFields fewerFields recordBytes fitBoth showFor showAnswer
 cases = (refl, (refl, (refl, (refl, (refl, (refl, (refl, (refl, (refl, tt)))))))))

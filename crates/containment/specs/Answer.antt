@@ -1,4 +1,4 @@
--- Answering a query from a book: the chosen views, each with its sheet, are joined.
+-- Answering a query from a book: the views in a set, each with its sheet, are joined.
 use Prim.Native.Nat.{ℕ, _/_}
 use mathlib.Core.List.{List, [], _∷_, map}
 use lib.ListN.{length, drop, getD}
@@ -8,7 +8,7 @@ use Rattle.packed.specs.Calls.{Answer, refuse, judged, readPattern, readCatalog
 use Rattle.matching.specs.Simulation.{Pattern, bit, patternOf}
 use Rattle.matching.specs.Join.{View, answerSets}
 use Rattle.matching.specs.Search.{sheetBytes}
-use Rattle.containment.specs.Choice.{everyView, coversIn, lowestUnmatched, chosen}
+use Rattle.containment.specs.Choice.{everyView, coversIn, lowestUnmatched, used}
 use Rattle.containment.specs.Quote.{mapping}
 
 -- those of the views that are in the set, each with its sheet
@@ -21,24 +21,28 @@ viewsIn set (P ∷ Ps) sheets =
 unfoldable pub answerBytes : List ℕ → ℕ → List Pattern → List (List (List ℕ)) → List ℕ
 answerBytes qs set Ps sheets = sheetBytes (answerSets (patternOf qs) (viewsIn set Ps sheets))
 
--- a set of views, from the table, the number of edges and the number of views
-abbrev pub Choose : Type 0
-Choose = List ℕ → ℕ → ℕ → ℕ
-
--- answering by the views in a set: 10, 11 with the lowest unmatched edge, 12
-unfoldable pub answerFor : Choose → List ℕ → List ℕ → List ℕ → ℕ → Answer
-answerFor choose qs cs bs room =
+-- answering by the views in a set: 10, 11 with the lowest edge that they leave unmatched, 12
+unfoldable pub answerIn : ℕ → List ℕ → List ℕ → List ℕ → ℕ → Answer
+answerIn set qs cs bs room =
     let Ps = map patternOf (viewsOf cs) in
     let t = mapping (patternOf qs) Ps in
     uncrowded cs bs
-    (pick (coversIn t everyView (length Ps) (edgesOf qs))
-    (fitFile room (answerBytes qs (choose t (edgesOf qs) (length Ps)) Ps (sheetsIn (edgeCounts cs) bs)))
-    (refuse 11 (lowestUnmatched t (length Ps) (edgesOf qs))))
+    (pick (coversIn t set (length Ps) (edgesOf qs))
+    (fitFile room (answerBytes qs set Ps (sheetsIn (edgeCounts cs) bs)))
+    (refuse 11 (lowestUnmatched t set (length Ps) (edgesOf qs))))
+
+-- a set of views, from the contents of the query and the catalogue
+abbrev pub Choose : Type 0
+Choose = List ℕ → List ℕ → ℕ
 
 -- the files are judged first: the question, the catalogue, the book
 unfoldable pub answerBy : Choose → List ℕ → List ℕ → List ℕ → ℕ → Answer
-answerBy choose q c b room = judged (readPattern q) (λ qs. judged (readCatalogue c) (λ cs. judged (readBook cs b) (λ bs. answerFor choose qs cs bs room)))
+answerBy choose q c b room = judged (readPattern q) (λ qs. judged (readCatalogue c) (λ cs. judged (readBook cs b) (λ bs. answerIn (choose qs cs) qs cs bs room)))
 
--- answering, by the chosen set
+-- the chosen set; for a query that is not covered, all views, so that 11 has the lowest edge that none of them matches
+unfoldable pub usedFor : Choose
+usedFor qs cs = used (mapping (patternOf qs) (map patternOf (viewsOf cs))) everyView (edgesOf qs) (length (map patternOf (viewsOf cs)))
+
+-- answering by that set
 unfoldable pub answerAnswer : List ℕ → List ℕ → List ℕ → ℕ → Answer
-answerAnswer q c b room = answerBy chosen q c b room
+answerAnswer q c b room = answerBy usedFor q c b room

@@ -1,4 +1,5 @@
--- Coverage and the chosen views, from the table of masks: 16 for each edge of the query, one for each view.
+-- Coverage and the chosen views, from the table of masks: 16 for each edge of the query, one for each view. A set of views says which of them may
+-- be used.
 use Prim.Native.Nat.{ℕ, zero, suc, _+_, _-_, _*_, _^_}
 use mathlib.Core.List.{List}
 use mathlib.Core.Bool.{Bool, true, false, not, _&&_, _||_}
@@ -30,10 +31,10 @@ unfoldable pub addsTo : List ℕ → ℕ → ℕ → ℕ → Bool
 addsTo t set a zero = false
 addsTo t set a (suc m) = addsTo t set a m || (matches t m a && not (matchedIn t set m a))
 
--- going up the catalogue: a view is taken if it matches an edge not matched before
-unfoldable pub taken : List ℕ → ℕ → ℕ → ℕ
-taken t m zero = 0
-taken t m (suc a) = pick (addsTo t (taken t m a) a m) (taken t m a + 2 ^ a) (taken t m a)
+-- going up the catalogue: a view of the set is taken if it matches an edge not matched before
+unfoldable pub taken : List ℕ → ℕ → ℕ → ℕ → ℕ
+taken t set m zero = 0
+taken t set m (suc a) = pick (bit set a && addsTo t (taken t set m a) a m) (taken t set m a + 2 ^ a) (taken t set m a)
 
 -- going up again: a view is dropped if those still kept, of k, cover the query without it
 unfoldable pub kept : List ℕ → ℕ → ℕ → ℕ → ℕ → ℕ
@@ -41,11 +42,15 @@ kept t m k set zero = set
 kept t m k set (suc a) =
     pick (bit (kept t m k set a) a && coversIn t (kept t m k set a - 2 ^ a) k m) (kept t m k set a - 2 ^ a) (kept t m k set a)
 
--- the chosen set: empty for a query that is not covered
-unfoldable pub chosen : List ℕ → ℕ → ℕ → ℕ
-chosen t m k = pick (coversIn t everyView k m) (kept t m k (taken t m k) k) 0
+-- the views chosen from the set: none for a query that it doesn't cover
+unfoldable pub chosen : List ℕ → ℕ → ℕ → ℕ → ℕ
+chosen t set m k = pick (coversIn t set k m) (kept t m k (taken t set m k) k) 0
 
--- the lowest of m edges that no view matches, or m
-unfoldable pub lowestUnmatched : List ℕ → ℕ → ℕ → ℕ
-lowestUnmatched t k zero = 0
-lowestUnmatched t k (suc m) = pick (ltb (lowestUnmatched t k m) m) (lowestUnmatched t k m) (pick (matchedIn t everyView m k) (suc m) m)
+-- the lowest of m edges that no view of the set matches, or m
+unfoldable pub lowestUnmatched : List ℕ → ℕ → ℕ → ℕ → ℕ
+lowestUnmatched t set k zero = 0
+lowestUnmatched t set k (suc m) = pick (ltb (lowestUnmatched t set k m) m) (lowestUnmatched t set k m) (pick (matchedIn t set m k) (suc m) m)
+
+-- the views that answer a query: those chosen from the set, or the whole set where it doesn't cover the query
+unfoldable pub used : List ℕ → ℕ → ℕ → ℕ → ℕ
+used t set m k = pick (coversIn t set k m) (chosen t set m k) set

@@ -63,24 +63,31 @@ extractOf cs a = getD (extracts cs) a noPattern
 abbrev pub linkOf : List ℕ → ℕ → Pair
 linkOf qs e = getD (patternOf qs .edges) e (0, 0)
 
--- the extracts in a set match every link of the question
+-- the extracts in a set match every link of the question, or leave one unmatched
 abbrev pub Covers : ℕ → List ℕ → List ℕ → Type 0
 Covers set qs cs = coversIn (mapping (patternOf qs) (extracts cs)) set (length (extracts cs)) (edgesOf qs) ≡ true
 
--- what a quote says: covered or uncovered
+abbrev pub Leaves : ℕ → List ℕ → List ℕ → Type 0
+Leaves set qs cs = coversIn (mapping (patternOf qs) (extracts cs)) set (length (extracts cs)) (edgesOf qs) ≡ false
+
+-- the lowest link of the question that no extract of a set matches
+abbrev pub lackingIn : ℕ → List ℕ → List ℕ → ℕ
+lackingIn set qs cs = lowestUnmatched (mapping (patternOf qs) (extracts cs)) set (length (extracts cs)) (edgesOf qs)
+
+-- what a quote says, by all extracts: covered or uncovered
 abbrev pub Covered : List ℕ → List ℕ → Type 0
 Covered qs cs = Covers everyView qs cs
 
 abbrev pub Uncovered : List ℕ → List ℕ → Type 0
-Uncovered qs cs = coversIn (mapping (patternOf qs) (extracts cs)) everyView (length (extracts cs)) (edgesOf qs) ≡ false
+Uncovered qs cs = Leaves everyView qs cs
 
 -- the lowest link of the question that no extract matches
 abbrev pub lacking : List ℕ → List ℕ → ℕ
-lacking qs cs = lowestUnmatched (mapping (patternOf qs) (extracts cs)) (length (extracts cs)) (edgesOf qs)
+lacking qs cs = lackingIn everyView qs cs
 
 -- the set that a quote chooses
 abbrev pub chosenOf : List ℕ → List ℕ → ℕ
-chosenOf qs cs = chosen (mapping (patternOf qs) (extracts cs)) (edgesOf qs) (length (extracts cs))
+chosenOf qs cs = chosen (mapping (patternOf qs) (extracts cs)) everyView (edgesOf qs) (length (extracts cs))
 
 -- a pattern's sheet from a record, and "the extract lists made from the record": the sheets of all extracts, laid out as a book
 abbrev pub sheetOf : Pattern → List ℕ → List ℕ
@@ -363,7 +370,7 @@ pub record Demand3 : Type 0 where
   -- made from the record fit in a book, answering from that book alone equals searching the record": the same answer, for all lengths of
   -- output and workspace lent to both
   pub covered-by : (q c r qs cs rs : List ℕ) → Question q qs → Catalogue c cs → Record r rs → (set : ℕ) → Covers set qs cs → length (bookOf cs rs) ≤ 65536
-      → (room words : ℕ) → withWorkspace words (answerBy (λ t m k. set) q c (bookOf cs rs) room) ≡ withWorkspace words (searchAnswer q r room)
+      → (room words : ℕ) → withWorkspace words (answerBy (λ _ _. set) q c (bookOf cs rs) room) ≡ withWorkspace words (searchAnswer q r room)
   -- the same by the chosen set, which is what the call that answers uses
   pub covered : (q c r qs cs rs : List ℕ) → Question q qs → Catalogue c cs → Record r rs → Covered qs cs → length (bookOf cs rs) ≤ 65536
       → (room words : ℕ) → withWorkspace words (answerAnswer q c (bookOf cs rs) room) ≡ withWorkspace words (searchAnswer q r room)

@@ -54,28 +54,28 @@ pub record QuoteValues : Type 0 where
   -- "the lowest unmatched link"; 0 for a covered question
   pub lowest : ℕ
 
--- what these are, from the table, the number of edges and the number of views
-unfoldable pub valuesFrom : List ℕ → ℕ → ℕ → QuoteValues
-valuesFrom t m k =
+-- what these are by the views in a set, from the table, the number of edges and the number of views
+unfoldable pub valuesFrom : List ℕ → ℕ → ℕ → ℕ → QuoteValues
+valuesFrom t set m k =
     record {
-      covered = one (coversIn t everyView k m);
+      covered = one (coversIn t set k m);
       mapping = t;
       edges = m;
-      chosen = chosen t m k;
-      lowest = pick (coversIn t everyView k m) 0 (lowestUnmatched t k m);
+      chosen = chosen t set m k;
+      lowest = pick (coversIn t set k m) 0 (lowestUnmatched t set k m);
     }
 
-unfoldable pub quoteValues : Pattern → List Pattern → QuoteValues
-quoteValues Q Ps = valuesFrom (mapping Q Ps) (length (Q .edges)) (length Ps)
+unfoldable pub quoteValues : ℕ → Pattern → List Pattern → QuoteValues
+quoteValues set Q Ps = valuesFrom (mapping Q Ps) set (length (Q .edges)) (length Ps)
 
 -- the list of them that the protocol of a call carries
 unfoldable pub flat : QuoteValues → List ℕ
 flat v = v .covered ∷ (v .mapping ++ (v .edges ∷ v .chosen ∷ v .lowest ∷ []))
 
--- quoting: 14, the question's refusals, the catalogue's
+-- quoting, by all views: 14, the question's refusals, the catalogue's
 unfoldable pub quoteAnswer : List ℕ → List ℕ → Answer
 quoteAnswer q c =
-    judged (readPattern q) (λ qs. judged (readCatalogue c) (λ cs. give (flat (quoteValues (patternOf qs) (map patternOf (viewsOf cs)))) []))
+    judged (readPattern q) (λ qs. judged (readCatalogue c) (λ cs. give (flat (quoteValues everyView (patternOf qs) (map patternOf (viewsOf cs)))) []))
 
 -- on a refusal each of them is zero
 abbrev pub blank : List ℕ

@@ -35,14 +35,15 @@ fitBoth room room′ a b =
     pick (ltb room (length a)) (refuse 12 (length a))
     (pick (ltb room′ (length b)) (refuse 12 (length b)) (give [] (a ∷ b ∷ [])))
 
--- for the query with content qs and k views: 13 where it is covered
-unfoldable pub showFor : List ℕ → List Pattern → ℕ → ℕ → Answer
-showFor qs Ps room room′ =
-    pick (coversIn (mapping (patternOf qs) Ps) everyView (length Ps) (edgesOf qs)) (refuse 13 0)
-    (fitBoth room room′ (recordBytes (graphFields qs)) (recordBytes (fewerFields qs (lowestUnmatched (mapping (patternOf qs) Ps) (length Ps) (edgesOf qs)))))
+-- for the query with content qs and the views in a set: 13 where they cover it
+unfoldable pub showFor : ℕ → List ℕ → List Pattern → ℕ → ℕ → Answer
+showFor set qs Ps room room′ =
+    pick (coversIn (mapping (patternOf qs) Ps) set (length Ps) (edgesOf qs)) (refuse 13 0)
+    (fitBoth room room′ (recordBytes (graphFields qs)) (recordBytes (fewerFields qs (lowestUnmatched (mapping (patternOf qs) Ps) set (length Ps) (edgesOf qs)))))
 
+-- showing, by all views
 unfoldable pub showAnswer : List ℕ → List ℕ → ℕ → ℕ → Answer
-showAnswer q c room room′ = judged (readPattern q) (λ qs. judged (readCatalogue c) (λ cs. showFor qs (map patternOf (viewsOf cs)) room room′))
+showAnswer q c room room′ = judged (readPattern q) (λ qs. judged (readCatalogue c) (λ cs. showFor everyView qs (map patternOf (viewsOf cs)) room room′))
 
 -- what a showing tells: the lengths of the two outputs, or the refusal with its detail
 abbrev pub shownTold : Shown → Told

@@ -17,8 +17,8 @@ ghost use Rattle.matching.specs.Join.{View, answerSets};
 ghost use Rattle.matching.specs.Candidates.{Booked};
 ghost use Rattle.matching.specs.Joining.{Agrees};
 ghost use Rattle.containment.specs.Quote.{blank, flat, maskIn, mapping, valuesFrom, quoteValues, quoteAnswer, quoteTold};
-ghost use Rattle.containment.specs.Answer.{answerFor, answerAnswer};
-ghost use Rattle.containment.specs.Choice.{chosen};
+ghost use Rattle.containment.specs.Answer.{answerIn, usedFor, answerAnswer};
+ghost use Rattle.containment.specs.Choice.{everyView};
 ghost use Rattle.containment.specs.Show.{graphFields, recordBytes, fitBoth, showFor, showAnswer, shownTold};
 ghost use Rattle.containment.specs.Steps.{Query, Views, ViewCounts, Answers, PlaceOf, Present, Within, Column, MaskOf, codeAt, shownFields};
 use crate::choose;
@@ -169,17 +169,17 @@ fn map_views(q: Pattern, catalogue: &[u8], k: usize, work: &mut [u32]) -> [u32; 
     }
 }
 
-// A quote from its table.
-fn quote_of(mapping: [u32; 512], m: usize, k: usize) -> Quote
+// A quote from its table, by the views in the set.
+fn quote_of(mapping: [u32; 512], set: u32, m: usize, k: usize) -> Quote
     requires { ⌜ (m ≤ 32) × (k ≤ 16) ⌝ }
-    ensures { λ r. ⌜ quoteTold r ≡ told 0 (flat (valuesFrom mapping m k)) ⌝ }
+    ensures { λ r. ⌜ quoteTold r ≡ told 0 (flat (valuesFrom mapping set m k)) ⌝ }
 {
-    if choose::is_cover(&mapping, 65535, k, m) {
+    if choose::is_cover(&mapping, set, k, m) {
         return Quote {
             coverage: Coverage::Covered,
             mapping,
             edges: m as u32,
-            chosen: choose::choose(&mapping, k, m),
+            chosen: choose::choose(&mapping, set, k, m),
             lowest: 0,
         };
     }
@@ -188,13 +188,13 @@ fn quote_of(mapping: [u32; 512], m: usize, k: usize) -> Quote
         mapping,
         edges: m as u32,
         chosen: 0,
-        lowest: choose::lowest_unmatched(&mapping, k, m) as u32,
+        lowest: choose::lowest_unmatched(&mapping, set, k, m) as u32,
     }
 }
 
 fn quote_for(q: Pattern, catalogue: &[u8], work: &mut [u32]) -> Quote
     requires { ⌜ Query q × (length (now work) ≡ 16384) ⌝ }
-    ensures { λ r. ⌜ ((t : Query q) → Answers blank (judged (readCatalogue (now (catalogue .entry))) (λ cs. give (flat (quoteValues (patternOf (t .content)) (map patternOf (viewsOf cs)))) [])) (quoteTold r) [] []) ⌝ }
+    ensures { λ r. ⌜ ((t : Query q) → Answers blank (judged (readCatalogue (now (catalogue .entry))) (λ cs. give (flat (quoteValues everyView (patternOf (t .content)) (map patternOf (viewsOf cs)))) [])) (quoteTold r) [] []) ⌝ }
 {
     if 705 < catalogue.len() {
         return refused(Refusal::TooLong(2));
@@ -204,7 +204,7 @@ fn quote_for(q: Pattern, catalogue: &[u8], work: &mut [u32]) -> Quote
         Part::Upto(_, n) => {
             let k = catalogue::word_at(&work[0..n], 0) as usize;
             let mapping = map_views(q, catalogue, k, work);
-            quote_of(mapping, q.edges, k)
+            quote_of(mapping, choose::EVERY_VIEW, q.edges, k)
         }
         Part::Refused(x) => refused(x),
     }
@@ -253,7 +253,7 @@ fn show_for(
     work: &mut [u32],
 ) -> Shown
     requires { ⌜ Query q × (length (now work) ≡ 16384) ⌝ }
-    ensures { λ r. ⌜ ((t : Query q) → Answers [] (judged (readCatalogue (now (catalogue .entry))) (λ cs. showFor (t .content) (map patternOf (viewsOf cs)) (length (now (first .entry))) (length (now (second .entry))))) (shownTold r) (now (first .entry) ∷ now (second .entry) ∷ []) (now (first .exit) ∷ now (second .exit) ∷ [])) ⌝ }
+    ensures { λ r. ⌜ ((t : Query q) → Answers [] (judged (readCatalogue (now (catalogue .entry))) (λ cs. showFor everyView (t .content) (map patternOf (viewsOf cs)) (length (now (first .entry))) (length (now (second .entry))))) (shownTold r) (now (first .entry) ∷ now (second .entry) ∷ []) (now (first .exit) ∷ now (second .exit) ∷ [])) ⌝ }
 {
     if 705 < catalogue.len() {
         return Shown::Refused(Refusal::TooLong(2));
@@ -263,10 +263,10 @@ fn show_for(
         Part::Upto(_, n) => {
             let k = catalogue::word_at(&work[0..n], 0) as usize;
             let mapping = map_views(q, catalogue, k, work);
-            if choose::is_cover(&mapping, 65535, k, q.edges) {
+            if choose::is_cover(&mapping, choose::EVERY_VIEW, k, q.edges) {
                 return Shown::Refused(Refusal::Contained);
             }
-            let e = choose::lowest_unmatched(&mapping, k, q.edges);
+            let e = choose::lowest_unmatched(&mapping, choose::EVERY_VIEW, k, q.edges);
             show_both(q, e, first, second, work)
         }
         Part::Refused(x) => Shown::Refused(x),
@@ -321,10 +321,11 @@ fn answer_from(
     Reply::Done(size)
 }
 
-// Answers from a book, once the query's table is known.
+// Answers from a book by the views in the set, once the query's table is known.
 fn answer_book(
     q: Pattern,
     table: &[u32; 512],
+    set: u32,
     counts: [u32; 16],
     k: usize,
     book: &[u8],
@@ -332,7 +333,7 @@ fn answer_book(
     work: &mut [u32],
 ) -> Reply
     requires { ⌜ Query q × ViewCounts counts k × (length (now work) ≡ 16384) ⌝ }
-    ensures { λ r. ⌜ ((t : Query q) (v : ViewCounts counts k) → now (table .entry) ≡ mapping (patternOf (t .content)) (map patternOf (viewsOf (v .views .content))) → Answered (judged (readBook (v .views .content) (now (book .entry))) (λ bs. answerFor chosen (t .content) (v .views .content) bs (length (now (out .entry))))) (replyTold r) (now (out .entry)) (now (out .exit))) ⌝ }
+    ensures { λ r. ⌜ ((t : Query q) (v : ViewCounts counts k) → now (table .entry) ≡ mapping (patternOf (t .content)) (map patternOf (viewsOf (v .views .content))) → Answered (judged (readBook (v .views .content) (now (book .entry))) (λ bs. answerIn set (t .content) (v .views .content) bs (length (now (out .entry))))) (replyTold r) (now (out .entry)) (now (out .exit))) ⌝ }
 {
     if 65536 < book.len() {
         return Reply::Refused(Refusal::TooLong(4));
@@ -344,11 +345,10 @@ fn answer_book(
             if 8192 < d {
                 return Reply::Refused(Refusal::TooManyPairs(4));
             }
-            if choose::is_cover(table, 65535, k, q.edges) {
-                let set = choose::choose(table, k, q.edges);
+            if choose::is_cover(table, set, k, q.edges) {
                 return answer_from(q, table, set, book, counts, k, d, out, work);
             }
-            let e = choose::lowest_unmatched(table, k, q.edges) as u32;
+            let e = choose::lowest_unmatched(table, set, k, q.edges) as u32;
             Reply::Refused(Refusal::NotContained(e))
         }
         Part::Refused(x) => Reply::Refused(x),
@@ -357,7 +357,7 @@ fn answer_book(
 
 fn answer_for(q: Pattern, catalogue: &[u8], book: &[u8], out: &mut [u8], work: &mut [u32]) -> Reply
     requires { ⌜ Query q × (length (now work) ≡ 16384) ⌝ }
-    ensures { λ r. ⌜ ((t : Query q) → Answered (judged (readCatalogue (now (catalogue .entry))) (λ cs. judged (readBook cs (now (book .entry))) (λ bs. answerFor chosen (t .content) cs bs (length (now (out .entry)))))) (replyTold r) (now (out .entry)) (now (out .exit))) ⌝ }
+    ensures { λ r. ⌜ ((t : Query q) → Answered (judged (readCatalogue (now (catalogue .entry))) (λ cs. judged (readBook cs (now (book .entry))) (λ bs. answerIn (usedFor (t .content) cs) (t .content) cs bs (length (now (out .entry)))))) (replyTold r) (now (out .entry)) (now (out .exit))) ⌝ }
 {
     if 705 < catalogue.len() {
         return Reply::Refused(Refusal::TooLong(2));
@@ -368,7 +368,8 @@ fn answer_for(q: Pattern, catalogue: &[u8], book: &[u8], out: &mut [u8], work: &
             let k = catalogue::word_at(&work[0..n], 0) as usize;
             let counts = catalogue::edge_counts(&work[0..n]);
             let table = map_views(q, catalogue, k, work);
-            answer_book(q, &table, counts, k, book, out, work)
+            let set = choose::use_views(&table, choose::EVERY_VIEW, k, q.edges);
+            answer_book(q, &table, set, counts, k, book, out, work)
         }
         Part::Refused(x) => Reply::Refused(x),
     }

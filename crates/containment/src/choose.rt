@@ -1,11 +1,11 @@
-// Coverage and the chosen views, from the masks of a quote.
+// Coverage and the chosen views, from the masks of a quote. A set says which views may be used.
 ghost use mathlib.Core.Path.{_≡_};
 ghost use Prim.Native.Nat.{_^_, _<_, _≤_};
 ghost use Rattle.matching.specs.Simulation.{bit};
-ghost use Rattle.containment.specs.Choice.{matchedIn, coversIn, lowestUnmatched, addsTo, taken, kept, chosen};
+ghost use Rattle.containment.specs.Choice.{matchedIn, coversIn, lowestUnmatched, addsTo, taken, kept, chosen, used};
 
 // The set of all views.
-const EVERY_VIEW: u32 = 65535;
+pub const EVERY_VIEW: u32 = 65535;
 
 // Whether the view a is in the set.
 fn is_in(set: u32, a: usize) -> bool
@@ -53,14 +53,14 @@ pub fn is_cover(mapping: &[u32; 512], set: u32, k: usize, m: usize) -> bool
     all
 }
 
-// The lowest of m edges that none of k views matches, or m.
-pub fn lowest_unmatched(mapping: &[u32; 512], k: usize, m: usize) -> usize
+// The lowest of m edges that no view in the set, of k, matches, or m.
+pub fn lowest_unmatched(mapping: &[u32; 512], set: u32, k: usize, m: usize) -> usize
     requires { ⌜ (m ≤ 32) × (k ≤ 16) ⌝ }
-    ensures { λ r. ⌜ r ≡ lowestUnmatched (now (mapping .entry)) k m ⌝ }
+    ensures { λ r. ⌜ r ≡ lowestUnmatched (now (mapping .entry)) set k m ⌝ }
 {
     let mut e: usize = 0;
     while e < m {
-        if is_matched(mapping, EVERY_VIEW, e, k) {
+        if is_matched(mapping, set, e, k) {
             e += 1;
         } else {
             return e;
@@ -85,20 +85,20 @@ fn is_added(mapping: &[u32; 512], set: u32, a: usize, m: usize) -> bool
     adds
 }
 
-// Going up the catalogue, each view that matches an edge not matched before.
-fn take_views(mapping: &[u32; 512], k: usize, m: usize) -> u32
+// Going up the catalogue, each view of the set that matches an edge not matched before.
+fn take_views(mapping: &[u32; 512], set: u32, k: usize, m: usize) -> u32
     requires { ⌜ (m ≤ 32) × (k ≤ 16) ⌝ }
-    ensures { λ r. ⌜ r ≡ taken (now (mapping .entry)) m k ⌝ }
+    ensures { λ r. ⌜ r ≡ taken (now (mapping .entry)) set m k ⌝ }
 {
-    let mut set: u32 = 0;
+    let mut first: u32 = 0;
     let mut a: usize = 0;
     while a < k {
-        if is_added(mapping, set, a, m) {
-            set = set + only(a);
+        if is_in(set, a) & is_added(mapping, first, a, m) {
+            first = first + only(a);
         }
         a += 1;
     }
-    set
+    first
 }
 
 // Going up again, the set without each view that the others can spare.
@@ -120,13 +120,24 @@ fn drop_views(mapping: &[u32; 512], first: u32, k: usize, m: usize) -> u32
     set
 }
 
-// The chosen views: none for a query that is not covered.
-pub fn choose(mapping: &[u32; 512], k: usize, m: usize) -> u32
+// The views chosen from the set: none for a query that it doesn't cover.
+pub fn choose(mapping: &[u32; 512], set: u32, k: usize, m: usize) -> u32
     requires { ⌜ (m ≤ 32) × (k ≤ 16) ⌝ }
-    ensures { λ r. ⌜ r ≡ chosen (now (mapping .entry)) m k ⌝ }
+    ensures { λ r. ⌜ r ≡ chosen (now (mapping .entry)) set m k ⌝ }
 {
-    if is_cover(mapping, EVERY_VIEW, k, m) {
-        return drop_views(mapping, take_views(mapping, k, m), k, m);
+    if is_cover(mapping, set, k, m) {
+        return drop_views(mapping, take_views(mapping, set, k, m), k, m);
     }
     0
+}
+
+// The views that answer a query: those chosen from the set, or the whole set where it doesn't cover the query.
+pub fn use_views(mapping: &[u32; 512], set: u32, k: usize, m: usize) -> u32
+    requires { ⌜ (m ≤ 32) × (k ≤ 16) ⌝ }
+    ensures { λ r. ⌜ r ≡ used (now (mapping .entry)) set m k ⌝ }
+{
+    if is_cover(mapping, set, k, m) {
+        return choose(mapping, set, k, m);
+    }
+    set
 }

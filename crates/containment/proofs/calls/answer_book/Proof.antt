@@ -5,8 +5,7 @@ use lib.ListN.{length}
 use Rattle.packed.specs.Formats.{book}
 use Rattle.packed.specs.Contents.{edgeCounts}
 use Rattle.packed.proofs.CallLaws.{read-finds, body-over, body-refused, none-lent}
-use Rattle.containment.specs.Choice.{chosen}
-use Rattle.containment.specs.Answer.{answerFor}
+use Rattle.containment.specs.Answer.{answerIn}
 use Rattle.containment.proofs.ChoiceLaws.{lowest-most}
 use Rattle.containment.proofs.QueryLaws.{fair}
 use Rattle.containment.proofs.AnswerLaws.{views-few, query-few}
@@ -18,7 +17,7 @@ use Rattle.containment.proofs.calls.answer_book.Tie as tie
 returns : tie.Need-returns
 returns c =
     let a = c .before .before .before .before .args in
-    λ t v e. body-over 65536 4 (book (edgeCounts (v .views .content))) (a .book .now) (λ bs. answerFor chosen (t .content) (v .views .content) bs (length (a .out .now))) (a .out .now) (c .if1 .taken)
+    λ t v e. body-over 65536 4 (book (edgeCounts (v .views .content))) (a .book .now) (λ bs. answerIn (a .set) (t .content) (v .views .content) bs (length (a .out .now))) (a .out .now) (c .if1 .taken)
 
 sub-judge-book : tie.Need-sub-judge-book
 sub-judge-book c = search needs
@@ -48,19 +47,16 @@ returns-2 : tie.Need-returns-2
 returns-2 c =
     let a = c .before .before .before .before .before .before .before .before .before .before .before .before .before .before .before .args in
     let r = rw (c .before .before .before .before .before .enum-told .given .1) at (c .before .before .before .before .before .before .before .before .before .judge-book .ensures) in
-    λ t v e. crowded-answered t v (a .book .now) (c .before .before .before .before .before .before .before .before .before .before .before .if1 .left) r (c .before .before .before .gather-book .ensures) e (a .out .now) (c .if2 .taken)
+    λ t v e. crowded-answered t v (a .book .now) (c .before .before .before .before .before .before .before .before .before .before .before .if1 .left) r (c .before .before .before .gather-book .ensures) e (a .set) (a .out .now) (c .if2 .taken)
 
 is-cover-requires : tie.Need-is-cover-requires
 is-cover-requires c κs = (query-few (c .before .before .before .before .before .before .before .before .before .before .before .before .before .before .before .pre .0), views-few (c .before .before .before .before .before .before .before .before .before .before .before .before .before .before .before .pre .1 .views))
 
-choose-requires : tie.Need-choose-requires
-choose-requires c κs = (query-few (c .before .before .before .before .before .before .before .before .before .before .before .before .before .before .before .before .before .pre .0), views-few (c .before .before .before .before .before .before .before .before .before .before .before .before .before .before .before .before .before .pre .1 .views))
-
 answer-from-requires : tie.Need-answer-from-requires
 answer-from-requires c κs =
-    let a = c .before .before .before .before .before .before .before .before .before .before .before .before .before .before .before .before .before .before .before .before .args in
-    let r = rw (c .before .before .before .before .before .before .before .before .before .before .enum-told .given .1) at (c .before .before .before .before .before .before .before .before .before .before .before .before .before .before .judge-book .ensures) in
-    (fair (c .before .before .before .before .before .before .before .before .before .before .before .before .before .before .before .before .before .before .before .before .pre .0), book-booked (c .before .before .before .before .before .before .before .before .before .before .before .before .before .before .before .before .before .before .before .before .pre .0) (c .before .before .before .before .before .before .before .before .before .before .before .before .before .before .before .before .before .before .before .before .pre .1) (a .book .now) (c .before .before .before .before .before .before .before .before .before .before .before .before .before .before .before .before .if1 .left) r (c .before .before .before .before .before .before .before .before .gather-book .ensures) (c .before .before .before .before .before .if2 .left))
+    let a = c .before .before .before .before .before .before .before .before .before .before .before .before .before .before .before .before .before .before .before .args in
+    let r = rw (c .before .before .before .before .before .before .before .before .before .enum-told .given .1) at (c .before .before .before .before .before .before .before .before .before .before .before .before .before .judge-book .ensures) in
+    (fair (c .before .before .before .before .before .before .before .before .before .before .before .before .before .before .before .before .before .before .before .pre .0), book-booked (c .before .before .before .before .before .before .before .before .before .before .before .before .before .before .before .before .before .before .before .pre .0) (c .before .before .before .before .before .before .before .before .before .before .before .before .before .before .before .before .before .before .before .pre .1) (a .book .now) (c .before .before .before .before .before .before .before .before .before .before .before .before .before .before .before .if1 .left) r (c .before .before .before .before .before .before .before .gather-book .ensures) (c .before .before .before .before .if2 .left))
 
 same-length-2 : tie.Need-same-length-2
 same-length-2 c = search needs
@@ -70,9 +66,9 @@ same-length-3 c = search needs
 
 returns-3 : tie.Need-returns-3
 returns-3 c =
-    let a = c .before .before .before .before .before .before .before .before .before .before .before .before .before .before .before .before .before .before .before .before .before .before .before .before .before .args in
-    let r = rw (c .before .before .before .before .before .before .before .before .before .before .before .before .before .before .before .enum-told .given .1) at (c .before .before .before .before .before .before .before .before .before .before .before .before .before .before .before .before .before .before .before .judge-book .ensures) in
-    λ t v e. covered-answered t v (a .book .now) (c .before .before .before .before .before .before .before .before .before .before .before .before .before .before .before .before .before .before .before .before .before .if1 .left) r (c .before .before .before .before .before .before .before .before .before .before .before .before .before .gather-book .ensures) e (a .out .now) (c .before .before .before .before .before .before .before .before .before .before .if2 .left) (c .before .before .before .before .before .before .before .before .before .is-cover .ensures) (c .before .before .before .before .before .before .before .before .if3 .taken) (c .before .before .before .before .before .before .before .choose .ensures) (c .before .before .before .before .answer-from .ensures)
+    let a = c .before .before .before .before .before .before .before .before .before .before .before .before .before .before .before .before .before .before .before .before .before .before .before .before .args in
+    let r = rw (c .before .before .before .before .before .before .before .before .before .before .before .before .before .before .enum-told .given .1) at (c .before .before .before .before .before .before .before .before .before .before .before .before .before .before .before .before .before .before .judge-book .ensures) in
+    λ t v e. covered-answered t v (a .book .now) (c .before .before .before .before .before .before .before .before .before .before .before .before .before .before .before .before .before .before .before .before .if1 .left) r (c .before .before .before .before .before .before .before .before .before .before .before .before .gather-book .ensures) e (a .set) (a .out .now) (c .before .before .before .before .before .before .before .before .before .if2 .left) (c .before .before .before .before .before .before .before .before .is-cover .ensures) (c .before .before .before .before .before .before .before .if3 .taken) (c .before .before .before .before .answer-from .ensures)
 
 lowest-unmatched-requires : tie.Need-lowest-unmatched-requires
 lowest-unmatched-requires c κs = (query-few (c .before .before .before .before .before .before .before .before .before .before .before .before .before .before .before .before .before .pre .0), (let k = views-few (c .before .before .before .before .before .before .before .before .before .before .before .before .before .before .before .before .before .pre .1 .views) in omega arith))
@@ -80,7 +76,7 @@ lowest-unmatched-requires c κs = (query-few (c .before .before .before .before 
 cast-e : tie.Need-cast-e
 cast-e c =
     let a = c .before .before .before .before .before .before .before .before .before .before .before .before .before .before .before .before .before .before .args in
-    let l = lowest-most (a .table .now) _ (a .q .edges) (c .lowest-unmatched .ensures) in
+    let l = lowest-most (a .table .now) _ _ (a .q .edges) (c .lowest-unmatched .ensures) in
     omega (arith, l, query-few (c .before .before .before .before .before .before .before .before .before .before .before .before .before .before .before .before .before .before .pre .0))
 
 enum-known-p : tie.Need-enum-known-p
@@ -93,7 +89,7 @@ returns-4 : tie.Need-returns-4
 returns-4 c =
     let a = c .before .before .before .before .before .before .before .before .before .before .before .before .before .before .before .before .before .before .args in
     let r = rw (c .before .before .before .before .before .before .before .before .enum-told .given .1) at (c .before .before .before .before .before .before .before .before .before .before .before .before .judge-book .ensures) in
-    λ t v e. uncovered-answered t v (a .book .now) (c .before .before .before .before .before .before .before .before .before .before .before .before .before .before .if1 .left) r (c .before .before .before .before .before .before .gather-book .ensures) e (a .out .now) (c .before .before .before .if2 .left) (c .before .before .is-cover .ensures) (c .before .if3 .left) (c .lowest-unmatched .ensures)
+    λ t v e. uncovered-answered t v (a .book .now) (c .before .before .before .before .before .before .before .before .before .before .before .before .before .before .if1 .left) r (c .before .before .before .before .before .before .gather-book .ensures) e (a .set) (a .out .now) (c .before .before .before .if2 .left) (c .before .before .is-cover .ensures) (c .before .if3 .left) (c .lowest-unmatched .ensures)
 
 same-length-5 : tie.Need-same-length-5
 same-length-5 c = search needs
@@ -102,7 +98,7 @@ returns-5 : tie.Need-returns-5
 returns-5 c =
     let a = c .before .before .before .before .before .before .before .before .before .before .before .args in
     let r = rw (c .before .p .given .1) at (c .before .before .before .before .before .judge-book .ensures) in
-    λ t v e. body-refused (read-finds 65536 4 (book (edgeCounts (v .views .content))) (a .book .now) (c .before .before .before .before .before .before .before .if1 .left)) (a .out .now) refl (λ bs. answerFor chosen (t .content) (v .views .content) bs (length (a .out .now))) (c .before .p .given .0 .0) (rw (v .are) at r)
+    λ t v e. body-refused (read-finds 65536 4 (book (edgeCounts (v .views .content))) (a .book .now) (c .before .before .before .before .before .before .before .if1 .left)) (a .out .now) refl (λ bs. answerIn (a .set) (t .content) (v .views .content) bs (length (a .out .now))) (c .before .p .given .0 .0) (rw (v .are) at r)
 
 pub answer-book-spec : {M : Type 1} → statement M
 answer-book-spec =
@@ -118,7 +114,6 @@ answer-book-spec =
     same-length
     returns-2
     is-cover-requires
-    choose-requires
     answer-from-requires
     same-length-2
     same-length-3

@@ -4,8 +4,8 @@ use native.Mathlib.Omega.{arith}
 use lib.ListN.{length}
 use Rattle.packed.specs.Formats.{catalogue}
 use Rattle.packed.proofs.CallLaws.{read-finds, body-over, body-refused, body-goes-on}
-use Rattle.containment.proofs.AnswerLaws.{views-by}
-use Rattle.containment.proofs.AnsweringLaws.{bookOn, counts-by}
+use Rattle.containment.proofs.AnswerLaws.{views-by, views-few, query-few}
+use Rattle.containment.proofs.AnsweringLaws.{bookOn, counts-by, used-is}
 use borrow.Author.Needs.{needs}
 use Rattle.containment.proofs.calls.answer_for.Statement.{statement}
 use Rattle.containment.proofs.calls.answer_for.Tie as tie
@@ -58,11 +58,18 @@ map-views-requires c κs =
     let r = rw (c .before .before .before .before .before .before .before .before .p .given .1) at (c .before .before .before .before .before .before .before .before .before .before .before .before .judge-catalogue .ensures) in
     (c .before .before .before .before .before .before .before .before .before .before .before .before .before .before .before .before .before .before .before .pre .0, views-by (a .catalogue .now) (r .0) (omega (arith, r .1, c .before .before .before .before .before .before .before .before .before .before .before .before .before .before .before .before .before .before .before .pre .1)) (c .before .before .before .before .word-at .ensures), omega (arith, c .before .before .before .before .before .before .before .before .before .before .before .before .before .before .if1 .left), c .before .before .before .before .before .before .before .before .before .before .before .before .judge-catalogue .kept .1 .0 ∙ c .before .before .before .before .before .before .before .before .before .before .before .before .before .before .before .before .before .before .before .pre .1)
 
+use-views-requires : tie.Need-use-views-requires
+use-views-requires c κs =
+    let a = c .before .before .before .before .before .before .before .before .before .before .before .before .before .before .before .before .before .before .before .before .before .before .before .args in
+    let r = rw (c .before .before .before .before .before .before .before .before .before .before .before .before .p .given .1) at (c .before .before .before .before .before .before .before .before .before .before .before .before .before .before .before .before .judge-catalogue .ensures) in
+    let v = views-by (a .catalogue .now) (r .0) (omega (arith, r .1, c .before .before .before .before .before .before .before .before .before .before .before .before .before .before .before .before .before .before .before .before .before .before .before .pre .1)) (c .before .before .before .before .before .before .before .before .word-at .ensures) in
+    (query-few (c .before .before .before .before .before .before .before .before .before .before .before .before .before .before .before .before .before .before .before .before .before .before .before .pre .0), views-few v)
+
 answer-book-requires : tie.Need-answer-book-requires
 answer-book-requires c κs =
-    let a = c .before .before .before .before .before .before .before .before .before .before .before .before .before .before .before .before .before .before .before .before .before .before .before .before .before .args in
-    let r = rw (c .before .before .before .before .before .before .before .before .before .before .before .before .before .before .p .given .1) at (c .before .before .before .before .before .before .before .before .before .before .before .before .before .before .before .before .before .before .judge-catalogue .ensures) in
-    (c .before .before .before .before .before .before .before .before .before .before .before .before .before .before .before .before .before .before .before .before .before .before .before .before .before .pre .0, counts-by (a .catalogue .now) (r .0) (omega (arith, r .1, c .before .before .before .before .before .before .before .before .before .before .before .before .before .before .before .before .before .before .before .before .before .before .before .before .before .pre .1)) (c .before .before .before .before .before .before .before .before .before .before .word-at .ensures) (c .before .before .before .before .before .before .before .edge-counts .ensures), c .before .before .before .before .before .map-views .kept .1 .1 .1 .0 ∙ c .before .before .before .before .before .before .before .before .before .before .before .before .before .before .before .before .before .before .judge-catalogue .kept .1 .0 ∙ c .before .before .before .before .before .before .before .before .before .before .before .before .before .before .before .before .before .before .before .before .before .before .before .before .before .pre .1)
+    let a = c .before .before .before .before .before .before .before .before .before .before .before .before .before .before .before .before .before .before .before .before .before .before .before .before .before .before .before .args in
+    let r = rw (c .before .before .before .before .before .before .before .before .before .before .before .before .before .before .before .before .p .given .1) at (c .before .before .before .before .before .before .before .before .before .before .before .before .before .before .before .before .before .before .before .before .judge-catalogue .ensures) in
+    (c .before .before .before .before .before .before .before .before .before .before .before .before .before .before .before .before .before .before .before .before .before .before .before .before .before .before .before .pre .0, counts-by (a .catalogue .now) (r .0) (omega (arith, r .1, c .before .before .before .before .before .before .before .before .before .before .before .before .before .before .before .before .before .before .before .before .before .before .before .before .before .before .before .pre .1)) (c .before .before .before .before .before .before .before .before .before .before .before .before .word-at .ensures) (c .before .before .before .before .before .before .before .before .before .edge-counts .ensures), c .before .before .before .before .before .before .before .map-views .kept .1 .1 .1 .0 ∙ c .before .before .before .before .before .before .before .before .before .before .before .before .before .before .before .before .before .before .before .before .judge-catalogue .kept .1 .0 ∙ c .before .before .before .before .before .before .before .before .before .before .before .before .before .before .before .before .before .before .before .before .before .before .before .before .before .before .before .pre .1)
 
 enum-known-p-2 : tie.Need-enum-known-p-2
 enum-known-p-2 c = search needs
@@ -75,10 +82,10 @@ same-length-2 c = search needs
 
 returns-2 : tie.Need-returns-2
 returns-2 c =
-    let a = c .before .before .before .before .before .before .before .before .before .before .before .before .before .before .before .before .before .before .before .before .before .before .before .before .before .before .before .before .before .before .args in
-    let r = rw (c .before .before .before .before .before .before .before .before .before .before .before .before .before .before .before .before .before .before .before .p .given .1) at (c .before .before .before .before .before .before .before .before .before .before .before .before .before .before .before .before .before .before .before .before .before .before .before .judge-catalogue .ensures) in
-    let v = counts-by (a .catalogue .now) (r .0) (omega (arith, r .1, c .before .before .before .before .before .before .before .before .before .before .before .before .before .before .before .before .before .before .before .before .before .before .before .before .before .before .before .before .before .before .pre .1)) (c .before .before .before .before .before .before .before .before .before .before .before .before .before .before .before .word-at .ensures) (c .before .before .before .before .before .before .before .before .before .before .before .before .edge-counts .ensures) in
-    λ t. body-goes-on (read-finds 705 2 catalogue (a .catalogue .now) (c .before .before .before .before .before .before .before .before .before .before .before .before .before .before .before .before .before .before .before .before .before .before .before .before .before .if1 .left)) (r .0) (bookOn (t .content) (a .book .now) (length (a .out .now))) (c .before .before .before .before .answer-book .ensures t v (c .before .before .before .before .before .before .before .before .before .before .map-views .ensures t (v .views)))
+    let a = c .before .before .before .before .before .before .before .before .before .before .before .before .before .before .before .before .before .before .before .before .before .before .before .before .before .before .before .before .before .before .before .before .args in
+    let r = rw (c .before .before .before .before .before .before .before .before .before .before .before .before .before .before .before .before .before .before .before .before .before .p .given .1) at (c .before .before .before .before .before .before .before .before .before .before .before .before .before .before .before .before .before .before .before .before .before .before .before .before .before .judge-catalogue .ensures) in
+    let v = counts-by (a .catalogue .now) (r .0) (omega (arith, r .1, c .before .before .before .before .before .before .before .before .before .before .before .before .before .before .before .before .before .before .before .before .before .before .before .before .before .before .before .before .before .before .before .before .pre .1)) (c .before .before .before .before .before .before .before .before .before .before .before .before .before .before .before .before .before .word-at .ensures) (c .before .before .before .before .before .before .before .before .before .before .before .before .before .before .edge-counts .ensures) in
+    λ t. body-goes-on (read-finds 705 2 catalogue (a .catalogue .now) (c .before .before .before .before .before .before .before .before .before .before .before .before .before .before .before .before .before .before .before .before .before .before .before .before .before .before .before .if1 .left)) (r .0) (bookOn (t .content) (a .book .now) (length (a .out .now))) (rw (used-is t (v .views) (c .before .before .before .before .before .before .before .before .before .before .before .before .map-views .ensures t (v .views)) (c .before .before .before .before .before .before .before .before .use-views .ensures)) at (c .before .before .before .before .answer-book .ensures t v (c .before .before .before .before .before .before .before .before .before .before .before .before .map-views .ensures t (v .views))))
 
 same-length-3 : tie.Need-same-length-3
 same-length-3 c = search needs
@@ -106,6 +113,7 @@ answer-for-spec =
     part-edge-counts-end
     edge-counts-requires
     map-views-requires
+    use-views-requires
     answer-book-requires
     enum-known-p-2
     same-length

@@ -8,6 +8,7 @@ use Rattle.packed.specs.Calls.{give}
 use Rattle.packed.proofs.CallLaws.{read-finds}
 use Rattle.matching.specs.Simulation.{patternOf}
 use Rattle.containment.proofs.AnswerLaws.{answers-over, answers-refused, answers-on, viewPatterns, views-by, views-few, query-few, quote-given}
+use Rattle.containment.specs.Choice.{everyView}
 use Rattle.containment.specs.Quote.{flat, quoteValues}
 use borrow.Author.Needs.{needs}
 use Rattle.containment.proofs.calls.quote_for.Statement.{statement}
@@ -19,7 +20,7 @@ refused-requires c κs = search needs
 returns : tie.Need-returns
 returns c =
     let a = c .before .before .before .before .args in
-    λ t. answers-over (λ cs. give (flat (quoteValues (patternOf (t .content)) (viewPatterns cs))) []) 705 2 catalogue (a .catalogue .now) [] (c .before .if1 .taken) (c .refused .ensures)
+    λ t. answers-over (λ cs. give (flat (quoteValues everyView (patternOf (t .content)) (viewPatterns cs))) []) 705 2 catalogue (a .catalogue .now) [] (c .before .if1 .taken) (c .refused .ensures)
 
 judge-catalogue-requires : tie.Need-judge-catalogue-requires
 judge-catalogue-requires c κs = search needs
@@ -72,7 +73,7 @@ returns-2 c =
     let a = c .before .before .before .before .before .before .before .before .before .before .before .before .before .before .before .before .before .before .args in
     let q = rw (c .before .before .before .before .before .before .before .before .before .p .given .1) at (c .before .before .before .before .before .before .before .before .before .before .before .before .before .judge-catalogue .ensures) in
     let v = views-by (a .catalogue .now) (q .0) (omega (arith, q .1, c .before .before .before .before .before .before .before .before .before .before .before .before .before .before .before .before .before .before .pre .1)) (c .before .before .before .before .before .word-at .ensures) in
-    λ t. answers-on (λ cs. give (flat (quoteValues (patternOf (t .content)) (viewPatterns cs))) []) (read-finds 705 2 catalogue (a .catalogue .now) (c .before .before .before .before .before .before .before .before .before .before .before .before .before .before .before .if1 .left)) (q .0 .is) (quote-given v t (c .before .before .before .map-views .ensures t v) (c .quote-of .ensures))
+    λ t. answers-on (λ cs. give (flat (quoteValues everyView (patternOf (t .content)) (viewPatterns cs))) []) (read-finds 705 2 catalogue (a .catalogue .now) (c .before .before .before .before .before .before .before .before .before .before .before .before .before .before .before .if1 .left)) (q .0 .is) (quote-given v t (c .before .before .before .map-views .ensures t v) everyView (c .quote-of .ensures))
 
 same-length-2 : tie.Need-same-length-2
 same-length-2 c = search needs
@@ -81,7 +82,7 @@ returns-3 : tie.Need-returns-3
 returns-3 c =
     let a = c .before .before .before .before .before .before .before .before .before .before .before .args in
     let q = rw (c .before .before .p2 .given .1) at (c .before .before .before .before .before .before .judge-catalogue .ensures) in
-    λ t. answers-refused (λ cs. give (flat (quoteValues (patternOf (t .content)) (viewPatterns cs))) []) (read-finds 705 2 catalogue (a .catalogue .now) (c .before .before .before .before .before .before .before .before .if1 .left)) [] (c .before .before .p2 .given .0 .0) q (c .refused2 .ensures)
+    λ t. answers-refused (λ cs. give (flat (quoteValues everyView (patternOf (t .content)) (viewPatterns cs))) []) (read-finds 705 2 catalogue (a .catalogue .now) (c .before .before .before .before .before .before .before .before .if1 .left)) [] (c .before .before .p2 .given .0 .0) q (c .refused2 .ensures)
 
 pub quote-for-spec : {M : Type 1} → statement M
 quote-for-spec =

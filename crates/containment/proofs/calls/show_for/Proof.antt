@@ -8,6 +8,7 @@ use Rattle.packed.specs.Calls.{give}
 use Rattle.packed.proofs.CallLaws.{read-finds}
 use Rattle.matching.specs.Simulation.{patternOf}
 use Rattle.containment.proofs.AnswerLaws.{answers-over, answers-refused, answers-on, viewPatterns, views-by, views-few, query-few, show-covered, show-uncovered}
+use Rattle.containment.specs.Choice.{everyView}
 use Rattle.containment.specs.Show.{showFor}
 use borrow.Author.Needs.{needs}
 use Rattle.containment.proofs.calls.show_for.Statement.{statement}
@@ -16,7 +17,7 @@ use Rattle.containment.proofs.calls.show_for.Tie as tie
 returns : tie.Need-returns
 returns c =
     let a = c .before .before .before .before .before .args in
-    λ t. answers-over (λ cs. showFor (t .content) (viewPatterns cs) (length (a .first .now)) (length (a .second .now))) 705 2 catalogue (a .catalogue .now) (a .first .now ∷ a .second .now ∷ []) (c .if1 .taken) refl
+    λ t. answers-over (λ cs. showFor everyView (t .content) (viewPatterns cs) (length (a .first .now)) (length (a .second .now))) 705 2 catalogue (a .catalogue .now) (a .first .now ∷ a .second .now ∷ []) (c .if1 .taken) refl
 
 judge-catalogue-requires : tie.Need-judge-catalogue-requires
 judge-catalogue-requires c κs = search needs
@@ -63,7 +64,7 @@ returns-2 c =
     let a = c .before .before .before .before .before .before .before .before .before .before .before .before .before .before .before .before .before .before .before .before .before .before .args in
     let q = rw (c .before .before .before .before .before .before .before .before .before .before .before .p .given .1) at (c .before .before .before .before .before .before .before .before .before .before .before .before .before .before .before .judge-catalogue .ensures) in
     let v = views-by (a .catalogue .now) (q .0) (omega (arith, q .1, c .before .before .before .before .before .before .before .before .before .before .before .before .before .before .before .before .before .before .before .before .before .before .pre .1)) (c .before .before .before .before .before .before .before .word-at .ensures) in
-    λ t. answers-on (λ cs. showFor (t .content) (viewPatterns cs) (length (a .first .now)) (length (a .second .now))) (read-finds 705 2 catalogue (a .catalogue .now) (c .before .before .before .before .before .before .before .before .before .before .before .before .before .before .before .before .before .if1 .left)) (q .0 .is) (show-covered v t (c .before .before .before .before .before .map-views .ensures t v) (length (a .first .now)) (length (a .second .now)) (a .first .now ∷ a .second .now ∷ []) (sym (c .before .is-cover .ensures) ∙ c .if2 .taken) refl)
+    λ t. answers-on (λ cs. showFor everyView (t .content) (viewPatterns cs) (length (a .first .now)) (length (a .second .now))) (read-finds 705 2 catalogue (a .catalogue .now) (c .before .before .before .before .before .before .before .before .before .before .before .before .before .before .before .before .before .if1 .left)) (q .0 .is) (show-covered v t (c .before .before .before .before .before .map-views .ensures t v) everyView (length (a .first .now)) (length (a .second .now)) (a .first .now ∷ a .second .now ∷ []) (sym (c .before .is-cover .ensures) ∙ c .if2 .taken) refl)
 
 lowest-unmatched-requires : tie.Need-lowest-unmatched-requires
 lowest-unmatched-requires c κs =
@@ -93,8 +94,8 @@ returns-3 c =
     let a = c .before .before .before .before .before .before .before .before .before .before .before .before .before .before .before .before .before .before .before .before .before .before .before .before .before .before .before .before .before .before .before .before .before .before .args in
     let q = rw (c .before .before .before .before .before .before .before .before .before .before .before .before .before .before .before .before .before .before .before .before .before .before .before .p .given .1) at (c .before .before .before .before .before .before .before .before .before .before .before .before .before .before .before .before .before .before .before .before .before .before .before .before .before .before .before .judge-catalogue .ensures) in
     let v = views-by (a .catalogue .now) (q .0) (omega (arith, q .1, c .before .before .before .before .before .before .before .before .before .before .before .before .before .before .before .before .before .before .before .before .before .before .before .before .before .before .before .before .before .before .before .before .before .before .pre .1)) (c .before .before .before .before .before .before .before .before .before .before .before .before .before .before .before .before .before .before .before .word-at .ensures) in
-    λ t. answers-on (λ cs. showFor (t .content) (viewPatterns cs) (length (a .first .now)) (length (a .second .now))) (read-finds 705 2 catalogue (a .catalogue .now) (c .before .before .before .before .before .before .before .before .before .before .before .before .before .before .before .before .before .before .before .before .before .before .before .before .before .before .before .before .before .if1 .left)) (q .0 .is)
-    (show-uncovered v t (c .before .before .before .before .before .before .before .before .before .before .before .before .before .before .before .before .before .map-views .ensures t v) (length (a .first .now)) (length (a .second .now)) (c .before .before .before .before .before .before .before .before .before .before .lowest-unmatched .result) (sym (c .before .before .before .before .before .before .before .before .before .before .before .before .before .is-cover .ensures) ∙ c .before .before .before .before .before .before .before .before .before .before .before .before .if2 .left) (c .before .before .before .before .before .before .before .before .before .before .lowest-unmatched .ensures) (c .before .before .before .before .before .before .show-both .ensures t))
+    λ t. answers-on (λ cs. showFor everyView (t .content) (viewPatterns cs) (length (a .first .now)) (length (a .second .now))) (read-finds 705 2 catalogue (a .catalogue .now) (c .before .before .before .before .before .before .before .before .before .before .before .before .before .before .before .before .before .before .before .before .before .before .before .before .before .before .before .before .before .if1 .left)) (q .0 .is)
+    (show-uncovered v t (c .before .before .before .before .before .before .before .before .before .before .before .before .before .before .before .before .before .map-views .ensures t v) everyView (length (a .first .now)) (length (a .second .now)) (c .before .before .before .before .before .before .before .before .before .before .lowest-unmatched .result) (sym (c .before .before .before .before .before .before .before .before .before .before .before .before .before .is-cover .ensures) ∙ c .before .before .before .before .before .before .before .before .before .before .before .before .if2 .left) (c .before .before .before .before .before .before .before .before .before .before .lowest-unmatched .ensures) (c .before .before .before .before .before .before .show-both .ensures t))
 
 same-length-5 : tie.Need-same-length-5
 same-length-5 c = search needs
@@ -103,7 +104,7 @@ returns-4 : tie.Need-returns-4
 returns-4 c =
     let a = c .before .before .before .before .before .before .before .before .before .before .before .before .args in
     let q = rw (c .before .p2 .given .1) at (c .before .before .before .before .before .judge-catalogue .ensures) in
-    λ t. answers-refused (λ cs. showFor (t .content) (viewPatterns cs) (length (a .first .now)) (length (a .second .now))) (read-finds 705 2 catalogue (a .catalogue .now) (c .before .before .before .before .before .before .before .if1 .left)) (a .first .now ∷ a .second .now ∷ []) (c .before .p2 .given .0 .0) q refl
+    λ t. answers-refused (λ cs. showFor everyView (t .content) (viewPatterns cs) (length (a .first .now)) (length (a .second .now))) (read-finds 705 2 catalogue (a .catalogue .now) (c .before .before .before .before .before .before .before .if1 .left)) (a .first .now ∷ a .second .now ∷ []) (c .before .p2 .given .0 .0) q refl
 
 pub show-for-spec : {M : Type 1} → statement M
 show-for-spec =

@@ -16,10 +16,10 @@ drop-views-requires c κs = search needs
 
 returns : tie.Need-returns
 returns c =
-    chosen-by _ _ _ _ _ (sym (c .before .before .before .is-cover .ensures) ∙ c .before .before .if1 .taken) (c .before .take-views .ensures) (c .drop-views .ensures)
+    chosen-by _ _ _ _ _ _ (sym (c .before .before .before .is-cover .ensures) ∙ c .before .before .if1 .taken) (c .before .take-views .ensures) (c .drop-views .ensures)
 
 returns-2 : tie.Need-returns-2
-returns-2 c = sym (chosen-none _ _ _ (sym (c .before .is-cover .ensures) ∙ c .if1 .left))
+returns-2 c = sym (chosen-none _ _ _ _ (sym (c .before .is-cover .ensures) ∙ c .if1 .left))
 
 pub choose-spec : {M : Type 1} → statement M
 choose-spec =

@@ -1,6 +1,6 @@
 -- `containment::choose::take_views` meets its contract.
 use borrow.Author.Needs.{needs}
-use mathlib.Core.Path.{_≡_, refl, sym, ap, _∙_}
+use mathlib.Core.Path.{_≡_, refl, ap, _∙_}
 use mathlib.Core.Logic.{⊎-elim}
 use Prim.Native.Nat.{ℕ, _≤_, _+_, _-_}
 use native.Mathlib.Omega.{arith}
@@ -11,14 +11,17 @@ use Rattle.containment.proofs.choose.take_views.Statement.{statement}
 use Rattle.containment.proofs.choose.take_views.Tie as tie
 
 abbrev Inv-loop : tie.InvT-loop
-Inv-loop mapping k m set₀ a₀ set a = (a ≤ k) × (set ≡ taken mapping m a)
+Inv-loop mapping set k m first₀ a₀ first a = (a ≤ k) × (first ≡ taken mapping set m a)
 
 abbrev μ-loop : tie.MeasureT-loop
-μ-loop mapping k m set₀ a₀ set a = k - a
+μ-loop mapping set k m first₀ a₀ first a = k - a
 
 loop-holds : tie.Need-loop-holds Inv-loop μ-loop
 unfolding taken
 loop-holds c = (search needs, refl)
+
+is-in-requires : tie.Need-is-in-requires Inv-loop μ-loop
+is-in-requires c κs = search needs
 
 is-added-requires : tie.Need-is-added-requires Inv-loop μ-loop
 is-added-requires c κs = search needs
@@ -26,10 +29,11 @@ is-added-requires c κs = search needs
 only-requires : tie.Need-only-requires Inv-loop μ-loop
 only-requires c κs = search needs
 
-add-set : tie.Need-add-set Inv-loop μ-loop
-add-set c =
-    let l = c .before .before .before .before .loop in
-    let s = taken-small (c .before .before .before .before .before .args .mapping .now) (c .before .before .before .before .before .args .m) (l .a) in
+add-first : tie.Need-add-first Inv-loop μ-loop
+add-first c =
+    let l = c .before .before .before .before .before .loop in
+    let a = c .before .before .before .before .before .before .args in
+    let s = taken-small (a .mapping .now) (a .set) (a .m) (l .a) in
     let p = pow-lt {i = l .a} {j = 16} (omega arith) in
     omega arith
 
@@ -41,11 +45,12 @@ loop-less c = search needs
 
 loop-again : tie.Need-loop-again Inv-loop μ-loop
 loop-again c =
-    let l = c .before .before .before .loop in
+    let l = c .before .before .before .before .loop in
+    let i = c .before .before .is-in .ensures in
     let e = c .before .is-added .ensures in (
       search needs,
-      ⊎-elim (λ w. w .2 ∙ ap (λ (x : ℕ). l .set + x) (w .1 .ensures) ∙ taken-adds _ _ _ _ (l .inv .1) (sym e ∙ w .0 .taken))
-          (λ w. w .1 ∙ taken-skips _ _ _ _ (l .inv .1) (sym e ∙ w .0 .left))
+      ⊎-elim (λ w. w .2 ∙ ap (λ (x : ℕ). l .first + x) (w .1 .ensures) ∙ taken-adds _ _ _ _ _ (l .inv .1) (rw (i, e) at (w .0 .taken)))
+          (λ w. w .1 ∙ taken-skips _ _ _ _ _ (l .inv .1) (rw (i, e) at (w .0 .left)))
           (c .if1 .came),
     )
 
@@ -61,9 +66,10 @@ take-views-spec =
     Inv-loop
     μ-loop
     loop-holds
+    is-in-requires
     is-added-requires
     only-requires
-    add-set
+    add-first
     add-a
     loop-less
     loop-again
