@@ -36,7 +36,9 @@ pub mod Edges
 pub mod Patterns
 pub mod EdgeCounts
 pub mod SheetLaws
+pub mod SetBits
 pub mod MatchLaws
+pub mod ScatterLaws
 pub mod ByValueLaws
 pub mod CallLaws
 pub mod CallRoundTrips

@@ -14,14 +14,15 @@ use native.Mathlib.Numerals.{add-one}
 use native.Mathlib.Nat.{add-zero, zero-add}
 use Rattle.packed.specs.Bits.{bits, bitsOf, gap}
 use Rattle.packed.specs.Format.{pick}
-use Rattle.packed.specs.Matches.{marks, marked, markedFrom, anyEmpty, emptied, allOrNone, codesOf, masksOf, matchesOf, Marked, Counts, Written, Added, anyZero, sumOf, Listed, pairBits, listBits, ListWritten, ListsWritten}
+use Rattle.packed.specs.Matches.{marks, marked, markedFrom, anyEmpty, emptied, allOrNone, codesOf, masksOf, matchesOf, Marked, Counts, Written, Added, anyZero, sumOf, Listed, pairBits, listBits, ListsWritten}
 use Rattle.packed.specs.Contents.{total}
-use Rattle.packed.proofs.BitsLaws.{length-bitsOf, length-bits, bitsOf-zero, bits-injective}
+use Rattle.packed.proofs.BitsLaws.{length-bits, bitsOf-zero, bits-injective}
 use Rattle.packed.proofs.OrderCases.{lt-or-ge}
 use Rattle.packed.proofs.Sets.{sets-append}
+use Rattle.packed.proofs.SetBits.{Next, no-bits}
 use Rattle.packed.proofs.RoundTrip.{Bytes}
 use Rattle.packed.proofs.Files.{bits-sets, bytes-sets}
-use Rattle.packed.proofs.SheetLaws.{Rising, rising-none, rising-next, rising-by, rising-less, Fit, fit-none, fit-next, fit-all, length-all, all-twice, length-pairBits, padded, Encoded, sheet-encodes}
+use Rattle.packed.proofs.SheetLaws.{Rising, rising-none, rising-next, rising-by, rising-less, Fit, fit-none, fit-next, fit-all, length-all, all-twice, padded, Encoded, sheet-encodes}
 
 -- the codes under the edge e, and the lists of the first m edges, by the first n pairs of the workspace
 abbrev pub under : ℕ → ℕ → List ℕ → List ℕ
@@ -33,7 +34,7 @@ listsOf m n w = markedFrom 0 m (codesOf n w) (masksOf n w)
 -- ---- one more pair
 
 -- a code, where its mask names the edge
-abbrev one : Bool → ℕ → List ℕ
+abbrev pub one : Bool → ℕ → List ℕ
 one b p = pick b (p ∷ []) []
 
 pick-append : (b : Bool) (p : ℕ) (xs ys : List ℕ) → pick b (p ∷ (xs ++ ys)) (xs ++ ys) ≡ pick b (p ∷ xs) xs ++ ys
@@ -50,7 +51,7 @@ marked-more e (x ∷ ps) (y ∷ qs) p q h =
     ap (λ (l : List ℕ). pick (marks e y) (x ∷ l) l) (marked-more e ps qs p q (omega arith))
     ∙ pick-append (marks e y) x (marked e ps qs) (one (marks e q) p)
 
-under-more : (e i : ℕ) (w : List ℕ) → 8192 + i < length w → under e (i + 1) w ≡ under e i w ++ one (marks e (getD w (8192 + i) 0)) (getD w i 0)
+pub under-more : (e i : ℕ) (w : List ℕ) → 8192 + i < length w → under e (i + 1) w ≡ under e i w ++ one (marks e (getD w (8192 + i) 0)) (getD w i 0)
 under-more e i w h =
     let d : List ℕ = drop 8192 w in
     let n : length d ≡ length w - 8192 = length-drop 8192 w in
@@ -70,7 +71,7 @@ length-one e p q = go (q / 2 ^ e % 2) (omega arith)
     go (suc zero) h = refl
     go (suc (suc r)) h = absurd (omega arith)
 
-length-more : (e i : ℕ) (w : List ℕ) → 8192 + i < length w → length (under e (i + 1) w) ≡ length (under e i w) + getD w (8192 + i) 0 / 2 ^ e % 2
+pub length-more : (e i : ℕ) (w : List ℕ) → 8192 + i < length w → length (under e (i + 1) w) ≡ length (under e i w) + getD w (8192 + i) 0 / 2 ^ e % 2
 length-more e i w h =
     let q : ℕ = getD w (8192 + i) 0 in
     let p : ℕ = getD w i 0 in
@@ -137,21 +138,37 @@ pub record Adding (x : ℕ) (c₀ c : List ℕ) (e : ℕ) : Type 0 where
 pub adding-start : (x : ℕ) (c : List ℕ) → Adding x c c 0
 adding-start x c = record { upto = omega arith; long = refl; done = λ k l. absurd (omega arith); left = λ k a b. refl }
 
-pub adding-next : (x : ℕ) (c₀ c : List ℕ) (e : ℕ) → Adding x c₀ c e → e < 32 → length c₀ ≡ 32 → Adding x c₀ (set c e (getD c e 0 + x / 2 ^ e % 2)) (e + 1)
-adding-next x c₀ c e t l h =
-    let v : ℕ = getD c e 0 + x / 2 ^ e % 2 in
+-- bits that are not set add nothing
+adding-skip : {x : ℕ} {c₀ c : List ℕ} {k : ℕ} (e : ℕ) → Adding x c₀ c k → k ≤ e → e ≤ 32 → ((j : ℕ) → k ≤ j → j < e → x / 2 ^ j % 2 ≡ 0) → Adding x c₀ c e
+adding-skip {x} {c₀} {c} {k} e t l h z =
+    record {
+      upto = h;
+      long = t .long;
+      done = λ j q. ⊎-elim (λ (r : j < k). t .done j r) (λ (r : k ≤ j). omega (arith, t .left j r (omega arith), z j r q)) (lt-or-ge j k);
+      left = λ j a b. t .left j (omega arith) b;
+    }
+
+adding-set : {x : ℕ} {c₀ c : List ℕ} (e : ℕ) → Adding x c₀ c e → e < 32 → length c₀ ≡ 32 → x / 2 ^ e % 2 ≡ 1 → Adding x c₀ (set c e (getD c e 0 + 1)) (e + 1)
+adding-set {x} {c₀} {c} e t l h y =
+    let v : ℕ = getD c e 0 + 1 in
     let n : e < length c = omega (arith, t .long) in
     record {
       upto = omega arith;
       long = length-set c e v ∙ t .long;
       done = below-more (λ k. getD (set c e v) k 0 ≡ getD c₀ k 0 + x / 2 ^ k % 2) e
           (λ k q. getD-set-other c e k v 0 (λ p. omega arith) ∙ t .done k q)
-          (getD-set-same c e v 0 n ∙ ap (λ (i : ℕ). i + x / 2 ^ e % 2) (t .left e (omega arith) l));
+          (getD-set-same c e v 0 n ∙ omega (arith, t .left e (omega arith) l));
       left = λ k a b. getD-set-other c e k v 0 (λ p. omega arith) ∙ t .left k (omega arith) b;
     }
 
-pub adding-end : (x : ℕ) (c₀ c : List ℕ) (e : ℕ) → Adding x c₀ c e → 32 ≤ e → Added c₀ x c
-adding-end x c₀ c e t l = record { long = t .long; each = λ k q. t .done k (omega arith) }
+pub adding-next : {x : ℕ} {c₀ c : List ℕ} {k left : ℕ} (z : ℕ) → Adding x c₀ c k → length c₀ ≡ 32 → Next x k left z
+    → Adding x c₀ (set c (k + z) (getD c (k + z) 0 + 1)) (k + z + 1)
+adding-next {k = k} z t h s = adding-set (k + z) (adding-skip (k + z) t (omega arith) (omega (arith, s .inside)) (s .below)) (s .inside) h (s .here)
+
+pub adding-end : {x : ℕ} {c₀ c : List ℕ} {k left : ℕ} → Adding x c₀ c k → left ≡ x / 2 ^ k → left ≡ 0 → Added c₀ x c
+adding-end {x} {c₀} {c} {k} {left} t e z =
+    let u : Adding x c₀ c 32 = adding-skip 32 t (t .upto) (omega arith) (λ j a l. no-bits x k left e z j a) in
+    record { long = u .long; each = u .done }
 
 -- ---- counting
 
@@ -186,7 +203,7 @@ from-next e (suc m) ps qs =
     ap (λ (l : List (List ℕ)). marked e ps qs ∷ l)
     (from-next (suc e) m ps qs ∙ ap (λ (k : ℕ). markedFrom (suc e) m ps qs ++ (marked k ps qs ∷ [])) (omega arith))
 
-lists-next : (m n : ℕ) (w : List ℕ) → listsOf (suc m) n w ≡ listsOf m n w ++ (under m n w ∷ [])
+pub lists-next : (m n : ℕ) (w : List ℕ) → listsOf (suc m) n w ≡ listsOf m n w ++ (under m n w ∷ [])
 lists-next m n w =
     from-next 0 m (take n w) (take n (drop 8192 w)) ∙ ap (λ (k : ℕ). listsOf m n w ++ (under k n w ∷ [])) (zero-add m)
 
@@ -200,7 +217,7 @@ unfolding anyEmpty
 empty-next [] l = or-false (eqb (length l) 0)
 empty-next (x ∷ ls) l = ap (λ (b : Bool). eqb (length x) 0 || b) (empty-next ls l) ∙ sym (or-assoc (eqb (length x) 0) (anyEmpty ls) (eqb (length l) 0))
 
-bits-next : (ls : List (List ℕ)) (l : List ℕ) → listBits (ls ++ (l ∷ [])) ≡ listBits ls ++ (bitsOf 14 (length l) ++ pairBits l)
+pub bits-next : (ls : List (List ℕ)) (l : List ℕ) → listBits (ls ++ (l ∷ [])) ≡ listBits ls ++ (bitsOf 14 (length l) ++ pairBits l)
 unfolding listBits
 bits-next [] l = ap (λ (x : List Bool). bitsOf 14 (length l) ++ x) (append-nil (pairBits l))
 bits-next (x ∷ ls) l = rw (bits-next ls l) (simp append-assoc)
@@ -261,82 +278,18 @@ sum-listed n m w k c l t h = sum-is k m w c t h ∙ ap total (l .lists)
 
 -- ---- writing
 
-pairs-next : (l : List ℕ) (p : ℕ) → pairBits (l ++ (p ∷ [])) ≡ pairBits l ++ bitsOf 24 p
+pub pairs-next : (l : List ℕ) (p : ℕ) → pairBits (l ++ (p ∷ [])) ≡ pairBits l ++ bitsOf 24 p
 unfolding pairBits
 pairs-next [] p = append-nil (bitsOf 24 p)
 pairs-next (c ∷ cs) p = rw (pairs-next cs p) (sym (append-assoc (bitsOf 24 c) (pairBits cs) (bitsOf 24 p)))
 
-names : (e q : ℕ) → q / 2 ^ e % 2 ≡ 1 → marks e q ≡ true
+pub names : (e q : ℕ) → q / 2 ^ e % 2 ≡ 1 → marks e q ≡ true
 unfolding marks
 names e q h = eq-eqb (q / 2 ^ e % 2) 1 h
 
-names-not : (e q : ℕ) → (q / 2 ^ e % 2 ≡ 1 → ⊥) → marks e q ≡ false
+pub names-not : (e q : ℕ) → (q / 2 ^ e % 2 ≡ 1 → ⊥) → marks e q ≡ false
 unfolding marks
 names-not e q h = ne-eqb (q / 2 ^ e % 2) 1 h
-
-pub list-start : (e : ℕ) (w b : List ℕ) (start : ℕ) → ListWritten 0 e w b start start b
-unfolding marked pairBits
-list-start e w b start = record { holds = refl; next = omega arith; most = omega arith }
-
-module _ {i e : ℕ} {w b₀ : List ℕ} {start at : ℕ} {b : List ℕ} (t : ListWritten i e w b₀ start at b) (h : 8192 + i < length w) where
-  -- the code i is listed
-  pub list-put : (b′ : List ℕ) → getD w (8192 + i) 0 / 2 ^ e % 2 ≡ 1 → bits b′ ≡ sets (bits b) at (bitsOf 24 (getD w i 0))
-      → ListWritten (i + 1) e w b₀ start (at + 24) b′
-  list-put b′ y q =
-      let u : List ℕ = under e i w in
-      let p : ℕ = getD w i 0 in
-      let n : at ≡ start + length (pairBits u) = omega (arith, t .next, length-pairBits u) in
-      let f : under e (i + 1) w ≡ u ++ (p ∷ []) = under-more e i w h ∙ ap (λ (c : Bool). u ++ one c p) (names e (getD w (8192 + i) 0) y) in
-      record {
-        holds =
-            q
-            ∙ ap (λ (x : List Bool). sets x at (bitsOf 24 p)) (t .holds)
-            ∙ ap (λ (k : ℕ). sets (sets (bits b₀) start (pairBits u)) k (bitsOf 24 p)) n
-            ∙ sets-append (bits b₀) start (pairBits u) (bitsOf 24 p)
-            ∙ ap (sets (bits b₀) start) (sym (ap pairBits f ∙ pairs-next u p));
-        next = omega (arith, t .next, ap length f, length-append u (p ∷ []));
-        most = omega (arith, t .most);
-      }
-
-  -- it is not
-  pub list-skip : (getD w (8192 + i) 0 / 2 ^ e % 2 ≡ 1 → ⊥) → ListWritten (i + 1) e w b₀ start at b
-  list-skip y =
-      let u : List ℕ = under e i w in
-      let f : under e (i + 1) w ≡ u = under-more e i w h ∙ ap (λ (c : Bool). u ++ one c (getD w i 0)) (names-not e (getD w (8192 + i) 0) y) ∙ append-nil u in
-      record {
-        holds = t .holds ∙ ap (λ (l : List ℕ). sets (bits b₀) start (pairBits l)) (sym f);
-        next = omega (arith, t .next, ap length f);
-        most = omega (arith, t .most);
-      }
-
-pub lists-start : (n : ℕ) (w b : List ℕ) → ListsWritten n 0 w b 0 b
-unfolding markedFrom listBits
-lists-start n w b = record { holds = refl; next = refl; most = omega arith }
-
-pub lists-put : {n e : ℕ} {w b₀ : List ℕ} {at : ℕ} {b : List ℕ} (b′ : List ℕ) {r : ℕ} {b″ : List ℕ} (c : ℕ)
-    → ListsWritten n e w b₀ at b → n ≤ 8192 → c ≡ length (under e n w) → bits b′ ≡ sets (bits b) at (bitsOf 14 c)
-    → ListWritten n e w b′ (at + 14) r b″ → ListsWritten n (e + 1) w b₀ r b″
-lists-put {n} {e} {w} {b₀} {at} {b} b′ {r} {b″} c t h k q s =
-    let u : List ℕ = under e n w in
-    let ls : List Bool = listBits (listsOf e n w) in
-    let p : List Bool = bitsOf 14 (length u) in
-    let f : listBits (listsOf (e + 1) n w) ≡ ls ++ (p ++ pairBits u) =
-    ap (λ (j : ℕ). listBits (listsOf j n w)) (add-one e) ∙ ap listBits (lists-next e n w) ∙ bits-next (listsOf e n w) u in
-    let d : bits b′ ≡ sets (bits b₀) 0 (ls ++ p) =
-    q
-    ∙ ap₂ (λ (x : List Bool) (j : ℕ). sets x at (bitsOf 14 j)) (t .holds) k
-    ∙ ap (λ (j : ℕ). sets (sets (bits b₀) 0 ls) j p) (t .next ∙ sym (zero-add (length ls)))
-    ∙ sets-append (bits b₀) 0 ls p in
-    let g : at + 14 ≡ 0 + length (ls ++ p) = omega (arith, t .next, length-append ls p, length-bitsOf 14 (length u)) in
-    record {
-      holds =
-          s .holds
-          ∙ ap₂ (λ (x : List Bool) (j : ℕ). sets x j (pairBits u)) d g
-          ∙ sets-append (bits b₀) 0 (ls ++ p) (pairBits u)
-          ∙ ap (sets (bits b₀) 0) (append-assoc ls p (pairBits u) ∙ sym f);
-      next = omega (arith, s .next, g, length-pairBits u, length-append (ls ++ p) (pairBits u), ap length (f ∙ sym (append-assoc ls p (pairBits u))));
-      most = omega (arith, s .most, t .most);
-    }
 
 pub sheet-written : {n m : ℕ} {w b₀ : List ℕ} {k at : ℕ} {b : List ℕ} {r : ℕ} {b′ : List ℕ} → Marked n w → Listed n m w k → ListsWritten k m w b₀ at b
     → 8 * r ≡ at + gap at → bits b′ ≡ sets (bits b) at (bitsOf (gap at) 0) → Bytes b₀ → Bytes b′ → Written n m w b₀ r b′

@@ -1,9 +1,9 @@
 -- Laws of `sets`: a run of stores, of which those beyond the end of the list are dropped.
-use Prim.Native.Nat.{ℕ, suc, _+_, _≤_}
+use Prim.Native.Nat.{ℕ, suc, _+_, _<_, _≤_}
 use mathlib.Core.Path.{_≡_, refl, ap, sym, _∙_}
 use mathlib.Core.List.{List, [], _∷_, _++_, append-assoc}
 use lib.ListN.{length, take, drop, set, length-set, length-append, take-append-drop}
-use lib.Seq.{sets, sets-eq, set-out, set-append-left, take-set-le, drop-set-add, take-at, drop-at}
+use lib.Seq.{sets, sets-eq, set-out, set-comm, set-append-left, take-set-le, drop-set-add, take-at, drop-at}
 use native.Mathlib.Nat.{zero-add, add-zero, add-suc}
 use native.Mathlib.Omega.{arith}
 
@@ -46,3 +46,13 @@ module _ {ℓ} {A : Type ℓ} where
   sets-at p a b c i e f =
       sets-eq c (p ++ (a ++ b)) i (omega (arith, length-append p (a ++ b), length-append a b))
       ∙ rw (take-at p (a ++ b) i e, ← append-assoc p a b, drop-at (p ++ a) b (i + length c) (omega (arith, length-append p a)), append-assoc p c b)
+
+  -- a run that ends before another one starts may be stored after it
+  set-before : (l : List A) (i : ℕ) (v : A) (j : ℕ) (b : List A) → i < j → set (sets l j b) i v ≡ sets (set l i v) j b
+  set-before l i v j [] h = refl
+  set-before l i v j (y ∷ b) h =
+      set-before (set l j y) i v (suc j) b (omega arith) ∙ ap (λ (t : List A). sets t (suc j) b) (set-comm l j i y v (λ e. omega arith))
+
+  pub sets-swap : (l : List A) (i : ℕ) (a : List A) (j : ℕ) (b : List A) → i + length a ≤ j → sets (sets l j b) i a ≡ sets (sets l i a) j b
+  sets-swap l i [] j b h = refl
+  sets-swap l i (x ∷ a) j b h = ap (λ (t : List A). sets t (suc i) a) (set-before l i x j b (omega arith)) ∙ sets-swap (set l i x) (suc i) a j b (omega arith)

@@ -97,10 +97,40 @@ unfoldable pub listBits : List (List ℕ) → List Bool
 listBits [] = []
 listBits (l ∷ ls) = bitsOf 14 (length l) ++ (pairBits l ++ listBits ls)
 
-pub record ListWritten (n e : ℕ) (w out : List ℕ) (start r : ℕ) (out′ : List ℕ) : Type 0 where
-  pub holds : bits out′ ≡ sets (bits out) start (pairBits (marked e (codesOf n w) (masksOf n w)))
-  pub next : r ≡ start + 24 * length (marked e (codesOf n w) (masksOf n w))
-  pub most : r ≤ start + 24 * n
+-- where the list of the edge e begins, by the counts of the lists
+unfoldable pub start : ℕ → List ℕ → ℕ
+start zero c = 0
+start (suc e) c = start e c + (14 + 24 * getD c e 0)
+
+-- the first m lists, each from its start on: its count, and the codes that it has so far
+unfoldable pub laid : ℕ → (ℕ → List ℕ) → List ℕ → List Bool → List Bool
+laid zero has c b = b
+laid (suc e) has c b = sets (laid e has c b) (start e c) (bitsOf 14 (getD c e 0) ++ pairBits (has e))
+
+-- the code v at the place of each of the first m edges that the mask x names
+unfoldable pub scatter : ℕ → (ℕ → ℕ) → ℕ → ℕ → List Bool → List Bool
+scatter zero to x v b = b
+scatter (suc e) to x v b = sets (scatter e to x v b) (to e) (pick (marks e x) (bitsOf 24 v) [])
+
+-- the first n pairs of the workspace, each behind those before it in the lists of the first m edges
+unfoldable pub scatters : ℕ → ℕ → List ℕ → (ℕ → ℕ) → List Bool → List Bool
+scatters zero m w to b = b
+scatters (suc i) m w to b =
+    scatter m (λ e. to e + 24 * length (marked e (codesOf i w) (masksOf i w))) (getD w (8192 + i) 0) (getD w i 0) (scatters i m w to b)
+
+-- the counts stand, and each list has a place behind its own
+pub record CountsWritten (m : ℕ) (c out ps : List ℕ) (r : ℕ) (out′ : List ℕ) : Type 0 where
+  pub long : length ps ≡ 32
+  pub most : (e : ℕ) → e < 32 → getD ps e 0 ≤ 2 ^ 39
+  pub places : (e : ℕ) → e < m → getD ps e 0 ≡ start e c + 14
+  pub holds : bits out′ ≡ laid m (λ e. []) c (bits out)
+  pub next : r ≡ start m c
+
+-- the code v stands in the lists that the mask x names, and their places have moved on
+pub record PairPut (x v : ℕ) (ps out ps′ out′ : List ℕ) : Type 0 where
+  pub long : length ps′ ≡ length ps
+  pub moved : (e : ℕ) → e < 32 → getD ps′ e 0 ≡ getD ps e 0 + 24 * (x / 2 ^ e % 2)
+  pub holds : bits out′ ≡ scatter 32 (λ e. getD ps e 0) x v (bits out)
 
 pub record ListsWritten (n m : ℕ) (w out : List ℕ) (r : ℕ) (out′ : List ℕ) : Type 0 where
   pub holds : bits out′ ≡ sets (bits out) 0 (listBits (markedFrom 0 m (codesOf n w) (masksOf n w)))

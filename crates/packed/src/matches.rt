@@ -1,9 +1,10 @@
 // A sheet made from pairs: n codes, ascending, at the front of the workspace, and from word 8192 on for each a mask of the pattern's
 // edges that list it.
 ghost use mathlib.Core.Path.{_≡_};
-ghost use Prim.Native.Nat.{ℕ, _+_, _*_, _/_, _^_, _<_, _≤_};
+ghost use Prim.Native.Nat.{ℕ, _+_, _*_, _/_, _%_, _^_, _<_, _≤_};
 ghost use lib.ListN.{length, getD, replicate};
-ghost use Rattle.packed.specs.Matches.{matchesOf, Marked, Counts, Written, Added, ListWritten, ListsWritten, Listed, anyZero, sumOf};
+ghost use Rattle.packed.specs.Bits.{bits};
+ghost use Rattle.packed.specs.Matches.{matchesOf, Marked, Counts, Written, Added, CountsWritten, PairPut, scatters, ListsWritten, Listed, anyZero, sumOf};
 ghost use Rattle.packed.specs.Contents.{total};
 use crate::bits;
 use crate::field;
@@ -19,12 +20,14 @@ fn add_bits(c: &mut [u32; 32], x: u32)
     requires { ⌜ (length (now c) ≡ 32) × ((e : ℕ) → e < 32 → getD (now c) e 0 < 8192) ⌝ }
     ensures { λ r. ⌜ Added (now (c .entry)) x (now (c .exit)) ⌝ }
 {
-    let mut e: usize = 0;
-    while e < 32 {
-        let d = x >> e;
-        let b = d % 2;
-        c[e] = c[e] + b;
-        e += 1;
+    let mut left = x;
+    let mut k: u32 = 0;
+    while 0 < left {
+        let z = u32::trailing_zeros(left);
+        let e = (k + z) as usize;
+        c[e] = c[e] + 1;
+        left = (left >> z) / 2;
+        k = k + z + 1;
     }
 }
 
@@ -115,23 +118,67 @@ pub fn sheet_size(work: &[u32], n: usize, m: u32) -> usize
     (14 * m as usize + 24 * t as usize + 7) / 8
 }
 
-// The pairs whose masks name the edge e, from the bit offset start on; the result is the bit offset after them.
-fn write_list(work: &[u32], n: usize, e: u32, out: &mut [u8], start: usize) -> usize
-    requires { ⌜ Marked n (now work) × (e < 32) × (start ≤ 2 ^ 40) ⌝ }
-    ensures { λ r. ⌜ ListWritten n e (now (work .entry)) (now (out .entry)) start r (now (out .exit)) ⌝ }
+// The bits of x below the bit m.
+fn low_bits(x: u32, m: u32) -> u32
+    requires { ⌜ m ≤ 32 ⌝ }
+    ensures { λ r. ⌜ r ≡ x % 2 ^ m ⌝ }
 {
-    let mut at = start;
+    (x as u64 % (1u64 << m)) as u32
+}
+
+fn no_places() -> [usize; 32]
+    ensures { λ r. ⌜ r ≡ replicate 32 0 ⌝ }
+{
+    [0usize; 32]
+}
+
+// The counts of the first m lists, each where its list begins; a list's place is then behind its count. The result is the bit offset
+// after the lists.
+fn write_counts(c: [u32; 32], m: u32, places: &mut [usize; 32], out: &mut [u8]) -> usize
+    requires { ⌜ (m ≤ 32) × ((e : ℕ) → getD c e 0 ≤ 8192) × (now places ≡ replicate 32 0) ⌝ }
+    ensures { λ r. ⌜ CountsWritten m c (now (out .entry)) (now (places .exit)) r (now (out .exit)) ⌝ }
+{
+    let mut at: usize = 0;
+    let mut e: usize = 0;
+    while e < m as usize {
+        let count = c[e];
+        bits::put_bits(out, at, 14, count);
+        places[e] = at + 14;
+        at = at + (14 + 24 * count as usize);
+        e += 1;
+    }
+    at
+}
+
+// The code v goes to the place of each list that the mask x names, and the place moves on.
+fn put_pair(x: u32, v: u32, places: &mut [usize; 32], out: &mut [u8])
+    requires { ⌜ (v < 2 ^ 24) × (length (now places) ≡ 32) × ((e : ℕ) → e < 32 → getD (now places) e 0 ≤ 2 ^ 40) ⌝ }
+    ensures { λ r. ⌜ PairPut x v (now (places .entry)) (now (out .entry)) (now (places .exit)) (now (out .exit)) ⌝ }
+{
+    let mut left = x;
+    let mut k: u32 = 0;
+    while 0 < left {
+        let z = u32::trailing_zeros(left);
+        let e = (k + z) as usize;
+        bits::put_bits(out, places[e], 24, v);
+        places[e] = places[e] + 24;
+        left = (left >> z) / 2;
+        k = k + z + 1;
+    }
+}
+
+// The n pairs go to the places of the first m lists.
+fn write_pairs(work: &[u32], n: usize, m: u32, places: &mut [usize; 32], out: &mut [u8])
+    requires { ⌜ Marked n (now work) × (m ≤ 32) × (length (now places) ≡ 32) × ((e : ℕ) → e < 32 → getD (now places) e 0 ≤ 2 ^ 39) ⌝ }
+    ensures { λ r. ⌜ bits (now (out .exit)) ≡ scatters n m (now (work .entry)) (λ e. getD (now (places .entry)) e 0) (bits (now (out .entry))) ⌝ }
+{
     let mut i: usize = 0;
     while i < n {
         let mask = 8192 + i;
-        let d = work[mask] >> e;
-        if d % 2 == 1 {
-            bits::put_bits(out, at, 24, work[i]);
-            at += 24;
-        }
+        let x = low_bits(work[mask], m);
+        put_pair(x, work[i], places, out);
         i += 1;
     }
-    at
 }
 
 // The first m lists, each a count and its pairs; the result is the bit offset after them.
@@ -139,14 +186,9 @@ fn write_lists(work: &[u32], n: usize, c: [u32; 32], m: u32, out: &mut [u8]) -> 
     requires { ⌜ Marked n (now work) × Counts n (now work) c × (m ≤ 32) ⌝ }
     ensures { λ r. ⌜ ListsWritten n m (now (work .entry)) (now (out .entry)) r (now (out .exit)) ⌝ }
 {
-    let mut at: usize = 0;
-    let mut e: u32 = 0;
-    while e < m {
-        let k = e as usize;
-        bits::put_bits(out, at, 14, c[k]);
-        at = write_list(work, n, e, out, at + 14);
-        e += 1;
-    }
+    let mut places = no_places();
+    let at = write_counts(c, m, &mut places, out);
+    write_pairs(work, n, m, &mut places, out);
     at
 }
 
