@@ -6,6 +6,7 @@ mod calls;
 mod measure;
 mod plot;
 mod report;
+mod stack;
 #[cfg(test)]
 mod tests;
 mod workloads;
@@ -116,9 +117,19 @@ fn all_cases<'a>(beginning: &str, desk: &'a RefCell<Desk>) -> Vec<Case<'a>> {
     cases
 }
 
-/// `bench [ROUNDS [CALL]]`
+/// The stack that each call takes at most, on the workloads at full size.
+fn print_stack() {
+    let mut desk = Desk::new();
+    let files: Vec<Files> = workloads::all(1).iter().map(|workload| files_of(workload, &mut desk)).collect();
+    stack::print(&files, &mut desk);
+}
+
+/// `bench [ROUNDS [CALL]]` or `bench stack`
 fn main() {
-    let mut arguments = std::env::args().skip(1);
+    let mut arguments = std::env::args().skip(1).peekable();
+    if arguments.next_if_eq("stack").is_some() {
+        return print_stack();
+    }
     let rounds = arguments.next().map_or(ROUNDS, |rounds| rounds.parse().expect("a number of rounds"));
     let beginning = arguments.next().unwrap_or_default();
     let desk = RefCell::new(Desk::new());
