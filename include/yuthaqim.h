@@ -18,6 +18,9 @@
  * before a call. Afterwards the first YUTHAQIM_WORK_WORDS of them are zero and those beyond are as they were; on
  * YUTHAQIM_DESK all of them are as they were.
  *
+ * The stack. A call takes at most some 98 KB of it: answering 99,788 bytes, searching and making a book 89,192, quoting
+ * 51,452, the others under 8 KB, as measured.
+ *
  * Content is a file's fields in order, one word each, padding left out.
  */
 #ifndef YUTHAQIM_H
