@@ -35,6 +35,7 @@ use packed::catalogue;
 use packed::gather;
 use packed::graph;
 use packed::graph::Graph;
+use packed::limits;
 use packed::matches;
 use packed::pattern;
 use packed::reply::Part;
@@ -84,8 +85,8 @@ fn note_masks(before: [u32; 512], a: usize, q: Pattern, m: usize, work: &[u32]) 
     let n = q.edges;
     let mut e: usize = 0;
     while e < n {
-        let i = place_of(work, m, q.from[e] * 4096 + q.to[e]);
-        let mask = 8192 + i;
+        let i = place_of(work, m, q.from[e] * limits::NODES + q.to[e]);
+        let mask = limits::HELD + i;
         let at = 16 * e + a;
         mapping[at] = work[mask];
         e += 1;
@@ -196,7 +197,7 @@ fn quote_for(q: Pattern, catalogue: &[u8], work: &mut [u32]) -> Quote
     requires { ⌜ Query q × (length (now work) ≡ 16384) ⌝ }
     ensures { λ r. ⌜ ((t : Query q) → Answers blank (judged (readCatalogue (now (catalogue .entry))) (λ cs. give (flat (quoteValues everyView (patternOf (t .content)) (map patternOf (viewsOf cs)))) [])) (quoteTold r) [] []) ⌝ }
 {
-    if 705 < catalogue.len() {
+    if limits::CATALOGUE_MOST < catalogue.len() {
         return refused(Refusal::TooLong(2));
     }
     let p = catalogue::judge_catalogue(catalogue, work);
@@ -214,7 +215,7 @@ pub fn quote(question: &[u8], catalogue: &[u8], work: &mut [u32]) -> Quote
     requires { ⌜ length (now work) ≡ 16384 ⌝ }
     ensures { λ r. ⌜ Answers blank (quoteAnswer (now (question .entry)) (now (catalogue .entry))) (quoteTold r) [] [] ⌝ }
 {
-    if 44 < question.len() {
+    if limits::PATTERN_MOST < question.len() {
         return refused(Refusal::TooLong(1));
     }
     let p = pattern::judge_pattern(question, work);
@@ -255,7 +256,7 @@ fn show_for(
     requires { ⌜ Query q × (length (now work) ≡ 16384) ⌝ }
     ensures { λ r. ⌜ ((t : Query q) → Answers [] (judged (readCatalogue (now (catalogue .entry))) (λ cs. showFor everyView (t .content) (map patternOf (viewsOf cs)) (length (now (first .entry))) (length (now (second .entry))))) (shownTold r) (now (first .entry) ∷ now (second .entry) ∷ []) (now (first .exit) ∷ now (second .exit) ∷ [])) ⌝ }
 {
-    if 705 < catalogue.len() {
+    if limits::CATALOGUE_MOST < catalogue.len() {
         return Shown::Refused(Refusal::TooLong(2));
     }
     let p = catalogue::judge_catalogue(catalogue, work);
@@ -283,7 +284,7 @@ pub fn show(
     requires { ⌜ length (now work) ≡ 16384 ⌝ }
     ensures { λ r. ⌜ Answers [] (showAnswer (now (question .entry)) (now (catalogue .entry)) (length (now (first .entry))) (length (now (second .entry)))) (shownTold r) (now (first .entry) ∷ now (second .entry) ∷ []) (now (first .exit) ∷ now (second .exit) ∷ []) ⌝ }
 {
-    if 44 < question.len() {
+    if limits::PATTERN_MOST < question.len() {
         return Shown::Refused(Refusal::TooLong(1));
     }
     let p = pattern::judge_pattern(question, work);
@@ -314,7 +315,7 @@ fn answer_from(
     join::join(q, table, set, book, counts, k, d, work);
     let m = q.edges as u32;
     let size = matches::sheet_size(work, d, m);
-    if (out.len() < size) | (65536 < size) {
+    if (out.len() < size) | (limits::BOOK_MOST < size) {
         return Reply::Refused(Refusal::NoRoom(size));
     }
     matches::write_sheet(work, d, m, out);
@@ -335,14 +336,14 @@ fn answer_book(
     requires { ⌜ Query q × ViewCounts counts k × (length (now work) ≡ 16384) ⌝ }
     ensures { λ r. ⌜ ((t : Query q) (v : ViewCounts counts k) → now (table .entry) ≡ mapping (patternOf (t .content)) (map patternOf (viewsOf (v .views .content))) → Answered (judged (readBook (v .views .content) (now (book .entry))) (λ bs. answerIn set (t .content) (v .views .content) bs (length (now (out .entry))))) (replyTold r) (now (out .entry)) (now (out .exit))) ⌝ }
 {
-    if 65536 < book.len() {
+    if limits::BOOK_MOST < book.len() {
         return Reply::Refused(Refusal::TooLong(4));
     }
     let p = sheet::judge_book(book, counts, k, &mut work[0..0]);
     match p {
         Part::Upto(_, _) => {
             let d = gather::gather_book(book, counts, k, work);
-            if 8192 < d {
+            if limits::PAIRS_MOST < d {
                 return Reply::Refused(Refusal::TooManyPairs(4));
             }
             if choose::is_cover(table, set, k, q.edges) {
@@ -359,7 +360,7 @@ fn answer_for(q: Pattern, catalogue: &[u8], book: &[u8], out: &mut [u8], work: &
     requires { ⌜ Query q × (length (now work) ≡ 16384) ⌝ }
     ensures { λ r. ⌜ ((t : Query q) → Answered (judged (readCatalogue (now (catalogue .entry))) (λ cs. judged (readBook cs (now (book .entry))) (λ bs. answerIn (usedFor (t .content) cs) (t .content) cs bs (length (now (out .entry)))))) (replyTold r) (now (out .entry)) (now (out .exit))) ⌝ }
 {
-    if 705 < catalogue.len() {
+    if limits::CATALOGUE_MOST < catalogue.len() {
         return Reply::Refused(Refusal::TooLong(2));
     }
     let p = catalogue::judge_catalogue(catalogue, work);
@@ -385,7 +386,7 @@ pub fn answer(
     requires { ⌜ length (now work) ≡ 16384 ⌝ }
     ensures { λ r. ⌜ Answered (answerAnswer (now (question .entry)) (now (catalogue .entry)) (now (book .entry)) (length (now (out .entry)))) (replyTold r) (now (out .entry)) (now (out .exit)) ⌝ }
 {
-    if 44 < question.len() {
+    if limits::PATTERN_MOST < question.len() {
         return Reply::Refused(Refusal::TooLong(1));
     }
     let p = pattern::judge_pattern(question, work);

@@ -12,6 +12,7 @@ ghost use Rattle.packed.specs.Refusals.{replyTold};
 ghost use Rattle.containment.specs.Answer.{answerAnswer};
 ghost use Rattle.containment.specs.Quote.{quoteAnswer, quoteTold, blank};
 ghost use Rattle.containment.specs.Show.{showAnswer, shownTold};
+use packed::limits;
 use packed::reply::Refusal;
 use packed::reply::Reply;
 use packed::workspace;
@@ -22,11 +23,11 @@ use show::Shown;
 pub fn quote(question: &[u8], catalogue: &[u8], work: &mut [u32]) -> Quote
     ensures { λ r. ⌜ Settled blank (withWorkspace (length (now (work .entry))) (quoteAnswer (now (question .entry)) (now (catalogue .entry)))) (quoteTold r) [] [] (now (work .entry)) (now (work .exit)) ⌝ }
 {
-    if work.len() < 16384 {
+    if work.len() < limits::WORKSPACE {
         return calls::refused(Refusal::SmallWorkspace);
     }
-    let r = calls::quote(question, catalogue, &mut work[0..16384]);
-    workspace::clear(work, 16384);
+    let r = calls::quote(question, catalogue, &mut work[0..limits::WORKSPACE]);
+    workspace::clear(work, limits::WORKSPACE);
     r
 }
 
@@ -40,11 +41,17 @@ pub fn answer(
 ) -> Reply
     ensures { λ r. ⌜ Settled [] (withWorkspace (length (now (work .entry))) (answerAnswer (now (question .entry)) (now (catalogue .entry)) (now (book .entry)) (length (now (out .entry))))) (replyTold r) (now (out .entry) ∷ []) (now (out .exit) ∷ []) (now (work .entry)) (now (work .exit)) ⌝ }
 {
-    if work.len() < 16384 {
+    if work.len() < limits::WORKSPACE {
         return Reply::Refused(Refusal::SmallWorkspace);
     }
-    let r = calls::answer(question, catalogue, book, out, &mut work[0..16384]);
-    workspace::clear(work, 16384);
+    let r = calls::answer(
+        question,
+        catalogue,
+        book,
+        out,
+        &mut work[0..limits::WORKSPACE],
+    );
+    workspace::clear(work, limits::WORKSPACE);
     r
 }
 
@@ -58,10 +65,16 @@ pub fn show_uncovered(
 ) -> Shown
     ensures { λ r. ⌜ Settled [] (withWorkspace (length (now (work .entry))) (showAnswer (now (question .entry)) (now (catalogue .entry)) (length (now (first .entry))) (length (now (second .entry))))) (shownTold r) (now (first .entry) ∷ now (second .entry) ∷ []) (now (first .exit) ∷ now (second .exit) ∷ []) (now (work .entry)) (now (work .exit)) ⌝ }
 {
-    if work.len() < 16384 {
+    if work.len() < limits::WORKSPACE {
         return Shown::Refused(Refusal::SmallWorkspace);
     }
-    let r = calls::show(question, catalogue, first, second, &mut work[0..16384]);
-    workspace::clear(work, 16384);
+    let r = calls::show(
+        question,
+        catalogue,
+        first,
+        second,
+        &mut work[0..limits::WORKSPACE],
+    );
+    workspace::clear(work, limits::WORKSPACE);
     r
 }

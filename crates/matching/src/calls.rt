@@ -15,6 +15,7 @@ use packed::by_value::Pattern;
 use packed::catalogue;
 use packed::graph;
 use packed::graph::Graph;
+use packed::limits;
 use packed::matches;
 use packed::pattern;
 use packed::reply::Part;
@@ -33,7 +34,7 @@ fn search_for(p: Pattern, record: &[u8], out: &mut [u8], work: &mut [u32]) -> Re
     requires { ⌜ (length (now work) ≡ 16384) × Fair p × Proper p ⌝ }
     ensures { λ r. ⌜ Answered (searchFor (patternIn p) (now («record» .entry)) (length (now (out .entry)))) (replyTold r) (now (out .entry)) (now (out .exit)) ⌝ }
 {
-    if 40964 < record.len() {
+    if limits::RECORD_MOST < record.len() {
         return Reply::Refused(Refusal::TooLong(3));
     }
     let g = graph::load_record(record, work);
@@ -45,7 +46,7 @@ fn search_for(p: Pattern, record: &[u8], out: &mut [u8], work: &mut [u32]) -> Re
             matched::match_edges(record, n, m, p, work, &mut leave, &mut arrive, &mut held);
             let edges = p.edges as u32;
             let size = matches::sheet_size(work, m, edges);
-            if (out.len() < size) | (65536 < size) {
+            if (out.len() < size) | (limits::BOOK_MOST < size) {
                 return Reply::Refused(Refusal::NoRoom(size));
             }
             matches::write_sheet(work, m, edges, out);
@@ -59,7 +60,7 @@ pub fn search(pattern: &[u8], record: &[u8], out: &mut [u8], work: &mut [u32]) -
     requires { ⌜ length (now work) ≡ 16384 ⌝ }
     ensures { λ r. ⌜ Answered (searchAnswer (now (pattern .entry)) (now («record» .entry)) (length (now (out .entry)))) (replyTold r) (now (out .entry)) (now (out .exit)) ⌝ }
 {
-    if 44 < pattern.len() {
+    if limits::PATTERN_MOST < pattern.len() {
         return Reply::Refused(Refusal::TooLong(1));
     }
     let p = pattern::judge_pattern(pattern, work);
@@ -135,7 +136,7 @@ fn make_book_of(catalogue: &[u8], k: u32, record: &[u8], out: &mut [u8], work: &
     requires { ⌜ (length (now work) ≡ 16384) × Catalogued (now catalogue) k ⌝ }
     ensures { λ r. ⌜ BookAnswered (now (catalogue .entry)) (now («record» .entry)) (replyTold r) (now (out .entry)) (now (out .exit)) ⌝ }
 {
-    if 40964 < record.len() {
+    if limits::RECORD_MOST < record.len() {
         return Reply::Refused(Refusal::TooLong(3));
     }
     let g = graph::load_record(record, work);
@@ -155,7 +156,7 @@ fn make_book_of(catalogue: &[u8], k: u32, record: &[u8], out: &mut [u8], work: &
                 &mut arrive,
                 &mut held,
             );
-            if (out.len() < total) | (65536 < total) {
+            if (out.len() < total) | (limits::BOOK_MOST < total) {
                 return Reply::Refused(Refusal::NoRoom(total));
             }
             write_book(
@@ -180,7 +181,7 @@ pub fn make_book(catalogue: &[u8], record: &[u8], out: &mut [u8], work: &mut [u3
     requires { ⌜ length (now work) ≡ 16384 ⌝ }
     ensures { λ r. ⌜ Answered (makeBookAnswer (now (catalogue .entry)) (now («record» .entry)) (length (now (out .entry)))) (replyTold r) (now (out .entry)) (now (out .exit)) ⌝ }
 {
-    if 705 < catalogue.len() {
+    if limits::CATALOGUE_MOST < catalogue.len() {
         return Reply::Refused(Refusal::TooLong(2));
     }
     let p = catalogue::judge_catalogue(catalogue, work);

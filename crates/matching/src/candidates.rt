@@ -7,6 +7,7 @@ ghost use Rattle.packed.specs.Walks.{listsEnd};
 ghost use Rattle.matching.specs.Sweeps.{Has, Mask};
 ghost use Rattle.matching.specs.Candidates.{Pool, Beyond, PlaceIn, Walkable, Sheeted, Booked, Blank, Taken, Listing, SheetListing, BookListing};
 use packed::gather;
+use packed::limits;
 
 // A place after first, at most d, from which on all codes are greater; reached by steps that double.
 fn reach(work: &[u32], first: usize, d: usize, code: u32) -> usize
@@ -55,7 +56,7 @@ fn take_list(s: &[u8], start: usize, n: u32, x: u32, work: &mut [u32], d: usize)
         let code = gather::field_or(s, at, 24);
         let end = reach(work, i, d, code);
         i = find(work, i, end, code);
-        let mask = 8192 + i;
+        let mask = limits::HELD + i;
         let old = work[mask];
         work[mask] = old | x;
         at += 24;
@@ -160,7 +161,7 @@ pub fn clear_masks(work: &mut [u32], d: usize)
 {
     let mut i: usize = 0;
     while i < d {
-        let mask = 8192 + i;
+        let mask = limits::HELD + i;
         work[mask] = 0;
         i += 1;
     }

@@ -4,6 +4,7 @@ ghost use Prim.Native.Nat.{ℕ, _+_, _<_, _≤_};
 ghost use lib.ListN.{length, getD};
 ghost use Rattle.matching.specs.Sweeping.{Ends};
 ghost use Rattle.matching.specs.Late.{Ordered, Cut, Before, FirstsMade, Looked};
+use packed::limits;
 
 pub fn wide(x: u16) -> usize
     ensures { λ r. ⌜ r ≡ x ⌝ }
@@ -19,7 +20,7 @@ fn skip(work: &[u32], start: usize, d: usize, v: usize) -> usize
     let mut i = start;
     while i < d {
         let x = work[i];
-        let f = (x / 4096) as usize;
+        let f = (x / limits::NODES) as usize;
         if v <= f {
             return i;
         }
@@ -53,8 +54,8 @@ pub fn look(work: &[u32], a: usize, b: usize, arrive: &[u32], want: u32) -> u32
         if miss == 0 {
             return 0;
         }
-        let t = (work[i] % 4096) as usize;
-        let at = 8192 + i;
+        let t = (work[i] % limits::NODES) as usize;
+        let at = limits::HELD + i;
         let offer = work[at] & arrive[t];
         miss = miss ^ (miss & offer);
         i += 1;

@@ -10,6 +10,7 @@ use crate::candidates;
 use crate::engine;
 use crate::link_tables;
 use packed::by_value::Pattern;
+use packed::limits;
 
 // a, or b if that is greater.
 fn greater(a: u32, b: u32) -> u32
@@ -26,7 +27,7 @@ fn last_end(work: &[u32], d: usize) -> u32
     let mut r: u32 = 0;
     let mut i: usize = 0;
     while i < d {
-        r = greater(r, work[i] % 4096);
+        r = greater(r, work[i] % limits::NODES);
         i += 1;
     }
     r
@@ -41,7 +42,7 @@ fn nodes(work: &[u32], d: usize) -> usize
         return 0;
     }
     let last = d - 1;
-    let f = work[last] / 4096;
+    let f = work[last] / limits::NODES;
     let t = last_end(work, d);
     greater(f, t) as usize + 1
 }

@@ -18,21 +18,22 @@ ghost use lib.ListN.{length};
 ghost use Rattle.packed.specs.Refusals.{replyTold};
 ghost use Rattle.packed.specs.Calls.{Settled, withWorkspace};
 ghost use Rattle.matching.specs.Search.{searchAnswer, makeBookAnswer};
+use packed::limits;
 use packed::reply::Refusal;
 use packed::reply::Reply;
 use packed::workspace;
 
 // How many words of the workspace a call leaves zero.
-const CLEARED: usize = 16384;
+const CLEARED: usize = limits::WORKSPACE;
 
 // Searches a record for a pattern: writes the pattern's sheet.
 pub fn search(pattern: &[u8], record: &[u8], out: &mut [u8], work: &mut [u32]) -> Reply
     ensures { λ r. ⌜ Settled [] (withWorkspace (length (now (work .entry))) (searchAnswer (now (pattern .entry)) (now («record» .entry)) (length (now (out .entry))))) (replyTold r) (now (out .entry) ∷ []) (now (out .exit) ∷ []) (now (work .entry)) (now (work .exit)) ⌝ }
 {
-    if work.len() < 16384 {
+    if work.len() < limits::WORKSPACE {
         return Reply::Refused(Refusal::SmallWorkspace);
     }
-    let r = calls::search(pattern, record, out, &mut work[0..16384]);
+    let r = calls::search(pattern, record, out, &mut work[0..limits::WORKSPACE]);
     workspace::clear(work, CLEARED);
     r
 }
@@ -41,10 +42,10 @@ pub fn search(pattern: &[u8], record: &[u8], out: &mut [u8], work: &mut [u32]) -
 pub fn make_book(catalogue: &[u8], record: &[u8], out: &mut [u8], work: &mut [u32]) -> Reply
     ensures { λ r. ⌜ Settled [] (withWorkspace (length (now (work .entry))) (makeBookAnswer (now (catalogue .entry)) (now («record» .entry)) (length (now (out .entry))))) (replyTold r) (now (out .entry) ∷ []) (now (out .exit) ∷ []) (now (work .entry)) (now (work .exit)) ⌝ }
 {
-    if work.len() < 16384 {
+    if work.len() < limits::WORKSPACE {
         return Reply::Refused(Refusal::SmallWorkspace);
     }
-    let r = calls::make_book(catalogue, record, out, &mut work[0..16384]);
+    let r = calls::make_book(catalogue, record, out, &mut work[0..limits::WORKSPACE]);
     workspace::clear(work, CLEARED);
     r
 }

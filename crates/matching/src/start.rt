@@ -7,6 +7,7 @@ ghost use Rattle.matching.specs.Sweeps.{Has};
 ghost use Rattle.matching.specs.Starting.{Room, Held, ByLabel, OfLabels, Spread};
 use packed::by_value;
 use packed::by_value::Pattern;
+use packed::limits;
 
 // Each of d pairs is held for x.
 pub fn hold(work: &mut [u32], d: usize, x: u32)
@@ -15,7 +16,7 @@ pub fn hold(work: &mut [u32], d: usize, x: u32)
 {
     let mut i: usize = 0;
     while i < d {
-        let at = 8192 + i;
+        let at = limits::HELD + i;
         work[at] = x;
         i += 1;
     }

@@ -5,6 +5,7 @@ ghost use Prim.Native.Nat.{ℕ, _+_, _*_, _<_, _≤_};
 ghost use lib.ListN.{length, getD};
 ghost use Rattle.matching.specs.Sweeping.{Ends, Starts, Carried, Swept, LookedUp, Left, Settled};
 ghost use Rattle.matching.specs.Choices.{Prepared, Fixed};
+use packed::limits;
 
 // run, if the pair begins where the last one did.
 fn carried(f: usize, last: usize, run: u32) -> u32
@@ -24,9 +25,9 @@ pub fn sweep(work: &mut [u32], d: usize, leave: &[u32], arrive: &[u32], free: u3
     let mut i: usize = 0;
     while i < d {
         let x = work[i];
-        let f = (x / 4096) as usize;
-        let t = (x % 4096) as usize;
-        let at = 8192 + i;
+        let f = (x / limits::NODES) as usize;
+        let t = (x % limits::NODES) as usize;
+        let at = limits::HELD + i;
         let both = leave[f] & arrive[t];
         let old = work[at];
         let held = old & (free | both);

@@ -8,14 +8,15 @@ use crate::ends;
 use crate::index;
 use crate::marked;
 use crate::sweeps;
+use packed::limits;
 
 // The start of the pair i is marked, if a link of lost is held and may leave.
 fn mark_start(work: &[u32], i: usize, lost: u32, leave: &[u32], first: &[u16], set: &mut [u32])
     requires { ⌜ (i < 8192) × (length (now work) ≡ 16384) × (fromOf (now work) i < 4096) × (fromOf (now work) i < length (now leave)) × (length (now first) ≡ 4097) × (length (now set) ≡ 256) ⌝ }
     ensures { λ r. ⌜ MarkedStart (now (work .entry)) lost (now (leave .entry)) i (now (set .entry)) (now (set .exit)) ⌝ }
 {
-    let f = (work[i] / 4096) as usize;
-    let at = 8192 + i;
+    let f = (work[i] / limits::NODES) as usize;
+    let at = limits::HELD + i;
     let hurt = work[at] & (leave[f] & lost);
     if hurt == 0 {
         return;

@@ -5,6 +5,7 @@ use mathlib.Core.List.{List, [], _∷_, _++_, map}
 use mathlib.Core.Bool.{_||_}
 use lib.ListN.{length, drop, replicate}
 use lib.Dec.{ltb}
+use Rattle.packed.specs.Limits.{patternMost, catalogueMost, recordMost, bookMost, pairsMost, workspace}
 use Rattle.packed.specs.Format.{Format, Result, ok, bad, pick, decode, encode}
 use Rattle.packed.specs.Formats.{pattern, catalogue, record′, sheet, book}
 use Rattle.packed.specs.Contents.{edgesOf, edgeCounts, pairsIn, sum, distinct}
@@ -33,10 +34,7 @@ unfoldable pub outputsOf : Answer → List (List ℕ) → List (List ℕ)
 outputsOf (give vs outs) lent = fronts outs lent
 outputsOf (refuse n d) lent = lent
 
--- the words that every call is lent to work in ("work words"), and what they hold afterwards
-abbrev pub workspace : ℕ
-workspace = 16384
-
+-- what the words that a call is lent to work in hold afterwards
 unfoldable pub workOf : List ℕ → List ℕ
 workOf work = pick (ltb (length work) workspace) work (replicate workspace 0 ++ drop workspace work)
 
@@ -75,20 +73,20 @@ judged (accepted ws) k = k ws
 judged (rejected n d) k = refuse n d
 
 abbrev pub readPattern : List ℕ → Verdict
-readPattern s = readFile 44 1 pattern s
+readPattern s = readFile patternMost 1 pattern s
 
 abbrev pub readCatalogue : List ℕ → Verdict
-readCatalogue s = readFile 705 2 catalogue s
+readCatalogue s = readFile catalogueMost 2 catalogue s
 
 abbrev pub readRecord : List ℕ → Verdict
-readRecord s = readFile 40964 3 record′ s
+readRecord s = readFile recordMost 3 record′ s
 
 -- a sheet stands beside its pattern's content, a book beside its catalogue's
 abbrev pub readSheet : List ℕ → List ℕ → Verdict
-readSheet p s = readFile 65536 4 (sheet (edgesOf p)) s
+readSheet p s = readFile bookMost 4 (sheet (edgesOf p)) s
 
 abbrev pub readBook : List ℕ → List ℕ → Verdict
-readBook c s = readFile 65536 4 (book (edgeCounts c)) s
+readBook c s = readFile bookMost 4 (book (edgeCounts c)) s
 
 abbrev pub writeSheet : List ℕ → List ℕ → Verdict
 writeSheet p ws = writeFile 4 (sheet (edgesOf p)) ws
@@ -102,7 +100,7 @@ pairsOf ms ws = distinct (pairsIn (sum ms) ws)
 
 -- 10: over 8,192 different pairs stand in a book
 unfoldable pub uncrowdedBy : List ℕ → List ℕ → Answer → Answer
-uncrowdedBy ms ws a = pick (ltb 8192 (length (pairsOf ms ws))) (refuse 10 4) a
+uncrowdedBy ms ws a = pick (ltb pairsMost (length (pairsOf ms ws))) (refuse 10 4) a
 
 abbrev pub uncrowded : List ℕ → List ℕ → Answer → Answer
 uncrowded c ws a = uncrowdedBy (edgeCounts c) ws a
@@ -113,7 +111,7 @@ fit room o = pick (ltb room (length o)) (refuse 12 (length o)) (give [] (o ∷ [
 
 -- the same for a sheet or a book, which has at most 65,536 bytes
 unfoldable pub fitFile : ℕ → List ℕ → Answer
-fitFile room o = pick (ltb room (length o) || ltb 65536 (length o)) (refuse 12 (length o)) (give [] (o ∷ []))
+fitFile room o = pick (ltb room (length o) || ltb bookMost (length o)) (refuse 12 (length o)) (give [] (o ∷ []))
 
 -- ---- the calls: what each answers with the workspace aside, and then whole, from the lengths of the output and of the workspace
 

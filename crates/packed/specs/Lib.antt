@@ -4,6 +4,7 @@ pub mod Formats
 pub mod Plain
 pub mod Contents
 pub mod Refusals
+pub mod Limits
 pub mod Calls
 -- inner
 pub mod Order

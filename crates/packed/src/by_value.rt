@@ -6,6 +6,7 @@ ghost use Rattle.packed.specs.Bits.{field};
 ghost use Rattle.packed.specs.Contents.{nodesOf, edgesOf};
 ghost use Rattle.packed.specs.ByValue.{Spread, HoldsPattern};
 use crate::bits;
+use crate::limits;
 
 // A pattern: the label of each node, and the ends of each edge. What lies beyond its nodes and edges is zero.
 #[repr(C)]
@@ -83,5 +84,5 @@ pub fn labels_at(s: &[u8], v: usize) -> u32
     requires { ⌜ (length (now s) ≤ 65536) × (27 + 32 * v + 32 ≤ 8 * length (now s)) ⌝ }
     ensures { λ r. ⌜ r ≡ field (now (s .entry)) (27 + 32 * v) 32 ⌝ }
 {
-    bits::get_bits(s, 27 + 32 * v, 32)
+    bits::get_bits(s, limits::LABELS + 32 * v, 32)
 }

@@ -10,6 +10,7 @@ ghost use Rattle.packed.specs.Refusals.{replyTold};
 ghost use Rattle.packed.specs.Calls.{Answered, readFile, writeFile, judged, fit, fitFile, uncrowdedBy, patternRead, catalogueRead, recordRead, sheetRead, bookRead, patternWritten, catalogueWritten, recordWritten, sheetWritten, bookWritten};
 use crate::catalogue;
 use crate::gather;
+use crate::limits;
 use crate::pattern;
 use crate::record;
 use crate::reply::Part;
@@ -24,7 +25,7 @@ pub fn read_pattern(bytes: &[u8], out: &mut [u32], words: &mut [u32]) -> Reply
     requires { ⌜ length (now words) ≡ 16384 ⌝ }
     ensures { λ r. ⌜ Answered (patternRead (now (bytes .entry)) (length (now (out .entry)))) (replyTold r) (now (out .entry)) (now (out .exit)) ⌝ }
 {
-    if 44 < bytes.len() {
+    if limits::PATTERN_MOST < bytes.len() {
         return Reply::Refused(Refusal::TooLong(1));
     }
     let p = pattern::judge_pattern(bytes, words);
@@ -44,7 +45,7 @@ pub fn read_catalogue(bytes: &[u8], out: &mut [u32], words: &mut [u32]) -> Reply
     requires { ⌜ length (now words) ≡ 16384 ⌝ }
     ensures { λ r. ⌜ Answered (catalogueRead (now (bytes .entry)) (length (now (out .entry)))) (replyTold r) (now (out .entry)) (now (out .exit)) ⌝ }
 {
-    if 705 < bytes.len() {
+    if limits::CATALOGUE_MOST < bytes.len() {
         return Reply::Refused(Refusal::TooLong(2));
     }
     let p = catalogue::judge_catalogue(bytes, words);
@@ -65,7 +66,7 @@ pub fn read_record(bytes: &[u8], out: &mut [u32], words: &mut [u32]) -> Reply
     requires { ⌜ length (now words) ≡ 16384 ⌝ }
     ensures { λ r. ⌜ Answered (recordRead (now (bytes .entry)) (length (now (out .entry)))) (replyTold r) (now (out .entry)) (now (out .exit)) ⌝ }
 {
-    if 40964 < bytes.len() {
+    if limits::RECORD_MOST < bytes.len() {
         return Reply::Refused(Refusal::TooLong(3));
     }
     let p = record::judge_record(bytes, &mut out[0..0], words);
@@ -85,7 +86,7 @@ pub fn read_record(bytes: &[u8], out: &mut [u32], words: &mut [u32]) -> Reply
 fn read_sheet_of(bytes: &[u8], m: u32, out: &mut [u32]) -> Reply
     ensures { λ r. ⌜ Answered (judged (readFile 65536 4 (sheet m) (now (bytes .entry))) (fit (length (now (out .entry))))) (replyTold r) (now (out .entry)) (now (out .exit)) ⌝ }
 {
-    if 65536 < bytes.len() {
+    if limits::BOOK_MOST < bytes.len() {
         return Reply::Refused(Refusal::TooLong(4));
     }
     let p = sheet::judge_sheet(bytes, m, &mut out[0..0]);
@@ -105,7 +106,7 @@ pub fn read_sheet(pattern: &[u8], bytes: &[u8], out: &mut [u32], words: &mut [u3
     requires { ⌜ length (now words) ≡ 16384 ⌝ }
     ensures { λ r. ⌜ Answered (sheetRead (now (pattern .entry)) (now (bytes .entry)) (length (now (out .entry)))) (replyTold r) (now (out .entry)) (now (out .exit)) ⌝ }
 {
-    if 44 < pattern.len() {
+    if limits::PATTERN_MOST < pattern.len() {
         return Reply::Refused(Refusal::TooLong(1));
     }
     let p = pattern::judge_pattern(pattern, words);
@@ -129,14 +130,14 @@ fn read_book_of(
     requires { ⌜ (length (now words) ≡ 16384) × (k ≤ 16) × Small counts ⌝ }
     ensures { λ r. ⌜ Answered (judged (readFile 65536 4 (book (take k counts)) (now (bytes .entry))) (λ ws. uncrowdedBy (take k counts) ws (fit (length (now (out .entry))) ws))) (replyTold r) (now (out .entry)) (now (out .exit)) ⌝ }
 {
-    if 65536 < bytes.len() {
+    if limits::BOOK_MOST < bytes.len() {
         return Reply::Refused(Refusal::TooLong(4));
     }
     let p = sheet::judge_book(bytes, counts, k, &mut out[0..0]);
     match p {
         Part::Upto(_, n) => {
             let different = gather::gather_book(bytes, counts, k, words);
-            if 8192 < different {
+            if limits::PAIRS_MOST < different {
                 return Reply::Refused(Refusal::TooManyPairs(4));
             }
             if out.len() < n {
@@ -153,7 +154,7 @@ pub fn read_book(catalogue: &[u8], bytes: &[u8], out: &mut [u32], words: &mut [u
     requires { ⌜ length (now words) ≡ 16384 ⌝ }
     ensures { λ r. ⌜ Answered (bookRead (now (catalogue .entry)) (now (bytes .entry)) (length (now (out .entry)))) (replyTold r) (now (out .entry)) (now (out .exit)) ⌝ }
 {
-    if 705 < catalogue.len() {
+    if limits::CATALOGUE_MOST < catalogue.len() {
         return Reply::Refused(Refusal::TooLong(2));
     }
     let p = catalogue::judge_catalogue(catalogue, words);
@@ -226,7 +227,7 @@ fn write_sheet_of(fields: &[u32], m: u32, out: &mut [u8]) -> Reply
     let p = sheet::judge_sheet_fields(fields, m, &mut out[0..0]);
     match p {
         Part::Upto(n, _) => {
-            if (out.len() < n) | (65536 < n) {
+            if (out.len() < n) | (limits::BOOK_MOST < n) {
                 return Reply::Refused(Refusal::NoRoom(n));
             }
             sheet::judge_sheet_fields(fields, m, out);
@@ -240,7 +241,7 @@ pub fn write_sheet(pattern: &[u8], fields: &[u32], out: &mut [u8], words: &mut [
     requires { ⌜ length (now words) ≡ 16384 ⌝ }
     ensures { λ r. ⌜ Answered (sheetWritten (now (pattern .entry)) (now (fields .entry)) (length (now (out .entry)))) (replyTold r) (now (out .entry)) (now (out .exit)) ⌝ }
 {
-    if 44 < pattern.len() {
+    if limits::PATTERN_MOST < pattern.len() {
         return Reply::Refused(Refusal::TooLong(1));
     }
     let p = pattern::judge_pattern(pattern, words);
@@ -282,10 +283,10 @@ fn write_book_of(
     match p {
         Part::Upto(n, _) => {
             let different = gather::gather_fields(fields, list_count(counts, k), words);
-            if 8192 < different {
+            if limits::PAIRS_MOST < different {
                 return Reply::Refused(Refusal::TooManyPairs(4));
             }
-            if (out.len() < n) | (65536 < n) {
+            if (out.len() < n) | (limits::BOOK_MOST < n) {
                 return Reply::Refused(Refusal::NoRoom(n));
             }
             sheet::judge_book_fields(fields, counts, k, out);
@@ -299,7 +300,7 @@ pub fn write_book(catalogue: &[u8], fields: &[u32], out: &mut [u8], words: &mut 
     requires { ⌜ length (now words) ≡ 16384 ⌝ }
     ensures { λ r. ⌜ Answered (bookWritten (now (catalogue .entry)) (now (fields .entry)) (length (now (out .entry)))) (replyTold r) (now (out .entry)) (now (out .exit)) ⌝ }
 {
-    if 705 < catalogue.len() {
+    if limits::CATALOGUE_MOST < catalogue.len() {
         return Reply::Refused(Refusal::TooLong(2));
     }
     let p = catalogue::judge_catalogue(catalogue, words);

@@ -8,6 +8,7 @@ ghost use Rattle.packed.specs.ByValue.{Small};
 ghost use Rattle.packed.specs.Walks.{fieldOr, codesAt, listEnd, pairsAt, listsEnd, bookPairs, codesFrom, pairsFrom, Gathering, Gathers, Adds, Different};
 use crate::bits;
 use crate::distinct;
+use crate::limits;
 
 // How many different pairs stand at the front of the workspace, and how many more wait from word 8192 on.
 struct Gather {
@@ -34,7 +35,7 @@ fn push(work: &mut [u32], g: Gather, code: u32) -> Gather
 {
     let held = g.held;
     let fill = g.fill;
-    if 8192 < held {
+    if limits::PAIRS_MOST < held {
         return g;
     }
     let at = 8192 + fill;
@@ -56,7 +57,7 @@ fn finish(work: &mut [u32], g: Gather) -> usize
 {
     let held = g.held;
     let fill = g.fill;
-    if 8192 < held {
+    if limits::PAIRS_MOST < held {
         return held;
     }
     distinct::absorb(work, held, fill)
@@ -145,7 +146,7 @@ fn gather_pair_fields(words: &[u32], first: usize, n: u32, work: &mut [u32], g: 
     while 0 < left {
         let a = low_at(words, i, 4096);
         let b = low_at(words, i + 1, 4096);
-        sofar = push(work, sofar, a * 4096 + b);
+        sofar = push(work, sofar, a * limits::NODES + b);
         i += 2;
         left -= 1;
     }

@@ -6,6 +6,7 @@ ghost use Rattle.packed.specs.Format.{decode};
 ghost use Rattle.packed.specs.Formats.{record′};
 ghost use Rattle.packed.specs.LoadedGraph.{CodesAt, Accepted, Ordered, LoadsGraph};
 use crate::bits;
+use crate::limits;
 use crate::record;
 use crate::reply::Part;
 use crate::reply::Refusal;
@@ -28,7 +29,7 @@ fn load_edges(s: &[u8], start: usize, m: usize, work: &mut [u32])
         let at = start + 24 * k;
         let a = bits::get_bits(s, at, 12);
         let b = bits::get_bits(s, at + 12, 12);
-        work[k] = a * 4096 + b;
+        work[k] = a * limits::NODES + b;
         k += 1;
     }
 }
@@ -41,7 +42,7 @@ fn order_edges(s: &[u8], work: &mut [u32])
     let n = bits::get_bits(s, 0, 13) as usize;
     let m = bits::get_bits(s, 13, 14) as usize;
     workspace::clear(work, 8192);
-    load_edges(s, 27 + 32 * n, m, work);
+    load_edges(s, limits::LABELS + 32 * n, m, work);
     sort::sort(work, m);
 }
 

@@ -10,6 +10,7 @@ mod distinct;
 mod field;
 pub mod gather;
 pub mod graph;
+pub mod limits;
 pub mod matches;
 pub mod pattern;
 pub mod record;
@@ -29,11 +30,11 @@ use reply::Reply;
 pub fn read_pattern(bytes: &[u8], out: &mut [u32], work: &mut [u32]) -> Reply
     ensures { λ r. ⌜ Settled [] (withWorkspace (length (now (work .entry))) (patternRead (now (bytes .entry)) (length (now (out .entry))))) (replyTold r) (now (out .entry) ∷ []) (now (out .exit) ∷ []) (now (work .entry)) (now (work .exit)) ⌝ }
 {
-    if work.len() < 16384 {
+    if work.len() < limits::WORKSPACE {
         return Reply::Refused(Refusal::SmallWorkspace);
     }
-    let r = calls::read_pattern(bytes, out, &mut work[0..16384]);
-    workspace::clear(work, 16384);
+    let r = calls::read_pattern(bytes, out, &mut work[0..limits::WORKSPACE]);
+    workspace::clear(work, limits::WORKSPACE);
     r
 }
 
@@ -41,11 +42,11 @@ pub fn read_pattern(bytes: &[u8], out: &mut [u32], work: &mut [u32]) -> Reply
 pub fn read_catalogue(bytes: &[u8], out: &mut [u32], work: &mut [u32]) -> Reply
     ensures { λ r. ⌜ Settled [] (withWorkspace (length (now (work .entry))) (catalogueRead (now (bytes .entry)) (length (now (out .entry))))) (replyTold r) (now (out .entry) ∷ []) (now (out .exit) ∷ []) (now (work .entry)) (now (work .exit)) ⌝ }
 {
-    if work.len() < 16384 {
+    if work.len() < limits::WORKSPACE {
         return Reply::Refused(Refusal::SmallWorkspace);
     }
-    let r = calls::read_catalogue(bytes, out, &mut work[0..16384]);
-    workspace::clear(work, 16384);
+    let r = calls::read_catalogue(bytes, out, &mut work[0..limits::WORKSPACE]);
+    workspace::clear(work, limits::WORKSPACE);
     r
 }
 
@@ -53,11 +54,11 @@ pub fn read_catalogue(bytes: &[u8], out: &mut [u32], work: &mut [u32]) -> Reply
 pub fn read_record(bytes: &[u8], out: &mut [u32], work: &mut [u32]) -> Reply
     ensures { λ r. ⌜ Settled [] (withWorkspace (length (now (work .entry))) (recordRead (now (bytes .entry)) (length (now (out .entry))))) (replyTold r) (now (out .entry) ∷ []) (now (out .exit) ∷ []) (now (work .entry)) (now (work .exit)) ⌝ }
 {
-    if work.len() < 16384 {
+    if work.len() < limits::WORKSPACE {
         return Reply::Refused(Refusal::SmallWorkspace);
     }
-    let r = calls::read_record(bytes, out, &mut work[0..16384]);
-    workspace::clear(work, 16384);
+    let r = calls::read_record(bytes, out, &mut work[0..limits::WORKSPACE]);
+    workspace::clear(work, limits::WORKSPACE);
     r
 }
 
@@ -65,11 +66,11 @@ pub fn read_record(bytes: &[u8], out: &mut [u32], work: &mut [u32]) -> Reply
 pub fn read_sheet(pattern: &[u8], bytes: &[u8], out: &mut [u32], work: &mut [u32]) -> Reply
     ensures { λ r. ⌜ Settled [] (withWorkspace (length (now (work .entry))) (sheetRead (now (pattern .entry)) (now (bytes .entry)) (length (now (out .entry))))) (replyTold r) (now (out .entry) ∷ []) (now (out .exit) ∷ []) (now (work .entry)) (now (work .exit)) ⌝ }
 {
-    if work.len() < 16384 {
+    if work.len() < limits::WORKSPACE {
         return Reply::Refused(Refusal::SmallWorkspace);
     }
-    let r = calls::read_sheet(pattern, bytes, out, &mut work[0..16384]);
-    workspace::clear(work, 16384);
+    let r = calls::read_sheet(pattern, bytes, out, &mut work[0..limits::WORKSPACE]);
+    workspace::clear(work, limits::WORKSPACE);
     r
 }
 
@@ -77,11 +78,11 @@ pub fn read_sheet(pattern: &[u8], bytes: &[u8], out: &mut [u32], work: &mut [u32
 pub fn read_book(catalogue: &[u8], bytes: &[u8], out: &mut [u32], work: &mut [u32]) -> Reply
     ensures { λ r. ⌜ Settled [] (withWorkspace (length (now (work .entry))) (bookRead (now (catalogue .entry)) (now (bytes .entry)) (length (now (out .entry))))) (replyTold r) (now (out .entry) ∷ []) (now (out .exit) ∷ []) (now (work .entry)) (now (work .exit)) ⌝ }
 {
-    if work.len() < 16384 {
+    if work.len() < limits::WORKSPACE {
         return Reply::Refused(Refusal::SmallWorkspace);
     }
-    let r = calls::read_book(catalogue, bytes, out, &mut work[0..16384]);
-    workspace::clear(work, 16384);
+    let r = calls::read_book(catalogue, bytes, out, &mut work[0..limits::WORKSPACE]);
+    workspace::clear(work, limits::WORKSPACE);
     r
 }
 
@@ -89,11 +90,11 @@ pub fn read_book(catalogue: &[u8], bytes: &[u8], out: &mut [u32], work: &mut [u3
 pub fn write_pattern(fields: &[u32], out: &mut [u8], work: &mut [u32]) -> Reply
     ensures { λ r. ⌜ Settled [] (withWorkspace (length (now (work .entry))) (patternWritten (now (fields .entry)) (length (now (out .entry))))) (replyTold r) (now (out .entry) ∷ []) (now (out .exit) ∷ []) (now (work .entry)) (now (work .exit)) ⌝ }
 {
-    if work.len() < 16384 {
+    if work.len() < limits::WORKSPACE {
         return Reply::Refused(Refusal::SmallWorkspace);
     }
     let r = calls::write_pattern(fields, out);
-    workspace::clear(work, 16384);
+    workspace::clear(work, limits::WORKSPACE);
     r
 }
 
@@ -101,11 +102,11 @@ pub fn write_pattern(fields: &[u32], out: &mut [u8], work: &mut [u32]) -> Reply
 pub fn write_catalogue(fields: &[u32], out: &mut [u8], work: &mut [u32]) -> Reply
     ensures { λ r. ⌜ Settled [] (withWorkspace (length (now (work .entry))) (catalogueWritten (now (fields .entry)) (length (now (out .entry))))) (replyTold r) (now (out .entry) ∷ []) (now (out .exit) ∷ []) (now (work .entry)) (now (work .exit)) ⌝ }
 {
-    if work.len() < 16384 {
+    if work.len() < limits::WORKSPACE {
         return Reply::Refused(Refusal::SmallWorkspace);
     }
     let r = calls::write_catalogue(fields, out);
-    workspace::clear(work, 16384);
+    workspace::clear(work, limits::WORKSPACE);
     r
 }
 
@@ -113,11 +114,11 @@ pub fn write_catalogue(fields: &[u32], out: &mut [u8], work: &mut [u32]) -> Repl
 pub fn write_record(fields: &[u32], out: &mut [u8], work: &mut [u32]) -> Reply
     ensures { λ r. ⌜ Settled [] (withWorkspace (length (now (work .entry))) (recordWritten (now (fields .entry)) (length (now (out .entry))))) (replyTold r) (now (out .entry) ∷ []) (now (out .exit) ∷ []) (now (work .entry)) (now (work .exit)) ⌝ }
 {
-    if work.len() < 16384 {
+    if work.len() < limits::WORKSPACE {
         return Reply::Refused(Refusal::SmallWorkspace);
     }
-    let r = calls::write_record(fields, out, &mut work[0..16384]);
-    workspace::clear(work, 16384);
+    let r = calls::write_record(fields, out, &mut work[0..limits::WORKSPACE]);
+    workspace::clear(work, limits::WORKSPACE);
     r
 }
 
@@ -125,11 +126,11 @@ pub fn write_record(fields: &[u32], out: &mut [u8], work: &mut [u32]) -> Reply
 pub fn write_sheet(pattern: &[u8], fields: &[u32], out: &mut [u8], work: &mut [u32]) -> Reply
     ensures { λ r. ⌜ Settled [] (withWorkspace (length (now (work .entry))) (sheetWritten (now (pattern .entry)) (now (fields .entry)) (length (now (out .entry))))) (replyTold r) (now (out .entry) ∷ []) (now (out .exit) ∷ []) (now (work .entry)) (now (work .exit)) ⌝ }
 {
-    if work.len() < 16384 {
+    if work.len() < limits::WORKSPACE {
         return Reply::Refused(Refusal::SmallWorkspace);
     }
-    let r = calls::write_sheet(pattern, fields, out, &mut work[0..16384]);
-    workspace::clear(work, 16384);
+    let r = calls::write_sheet(pattern, fields, out, &mut work[0..limits::WORKSPACE]);
+    workspace::clear(work, limits::WORKSPACE);
     r
 }
 
@@ -137,10 +138,10 @@ pub fn write_sheet(pattern: &[u8], fields: &[u32], out: &mut [u8], work: &mut [u
 pub fn write_book(catalogue: &[u8], fields: &[u32], out: &mut [u8], work: &mut [u32]) -> Reply
     ensures { λ r. ⌜ Settled [] (withWorkspace (length (now (work .entry))) (bookWritten (now (catalogue .entry)) (now (fields .entry)) (length (now (out .entry))))) (replyTold r) (now (out .entry) ∷ []) (now (out .exit) ∷ []) (now (work .entry)) (now (work .exit)) ⌝ }
 {
-    if work.len() < 16384 {
+    if work.len() < limits::WORKSPACE {
         return Reply::Refused(Refusal::SmallWorkspace);
     }
-    let r = calls::write_book(catalogue, fields, out, &mut work[0..16384]);
-    workspace::clear(work, 16384);
+    let r = calls::write_book(catalogue, fields, out, &mut work[0..limits::WORKSPACE]);
+    workspace::clear(work, limits::WORKSPACE);
     r
 }

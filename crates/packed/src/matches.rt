@@ -8,6 +8,7 @@ ghost use Rattle.packed.specs.Matches.{matchesOf, Marked, Counts, Writte
 ghost use Rattle.packed.specs.Contents.{total};
 use crate::bits;
 use crate::field;
+use crate::limits;
 
 fn no_counts() -> [u32; 32]
     ensures { λ r. ⌜ r ≡ replicate 32 0 ⌝ }
@@ -39,7 +40,7 @@ fn counts(work: &[u32], n: usize) -> [u32; 32]
     let mut c = no_counts();
     let mut i: usize = 0;
     while i < n {
-        let at = 8192 + i;
+        let at = limits::HELD + i;
         add_bits(&mut c, work[at]);
         i += 1;
     }
@@ -174,7 +175,7 @@ fn write_pairs(work: &[u32], n: usize, m: u32, places: &mut [usize; 32], out: &m
 {
     let mut i: usize = 0;
     while i < n {
-        let mask = 8192 + i;
+        let mask = limits::HELD + i;
         let x = low_bits(work[mask], m);
         put_pair(x, work[i], places, out);
         i += 1;

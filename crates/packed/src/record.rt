@@ -9,6 +9,7 @@ ghost use Rattle.packed.specs.Reading.{Stands, Reads, Judges};
 ghost use Rattle.packed.specs.Writing.{Writes, JudgesFields};
 ghost use Rattle.packed.specs.Loading.{Loads, LoadsFields};
 use crate::field;
+use crate::limits;
 use crate::reply::Field;
 use crate::reply::Loaded;
 use crate::reply::Part;
@@ -71,7 +72,7 @@ fn read_edges(
         let f = field::read_two(s, at, 12, nodes as u64, Refusal::NoSuchNode(3), 3, words, i);
         match f {
             Two::Values(a, b) => {
-                work[k] = a * 4096 + b;
+                work[k] = a * limits::NODES + b;
                 at += 24;
                 i += 2;
                 k += 1;
@@ -120,7 +121,7 @@ fn read_fields(s: &[u8], words: &mut [u32], work: &mut [u32]) -> Loaded
             return stopped(x);
         }
     };
-    let p = read_labels(s, 27, nodes, words, 2);
+    let p = read_labels(s, limits::LABELS, nodes, words, 2);
     match p {
         Part::Upto(at, i) => read_edges(s, at, nodes, number, words, i, work),
         Part::Refused(x) => stopped(x),
@@ -209,7 +210,7 @@ fn write_edges(
         );
         match f {
             Two::Values(a, b) => {
-                work[k] = a * 4096 + b;
+                work[k] = a * limits::NODES + b;
                 i += 2;
                 at += 24;
                 k += 1;
@@ -248,7 +249,7 @@ fn write_fields(words: &[u32], out: &mut [u8], work: &mut [u32]) -> Loaded
             return stopped(x);
         }
     };
-    let p = write_labels(words, 2, nodes, out, 27);
+    let p = write_labels(words, 2, nodes, out, limits::LABELS);
     match p {
         Part::Upto(at, i) => write_edges(words, i, nodes, number, out, at, work),
         Part::Refused(x) => stopped(x),

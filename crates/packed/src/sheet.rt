@@ -11,6 +11,7 @@ ghost use Rattle.packed.specs.Reading.{Stands, Reads, ReadsBytes, Judges
 ghost use Rattle.packed.specs.Writing.{Writes, WritesBytes, JudgesFields};
 use crate::bits;
 use crate::field;
+use crate::limits;
 use crate::reply::Field;
 use crate::reply::Part;
 use crate::reply::Refusal;
@@ -29,7 +30,7 @@ fn read_pairs(s: &[u8], start: usize, n: u32, words: &mut [u32], first: usize) -
         let f = field::read_two(s, at, 12, 4096, Refusal::OutOfRange(4), 4, words, i);
         match f {
             Two::Values(a, b) => {
-                let code = a * 4096 + b;
+                let code = a * limits::NODES + b;
                 if code < least {
                     return Part::Refused(Refusal::NotAscending(4));
                 }
@@ -160,7 +161,7 @@ fn write_pairs(words: &[u32], first: usize, n: u32, out: &mut [u8], start: usize
         let f = field::write_two(words, i, 12, 4096, Refusal::OutOfRange(4), 4, out, at);
         match f {
             Two::Values(a, b) => {
-                let code = a * 4096 + b;
+                let code = a * limits::NODES + b;
                 if code < least {
                     return Part::Refused(Refusal::NotAscending(4));
                 }
