@@ -10,3 +10,5 @@ pub mod matching;
 pub mod quoting;
 mod replay;
 mod rule;
+
+pub use replay::CALLS;

@@ -74,7 +74,8 @@ pub const SHOW_UNCOVERED: usize = 14;
 /// The search that the program makes apart from the library's. To the model it is the same.
 pub const PLAIN: usize = 15;
 
-const NAMES: [&str; 16] = [
+/// The names of the library's calls, in the order of these numbers.
+pub const CALLS: [&str; 15] = [
     "read_pattern",
     "read_catalogue",
     "read_record",
@@ -90,8 +91,12 @@ const NAMES: [&str; 16] = [
     "quote",
     "answer",
     "show_uncovered",
-    "plain search",
 ];
+
+/// The name of a call, the plain search too.
+fn name(call: usize) -> &'static str {
+    CALLS.get(call).copied().unwrap_or("plain search")
+}
 
 /// The parts of the memory that the calls take: a pattern or question, a catalogue, a record, a sheet or book.
 pub const QUESTION_PART: usize = 0;

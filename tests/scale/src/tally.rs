@@ -1,6 +1,7 @@
 //! How often each call was made, and what came of it.
 
 use model::files::Refusal;
+use model::CALLS;
 use std::fmt;
 
 #[derive(Clone, Copy, PartialEq, Eq)]
@@ -22,34 +23,16 @@ pub enum Call {
     ShowUncovered,
 }
 
-const NAMES: [&str; 15] = [
-    "read_pattern",
-    "read_catalogue",
-    "read_record",
-    "read_sheet",
-    "read_book",
-    "write_pattern",
-    "write_catalogue",
-    "write_record",
-    "write_sheet",
-    "write_book",
-    "search",
-    "make_book",
-    "quote",
-    "answer",
-    "show_uncovered",
-];
-
 impl Call {
     pub fn name(self) -> &'static str {
-        NAMES[self as usize]
+        CALLS[self as usize]
     }
 }
 
 /// For each call how often it succeeded, at 0, and how often it gave each refusal.
 #[derive(Default)]
 pub struct Tally {
-    counts: [[u64; 15]; NAMES.len()],
+    counts: [[u64; 15]; CALLS.len()],
     /// Covered questions that were answered from the book of a record, and the record searched.
     pub answered: u64,
     /// Those of them whose sheet has pairs.
@@ -73,7 +56,7 @@ impl fmt::Display for Tally {
         write!(f, "{:<16}{:>9}{:>8}", "call", "calls", "done")?;
         (1..=14).try_for_each(|number| write!(f, "{number:>8}"))?;
         writeln!(f)?;
-        for (name, counts) in NAMES.iter().zip(&self.counts) {
+        for (name, counts) in CALLS.iter().zip(&self.counts) {
             line(f, name, counts)?;
         }
         line(f, "all", &std::array::from_fn(|number| self.counts.iter().map(|counts| counts[number]).sum()))?;

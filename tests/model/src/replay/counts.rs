@@ -1,7 +1,7 @@
 //! What is counted of the calls of a group.
 
 use super::outcome::{Outcome, DIGEST_START};
-use super::{NAMES, QUOTE};
+use super::{name, QUOTE};
 use std::collections::BTreeMap;
 use std::fmt::Write;
 
@@ -33,7 +33,7 @@ impl Counts {
 
     /// The program counts faults too, of which there are to be none.
     pub fn line(&self, call: usize, with_digest: bool) -> String {
-        let mut line = format!("  {}: {} calls, {} accepted", NAMES[call], self.calls, self.accepted);
+        let mut line = format!("  {}: {} calls, {} accepted", name(call), self.calls, self.accepted);
         if self.listing != 0 {
             let what = if call == QUOTE { "covered" } else { "list pairs" };
             write!(line, " ({} {what})", self.listing).unwrap();
