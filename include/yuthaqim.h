@@ -18,8 +18,9 @@
  * before a call. Afterwards the first YUTHAQIM_WORK_WORDS of them are zero and those beyond are as they were; on
  * YUTHAQIM_DESK all of them are as they were.
  *
- * The stack. A call takes at most some 98 KB of it: answering 99,788 bytes, searching and making a book 89,192, quoting
- * 51,452, the others under 8 KB, as measured.
+ * The stack, as measured on large files: answering takes 99,788 bytes, searching and making a book 89,192, quoting 51,452,
+ * reading a book 6,824, reading a record 4,536. The others were not measured; reckon with as much for showing as for
+ * quoting.
  *
  * Content is a file's fields in order, one word each, padding left out.
  */
