@@ -12,8 +12,8 @@ use Rattle.matching.specs.Search.{bytesIn}
 use Rattle.matching.specs.Simulation.{Pattern, patternOf}
 use Rattle.containment.specs.Choice.{everyView, coversIn, lowestUnmatched}
 use Rattle.containment.specs.Quote.{mapping}
-use Rattle.containment.specs.declared.show.Shown.{Shown}
-use Rattle.containment.specs.declared.show.Shown.the-variants as shown-is
+use Rattle.containment.specs.declared.showing.Shown.{Shown}
+use Rattle.containment.specs.declared.showing.Shown.the-variants as shown-is
 
 -- the content of the query with content ws read as a record: each node has its own label alone
 unfoldable pub graphFields : List ℕ → List ℕ

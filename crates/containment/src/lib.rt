@@ -1,9 +1,11 @@
 // Containment of a query in views: quotes, answers from a book, and why a query is not covered.
-mod calls;
+mod answering;
 mod choose;
+mod mapping;
 mod query;
 pub mod quote_type;
-pub mod show;
+mod quoting;
+pub mod showing;
 
 ghost use mathlib.Core.List.{[], _∷_};
 ghost use lib.ListN.{length};
@@ -17,16 +19,16 @@ use packed::reply::Refusal;
 use packed::reply::Reply;
 use packed::workspace;
 use quote_type::Quote;
-use show::Shown;
+use showing::Shown;
 
 // Quotes a question with a catalogue.
 pub fn quote(question: &[u8], catalogue: &[u8], work: &mut [u32]) -> Quote
     ensures { λ r. ⌜ Settled blank (withWorkspace (length (now (work .entry))) (quoteAnswer (now (question .entry)) (now (catalogue .entry)))) (quoteTold r) [] [] (now (work .entry)) (now (work .exit)) ⌝ }
 {
     if work.len() < limits::WORKSPACE {
-        return calls::refused(Refusal::SmallWorkspace);
+        return quoting::refused(Refusal::SmallWorkspace);
     }
-    let r = calls::quote(question, catalogue, &mut work[0..limits::WORKSPACE]);
+    let r = quoting::quote(question, catalogue, &mut work[0..limits::WORKSPACE]);
     workspace::clear(work, limits::WORKSPACE);
     r
 }
@@ -44,7 +46,7 @@ pub fn answer(
     if work.len() < limits::WORKSPACE {
         return Reply::Refused(Refusal::SmallWorkspace);
     }
-    let r = calls::answer(
+    let r = answering::answer(
         question,
         catalogue,
         book,
@@ -68,7 +70,7 @@ pub fn show_uncovered(
     if work.len() < limits::WORKSPACE {
         return Shown::Refused(Refusal::SmallWorkspace);
     }
-    let r = calls::show(
+    let r = showing::show(
         question,
         catalogue,
         first,

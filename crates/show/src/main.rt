@@ -1,6 +1,6 @@
 // Shows why the file `question` is not covered by the file `catalogue`, both in the folder it is run in: writes the records `first` and `second`
 // there. Neither takes its name before both are written.
-use containment::show::Shown;
+use containment::showing::Shown;
 use folder::files;
 use folder::lent;
 use folder::lines;

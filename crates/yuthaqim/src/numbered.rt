@@ -6,7 +6,7 @@ ghost use Rattle.containment.specs.Show.{shownTold};
 ghost use Rattle.yuthaqim.specs.Numbered.{numberedReplyTold, numberedQuoteTold, numberedShownTold, QuoteZeros, ShownZeros};
 use containment::quote_type::Coverage;
 use containment::quote_type::Quote;
-use containment::show::Shown;
+use containment::showing::Shown;
 use packed::reply;
 use packed::reply::Reply;
 

@@ -1,0 +1,105 @@
+-- `containment::mapping::note_masks` meets its contract.
+use native.Mathlib.Omega.{arith}
+use Prim.Native.Nat.{_+_, _≤_, _-_}
+use mathlib.Core.Path.{refl}
+use Rattle.containment.specs.Steps.{Present, Column, MaskOf, codeAt}
+use Rattle.containment.proofs.MappingLaws.{column-start, column-more, column-end, place-below, mask-found}
+use borrow.Author.Needs.{needs}
+use Rattle.containment.proofs.mapping.note_masks.Statement.{statement}
+use Rattle.containment.proofs.mapping.note_masks.Tie as tie
+
+abbrev Inv-loop : tie.InvT-loop
+Inv-loop a m work q mapping₀ n e₀ mapping e = (e ≤ n) × Column a e (λ d x. MaskOf work m (codeAt q d) x) mapping₀ mapping
+
+abbrev μ-loop : tie.MeasureT-loop
+μ-loop a m work q mapping₀ n e₀ mapping e = n - e
+
+loop-holds : tie.Need-loop-holds Inv-loop μ-loop
+loop-holds c = (omega arith, column-start)
+
+mul-place-of : tie.Need-mul-place-of Inv-loop μ-loop
+mul-place-of c = search needs
+
+element-copy-out-place-of : tie.Need-element-copy-out-place-of Inv-loop μ-loop
+element-copy-out-place-of c = search needs
+
+mul-place-of-2 : tie.Need-mul-place-of-2 Inv-loop μ-loop
+mul-place-of-2 c = omega (arith, c .before .before .before .before .pre .0 .nodes, c .before .before .before .before .pre .0 .from (c .before .before .loop .e) (omega arith))
+
+mul-place-of-3 : tie.Need-mul-place-of-3 Inv-loop μ-loop
+mul-place-of-3 c = search needs
+
+element-copy-out-place-of-2 : tie.Need-element-copy-out-place-of-2 Inv-loop μ-loop
+element-copy-out-place-of-2 c = search needs
+
+add-place-of : tie.Need-add-place-of Inv-loop μ-loop
+add-place-of c = omega (arith, c .before .before .before .before .before .pre .0 .nodes, c .before .before .before .before .before .pre .0 .from (c .before .before .before .loop .e) (omega arith), c .before .before .before .before .before .pre .0 .to (c .before .before .before .loop .e) (omega arith))
+
+place-of-requires : tie.Need-place-of-requires Inv-loop μ-loop
+place-of-requires c κs = search needs
+
+add-mask : tie.Need-add-mask Inv-loop μ-loop
+add-mask c = omega (arith, c .place-of .ensures .within)
+
+mul-at : tie.Need-mul-at Inv-loop μ-loop
+mul-at c = search needs
+
+add-at : tie.Need-add-at Inv-loop μ-loop
+add-at c = search needs
+
+mul-mapping : tie.Need-mul-mapping Inv-loop μ-loop
+mul-mapping c = search needs
+
+shared-slice-read-mapping : tie.Need-shared-slice-read-mapping Inv-loop μ-loop
+unfolding Present
+shared-slice-read-mapping c = omega (arith, place-below (c .before .before .before .before .before .before .before .pre .5 (c .before .before .before .before .before .loop .e) (omega arith)) (c .before .place-of .ensures))
+
+mul-mapping-2 : tie.Need-mul-mapping-2 Inv-loop μ-loop
+mul-mapping-2 c = search needs
+
+array-write-mapping : tie.Need-array-write-mapping Inv-loop μ-loop
+array-write-mapping c = omega (arith, c .before .before .before .before .before .before .before .pre .0 .edges)
+
+add-e : tie.Need-add-e Inv-loop μ-loop
+add-e c = search needs
+
+loop-less : tie.Need-loop-less Inv-loop μ-loop
+loop-less c = search needs
+
+loop-again : tie.Need-loop-again Inv-loop μ-loop
+unfolding Present
+loop-again c =
+    let f = c .before .before .before .before .before .before .before .pre .0 .edges in (
+      omega arith,
+      column-more (c .before .before .before .before .before .loop .inv .1) (c .before .before .before .before .before .before .before .pre .1) (omega arith) (c .before .before .before .before .before .before .before .pre .3)
+          (mask-found (c .before .before .before .before .before .before .before .pre .5 (c .before .before .before .before .before .loop .e) (omega arith)) (c .before .place-of .ensures) refl (omega (arith, c .shared-slice-known2 .given (8192 + c .before .place-of .result)))),
+    )
+
+returns : tie.Need-returns Inv-loop μ-loop
+returns c = column-end _ _ (c .before .loop .inv .1) (omega arith)
+
+pub note-masks-spec : {M : Type 1} → statement M
+note-masks-spec =
+    tie.close
+    (tie.spec
+    Inv-loop
+    μ-loop
+    loop-holds
+    mul-place-of
+    element-copy-out-place-of
+    mul-place-of-2
+    mul-place-of-3
+    element-copy-out-place-of-2
+    add-place-of
+    place-of-requires
+    add-mask
+    mul-at
+    add-at
+    mul-mapping
+    shared-slice-read-mapping
+    mul-mapping-2
+    array-write-mapping
+    add-e
+    loop-less
+    loop-again
+    returns)

@@ -1,0 +1,132 @@
+// An answer from a book, with room to work in: 16,384 words, which are left in any state.
+ghost use mathlib.Core.Path.{_≡_};
+ghost use mathlib.Core.List.{List, map};
+ghost use lib.ListN.{length};
+ghost use Rattle.packed.specs.Contents.{viewsOf};
+ghost use Rattle.packed.specs.Refusals.{replyTold};
+ghost use Rattle.packed.specs.Calls.{Answered, judged, readCatalogue, readBook, fitFile};
+ghost use Rattle.matching.specs.Simulation.{patternOf};
+ghost use Rattle.matching.specs.Steps.{Fair, patternIn};
+ghost use Rattle.matching.specs.Search.{sheetBytes};
+ghost use Rattle.matching.specs.Join.{View, answerSets};
+ghost use Rattle.matching.specs.Candidates.{Booked};
+ghost use Rattle.matching.specs.Joining.{Agrees};
+ghost use Rattle.containment.specs.Quote.{mapping};
+ghost use Rattle.containment.specs.Answer.{answerIn, usedFor, answerAnswer};
+ghost use Rattle.containment.specs.Steps.{Query, ViewCounts};
+use crate::choose;
+use crate::mapping;
+use matching::join;
+use packed::by_value;
+use packed::by_value::Pattern;
+use packed::catalogue;
+use packed::gather;
+use packed::limits;
+use packed::matches;
+use packed::pattern;
+use packed::reply::Part;
+use packed::reply::Refusal;
+use packed::reply::Reply;
+use packed::sheet;
+
+// Answers from the pairs of a book that stand in the workspace, by the views in the set.
+fn answer_from(
+    q: Pattern,
+    table: &[u32; 512],
+    set: u32,
+    book: &[u8],
+    counts: [u32; 16],
+    k: usize,
+    d: usize,
+    out: &mut [u8],
+    work: &mut [u32],
+) -> Reply
+    requires { ⌜ Fair q × Booked (now book) counts k d (now work) ⌝ }
+    ensures { λ r. ⌜ ((vs : List View) → Agrees q (now (table .entry)) set (now (book .entry)) counts k vs → Answered (fitFile (length (now (out .entry))) (sheetBytes (answerSets (patternIn q) vs))) (replyTold r) (now (out .entry)) (now (out .exit))) ⌝ }
+{
+    join::join(q, table, set, book, counts, k, d, work);
+    let m = q.edges as u32;
+    let size = matches::sheet_size(work, d, m);
+    if (out.len() < size) | (limits::BOOK_MOST < size) {
+        return Reply::Refused(Refusal::NoRoom(size));
+    }
+    matches::write_sheet(work, d, m, out);
+    Reply::Done(size)
+}
+
+// Answers from a book by the views in the set, once the query's table is known.
+fn answer_book(
+    q: Pattern,
+    table: &[u32; 512],
+    set: u32,
+    counts: [u32; 16],
+    k: usize,
+    book: &[u8],
+    out: &mut [u8],
+    work: &mut [u32],
+) -> Reply
+    requires { ⌜ Query q × ViewCounts counts k × (length (now work) ≡ 16384) ⌝ }
+    ensures { λ r. ⌜ ((t : Query q) (v : ViewCounts counts k) → now (table .entry) ≡ mapping (patternOf (t .content)) (map patternOf (viewsOf (v .views .content))) → Answered (judged (readBook (v .views .content) (now (book .entry))) (λ bs. answerIn set (t .content) (v .views .content) bs (length (now (out .entry))))) (replyTold r) (now (out .entry)) (now (out .exit))) ⌝ }
+{
+    if limits::BOOK_MOST < book.len() {
+        return Reply::Refused(Refusal::TooLong(4));
+    }
+    let p = sheet::judge_book(book, counts, k, &mut work[0..0]);
+    match p {
+        Part::Upto(_, _) => {
+            let d = gather::gather_book(book, counts, k, work);
+            if limits::PAIRS_MOST < d {
+                return Reply::Refused(Refusal::TooManyPairs(4));
+            }
+            if choose::is_cover(table, set, k, q.edges) {
+                return answer_from(q, table, set, book, counts, k, d, out, work);
+            }
+            let e = choose::lowest_unmatched(table, set, k, q.edges) as u32;
+            Reply::Refused(Refusal::NotContained(e))
+        }
+        Part::Refused(x) => Reply::Refused(x),
+    }
+}
+
+fn answer_for(q: Pattern, catalogue: &[u8], book: &[u8], out: &mut [u8], work: &mut [u32]) -> Reply
+    requires { ⌜ Query q × (length (now work) ≡ 16384) ⌝ }
+    ensures { λ r. ⌜ ((t : Query q) → Answered (judged (readCatalogue (now (catalogue .entry))) (λ cs. judged (readBook cs (now (book .entry))) (λ bs. answerIn (usedFor (t .content) cs) (t .content) cs bs (length (now (out .entry)))))) (replyTold r) (now (out .entry)) (now (out .exit))) ⌝ }
+{
+    if limits::CATALOGUE_MOST < catalogue.len() {
+        return Reply::Refused(Refusal::TooLong(2));
+    }
+    let p = catalogue::judge_catalogue(catalogue, work);
+    match p {
+        Part::Upto(_, n) => {
+            let k = catalogue::word_at(&work[0..n], 0) as usize;
+            let counts = catalogue::edge_counts(&work[0..n]);
+            let table = mapping::map_views(q, catalogue, k, work);
+            let set = choose::use_views(&table, choose::EVERY_VIEW, k, q.edges);
+            answer_book(q, &table, set, counts, k, book, out, work)
+        }
+        Part::Refused(x) => Reply::Refused(x),
+    }
+}
+
+pub fn answer(
+    question: &[u8],
+    catalogue: &[u8],
+    book: &[u8],
+    out: &mut [u8],
+    work: &mut [u32],
+) -> Reply
+    requires { ⌜ length (now work) ≡ 16384 ⌝ }
+    ensures { λ r. ⌜ Answered (answerAnswer (now (question .entry)) (now (catalogue .entry)) (now (book .entry)) (length (now (out .entry)))) (replyTold r) (now (out .entry)) (now (out .exit)) ⌝ }
+{
+    if limits::PATTERN_MOST < question.len() {
+        return Reply::Refused(Refusal::TooLong(1));
+    }
+    let p = pattern::judge_pattern(question, work);
+    match p {
+        Part::Upto(_, n) => {
+            let q = by_value::pattern_of(&work[0..n]);
+            answer_for(q, catalogue, book, out, work)
+        }
+        Part::Refused(x) => Reply::Refused(x),
+    }
+}

@@ -1,0 +1,138 @@
+// The table of a query and the views of a catalogue: which edges of each view match each edge of the query.
+ghost use mathlib.Core.Path.{_≡_};
+ghost use mathlib.Core.List.{map};
+ghost use Prim.Native.Nat.{ℕ, _+_, _*_, _≤_, _<_};
+ghost use lib.ListN.{length, getD, replicate};
+ghost use Rattle.packed.specs.Format.{ok, decode};
+ghost use Rattle.packed.specs.Formats.{record′};
+ghost use Rattle.packed.specs.Contents.{viewsOf};
+ghost use Rattle.packed.specs.LoadedGraph.{Holds};
+ghost use Rattle.packed.specs.Matches.{Marked, matchesOf};
+ghost use Rattle.matching.specs.Simulation.{patternOf};
+ghost use Rattle.matching.specs.Steps.{Fair};
+ghost use Rattle.containment.specs.Quote.{maskIn, mapping};
+ghost use Rattle.containment.specs.Show.{graphFields};
+ghost use Rattle.containment.specs.Steps.{Query, Views, PlaceOf, Present, Within, Column, MaskOf, codeAt};
+use crate::query;
+use matching::matched;
+use matching::views;
+use packed::by_value::Pattern;
+use packed::graph;
+use packed::graph::Graph;
+use packed::limits;
+use packed::matches;
+
+pub fn no_mapping() -> [u32; 512]
+    ensures { λ r. ⌜ r ≡ replicate 512 0 ⌝ }
+{
+    [0u32; 512]
+}
+
+// The place of a code among the first m words, or m.
+fn place_of(work: &[u32], m: usize, code: u32) -> usize
+    requires { ⌜ m ≤ length (now work) ⌝ }
+    ensures { λ r. ⌜ PlaceOf (now (work .entry)) m code r ⌝ }
+{
+    let mut i: usize = 0;
+    while i < m {
+        if work[i] == code {
+            return i;
+        }
+        i += 1;
+    }
+    m
+}
+
+// The masks of one view, in column a: of each edge of the query, the mask of that edge in the workspace.
+fn note_masks(before: [u32; 512], a: usize, q: Pattern, m: usize, work: &[u32]) -> [u32; 512]
+    requires { ⌜ Fair q × (a < 16) × (m ≤ 8192) × (length before ≡ 512) × (length (now work) ≡ 16384) × Present q m (now work) ⌝ }
+    ensures { λ r. ⌜ Column a (q .edges) (λ e x. MaskOf (now (work .entry)) m (codeAt q e) x) before r ⌝ }
+{
+    let mut mapping = before;
+    let n = q.edges;
+    let mut e: usize = 0;
+    while e < n {
+        let i = place_of(work, m, q.from[e] * limits::NODES + q.to[e]);
+        let mask = limits::HELD + i;
+        let at = 16 * e + a;
+        mapping[at] = work[mask];
+        e += 1;
+    }
+    mapping
+}
+
+// The same, from the lists that the view with so many edges has: none, where one of them would be empty.
+fn note_view(
+    before: [u32; 512],
+    a: usize,
+    q: Pattern,
+    m: usize,
+    edges: usize,
+    work: &[u32],
+) -> [u32; 512]
+    requires { ⌜ Fair q × (a < 16) × (0 < m) × (edges ≤ 32) × (length before ≡ 512) × (length (now work) ≡ 16384) × Marked m (now work) × Present q m (now work) × Within edges m (now work) × ((e : ℕ) → getD before (16 * e + a) 0 ≡ 0) ⌝ }
+    ensures { λ r. ⌜ Column a (q .edges) (λ e x. x ≡ maskIn (codeAt q e) (matchesOf m edges (now (work .entry)))) before r ⌝ }
+{
+    if matches::listed(work, m, edges as u32) == m {
+        return note_masks(before, a, q, m, work);
+    }
+    before
+}
+
+// A word for each node that a query can have.
+fn no_words() -> [u32; 16]
+    ensures { λ r. ⌜ r ≡ replicate 16 0 ⌝ }
+{
+    [0u32; 16]
+}
+
+// The masks of the k views of a catalogue on the record s of the query, with n nodes and m edges.
+fn note_views(
+    q: Pattern,
+    s: &[u8],
+    n: usize,
+    m: usize,
+    catalogue: &[u8],
+    k: usize,
+    work: &mut [u32],
+) -> [u32; 512]
+    requires { ⌜ Query q × Views (now catalogue) k × (length (now s) ≤ 65536) × (length (now catalogue) ≤ 65536) × Holds (now s) n m (now work) × ((t : Query q) → decode record′ (now s) ≡ ok (graphFields (t .content))) ⌝ }
+    ensures { λ r. ⌜ ((t : Query q) (v : Views (now (catalogue .entry)) k) → r ≡ mapping (patternOf (t .content)) (map patternOf (viewsOf (v .content)))) ⌝ }
+{
+    let mut mapping = no_mapping();
+    let mut leave = no_words();
+    let mut arrive = no_words();
+    let mut held = no_words();
+    let mut byte: usize = 1;
+    let mut a: usize = 0;
+    while a < k {
+        let v = views::view_at(catalogue, byte);
+        let p = v.pattern;
+        matched::match_edges(s, n, m, p, work, &mut leave, &mut arrive, &mut held);
+        let more = note_view(mapping, a, q, m, p.edges, work);
+        mapping = more;
+        byte = v.next;
+        a += 1;
+    }
+    mapping
+}
+
+fn no_bytes() -> [u8; 164]
+    ensures { λ r. ⌜ r ≡ replicate 164 0 ⌝ }
+{
+    [0u8; 164]
+}
+
+// The table of the query and the k views of a catalogue.
+pub fn map_views(q: Pattern, catalogue: &[u8], k: usize, work: &mut [u32]) -> [u32; 512]
+    requires { ⌜ Query q × Views (now catalogue) k × (length (now catalogue) ≤ 65536) × (length (now work) ≡ 16384) ⌝ }
+    ensures { λ r. ⌜ ((t : Query q) (v : Views (now (catalogue .entry)) k) → r ≡ mapping (patternOf (t .content)) (map patternOf (viewsOf (v .content)))) ⌝ }
+{
+    let mut bytes = no_bytes();
+    let size = query::write_graph(q, 32, &mut bytes, work);
+    let g = graph::load_record(&bytes[0..size], work);
+    match g {
+        Graph::Of(n, m) => note_views(q, &bytes[0..size], n, m, catalogue, k, work),
+        Graph::Refused(_) => no_mapping(),
+    }
+}

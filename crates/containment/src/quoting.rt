@@ -1,0 +1,93 @@
+// A quote, with room to work in: 16,384 words, which are left in any state.
+ghost use mathlib.Core.Path.{_≡_};
+ghost use mathlib.Core.List.{[], _∷_, map};
+ghost use Prim.Native.Nat.{_≤_};
+ghost use lib.ListN.{length};
+ghost use Rattle.packed.specs.Contents.{viewsOf};
+ghost use Rattle.packed.specs.Refusals.{told, numberOf, detailOf};
+ghost use Rattle.packed.specs.Calls.{give, judged, readCatalogue};
+ghost use Rattle.matching.specs.Simulation.{patternOf};
+ghost use Rattle.containment.specs.Quote.{blank, flat, mapping, valuesFrom, quoteValues, quoteAnswer, quoteTold};
+ghost use Rattle.containment.specs.Choice.{everyView};
+ghost use Rattle.containment.specs.Steps.{Query, Answers};
+use crate::choose;
+use crate::mapping;
+use crate::quote_type::Coverage;
+use crate::quote_type::Quote;
+use packed::by_value;
+use packed::by_value::Pattern;
+use packed::catalogue;
+use packed::limits;
+use packed::pattern;
+use packed::reply::Part;
+use packed::reply::Refusal;
+
+pub fn refused(x: Refusal) -> Quote
+    ensures { λ r. ⌜ quoteTold r ≡ told (numberOf x) (detailOf x ∷ blank) ⌝ }
+{
+    Quote {
+        coverage: Coverage::Refused(x),
+        mapping: mapping::no_mapping(),
+        edges: 0,
+        chosen: 0,
+        lowest: 0,
+    }
+}
+
+// A quote from its table, by the views in the set.
+fn quote_of(mapping: [u32; 512], set: u32, m: usize, k: usize) -> Quote
+    requires { ⌜ (m ≤ 32) × (k ≤ 16) ⌝ }
+    ensures { λ r. ⌜ quoteTold r ≡ told 0 (flat (valuesFrom mapping set m k)) ⌝ }
+{
+    if choose::is_cover(&mapping, set, k, m) {
+        return Quote {
+            coverage: Coverage::Covered,
+            mapping,
+            edges: m as u32,
+            chosen: choose::choose(&mapping, set, k, m),
+            lowest: 0,
+        };
+    }
+    Quote {
+        coverage: Coverage::Uncovered,
+        mapping,
+        edges: m as u32,
+        chosen: 0,
+        lowest: choose::lowest_unmatched(&mapping, set, k, m) as u32,
+    }
+}
+
+fn quote_for(q: Pattern, catalogue: &[u8], work: &mut [u32]) -> Quote
+    requires { ⌜ Query q × (length (now work) ≡ 16384) ⌝ }
+    ensures { λ r. ⌜ ((t : Query q) → Answers blank (judged (readCatalogue (now (catalogue .entry))) (λ cs. give (flat (quoteValues everyView (patternOf (t .content)) (map patternOf (viewsOf cs)))) [])) (quoteTold r) [] []) ⌝ }
+{
+    if limits::CATALOGUE_MOST < catalogue.len() {
+        return refused(Refusal::TooLong(2));
+    }
+    let p = catalogue::judge_catalogue(catalogue, work);
+    match p {
+        Part::Upto(_, n) => {
+            let k = catalogue::word_at(&work[0..n], 0) as usize;
+            let mapping = mapping::map_views(q, catalogue, k, work);
+            quote_of(mapping, choose::EVERY_VIEW, q.edges, k)
+        }
+        Part::Refused(x) => refused(x),
+    }
+}
+
+pub fn quote(question: &[u8], catalogue: &[u8], work: &mut [u32]) -> Quote
+    requires { ⌜ length (now work) ≡ 16384 ⌝ }
+    ensures { λ r. ⌜ Answers blank (quoteAnswer (now (question .entry)) (now (catalogue .entry))) (quoteTold r) [] [] ⌝ }
+{
+    if limits::PATTERN_MOST < question.len() {
+        return refused(Refusal::TooLong(1));
+    }
+    let p = pattern::judge_pattern(question, work);
+    match p {
+        Part::Upto(_, n) => {
+            let q = by_value::pattern_of(&work[0..n]);
+            quote_for(q, catalogue, work)
+        }
+        Part::Refused(x) => refused(x),
+    }
+}

@@ -1,0 +1,95 @@
+// A showing of why a query is not covered, with room to work in: 16,384 words, which are left in any state.
+ghost use mathlib.Core.Path.{_≡_};
+ghost use mathlib.Core.List.{[], _∷_, map};
+ghost use lib.ListN.{length};
+ghost use Rattle.packed.specs.Contents.{viewsOf};
+ghost use Rattle.packed.specs.Calls.{judged, readCatalogue};
+ghost use Rattle.matching.specs.Simulation.{patternOf};
+ghost use Rattle.containment.specs.Choice.{everyView};
+ghost use Rattle.containment.specs.Show.{recordBytes, fitBoth, showFor, showAnswer, shownTold};
+ghost use Rattle.containment.specs.Steps.{Query, Answers, shownFields};
+use crate::choose;
+use crate::mapping;
+use crate::query;
+use packed::by_value;
+use packed::by_value::Pattern;
+use packed::catalogue;
+use packed::limits;
+use packed::pattern;
+use packed::reply::Part;
+use packed::reply::Refusal;
+
+// The lengths of the two records that were written, or why there is no showing.
+pub enum Shown {
+    Done(usize, usize),
+    Refused(Refusal),
+}
+
+// The two records of a query that is not covered, whose lowest unmatched edge is e.
+fn show_both(q: Pattern, e: usize, first: &mut [u8], second: &mut [u8], work: &mut [u32]) -> Shown
+    requires { ⌜ Query q × (length (now work) ≡ 16384) ⌝ }
+    ensures { λ r. ⌜ ((t : Query q) → Answers [] (fitBoth (length (now (first .entry))) (length (now (second .entry))) (recordBytes (shownFields (t .content) 32)) (recordBytes (shownFields (t .content) e))) (shownTold r) (now (first .entry) ∷ now (second .entry) ∷ []) (now (first .exit) ∷ now (second .exit) ∷ [])) ⌝ }
+{
+    let a = query::write_graph(q, 32, &mut first[0..0], work);
+    if first.len() < a {
+        return Shown::Refused(Refusal::NoRoom(a));
+    }
+    let b = query::write_graph(q, e, &mut second[0..0], work);
+    if second.len() < b {
+        return Shown::Refused(Refusal::NoRoom(b));
+    }
+    query::write_graph(q, 32, first, work);
+    query::write_graph(q, e, second, work);
+    Shown::Done(a, b)
+}
+
+fn show_for(
+    q: Pattern,
+    catalogue: &[u8],
+    first: &mut [u8],
+    second: &mut [u8],
+    work: &mut [u32],
+) -> Shown
+    requires { ⌜ Query q × (length (now work) ≡ 16384) ⌝ }
+    ensures { λ r. ⌜ ((t : Query q) → Answers [] (judged (readCatalogue (now (catalogue .entry))) (λ cs. showFor everyView (t .content) (map patternOf (viewsOf cs)) (length (now (first .entry))) (length (now (second .entry))))) (shownTold r) (now (first .entry) ∷ now (second .entry) ∷ []) (now (first .exit) ∷ now (second .exit) ∷ [])) ⌝ }
+{
+    if limits::CATALOGUE_MOST < catalogue.len() {
+        return Shown::Refused(Refusal::TooLong(2));
+    }
+    let p = catalogue::judge_catalogue(catalogue, work);
+    match p {
+        Part::Upto(_, n) => {
+            let k = catalogue::word_at(&work[0..n], 0) as usize;
+            let mapping = mapping::map_views(q, catalogue, k, work);
+            if choose::is_cover(&mapping, choose::EVERY_VIEW, k, q.edges) {
+                return Shown::Refused(Refusal::Contained);
+            }
+            let e = choose::lowest_unmatched(&mapping, choose::EVERY_VIEW, k, q.edges);
+            show_both(q, e, first, second, work)
+        }
+        Part::Refused(x) => Shown::Refused(x),
+    }
+}
+
+pub(crate) fn show(
+    question: &[u8],
+    catalogue: &[u8],
+    first: &mut [u8],
+    second: &mut [u8],
+    work: &mut [u32],
+) -> Shown
+    requires { ⌜ length (now work) ≡ 16384 ⌝ }
+    ensures { λ r. ⌜ Answers [] (showAnswer (now (question .entry)) (now (catalogue .entry)) (length (now (first .entry))) (length (now (second .entry)))) (shownTold r) (now (first .entry) ∷ now (second .entry) ∷ []) (now (first .exit) ∷ now (second .exit) ∷ []) ⌝ }
+{
+    if limits::PATTERN_MOST < question.len() {
+        return Shown::Refused(Refusal::TooLong(1));
+    }
+    let p = pattern::judge_pattern(question, work);
+    match p {
+        Part::Upto(_, n) => {
+            let q = by_value::pattern_of(&work[0..n]);
+            show_for(q, catalogue, first, second, work)
+        }
+        Part::Refused(x) => Shown::Refused(x),
+    }
+}
