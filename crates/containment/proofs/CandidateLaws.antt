@@ -14,7 +14,7 @@ use Rattle.packed.specs.BookSheets.{sheetAt}
 use Rattle.packed.specs.declared.by_value.Pattern.{Pattern as Given}
 use Rattle.packed.proofs.AcceptedBounds.{catalogue-views}
 use Rattle.matching.specs.Lists.{In, here, there, gather}
-use Rattle.matching.specs.Simulation.{Pair, Pattern, bit, edgesIn, patternOf, asGraph, matchSets}
+use Rattle.matching.specs.Simulation.{Pair, Pattern, bit, edgesIn, patternOf, asGraph, viewSheet}
 use Rattle.matching.specs.Join.{lists, View, pairOf, under, candidates}
 use Rattle.matching.specs.Sweeps.{Has, OneOf}
 use Rattle.matching.specs.Candidates.{SheetListing, BookListing}
@@ -22,7 +22,7 @@ use Rattle.matching.specs.Joining.{edgeAt, Agrees}
 use Rattle.matching.proofs.ListLaws.{cond-case, not-in-none, in-cast, in-at, append-in, in-append-left, in-append-right, gather-in, in-gather, each-in, in-each}
 use Rattle.matching.proofs.CodeLaws.{member-in}
 use Rattle.matching.proofs.JoinLaws.{lists-by}
-use Rattle.matching.proofs.MatchSetLaws.{sets-length}
+use Rattle.matching.proofs.MatchSetLaws.{view-length}
 use Rattle.matching.proofs.PatternLaws.{edges-many, pattern-same}
 use Rattle.matching.proofs.ViewLaws.{all-ahead, in-follow}
 use Rattle.containment.specs.Quote.{noPattern, mapping}
@@ -117,14 +117,14 @@ module _ (Q : Pattern) (set : ℕ) (Ps : List Pattern) (sheets : List (List (Lis
     pub chosen : Has set view
     pub edge : ℕ
     pub below : edge < length (getD sheets view [])
-    pub matches : In (code (e .0) (e .1)) (getD (matchSets (getD Ps view noPattern) (asGraph Q)) edge [])
+    pub matches : In (code (e .0) (e .1)) (getD (viewSheet (getD Ps view noPattern) (asGraph Q)) edge [])
     pub lists : In c (getD (getD sheets view []) edge [])
 
   abbrev vs : List View
   vs = viewsIn set Ps sheets
 
   abbrev of-view : View → List ℕ
-  of-view v = under e (matchSets (v .pattern) (asGraph Q)) (v .sheet)
+  of-view v = under e (viewSheet (v .pattern) (asGraph Q)) (v .sheet)
 
   pub offered-say : {f : Pair} → In f (candidates Q vs e) → (c : ℕ) × (f ≡ pairOf c) × Offered c
   unfolding candidates
@@ -133,7 +133,7 @@ module _ (Q : Pattern) (set : ℕ) (Ps : List Pattern) (sheets : List (List (Lis
       let c : ℕ = r .0 in
       let g = gather-in of-view vs (r .1) in
       let o = views-say set Ps sheets (g .1) in
-      let u = under-say e (matchSets (getD Ps (o .at) noPattern) (asGraph Q)) (getD sheets (o .at) []) {c = c} (subst (λ v. In c (of-view v)) (o .holds .1) (g .2)) in
+      let u = under-say e (viewSheet (getD Ps (o .at) noPattern) (asGraph Q)) (getD sheets (o .at) []) {c = c} (subst (λ v. In c (of-view v)) (o .holds .1) (g .2)) in
       (c, r .2, record { view = o .at; given = o .below; chosen = o .holds .0; edge = u .at; below = u .below; matches = u .holds .0; lists = u .holds .1 })
 
   pub offered-by : {c : ℕ} (o : Offered c) → o .edge < length (getD Ps (o .view) noPattern .edges) → In (pairOf c) (candidates Q vs e)
@@ -141,7 +141,7 @@ module _ (Q : Pattern) (set : ℕ) (Ps : List Pattern) (sheets : List (List (Lis
   offered-by {c} o h =
       let P : Pattern = getD Ps (o .view) noPattern in
       in-each pairOf (in-gather of-view (views-by set Ps sheets (o .view) (o .given) (o .chosen))
-      (under-by e (matchSets P (asGraph Q)) (getD sheets (o .view) []) (o .edge) (omega (arith, sets-length P (asGraph Q))) (o .below) (o .matches) (o .lists)))
+      (under-by e (viewSheet P (asGraph Q)) (getD sheets (o .view) []) (o .edge) (omega (arith, view-length P (asGraph Q))) (o .below) (o .matches) (o .lists)))
 
 -- ---- an accepted query, and a book that was accepted for the views of a catalogue
 module _ {q : Given} (t : Query q) {c : List ℕ} {k : ℕ} (v : Views c k) (counts s bs : List ℕ) (same : take k counts ≡ edgeCounts (v .content))
@@ -168,7 +168,7 @@ module _ {q : Given} (t : Query q) {c : List ℕ} {k : ℕ} (v : Views c k) (cou
 
   -- the table says which edges of a view match
   matches-exactly : (i a f : ℕ) → i < q .edges → a < k → f < getD counts a 0
-      → Has (getD table (16 * i + a) 0) f ↔ In (codeAt q i) (getD (matchSets (getD Ps a noPattern) (asGraph Q)) f [])
+      → Has (getD table (16 * i + a) 0) f ↔ In (codeAt q i) (getD (viewSheet (getD Ps a noPattern) (asGraph Q)) f [])
   matches-exactly i a f h l j =
       let m = mapping-exactly Q Ps (omega (arith, query-number t, t .holds .edges, few-edges t)) i a (omega (arith, query-number t)) (omega (arith, views-many v)) (omega (arith, views-few v)) f (omega (arith, view-edges a l)) in
       let n = rw (← is, query-edge t i h) at m in

@@ -24,7 +24,7 @@ use Rattle.packed.proofs.WalkLaws.{book-pairs}
 use Rattle.packed.proofs.BookSheetLaws.{sheets-back, sheet-many, list-is, list-small, list-in-book}
 use Rattle.packed.proofs.CallLaws.{overFile, overFile-no, fitFile-fits}
 use Rattle.matching.specs.Lists.{In, keep, each}
-use Rattle.matching.specs.Simulation.{Pattern, Graph, bit, patternOf, graphOf, sound, matchSets}
+use Rattle.matching.specs.Simulation.{Pattern, Graph, bit, patternOf, graphOf, sound, matchSets, viewSheet}
 use Rattle.matching.specs.Join.{View, answerSets}
 use Rattle.matching.proofs.ByEdge.{covered, viewOf}
 use Rattle.matching.specs.Search.{sheetBytes, viewSheets, searchAnswer}
@@ -46,9 +46,9 @@ use Rattle.containment.proofs.QuoteLaws.{place-of, chosenFrom, set-cove
 
 -- ---- the views in a set
 
--- with their match sets in a graph
+-- with their sheets on a graph
 pub sets-chosen : (set : ℕ) (G : Graph) (vs : List (List ℕ))
-    → viewsIn set (map patternOf vs) (map (λ v. matchSets (patternOf v) G) vs) ≡ each (viewOf G) (chosenFrom set (map patternOf vs))
+    → viewsIn set (map patternOf vs) (map (λ v. viewSheet (patternOf v) G) vs) ≡ each (viewOf G) (chosenFrom set (map patternOf vs))
 unfolding viewsIn chosenFrom each viewOf
 sets-chosen set G [] = refl
 sets-chosen set G (v ∷ vs) = step (bit set 0) (chosenFrom (set / 2) (map patternOf vs)) (sets-chosen (set / 2) G vs)

@@ -8,12 +8,12 @@ use native.Mathlib.Omega.{arith}
 use Rattle.packed.specs.Formats.{code}
 use Rattle.packed.specs.Contents.{edgeCounts, sheetsIn}
 use Rattle.matching.specs.Lists.{In}
-use Rattle.matching.specs.Simulation.{Pair, Pattern, patternOf, asGraph, ascending, matchSets}
+use Rattle.matching.specs.Simulation.{Pair, Pattern, patternOf, asGraph, ascending, viewSheet}
 use Rattle.matching.specs.Join.{View, pairOf, candidates, answerSets}
 use Rattle.matching.proofs.ByEdge.{answerTo}
 use Rattle.matching.proofs.ListLaws.{in-cast, getD-each}
 use Rattle.matching.proofs.CodeLaws.{code-same, ascending-say, ascending-by}
-use Rattle.matching.proofs.MatchSetLaws.{sets-length}
+use Rattle.matching.proofs.MatchSetLaws.{view-length}
 use Rattle.matching.proofs.JoinLaws.{Supported, Joined, join-candidate, join-supported, join-most, complete-say, complete-by, answer-say, answer-by, answer-each, code-pair, pair-code}
 use Rattle.containment.specs.Quote.{noPattern}
 use Rattle.containment.specs.Answer.{viewsIn}
@@ -55,7 +55,7 @@ module _ (Q : Pattern) (Ps : List Pattern) (sheets : List (List (List ℕ))) (se
         matches = m .lists;
         lists = k .lists;
       } in
-      let l : m .link < length (P .edges) = omega (arith, place-below (matchSets P (asGraph Q)) (m .link) (m .lists), sets-length P (asGraph Q)) in
+      let l : m .link < length (P .edges) = omega (arith, place-below (viewSheet P (asGraph Q)) (m .link) (m .lists), view-length P (asGraph Q)) in
       in-cast (code-pair (k .narrow)) (offered-by Q set Ps sheets e o l)
 
   -- ---- the greatest choice

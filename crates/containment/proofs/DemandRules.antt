@@ -17,7 +17,7 @@ use Rattle.packed.proofs.OrderCases.{lt-or-ge}
 use Rattle.packed.proofs.RoundTrip.{Bytes}
 use Rattle.packed.proofs.Accepted.{pattern-accepted, catalogue-accepted, record-accepted, sheet-accepted, book-accepted, written-accepted}
 use Rattle.matching.specs.Lists.{In}
-use Rattle.matching.specs.Simulation.{Pair, Pattern, patternOf, asGraph, matchSets}
+use Rattle.matching.specs.Simulation.{Pair, Pattern, patternOf, asGraph, viewSheet}
 use Rattle.matching.specs.Join.{lists}
 use Rattle.matching.proofs.ByEdge.{matchedBy, matched}
 use Rattle.matching.specs.Search.{sheetBytes}
@@ -407,16 +407,16 @@ place-below ls i {c} m =
 
 -- an edge of the query that a view matches is listed under an edge of the view
 module _ (Q : Pattern) (e : Pair) (P : Pattern) where
-  link-of : T (matchedBy Q e P) → (f : ℕ) × In (code (e .0) (e .1)) (getD (matchSets P (asGraph Q)) f [])
+  link-of : T (matchedBy Q e P) → (f : ℕ) × In (code (e .0) (e .1)) (getD (viewSheet P (asGraph Q)) f [])
   unfolding matchedBy lists
   link-of t =
-      let l = some-in (lists e) (matchSets P (asGraph Q)) t in
+      let l = some-in (lists e) (viewSheet P (asGraph Q)) t in
       let o = place-of [] (l .1) in
       (o .at, subst (λ m. In (code (e .0) (e .1)) m) (o .holds) (member-in (l .0) (test-is (lists e (l .0)) .1 (l .2))))
 
-  by-link : (f : ℕ) → In (code (e .0) (e .1)) (getD (matchSets P (asGraph Q)) f []) → T (matchedBy Q e P)
+  by-link : (f : ℕ) → In (code (e .0) (e .1)) (getD (viewSheet P (asGraph Q)) f []) → T (matchedBy Q e P)
   unfolding matchedBy
-  by-link f i = in-some (lists e) (in-at (matchSets P (asGraph Q)) f [] (place-below (matchSets P (asGraph Q)) f i)) (lists-by e i)
+  by-link f i = in-some (lists e) (in-at (viewSheet P (asGraph Q)) f [] (place-below (viewSheet P (asGraph Q)) f i)) (lists-by e i)
 
 -- the extracts that answer a query: the chosen ones, or all
 module _ (qs cs : List ℕ) where

@@ -12,7 +12,7 @@ use Rattle.matching.specs.Lists.{In}
 use Rattle.matching.specs.Simulation.{Pattern, patternOf, graphOf, sound, matchSets}
 use Rattle.matching.specs.Search.{sheetBytes, bookBytes, viewSheets, searchAnswer, makeBookAnswer}
 use Rattle.matching.proofs.ListLaws.{in-at, length-each}
-use Rattle.matching.proofs.MatchSetLaws.{order-free}
+use Rattle.matching.proofs.MatchSetLaws.{view-same, order-free}
 use Rattle.matching.proofs.PatternLaws.{sound-of}
 use Rattle.matching.proofs.ViewLaws.{all-ahead, in-follow}
 use Rattle.matching.proofs.SheetBytes.{search-back, search-size}
@@ -81,7 +81,7 @@ module _ (r r′ rs rs′ : List ℕ) (e : Record r rs) (e′ : Record r′ rs�
   order-books c room =
       judged-same (readCatalogue c) _ _
       (λ cs. goes-on _ e
-      ∙ ap (λ (ls : List (List (List ℕ))). fitFile room (bookBytes ls)) (map-same _ _ (viewsOf cs) (λ v i. same-sets (patternOf v)))
+      ∙ ap (λ (ls : List (List (List ℕ))). fitFile room (bookBytes ls)) (map-same _ _ (viewsOf cs) (λ v i. view-same (patternOf v) (graphOf rs) (graphOf rs′) (same-sets (patternOf v))))
       ∙ sym (goes-on _ e′))
 
 -- ---- the patterns of a catalogue

@@ -9,7 +9,7 @@ use native.Mathlib.Omega.{arith}
 use Rattle.packed.specs.Contents.{edgeCounts, viewsOf, fieldsOf, sheetsIn}
 use Rattle.packed.specs.Calls.{give, withWorkspace, readSheet, fitFile}
 use Rattle.matching.specs.Lists.{In, here, there}
-use Rattle.matching.specs.Simulation.{Pattern, Graph, bit, patternOf, graphOf, matchSets}
+use Rattle.matching.specs.Simulation.{Pattern, Graph, bit, patternOf, graphOf, matchSets, viewSheet}
 use Rattle.matching.specs.Join.{without, answerSets}
 use Rattle.matching.specs.Search.{sheetBytes, viewSheets, searchAnswer}
 use Rattle.matching.proofs.BookBytes.{bookFields}
@@ -59,13 +59,13 @@ module _ (q c qs cs : List ℕ) (p : Question q qs) (d : Catalogue c cs) where
       }
 
   -- the two shown records have the same lists
-  same-lists : Uncovered qs cs → (P : Pattern) → In P (extracts cs) → matchSets P (graphOf (firstOf qs)) ≡ matchSets P (graphOf (secondOf qs cs))
+  same-lists : Uncovered qs cs → (P : Pattern) → In P (extracts cs) → viewSheet P (graphOf (firstOf qs)) ≡ viewSheet P (graphOf (secondOf qs cs))
   same-lists n P i =
       let s = shown-by n in
       let e = linkOf qs (lacking qs cs) in
-      ap (matchSets P) (s .question)
+      ap (viewSheet P) (s .question)
       ∙ uncovered-views (patternOf qs) (extracts cs) e (lowest-of q c qs cs (question-is q qs p) (catalogue-is c cs d) n .unmatched) P i
-      ∙ ap (matchSets P) (sym (s .lacks ∙ ap (without e) (s .question)))
+      ∙ ap (viewSheet P) (sym (s .lacks ∙ ap (without e) (s .question)))
 
   -- ---- accepted books
   module _ (b bs : List ℕ) (k : Book cs b bs) where
@@ -81,8 +81,8 @@ module _ (q c qs cs : List ℕ) (p : Question q qs) (d : Catalogue c cs) where
         (test-cases (coveredBy qs cs))
 
 -- the sheets of views whose lists are the same in two graphs
-same-sheets : (G H : Graph) (vs : List (List ℕ)) → ((P : Pattern) → In P (map patternOf vs) → matchSets P G ≡ matchSets P H)
-    → map (λ v. matchSets (patternOf v) G) vs ≡ map (λ v. matchSets (patternOf v) H) vs
+same-sheets : (G H : Graph) (vs : List (List ℕ)) → ((P : Pattern) → In P (map patternOf vs) → viewSheet P G ≡ viewSheet P H)
+    → map (λ v. viewSheet (patternOf v) G) vs ≡ map (λ v. viewSheet (patternOf v) H) vs
 same-sheets G H [] h = refl
 same-sheets G H (v ∷ vs) h = ap₂ (λ (x : List (List ℕ)) (l : List (List (List ℕ))). x ∷ l) (h (patternOf v) (here refl)) (same-sheets G H vs (λ P i. h P (there i)))
 

@@ -16,9 +16,10 @@ use Rattle.packed.specs.Calls.{Answer, give, toldOf, fronts, outputsOf, workOf,
 use Rattle.packed.proofs.Accepted.{pattern-read, catalogue-read, record-read, sheet-read, book-read}
 use Rattle.packed.proofs.CallRoundTrips.{pattern-back, pattern-again, catalogue-back, catalogue-again, record-back, record-again, sheet-back, sheet-again, book-back, book-again}
 use Rattle.matching.specs.Lists.{In}
-use Rattle.matching.specs.Simulation.{Pair, Pattern, bit, patternOf, graphOf, asGraph, matchSets}
+use Rattle.matching.specs.Simulation.{Pair, Pattern, bit, patternOf, graphOf, asGraph, matchSets, viewSheet}
 use Rattle.matching.specs.Search.{searchAnswer, makeBookAnswer}
 use Rattle.matching.proofs.SimLaws.{sim-is, sim-most}
+use Rattle.matching.proofs.MatchSetLaws.{view-sheet}
 use Rattle.matching.proofs.Listed.{listed-exactly, matches-related, related-matches}
 use Rattle.matching.proofs.AllOrNone.{sets-even}
 use Rattle.matching.proofs.RecordLaws.{graph-narrow}
@@ -170,7 +171,7 @@ quote-exactly q c qs cs eq ec =
 
 -- the masks of a quote
 maps-exactly : (q c qs cs : List ℕ) → Question q qs → Catalogue c cs → (i a f : ℕ) → i < edgesOf qs → a < length (extracts cs) → f < length (extractOf cs a .edges)
-    → T (bit (getD (mapping (patternOf qs) (extracts cs)) (16 * i + a) 0) f) ↔ In (code (linkOf qs i .0) (linkOf qs i .1)) (getD (matchSets (extractOf cs a) (asGraph (patternOf qs))) f [])
+    → T (bit (getD (mapping (patternOf qs) (extracts cs)) (16 * i + a) 0) f) ↔ In (code (linkOf qs i .0) (linkOf qs i .1)) (getD (viewSheet (extractOf cs a) (asGraph (patternOf qs))) f [])
 maps-exactly q c qs cs eq ec i a f h l k =
     let b = question-bounds q qs eq in
     let n = few-views c cs ec in
@@ -212,6 +213,7 @@ demand-2 = record {
   searches = searched;
   books = book-made;
   lists = lists-exactly;
+  of-extracts = view-sheet;
   sheet-back = λ p r ps rs out e f room words. searched-back p r ps rs e f out room words;
   each-link = λ l ls. refl;
   no-links = refl;

@@ -19,7 +19,7 @@ use Rattle.packed.specs.Contents.{member}
 use Rattle.packed.specs.Matches.{marks, marked, markedFrom, anyEmpty, emptied, allOrNone, codesOf, masksOf, matchesOf, Marked, Listed}
 use Rattle.packed.proofs.OrderCases.{lt-or-ge, trichotomy}
 use Rattle.packed.proofs.RoundTrip.{and-no}
-use Rattle.matching.specs.Simulation.{Pair, Pattern, bit, asGraph, matchSets}
+use Rattle.matching.specs.Simulation.{Pair, Pattern, bit}
 use Rattle.matching.specs.Lists.{upTo}
 use Rattle.matching.specs.Sweeps.{OneOf, Has}
 use Rattle.matching.proofs.UpToLaws.{length-upTo, getD-upTo}

@@ -16,7 +16,7 @@ use Rattle.packed.specs.declared.by_value.Pattern.{Pattern as Given}
 use Rattle.packed.proofs.DistinctLaws.{member-distinct}
 use Rattle.packed.proofs.AcceptedBounds.{catalogue-views}
 use Rattle.matching.specs.Lists.{In, here, there}
-use Rattle.matching.specs.Simulation.{Pair, Pattern, Graph, edgesIn, patternOf, graphOf, asGraph, matchSets}
+use Rattle.matching.specs.Simulation.{Pair, Pattern, Graph, edgesIn, patternOf, graphOf, asGraph, matchSets, viewSheet}
 use Rattle.matching.specs.Steps.{patternIn, graphIn, Fair, Ready, Edges}
 use Rattle.matching.specs.Sweeps.{OneOf}
 use Rattle.matching.specs.Matched.{Proper, Rises, Matched, ViewAt}
@@ -25,6 +25,7 @@ use Rattle.matching.proofs.ListLaws.{in-each}
 use Rattle.matching.proofs.CodeLaws.{in-member, member-in}
 use Rattle.matching.proofs.EdgeLaws.{edgeAt, at-edgesIn, codes-each}
 use Rattle.matching.proofs.PatternLaws.{edges-in, pattern-same}
+use Rattle.matching.proofs.MatchSetLaws.{view-sheet}
 use Rattle.matching.proofs.RecordLaws.{sets-same, graph-again}
 use Rattle.matching.proofs.ViewLaws.{Ahead, Advanced, advance, all-ahead}
 use Rattle.containment.specs.Quote.{maskIn, matchMask, mapping}
@@ -153,13 +154,14 @@ module _ {q : Given} {s : List ℕ} {n m : ℕ} {w : List ℕ} (t : Query q) (h 
     abbrev Ps : List Pattern
     Ps = map patternOf (take a vs)
 
-    sets-view : matchesOf m (r .pattern .edges) w₂ ≡ matchSets (patternOf here′) (asGraph Q)
+    sets-view : matchesOf m (r .pattern .edges) w₂ ≡ viewSheet (patternOf here′) (asGraph Q)
     sets-view =
         let adv = noted-next o l {r = r} view v in
         let b = number-few in
         d .sets
         ∙ ap₂ matchSets (pattern-same (adv .plain) (adv .holds)) (graph-again g s n (omega arith))
         ∙ sets-query (patternOf here′)
+        ∙ sym (view-sheet (patternOf here′) (asGraph Q))
 
     mask-view : (e : ℕ) → e < q .edges → maskIn (codeAt q e) (matchesOf m (r .pattern .edges) w₂) ≡ matchMask Q (getD (Q .edges) e (0, 0)) (patternOf here′)
     unfolding matchMask

@@ -14,7 +14,7 @@ use Rattle.packed.specs.Format.{pick}
 use Rattle.packed.specs.Formats.{code}
 use Rattle.packed.specs.Contents.{member}
 use Rattle.matching.specs.Lists.{_or_, In, here, there, some}
-use Rattle.matching.specs.Simulation.{Pair, Pattern, bit, asGraph, matchSets}
+use Rattle.matching.specs.Simulation.{Pair, Pattern, bit, asGraph, viewSheet}
 use Rattle.matching.specs.Join.{lists}
 use Rattle.matching.proofs.ByEdge.{matchedBy, matched, covered}
 use Rattle.matching.specs.Sweeps.{OneOf}
@@ -22,7 +22,7 @@ use Rattle.matching.proofs.ListLaws.{not-in-none, in-cases, in-at, every-in, in
 use Rattle.matching.proofs.UpToLaws.{getD-upTo}
 use Rattle.matching.proofs.CodeLaws.{in-member, member-in}
 use Rattle.matching.proofs.MatchLaws.{Sim, Total}
-use Rattle.matching.proofs.MatchSetLaws.{sets-length}
+use Rattle.matching.proofs.MatchSetLaws.{view-sheet, view-length}
 use Rattle.matching.proofs.Listed.{listed-related, related-matches}
 use Rattle.containment.specs.Choice.{matches, coversIn, everyView, lowestUnmatched}
 use Rattle.containment.specs.Quote.{one, maskIn, matchMask, noPattern, maskAt, mapping}
@@ -179,27 +179,27 @@ module _ (Q : Pattern) (Ps : List Pattern) (few-edges : length (Q .edges) ≤ 32
 
   -- what stands in the table for the edge i and the view a
   mapping-at : (i a : ℕ) → i < length (Q .edges) → a < length Ps → a < 16
-      → getD (mapping Q Ps) (16 * i + a) 0 ≡ maskIn (code (edge i .0) (edge i .1)) (matchSets (view a) (asGraph Q))
+      → getD (mapping Q Ps) (16 * i + a) 0 ≡ maskIn (code (edge i .0) (edge i .1)) (viewSheet (view a) (asGraph Q))
   unfolding mapping matchMask
   mapping-at i a h l few = getD-upTo (maskAt Q Ps) 512 (16 * i + a) 0 (omega arith) ∙ mask-is (16 * i + a) i a (omega arith) (omega arith) h l
 
   -- the edges of a view that match the edge i, exactly: those whose match sets, on the query read as a graph, have it
   pub mapping-exactly : (i a : ℕ) → i < length (Q .edges) → a < length Ps → a < 16 → (f : ℕ) → f < length (getD Ps a noPattern .edges)
       → (bit (getD (mapping Q Ps) (16 * i + a) 0) f ≡ true)
-      ↔ In (code (getD (Q .edges) i (0, 0) .0) (getD (Q .edges) i (0, 0) .1)) (getD (matchSets (getD Ps a noPattern) (asGraph Q)) f [])
+      ↔ In (code (getD (Q .edges) i (0, 0) .0) (getD (Q .edges) i (0, 0) .1)) (getD (viewSheet (getD Ps a noPattern) (asGraph Q)) f [])
   mapping-exactly i a h l few f k =
       let e = mapping-at i a h l few in
-      let m = mask-exactly (code (edge i .0) (edge i .1)) (matchSets (view a) (asGraph Q)) f (omega (arith, sets-length (view a) (asGraph Q))) in
+      let m = mask-exactly (code (edge i .0) (edge i .1)) (viewSheet (view a) (asGraph Q)) f (omega (arith, view-length (view a) (asGraph Q))) in
       (λ p. member-in _ (m .0 (rw e at p)), λ p. rw e (m .1 (in-member p)))
 
   -- and no others
   pub mapping-small : (i a : ℕ) → i < length (Q .edges) → a < length Ps → a < 16 → getD (mapping Q Ps) (16 * i + a) 0 < 2 ^ length (getD Ps a noPattern .edges)
   mapping-small i a h l few =
-      rw (mapping-at i a h l few, ← sets-length (view a) (asGraph Q)) (mask-small (code (edge i .0) (edge i .1)) (matchSets (view a) (asGraph Q)))
+      rw (mapping-at i a h l few, ← view-length (view a) (asGraph Q)) (mask-small (code (edge i .0) (edge i .1)) (viewSheet (view a) (asGraph Q)))
 
   matches-is : (i a : ℕ) → i < length (Q .edges) → a < length Ps → a < 16 → matches (mapping Q Ps) i a ≡ matchedBy Q (edge i) (view a)
   unfolding matches matchedBy
-  matches-is i a h l few = ap (λ (x : ℕ). not (eqb x 0)) (mapping-at i a h l few) ∙ mask-some (edge i) (matchSets (view a) (asGraph Q))
+  matches-is i a h l few = ap (λ (x : ℕ). not (eqb x 0)) (mapping-at i a h l few) ∙ mask-some (edge i) (viewSheet (view a) (asGraph Q))
 
   -- the table says exactly which views match an edge
   pub matched-exactly : (i a : ℕ) → i < length (Q .edges) → a < length Ps → a < 16
@@ -254,28 +254,28 @@ pub record Listed (Q : Pattern) (Ps : List Pattern) (e : Pair) : Type 0 where
   pub given : In view Ps
   pub at : ℕ
   pub below : at < length (view .edges)
-  pub lists : In (code (e .0) (e .1)) (getD (matchSets view (asGraph Q)) at [])
+  pub lists : In (code (e .0) (e .1)) (getD (viewSheet view (asGraph Q)) at [])
 
 module _ (Q : Pattern) (Ps : List Pattern) where
   pub matched-say : (e : Pair) → T (matched Q Ps e) → Listed Q Ps e
   unfolding matched matchedBy lists
   matched-say e t =
       let p = some-in (matchedBy Q e) Ps t in
-      let l = some-in (lists e) (matchSets (p .0) (asGraph Q)) (p .2) in
+      let l = some-in (lists e) (viewSheet (p .0) (asGraph Q)) (p .2) in
       let o = place-of [] (l .1) in
       record {
         view = p .0;
         given = p .1;
         at = o .at;
-        below = omega (arith, o .below, sets-length (p .0) (asGraph Q));
+        below = omega (arith, o .below, view-length (p .0) (asGraph Q));
         lists = subst (λ m. In (code (e .0) (e .1)) m) (o .holds) (member-in (l .0) (test-is (lists e (l .0)) .1 (l .2)));
       }
 
   pub matched-by : (e : Pair) → Listed Q Ps e → T (matched Q Ps e)
   unfolding matched matchedBy lists
   matched-by e o =
-      let ms : List (List ℕ) = matchSets (o .view) (asGraph Q) in
-      let h : o .at < length ms = omega (arith, o .below, sets-length (o .view) (asGraph Q)) in
+      let ms : List (List ℕ) = viewSheet (o .view) (asGraph Q) in
+      let h : o .at < length ms = omega (arith, o .below, view-length (o .view) (asGraph Q)) in
       in-some (matchedBy Q e) (o .given) (in-some (lists e) (in-at ms (o .at) [] h) (test-is (lists e (getD ms (o .at) [])) .0 (in-member (o .lists))))
 
   pub covered-says : T (covered Q Ps) ↔ ((e : Pair) → In e (Q .edges) → Listed Q Ps e)
@@ -288,7 +288,7 @@ module _ (Q : Pattern) (Ps : List Pattern) where
   -- the view then fits the query as a whole: every node of it has a partner
   pub listed-whole : (e : Pair) (o : Listed Q Ps e) → Total (o .view) (Sim (o .view) (asGraph Q))
   listed-whole e o =
-      let r = listed-related (o .view) (asGraph Q) (o .at) (o .below) (code (e .0) (e .1)) (o .lists) in
+      let r = listed-related (o .view) (asGraph Q) (o .at) (o .below) (code (e .0) (e .1)) (subst (λ ls. In (code (e .0) (e .1)) (getD ls (o .at) [])) (view-sheet (o .view) (asGraph Q)) (o .lists)) in
       related-matches (o .view) (asGraph Q) (r .2) .whole
 
 -- covered exactly if each edge of the query is in the match set of some edge of some view

@@ -14,14 +14,14 @@ use Rattle.packed.specs.Plain.{PlainPattern}
 use Rattle.packed.proofs.Accepted.{pattern-accepted, record-accepted, record-read}
 use Rattle.packed.proofs.AcceptedBounds.{catalogue-views}
 use Rattle.matching.specs.Lists.{In, here, there}
-use Rattle.matching.specs.Simulation.{Pair, same, Pattern, Graph, patternOf, graphOf, asGraph, matchSets}
+use Rattle.matching.specs.Simulation.{Pair, same, Pattern, Graph, patternOf, graphOf, asGraph, matchSets, viewSheet}
 use Rattle.matching.proofs.ByEdge.{rowOf, matched}
 use Rattle.matching.specs.Join.{without}
 use Rattle.matching.specs.Search.{sheetBytes, bookBytes, viewSheets}
 use Rattle.matching.proofs.ListLaws.{in-at, keep-in, keep-length}
 use Rattle.matching.proofs.SimLaws.{same-refl}
 use Rattle.matching.proofs.CodeLaws.{ascending-length}
-use Rattle.matching.proofs.MatchSetLaws.{sets-length, sets-in, row-length}
+use Rattle.matching.proofs.MatchSetLaws.{sets-length, sets-in, row-length, view-sheet}
 use Rattle.matching.proofs.EdgeLaws.{edgeAt}
 use Rattle.matching.proofs.PatternLaws.{pattern-is, edges-in, edges-many, sound-of}
 use Rattle.matching.proofs.RecordLaws.{graph-narrow, graph-few}
@@ -87,7 +87,7 @@ pub record Shows (qs : List ℕ) (Ps : List Pattern) (e : ℕ) : Type 0 where
   pub in-first : In (queryEdge qs e) (graphOf (graphFields qs) .edges)
   pub not-second : In (queryEdge qs e) (graphOf (fewerFields qs e) .edges) → ⊥
   -- every view's sheet is the same on both, the query's own is not
-  pub same : (P : Pattern) → In P Ps → sheetBytes (matchSets P (graphOf (graphFields qs))) ≡ sheetBytes (matchSets P (graphOf (fewerFields qs e)))
+  pub same : (P : Pattern) → In P Ps → sheetBytes (viewSheet P (graphOf (graphFields qs))) ≡ sheetBytes (viewSheet P (graphOf (fewerFields qs e)))
   pub differs : sheetBytes (matchSets (patternOf qs) (graphOf (graphFields qs))) ≡ sheetBytes (matchSets (patternOf qs) (graphOf (fewerFields qs e))) → ⊥
 
 not-without : (e : Pair) (G : Graph) → In e (without e G .edges) → ⊥
@@ -142,7 +142,7 @@ module _ {qs : List ℕ} {bs : List Bool} (q : PlainPattern qs bs) where
           lacks = lack;
           in-first = subst (λ (G : Graph). In (queryEdge qs e) (G .edges)) (sym (graph-means q)) an-edge;
           not-second = λ i. not-without (queryEdge qs e) first (subst (λ (G : Graph). In (queryEdge qs e) (G .edges)) lack i);
-          same = λ P i. ap sheetBytes (sets-first P ∙ uncovered-views Q Ps (queryEdge qs e) unmatched P i ∙ sym (sets-second P));
+          same = λ P i. ap sheetBytes (ap (viewSheet P) (graph-means q) ∙ uncovered-views Q Ps (queryEdge qs e) unmatched P i ∙ ap (viewSheet P) (sym second-means));
           differs = λ b.
               uncovered-query Q (sound-of q) few-nodes (queryEdge qs e) an-edge
               (sym (sets-first Q)
@@ -214,20 +214,20 @@ sheet-most {ws = ws} q {fs = fs} m few =
 -- the sheets of the query with content qs and of the views of the catalogue with content cs, on the record with content fs, are short, and so is the book
 pub record Short (qs cs fs : List ℕ) : Type 0 where
   pub query : length (sheetBytes (matchSets (patternOf qs) (graphOf fs))) ≤ 3128
-  pub view : (v : List ℕ) → In v (viewsOf cs) → length (sheetBytes (matchSets (patternOf v) (graphOf fs))) ≤ 3128
+  pub view : (v : List ℕ) → In v (viewsOf cs) → length (sheetBytes (viewSheet (patternOf v) (graphOf fs))) ≤ 3128
   pub book : length (bookBytes (viewSheets cs (graphOf fs))) ≤ 50048
 
 module _ (s c qs cs : List ℕ) (p : decode pattern s ≡ ok qs) (d : decode catalogue c ≡ ok cs) where
   short-by : {most : ℕ} {fs : List ℕ} → Made most fs → length (graphOf fs .edges) ≤ 32 → Short qs cs fs
   unfolding viewSheets
   short-by {fs = fs} m few =
-      let each : (v : List ℕ) → In v (viewsOf cs) → length (sheetBytes (matchSets (patternOf v) (graphOf fs))) ≤ 3128 =
-      λ v i. sheet-most (in-follow (all-ahead c cs d .follow) i .1) m few in
+      let each : (v : List ℕ) → In v (viewsOf cs) → length (sheetBytes (viewSheet (patternOf v) (graphOf fs))) ≤ 3128 =
+      λ v i. rw (view-sheet (patternOf v) (graphOf fs)) (sheet-most (in-follow (all-ahead c cs d .follow) i .1) m few) in
       let v = catalogue-views c cs d in
       record {
         query = sheet-most (pattern-accepted s qs .0 p .laid) m few;
         view = each;
-        book = omega (arith, book-most (λ v. matchSets (patternOf v) (graphOf fs)) (viewsOf cs) each, v .many, v .most);
+        book = omega (arith, book-most (λ v. viewSheet (patternOf v) (graphOf fs)) (viewsOf cs) each, v .many, v .most);
       }
 
   few-first : length (graphOf (graphFields qs) .edges) ≤ 32
@@ -253,5 +253,5 @@ module _ (s c qs cs : List ℕ) (p : decode pattern s ≡ ok qs) (d : decode cat
     pub shows-book : bookBytes (viewSheets cs (graphOf (graphFields qs))) ≡ bookBytes (viewSheets cs (graphOf (fewerFields qs (lackingIn everyView qs cs))))
     unfolding viewSheets
     shows-book =
-        book-same (λ v. matchSets (patternOf v) (graphOf (graphFields qs))) (λ v. matchSets (patternOf v) (graphOf (fewerFields qs (lackingIn everyView qs cs)))) (viewsOf cs)
+        book-same (λ v. viewSheet (patternOf v) (graphOf (graphFields qs))) (λ v. viewSheet (patternOf v) (graphOf (fewerFields qs (lackingIn everyView qs cs)))) (viewsOf cs)
         (λ v i. shows s c qs cs p d n .same (patternOf v) (in-map patternOf i))

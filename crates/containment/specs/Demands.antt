@@ -18,7 +18,7 @@ use Rattle.packed.specs.Contents.{edgesOf, viewsOf, edgeCounts, sheetsIn, ends,
 use Rattle.packed.specs.Refusals.{Told, told}
 use Rattle.packed.specs.Calls.{Answer, give, refuse, fronts, Settled, Answered, withWorkspace, accepted, readPattern, readCatalogue, readRecord, readSheet, readBook, pairsOf, fitFile, patternRead, catalogueRead, recordRead, sheetRead, bookRead, patternWritten, catalogueWritten, recordWritten, sheetWritten, bookWritten}
 use Rattle.matching.specs.Lists.{In}
-use Rattle.matching.specs.Simulation.{Pair, Pattern, Graph, patternOf, graphOf, asGraph, bit, IsSim, sim, sound, matchSets}
+use Rattle.matching.specs.Simulation.{Pair, Pattern, Graph, patternOf, graphOf, asGraph, bit, IsSim, sim, sound, matchSets, viewSheet}
 use Rattle.matching.specs.Join.{without, answerSets}
 use Rattle.matching.specs.Search.{sheetBytes, bookBytes, viewSheets, searchAnswer, makeBookAnswer}
 use Rattle.containment.specs.Choice.{everyView, coversIn, lowestUnmatched, chosen}
@@ -89,9 +89,13 @@ lacking qs cs = lackingIn everyView qs cs
 abbrev pub chosenOf : List ℕ → List ℕ → ℕ
 chosenOf qs cs = chosen (mapping (patternOf qs) (extracts cs)) everyView (edgesOf qs) (length (extracts cs))
 
--- a pattern's sheet from a record, and "the extract lists made from the record": the sheets of all extracts, laid out as a book
+-- a pattern's sheet from a record
 abbrev pub sheetOf : Pattern → List ℕ → List ℕ
 sheetOf P rs = sheetBytes (matchSets P (graphOf rs))
+
+-- an extract's, and "the extract lists made from the record": the sheets of all extracts, laid out as a book
+abbrev pub extractSheetOf : Pattern → List ℕ → List ℕ
+extractSheetOf P rs = sheetBytes (viewSheet P (graphOf rs))
 
 abbrev pub bookOf : List ℕ → List ℕ → List ℕ
 bookOf cs rs = bookBytes (viewSheets cs (graphOf rs))
@@ -263,7 +267,7 @@ pub record Matched (Q : Pattern) (Ps : List Pattern) (e : Pair) : Type 0 where
   pub given : In extract Ps
   pub link : ℕ
   pub below : link < length (extract .edges)
-  pub lists : In (code (e .0) (e .1)) (getD (matchSets extract (asGraph Q)) link [])
+  pub lists : In (code (e .0) (e .1)) (getD (viewSheet extract (asGraph Q)) link [])
   pub whole : (u : ℕ) → u < length (extract .labels) → (v : ℕ) × In (u, v) (sim extract (asGraph Q))
 
 -- "question link e is matched by an extract link if that link's list contains e": here by a link of one of the extracts in a set
@@ -272,7 +276,7 @@ pub record MatchedIn (Q : Pattern) (Ps : List Pattern) (set : ℕ) (e : Pair) : 
   pub given : extract < length Ps
   pub in-set : T (bit set extract)
   pub link : ℕ
-  pub lists : In (code (e .0) (e .1)) (getD (matchSets (getD Ps extract noPattern) (asGraph Q)) link [])
+  pub lists : In (code (e .0) (e .1)) (getD (viewSheet (getD Ps extract noPattern) (asGraph Q)) link [])
 
 -- what was read is written back as the same bytes s; what was written is read back as the same content ws
 pub record RoundTrip (read : List ℕ → ℕ → Answer) (write : List ℕ → ℕ → Answer) : Type 0 where
@@ -291,6 +295,8 @@ pub record Demand2 : Type 1 where
   -- "matches": the match sets list exactly what the greatest simulation matches
   pub lists : (r rs : List ℕ) → Record r rs → (P : Pattern) (i : ℕ) → i < length (P .edges) → (f : Pair) → f .1 < 4096
       → In (code (f .0) (f .1)) (getD (matchSets P (graphOf rs)) i []) ↔ Matching P (graphOf rs) (getD (P .edges) i (0, 0)) f
+  -- and so do the lists of an extract, in a book as on a question read as a record
+  pub of-extracts : (P : Pattern) (G : Graph) → viewSheet P G ≡ matchSets P G
   -- the sheet that a search gives is read back as its match sets: for each link the number of its pairs, then each pair's from and to
   pub sheet-back : (p r ps rs out : List ℕ) → Question p ps → Record r rs → (room words : ℕ) → withWorkspace words (searchAnswer p r room) ≡ give [] (out ∷ [])
       → Sheet ps out (fieldsOf (matchSets (patternOf ps) (graphOf rs)))
@@ -326,7 +332,7 @@ pub record Demand2 : Type 1 where
       → quoteAnswer q c ≡ give (flat (record { covered = 0; mapping = mapping (patternOf qs) (extracts cs); edges = edgesOf qs; chosen = 0; lowest = lacking qs cs })) []
   -- "for each question link, the extract links that match it": bit f in the mask of link i and extract a says that link f of a lists i
   pub maps : (q c qs cs : List ℕ) → Question q qs → Catalogue c cs → (i a f : ℕ) → i < edgesOf qs → a < length (extracts cs) → f < length (extractOf cs a .edges)
-      → T (bit (getD (mapping (patternOf qs) (extracts cs)) (16 * i + a) 0) f) ↔ In (code (linkOf qs i .0) (linkOf qs i .1)) (getD (matchSets (extractOf cs a) (asGraph (patternOf qs))) f [])
+      → T (bit (getD (mapping (patternOf qs) (extracts cs)) (16 * i + a) 0) f) ↔ In (code (linkOf qs i .0) (linkOf qs i .1)) (getD (viewSheet (extractOf cs a) (asGraph (patternOf qs))) f [])
   -- the chosen set covers the question, and "drop an extract if those still kept cover the question without it" has left none to drop
   pub choice-covers : (qs cs : List ℕ) → Covered qs cs → Covers (chosenOf qs cs) qs cs
   pub choice-needs : (qs cs : List ℕ) (a : ℕ) → T (bit (chosenOf qs cs) a) → Covers (chosenOf qs cs - 2 ^ a) qs cs → ⊥
@@ -360,7 +366,7 @@ pub record Shown (qs cs : List ℕ) : Type 0 where
   pub in-first : In (linkOf qs (lacking qs cs)) (graphOf (firstOf qs) .edges)
   pub not-in-second : In (linkOf qs (lacking qs cs)) (graphOf (secondOf qs cs) .edges) → ⊥
   -- "every extract's lists are byte for byte equal on both", and so are the books
-  pub equal : (P : Pattern) → In P (extracts cs) → sheetOf P (firstOf qs) ≡ sheetOf P (secondOf qs cs)
+  pub equal : (P : Pattern) → In P (extracts cs) → extractSheetOf P (firstOf qs) ≡ extractSheetOf P (secondOf qs cs)
   pub equal-books : bookOf cs (firstOf qs) ≡ bookOf cs (secondOf qs cs)
   -- "the question's sheets differ"
   pub differ : sheetOf (patternOf qs) (firstOf qs) ≡ sheetOf (patternOf qs) (secondOf qs cs) → ⊥

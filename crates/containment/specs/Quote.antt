@@ -9,7 +9,7 @@ use Rattle.packed.specs.Formats.{code}
 use Rattle.packed.specs.Contents.{viewsOf, member}
 use Rattle.packed.specs.Refusals.{Told, told, numberOf, detailOf}
 use Rattle.packed.specs.Calls.{Answer, give, judged, readPattern, readCatalogue}
-use Rattle.matching.specs.Simulation.{Pair, Pattern, patternOf, asGraph, matchSets}
+use Rattle.matching.specs.Simulation.{Pair, Pattern, patternOf, asGraph, viewSheet}
 use Rattle.matching.specs.Lists.{upTo}
 use Rattle.containment.specs.Choice.{everyView, coversIn, lowestUnmatched, chosen}
 use Rattle.containment.specs.declared.quote_type.Coverage.{Coverage}
@@ -27,7 +27,7 @@ maskIn c (l ∷ ls) = one (member c l) + 2 * maskIn c ls
 
 -- the edges of the view P that match the edge e of the query Q: those whose lists, on Q read as a graph, have e
 unfoldable pub matchMask : Pattern → Pair → Pattern → ℕ
-matchMask Q e P = maskIn (code (e .0) (e .1)) (matchSets P (asGraph Q))
+matchMask Q e P = maskIn (code (e .0) (e .1)) (viewSheet P (asGraph Q))
 
 abbrev pub noPattern : Pattern
 noPattern = record { labels = []; edges = [] }

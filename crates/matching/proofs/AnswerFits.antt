@@ -21,10 +21,11 @@ use Rattle.packed.specs.declared.by_value.Pattern.{Pattern as Given}
 use Rattle.packed.proofs.Accepted.{pattern-accepted}
 use Rattle.packed.proofs.AcceptedBounds.{pattern-bounds}
 use Rattle.packed.proofs.CallLaws.{Finds, front-is, read-finds, judged-accepted, overFile, fitFile-fits, untested, body-tight, body-given}
-use Rattle.matching.specs.Simulation.{Pattern, patternOf, graphOf, matchSets}
+use Rattle.matching.specs.Simulation.{Pattern, patternOf, graphOf, matchSets, viewSheet}
 use Rattle.matching.specs.Search.{sheetBytes, bookBytes, viewSheets, searchFor, bookFor}
 use Rattle.matching.specs.Steps.{patternIn, graphIn, Fair}
 use Rattle.matching.specs.Matched.{Proper}
+use Rattle.matching.proofs.MatchSetLaws.{view-same}
 use Rattle.matching.proofs.PatternLaws.{fair-by, proper-by, pattern-same}
 use Rattle.matching.specs.Books.{bookIn}
 use Rattle.matching.proofs.RecordLaws.{sets-same}
@@ -64,7 +65,7 @@ unfolding viewSheets
 book-found {s} {n} {m} {w} cs room l h =
     judged-accepted (λ rs. fitFile room (bookBytes (viewSheets cs (graphOf rs)))) (read-finds 40964 3 record′ s l) (h .is)
     ∙ ap (λ (x : List (List (List ℕ))). fitFile room (bookBytes x))
-    (map-same (λ v. matchSets (patternOf v) (graphOf (h .fields))) (λ v. matchSets (patternOf v) (graphIn s n m w)) (viewsOf cs) (λ v i. sym (sets-same h (patternOf v))))
+    (map-same (λ v. viewSheet (patternOf v) (graphOf (h .fields))) (λ v. viewSheet (patternOf v) (graphIn s n m w)) (viewsOf cs) (λ v i. view-same (patternOf v) (graphOf (h .fields)) (graphIn s n m w) (sym (sets-same h (patternOf v)))))
 
 -- ---- a pattern that was accepted, by value
 module _ (s : List ℕ) {n : ℕ} {w w′ : List ℕ} (q : Content (decode pattern s) n w w′) (room : n ≤ length w) where

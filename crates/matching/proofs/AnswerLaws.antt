@@ -12,7 +12,7 @@ use Rattle.packed.specs.Contents.{distinct}
 use Rattle.packed.specs.Matches.{allOrNone}
 use Rattle.packed.proofs.DistinctLaws.{distinct-own}
 use Rattle.matching.specs.Lists.{In, here, there, gather, each}
-use Rattle.matching.specs.Simulation.{Pair, Pattern, asGraph, ascending, matchSets}
+use Rattle.matching.specs.Simulation.{Pair, Pattern, asGraph, ascending, viewSheet}
 use Rattle.matching.specs.Join.{lists, View, pairOf, under, candidates, join, complete, keptFor, answerSets}
 use Rattle.matching.proofs.ByEdge.{answerTo}
 use Rattle.matching.proofs.ListLaws.{cond-case, not-in-none, append-in, gather-in, each-in}
@@ -52,10 +52,10 @@ module _ (Q : Pattern) (vs : List View) where
   unfolding candidates
   candidate-stands e {f} i = of-code (each-in pairOf _ i)
     where
-      of-view : (c : ℕ) (v : View) → In v vs → In c (under e (matchSets (v .pattern) (asGraph Q)) (v .sheet)) → Stands vs c
-      of-view c v i j = let r = under-from e (matchSets (v .pattern) (asGraph Q)) (v .sheet) j in record { view = v; given = i; list = r .0; of-view = r .1; here = r .2 }
+      of-view : (c : ℕ) (v : View) → In v vs → In c (under e (viewSheet (v .pattern) (asGraph Q)) (v .sheet)) → Stands vs c
+      of-view c v i j = let r = under-from e (viewSheet (v .pattern) (asGraph Q)) (v .sheet) j in record { view = v; given = i; list = r .0; of-view = r .1; here = r .2 }
 
-      of-code : (c : ℕ) × In c (gather (λ v. under e (matchSets (v .pattern) (asGraph Q)) (v .sheet)) vs) × (f ≡ pairOf c) → Stands vs (code (f .0) (f .1))
+      of-code : (c : ℕ) × In c (gather (λ v. under e (viewSheet (v .pattern) (asGraph Q)) (v .sheet)) vs) × (f ≡ pairOf c) → Stands vs (code (f .0) (f .1))
       of-code (c, j, q) =
           let r = gather-in _ vs j in
           subst (λ g. Stands vs (code (g .0) (g .1))) (sym q) (subst (Stands vs) (sym (pair-code c)) (of-view c (r .0) (r .1) (r .2)))

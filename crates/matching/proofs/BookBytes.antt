@@ -19,10 +19,10 @@ use Rattle.packed.proofs.AcceptedTurns.{no-turns, more-turns}
 use Rattle.packed.proofs.BookSheetLaws.{ends-long, codes-back}
 use Rattle.packed.proofs.Accepted.{sheet-accepted, book-accepted, book-read}
 use Rattle.matching.specs.Lists.{In, here, there, gather}
-use Rattle.matching.specs.Simulation.{Graph, patternOf, graphOf, matchSets}
+use Rattle.matching.specs.Simulation.{Graph, patternOf, graphOf, viewSheet}
 use Rattle.matching.specs.Search.{sheetBytes, bookBytes, viewSheets}
 use Rattle.matching.proofs.ListLaws.{not-in-none, in-cases}
-use Rattle.matching.proofs.MatchSetLaws.{sets-length, book-pairs}
+use Rattle.matching.proofs.MatchSetLaws.{view-sheet, view-length, book-pairs}
 use Rattle.matching.proofs.PatternLaws.{sound-of, edges-many}
 use Rattle.matching.proofs.RecordLaws.{graph-narrow, graph-few}
 use Rattle.matching.proofs.ViewLaws.{all-ahead, in-follow}
@@ -96,10 +96,10 @@ all-back [] = unfold pairsIn in refl
 all-back (ls ∷ sheets) =
     pairs-back ls (sum (map length sheets)) (bookFields sheets) ∙ ap (λ (x : List ℕ). listed ls ++ x) (all-back sheets)
 
-gather-views : (G : Graph) (vs : List (List ℕ)) → gather listed (map (λ v. matchSets (patternOf v) G) vs) ≡ gather (λ P. listed (matchSets P G)) (map patternOf vs)
+gather-views : (G : Graph) (vs : List (List ℕ)) → gather listed (map (λ v. viewSheet (patternOf v) G) vs) ≡ gather (λ P. listed (viewSheet P G)) (map patternOf vs)
 unfolding gather
 gather-views G [] = refl
-gather-views G (v ∷ vs) = ap (λ (l : List ℕ). listed (matchSets (patternOf v) G) ++ l) (gather-views G vs)
+gather-views G (v ∷ vs) = ap (λ (l : List ℕ). listed (viewSheet (patternOf v) G) ++ l) (gather-views G vs)
 
 -- ---- of an accepted catalogue and an accepted record
 map-in : {A B : Type 0} (f : A → B) (l : List A) {y : B} → In y (map f l) → (x : A) × In x l × (y ≡ f x)
@@ -125,15 +125,15 @@ module _ (c r cs rs : List ℕ) (e : decode catalogue c ≡ ok cs) (f : decode r
   pub counts-are : edgeCounts cs ≡ map length sheets
   unfolding edgeCounts viewSheets
   counts-are =
-      map-same edgesOf (λ v. length (matchSets (patternOf v) (graphOf rs))) (viewsOf cs)
-      (λ v i. let q = view-plain v i .1 in sym (sets-length (patternOf v) (graphOf rs) ∙ edges-many q))
-      ∙ sym (map-map length (λ v. matchSets (patternOf v) (graphOf rs)) (viewsOf cs))
+      map-same edgesOf (λ v. length (viewSheet (patternOf v) (graphOf rs))) (viewsOf cs)
+      (λ v i. let q = view-plain v i .1 in sym (view-length (patternOf v) (graphOf rs) ∙ edges-many q))
+      ∙ sym (map-map length (λ v. viewSheet (patternOf v) (graphOf rs)) (viewsOf cs))
 
   all-sheets : (ls : List (List ℕ)) → In ls sheets → Sheet ls
   unfolding viewSheets
   all-sheets ls i =
-      let q = map-in (λ v. matchSets (patternOf v) (graphOf rs)) (viewsOf cs) i in
-      subst Sheet (sym (q .2)) (sets-sheet (patternOf (q .0)) (graphOf rs) (sound-of (view-plain (q .0) (q .1) .1)) (graph-narrow r rs f) (graph-few r rs f))
+      let q = map-in (λ v. viewSheet (patternOf v) (graphOf rs)) (viewsOf cs) i in
+      subst Sheet (sym (q .2 ∙ view-sheet (patternOf (q .0)) (graphOf rs))) (sets-sheet (patternOf (q .0)) (graphOf rs) (sound-of (view-plain (q .0) (q .1) .1)) (graph-narrow r rs f) (graph-few r rs f))
 
   -- the book that is made is accepted beside its catalogue, as the fields of its sheets
   pub made-is : decode (book (edgeCounts cs)) (bookBytes sheets) ≡ ok (bookFields sheets)
@@ -146,6 +146,6 @@ module _ (c r cs rs : List ℕ) (e : decode catalogue c ≡ ok cs) (f : decode r
   pub made-few : length (pairsOf (edgeCounts cs) (bookFields sheets)) ≤ 8192
   unfolding pairsOf viewSheets
   made-few =
-      let p : pairsIn (sum (edgeCounts cs)) (bookFields sheets) ≡ gather (λ P. listed (matchSets P (graphOf rs))) (map patternOf (viewsOf cs)) =
+      let p : pairsIn (sum (edgeCounts cs)) (bookFields sheets) ≡ gather (λ P. listed (viewSheet P (graphOf rs))) (map patternOf (viewsOf cs)) =
       ap (λ (ms : List ℕ). pairsIn (sum ms) (bookFields sheets)) counts-are ∙ all-back sheets ∙ gather-views (graphOf rs) (viewsOf cs) in
       rw p (omega (arith, book-pairs (map patternOf (viewsOf cs)) (graphOf rs), graph-few r rs f))

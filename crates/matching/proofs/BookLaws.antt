@@ -18,13 +18,13 @@ use Rattle.packed.proofs.SheetLaws.{Fit, fit-none, fit-next, fit-all}
 use Rattle.packed.proofs.MatchLaws.{fit-lists, matches-encode}
 use Rattle.packed.proofs.AcceptedBounds.{catalogue-views}
 use Rattle.packed.specs.declared.by_value.Pattern.{Pattern as Given}
-use Rattle.matching.specs.Simulation.{Pattern, Graph, patternOf, matchSets}
+use Rattle.matching.specs.Simulation.{Pattern, Graph, patternOf, matchSets, viewSheet}
 use Rattle.matching.specs.Search.{sheetBytes, bookBytes, viewSheets}
 use Rattle.matching.specs.Steps.{patternIn, graphIn, Fair, Ready, Edges}
 use Rattle.matching.specs.Matched.{Proper, Rises, Matched, ViewAt}
 use Rattle.matching.specs.Books.{Catalogued, Bookable, bookIn, Sized, Fits, Filled}
 use Rattle.matching.specs.declared.views.View.{View}
-use Rattle.matching.proofs.MatchSetLaws.{sets-length}
+use Rattle.matching.proofs.MatchSetLaws.{sets-length, view-sheet}
 use Rattle.matching.proofs.UpToLaws.{length-upTo}
 use Rattle.matching.proofs.MatchedLaws.{edges-twice}
 use Rattle.matching.proofs.PatternLaws.{fair-by, proper-by, pattern-same}
@@ -68,7 +68,7 @@ module _ {p : Given} {s : List ℕ} {n m : ℕ} {w w′ : List ℕ} (q : Matched
 -- ---- the views that are left
 -- the sheets of views on a graph
 abbrev sheetsOn : Graph → List (List ℕ) → List (List (List ℕ))
-sheetsOn G vs = map (λ v. matchSets (patternOf v) G) vs
+sheetsOn G vs = map (λ v. viewSheet (patternOf v) G) vs
 
 abbrev bookOn : Graph → List (List ℕ) → List ℕ
 bookOn G vs = bookBytes (sheetsOn G vs)
@@ -78,7 +78,7 @@ map-append f [] ys = refl
 map-append f (x ∷ xs) ys = ap (λ l. f x ∷ l) (map-append f xs ys)
 
 on-append : (G : Graph) (us vs : List (List ℕ)) → bookOn G (us ++ vs) ≡ bookOn G us ++ bookOn G vs
-on-append G us vs = ap bookBytes (map-append (λ v. matchSets (patternOf v) G) us vs) ∙ book-append (sheetsOn G us) (sheetsOn G vs)
+on-append G us vs = ap bookBytes (map-append (λ v. viewSheet (patternOf v) G) us vs) ∙ book-append (sheetsOn G us) (sheetsOn G vs)
 
 -- a catalogue of which some views are past, and so many are left, from a byte on
 pub record Turned (c s : List ℕ) (n m : ℕ) (w₀ : List ℕ) (byte left : ℕ) (w : List ℕ) : Type 0 where
@@ -190,7 +190,8 @@ module _ {c s : List ℕ} {n m : ℕ} {w₀ : List ℕ} {byte left : ℕ} {w : L
       past-next =
           on-append G (t .past) (next .0 ∷ [])
           ∙ ap (λ (l : List ℕ). bookPast t ++ l)
-          (book-one (matchSets (patternOf (next .0)) G)
+          (book-one (viewSheet (patternOf (next .0)) G)
+          ∙ ap sheetBytes (view-sheet (patternOf (next .0)) G)
           ∙ ap₂ (λ (P : Pattern) (H : Graph). sheetBytes (matchSets P H)) (sym (pattern-same (advanced .plain) (advanced .holds))) (sym (graph-again (t .edges) s n (t .ready .edges))))
 
 -- ---- the size of a book

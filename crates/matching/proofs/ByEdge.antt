@@ -2,7 +2,7 @@
 use mathlib.Core.Bool.{Bool, cond}
 use mathlib.Core.List.{List, []}
 use Rattle.matching.specs.Lists.{every, some, each}
-use Rattle.matching.specs.Simulation.{Pair, Pattern, Graph, asGraph, sim, total, row, matchSets}
+use Rattle.matching.specs.Simulation.{Pair, Pattern, Graph, asGraph, sim, total, row, viewSheet}
 use Rattle.matching.specs.Join.{View, lists, join, complete, keptFor}
 
 -- the edges of G that are listed under the edge e of P: none where some node of P has no partner
@@ -14,7 +14,7 @@ rows P G = each (rowOf P G) (P .edges)
 
 -- the edge e of the query Q is matched by an edge of the view P: that edge's list, on Q read as a graph, has e
 unfoldable pub matchedBy : Pattern → Pair → Pattern → Bool
-matchedBy Q e P = some (lists e) (matchSets P (asGraph Q))
+matchedBy Q e P = some (lists e) (viewSheet P (asGraph Q))
 
 unfoldable pub matched : Pattern → List Pattern → Pair → Bool
 matched Q Ps e = some (matchedBy Q e) Ps
@@ -23,9 +23,9 @@ matched Q Ps e = some (matchedBy Q e) Ps
 unfoldable pub covered : Pattern → List Pattern → Bool
 covered Q Ps = every (matched Q Ps) (Q .edges)
 
--- a view with its match sets in a graph
+-- a view with its sheet on a graph
 unfoldable pub viewOf : Graph → Pattern → View
-viewOf G P = record { pattern = P; sheet = matchSets P G }
+viewOf G P = record { pattern = P; sheet = viewSheet P G }
 
 -- the pairs kept for the edge e, or none where some edge keeps none
 unfoldable pub answerTo : Pattern → List View → Pair → List Pair

@@ -7,14 +7,14 @@ use native.Mathlib.Omega.{arith}
 use lib.ListN.{length, getD}
 use lib.Dec.{T}
 use Rattle.matching.specs.Lists.{In, some, each}
-use Rattle.matching.specs.Simulation.{Pair, bit, Pattern, Graph, asGraph, ascending, matchSets, IsSim, sound}
+use Rattle.matching.specs.Simulation.{Pair, bit, Pattern, Graph, asGraph, ascending, matchSets, viewSheet, IsSim, sound}
 use Rattle.matching.proofs.ByEdge.{rowOf, matchedBy, matched, covered, viewOf, answerTo}
 use Rattle.matching.specs.Join.{lists, View, join, complete, answerSets}
 use Rattle.matching.proofs.ListLaws.{every-in, some-in, each-same}
 use Rattle.matching.proofs.SimLaws.{Fits, fits-say, fits-by, sim-is, sim-most}
 use Rattle.matching.proofs.MatchLaws.{Sim, Total, Matches, row-say, row-by, own-label, matches-through, Sound, sound-say}
 use Rattle.matching.proofs.CodeLaws.{ascending-same}
-use Rattle.matching.proofs.MatchSetLaws.{Narrow, sets-each, sets-in}
+use Rattle.matching.proofs.MatchSetLaws.{Narrow, sets-each, view-sheet, sets-in}
 use Rattle.matching.proofs.JoinLaws.{Joined, join-candidate, join-supported, join-most, complete-say, complete-by, answer-say, answer-by, answer-each, lists-say, Found, candidates-say, candidates-by}
 
 -- the codes of a query's edges tell them apart
@@ -28,14 +28,14 @@ pub matched-say : (Q : Pattern) (Ps : List Pattern) → Narrow (asGraph Q) → (
 unfolding matched matchedBy
 matched-say Q Ps n e h t = of-view (some-in _ Ps t)
   where
-    of-view : (P : Pattern) × In P Ps × T (some (lists e) (matchSets P (asGraph Q))) → (P : Pattern) × In P Ps × (g : Pair) × In g (P .edges) × Matches P (asGraph Q) g e
-    of-view (P, p, s) = of-list (some-in _ (matchSets P (asGraph Q)) s)
+    of-view : (P : Pattern) × In P Ps × T (some (lists e) (viewSheet P (asGraph Q))) → (P : Pattern) × In P Ps × (g : Pair) × In g (P .edges) × Matches P (asGraph Q) g e
+    of-view (P, p, s) = of-list (some-in _ (viewSheet P (asGraph Q)) s)
       where
         of-edge : (l : List ℕ) → T (lists e l) → (g : Pair) × In g (P .edges) × (l ≡ ascending (rowOf P (asGraph Q) g)) → (P : Pattern) × In P Ps × (g : Pair) × In g (P .edges) × Matches P (asGraph Q) g e
         of-edge l k (g, j, q) = (P, p, g, j, row-say P (asGraph Q) (lists-say (rowOf P (asGraph Q) g) h (λ f m. n f (row-say P (asGraph Q) m .edge) .1) (subst (λ z. T (lists e z)) q k)))
 
-        of-list : (l : List ℕ) × In l (matchSets P (asGraph Q)) × T (lists e l) → (P : Pattern) × In P Ps × (g : Pair) × In g (P .edges) × Matches P (asGraph Q) g e
-        of-list (l, i, k) = of-edge l k (sets-in P (asGraph Q) i)
+        of-list : (l : List ℕ) × In l (viewSheet P (asGraph Q)) × T (lists e l) → (P : Pattern) × In P Ps × (g : Pair) × In g (P .edges) × Matches P (asGraph Q) g e
+        of-list (l, i, k) = of-edge l k (sets-in P (asGraph Q) (subst (λ ls. In l ls) (view-sheet P (asGraph Q)) i))
 
 module _ (Q : Pattern) (Ps : List Pattern) (G : Graph) (ok : Sound Q) (nq : Narrow (asGraph Q)) (ng : Narrow G) where
   -- the views, with their sheets

@@ -8,7 +8,7 @@ use native.Mathlib.Omega.{arith}
 use lib.Dec.{T, eqb, eqb→eq, eqb-refl}
 use Rattle.packed.specs.Formats.{code}
 use Rattle.matching.specs.Lists.{_and_, In, here, there, some, gather, each}
-use Rattle.matching.specs.Simulation.{Pair, same, Pattern, Graph, asGraph, ascending, matchSets}
+use Rattle.matching.specs.Simulation.{Pair, same, Pattern, Graph, asGraph, ascending, viewSheet}
 use Rattle.matching.proofs.ByEdge.{rowOf, viewOf, answerTo}
 use Rattle.matching.specs.Join.{lists, View, pairOf, under, candidates, Kept, supported, join, complete, keptFor, answerSets}
 use Rattle.matching.proofs.ListLaws.{and-left, and-right, both, use-if, make-if, cond-case, not-in-none, in-cast, every-in, in-every, some-in, in-some, keep-in, in-keep, append-in, in-append-left, in-append-right, gather-in, in-gather, each-in, in-each}
@@ -16,7 +16,7 @@ use Rattle.matching.proofs.GreatestLaws.{greatest-part, greatest-ok, gr
 use Rattle.matching.proofs.SimLaws.{same-eq, same-refl}
 use Rattle.matching.proofs.MatchLaws.{Matches, row-say, row-by}
 use Rattle.matching.proofs.CodeLaws.{in-member, member-in, code-same, ascending-say, ascending-by}
-use Rattle.matching.proofs.MatchSetLaws.{Narrow, sets-each}
+use Rattle.matching.proofs.MatchSetLaws.{Narrow, view-each}
 
 -- ---- what `supported` says, for any choice K of pairs
 pub record Supported (Q : Pattern) (K : Pair → Pair → Type 0) (e f : Pair) : Type 0 where
@@ -184,8 +184,8 @@ module _ (Q : Pattern) (Ps : List Pattern) (G : Graph) (nq : Narrow (asGraph Q))
       from : (f : Pair) × In f (rowOf P G g) × (c ≡ code (f .0) (f .1)) → In (pairOf c) (rowOf P G g)
       from (f, j, q) = in-cast (sym (ap pairOf q ∙ code-pair (ng f (row-say P G j .edge) .1))) j
 
-  found-under : (P : Pattern) (e : Pair) (c : ℕ) → In P Ps → e .1 < 4096 → In c (under e (matchSets P (asGraph Q)) (matchSets P G)) → Found Q Ps G e (pairOf c)
-  found-under P e c p h i = from (under-in e (λ g. ascending (rowOf P (asGraph Q) g)) (λ g. ascending (rowOf P G g)) (P .edges) (rw (sets-each P (asGraph Q), sets-each P G) at i))
+  found-under : (P : Pattern) (e : Pair) (c : ℕ) → In P Ps → e .1 < 4096 → In c (under e (viewSheet P (asGraph Q)) (viewSheet P G)) → Found Q Ps G e (pairOf c)
+  found-under P e c p h i = from (under-in e (λ g. ascending (rowOf P (asGraph Q) g)) (λ g. ascending (rowOf P G g)) (P .edges) (rw (view-each P (asGraph Q), view-each P G) at i))
     where
       from : (g : Pair) × In g (P .edges) × T (lists e (ascending (rowOf P (asGraph Q) g))) × In c (ascending (rowOf P G g)) → Found Q Ps G e (pairOf c)
       from (g, j, t, k) = found-at P g e (pairOf c) p j h t (pair-in P g c k)
@@ -194,10 +194,10 @@ module _ (Q : Pattern) (Ps : List Pattern) (G : Graph) (nq : Narrow (asGraph Q))
   unfolding candidates viewOf
   candidates-say {e} {f} h i = code-of (each-in pairOf _ i)
     where
-      view-of : (c : ℕ) (v : View) → In c (under e (matchSets (v .pattern) (asGraph Q)) (v .sheet)) → (P : Pattern) × In P Ps × (v ≡ viewOf G P) → Found Q Ps G e (pairOf c)
-      view-of c v j (P, p, q) = found-under P e c p h (subst (λ w. In c (under e (matchSets (w .pattern) (asGraph Q)) (w .sheet))) q j)
+      view-of : (c : ℕ) (v : View) → In c (under e (viewSheet (v .pattern) (asGraph Q)) (v .sheet)) → (P : Pattern) × In P Ps × (v ≡ viewOf G P) → Found Q Ps G e (pairOf c)
+      view-of c v j (P, p, q) = found-under P e c p h (subst (λ w. In c (under e (viewSheet (w .pattern) (asGraph Q)) (w .sheet))) q j)
 
-      code-of : (c : ℕ) × In c (gather (λ v. under e (matchSets (v .pattern) (asGraph Q)) (v .sheet)) (each (viewOf G) Ps)) × (f ≡ pairOf c) → Found Q Ps G e f
+      code-of : (c : ℕ) × In c (gather (λ v. under e (viewSheet (v .pattern) (asGraph Q)) (v .sheet)) (each (viewOf G) Ps)) × (f ≡ pairOf c) → Found Q Ps G e f
       code-of (c, j, q) = let r = gather-in _ (each (viewOf G) Ps) j in subst (Found Q Ps G e) (sym q) (view-of c (r .0) (r .2) (each-in (viewOf G) Ps (r .1)))
 
   pub candidates-by : {e f : Pair} → Found Q Ps G e f → In f (candidates Q (each (viewOf G) Ps) e)
@@ -206,4 +206,4 @@ module _ (Q : Pattern) (Ps : List Pattern) (G : Graph) (nq : Narrow (asGraph Q))
       let P = c .view in
       let k : In (code (f .0) (f .1)) (under e (each (λ g. ascending (rowOf P (asGraph Q) g)) (P .edges)) (each (λ g. ascending (rowOf P G g)) (P .edges))) =
       in-under e _ _ (c .at-edge) (lists-by e (ascending-by (row-by P (asGraph Q) (c .of-query)))) (ascending-by (row-by P G (c .of-graph))) in
-      in-cast (code-pair (ng f (c .of-graph .edge) .1)) (in-each pairOf (in-gather _ (in-each (viewOf G) (c .given)) (rw (sets-each P (asGraph Q), sets-each P G) k)))
+      in-cast (code-pair (ng f (c .of-graph .edge) .1)) (in-each pairOf (in-gather _ (in-each (viewOf G) (c .given)) (rw (view-each P (asGraph Q), view-each P G) k)))

@@ -8,7 +8,7 @@ use Rattle.packed.specs.Formats.{code}
 use Rattle.packed.specs.Distinct.{Increasing}
 use Rattle.packed.specs.Contents.{distinct}
 use Rattle.matching.specs.Lists.{In, gather, each}
-use Rattle.matching.specs.Simulation.{Pair, Pattern, Graph, sim, total, row, ascending, matchSets}
+use Rattle.matching.specs.Simulation.{Pair, Pattern, Graph, sim, total, row, ascending, matchSets, viewSheet}
 use Rattle.matching.proofs.ByEdge.{rowOf}
 use Rattle.matching.proofs.ListLaws.{cond-case, keep-length, gather-in, each-in, in-each, each-same, length-each, getD-each, in-at}
 use Rattle.matching.proofs.MatchLaws.{Matches, row-say, row-by, Subgraph, subgraph-fewer}
@@ -26,6 +26,17 @@ module _ (P : Pattern) (G : Graph) where
   pub sets-length : length (matchSets P G) ≡ length (P .edges)
   sets-length = ap length sets-each ∙ length-each (λ e. ascending (rowOf P G e)) (P .edges)
 
+  -- the sheet of a view has the match sets
+  pub view-sheet : viewSheet P G ≡ matchSets P G
+  unfolding viewSheet
+  view-sheet = refl
+
+  pub view-each : viewSheet P G ≡ each (λ e. ascending (rowOf P G e)) (P .edges)
+  view-each = view-sheet ∙ sets-each
+
+  pub view-length : length (viewSheet P G) ≡ length (P .edges)
+  view-length = ap length view-sheet ∙ sets-length
+
   -- the match set of the edge number i
   pub set-at : (i : ℕ) → i < length (P .edges) → getD (matchSets P G) i [] ≡ ascending (rowOf P G (getD (P .edges) i (0, 0)))
   set-at i h = ap (λ ls. getD ls i []) sets-each ∙ getD-each (λ e. ascending (rowOf P G e)) (P .edges) i (0, 0) [] h
@@ -40,6 +51,9 @@ module _ (P : Pattern) (G : Graph) where
   pub row-length : (e : Pair) → length (rowOf P G e) ≤ length (G .edges)
   unfolding rowOf row
   row-length e = cond-case (λ l. length l ≤ length (G .edges)) (total P (sim P G)) (row G (sim P G) e) [] (λ t. keep-length _ (G .edges)) (λ t. omega arith)
+
+pub view-same : (P : Pattern) (G H : Graph) → matchSets P G ≡ matchSets P H → viewSheet P G ≡ viewSheet P H
+view-same P G H q = view-sheet P G ∙ q ∙ sym (view-sheet P H)
 
 -- ---- the same edges in another order
 pub subgraph-matches : (P : Pattern) (G H : Graph) → Subgraph G H → {e f : Pair} → Matches P G e f → Matches P H e f
@@ -91,11 +105,11 @@ set-edge P G {l} {c} i j = of-list (sets-in P G i)
     of-list : (e : Pair) × In e (P .edges) × (l ≡ ascending (rowOf P G e)) → In c (each (λ f. code (f .0) (f .1)) (G .edges))
     of-list (e, k, q) = of-edge e (ascending-say _ (subst (λ z. In c z) q j))
 
-pub book-pairs : (Ps : List Pattern) (G : Graph) → length (distinct (gather (λ P. gather (λ l. l) (matchSets P G)) Ps)) ≤ length (G .edges)
+pub book-pairs : (Ps : List Pattern) (G : Graph) → length (distinct (gather (λ P. gather (λ l. l) (viewSheet P G)) Ps)) ≤ length (G .edges)
 book-pairs Ps G =
     omega (
       arith,
-      distinct-fewer (gather (λ P. gather (λ l. l) (matchSets P G)) Ps) (each (λ f. code (f .0) (f .1)) (G .edges))
-          (λ c i. let p = gather-in _ Ps i in let r = gather-in (λ l. l) (matchSets (p .0) G) (p .2) in set-edge (p .0) G (r .1) (r .2)),
+      distinct-fewer (gather (λ P. gather (λ l. l) (viewSheet P G)) Ps) (each (λ f. code (f .0) (f .1)) (G .edges))
+          (λ c i. let p = gather-in _ Ps i in let r = gather-in (λ l. l) (viewSheet (p .0) G) (p .2) in set-edge (p .0) G (subst (λ ls. In (r .0) ls) (view-sheet (p .0) G) (r .1)) (r .2)),
       length-each (λ f. code (f .0) (f .1)) (G .edges),
     )

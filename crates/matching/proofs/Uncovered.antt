@@ -7,7 +7,7 @@ use lib.ListN.{length, getD}
 use lib.Dec.{T, T-not}
 use Rattle.packed.specs.Formats.{code}
 use Rattle.matching.specs.Lists.{In}
-use Rattle.matching.specs.Simulation.{Pair, same, bit, Pattern, Graph, asGraph, fits, ascending, matchSets, IsSim, sound}
+use Rattle.matching.specs.Simulation.{Pair, same, bit, Pattern, Graph, asGraph, fits, ascending, matchSets, viewSheet, IsSim, sound}
 use Rattle.matching.proofs.ByEdge.{rowOf, matchedBy, matched, covered}
 use Rattle.matching.specs.Join.{lists, without}
 use Rattle.matching.proofs.ListLaws.{keep-in, in-some, every-fails, length-each, getD-each}
@@ -15,15 +15,17 @@ use Rattle.matching.proofs.Masks.{bit-self}
 use Rattle.matching.proofs.SimLaws.{same-refl, Fits, fits-by, sim-most}
 use Rattle.matching.proofs.MatchLaws.{Matches, row-say, row-by, Sound, sound-say}
 use Rattle.matching.proofs.CodeLaws.{code-same, ascending-say, ascending-by}
-use Rattle.matching.proofs.MatchSetLaws.{Narrow, sets-in, in-sets}
+use Rattle.matching.proofs.MatchSetLaws.{Narrow, sets-in, in-sets, view-sheet, view-same}
 use Rattle.matching.proofs.Removed.{unlisted-removed}
 use Rattle.matching.proofs.JoinLaws.{lists-by}
 use Rattle.matching.proofs.Covered.{narrow-query}
 
--- no view's match sets change
-pub uncovered-views : (Q : Pattern) (Ps : List Pattern) (e : Pair) → (T (matched Q Ps e) → ⊥) → (P : Pattern) → In P Ps → matchSets P (asGraph Q) ≡ matchSets P (without e (asGraph Q))
+-- no view's sheet changes
+pub uncovered-views : (Q : Pattern) (Ps : List Pattern) (e : Pair) → (T (matched Q Ps e) → ⊥) → (P : Pattern) → In P Ps → viewSheet P (asGraph Q) ≡ viewSheet P (without e (asGraph Q))
 unfolding matched matchedBy
-uncovered-views Q Ps e n P i = unlisted-removed P (asGraph Q) e λ l j k. n (in-some _ i (in-some (lists e) j (lists-by e k)))
+uncovered-views Q Ps e n P i =
+    let q = view-sheet P (asGraph Q) in
+    view-same P (asGraph Q) (without e (asGraph Q)) (unlisted-removed P (asGraph Q) e λ l j k. n (in-some _ i (in-some (lists e) (subst (λ ls. In l ls) (sym q) j) (lists-by e k))))
 
 module _ (Q : Pattern) (ok : Sound Q) where
   -- each node of Q as its own partner

@@ -7,7 +7,7 @@ use Rattle.packed.specs.Formats.{code}
 use Rattle.packed.specs.Contents.{member}
 use Rattle.matching.specs.Lists.{_and_, _implies_, every, some, keep, gather, each}
 use Rattle.matching.specs.Greatest.{greatest}
-use Rattle.matching.specs.Simulation.{Pair, same, Pattern, Graph, asGraph, ascending, matchSets}
+use Rattle.matching.specs.Simulation.{Pair, same, Pattern, Graph, asGraph, ascending, viewSheet}
 
 -- ---- answering
 
@@ -33,7 +33,7 @@ under e (m ∷ ms) (l ∷ ls) = cond (lists e m) l [] ++ under e ms ls
 -- the candidates for the edge e of the query ("question") Q: the pairs listed under those edges of the views that match e, which are those whose
 -- lists, on Q read as a graph, have e
 unfoldable pub candidates : Pattern → List View → Pair → List Pair
-candidates Q vs e = each pairOf (gather (λ v. under e (matchSets (v .pattern) (asGraph Q)) (v .sheet)) vs)
+candidates Q vs e = each pairOf (gather (λ v. under e (viewSheet (v .pattern) (asGraph Q)) (v .sheet)) vs)
 
 -- an edge of the query and a pair kept for it
 abbrev pub Kept : Type 0

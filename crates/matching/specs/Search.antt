@@ -6,7 +6,7 @@ use Rattle.packed.specs.Format.{Result, ok, bad, encode}
 use Rattle.packed.specs.Formats.{sheet}
 use Rattle.packed.specs.Contents.{viewsOf, fieldsOf}
 use Rattle.packed.specs.Calls.{Answer, judged, readPattern, readCatalogue, readRecord, fitFile}
-use Rattle.matching.specs.Simulation.{Pattern, Graph, patternOf, graphOf, matchSets}
+use Rattle.matching.specs.Simulation.{Pattern, Graph, patternOf, graphOf, matchSets, viewSheet}
 
 abbrev pub bytesIn : Result ℕ → List ℕ
 bytesIn (ok s) = s
@@ -30,7 +30,7 @@ searchAnswer p r room = judged (readPattern p) (λ ps. searchFor (patternOf ps) 
 
 -- the sheets of a catalogue's views on a record
 unfoldable pub viewSheets : List ℕ → Graph → List (List (List ℕ))
-viewSheets c G = map (λ v. matchSets (patternOf v) G) (viewsOf c)
+viewSheets c G = map (λ v. viewSheet (patternOf v) G) (viewsOf c)
 
 -- making the book of a catalogue from a record
 abbrev pub bookFor : List ℕ → List ℕ → ℕ → Answer

@@ -87,6 +87,11 @@ ascending l = distinct (each (λ f. code (f .0) (f .1)) l)
 unfoldable pub matchSets : Pattern → Graph → List (List ℕ)
 matchSets P G = let s = sim P G in let b = total P s in each (λ e. ascending (cond b (row G s e) [])) (P .edges)
 
+-- the sheet that the view ("extract") P has on the graph G: a list for each edge of P. Here alone it is said by which rule a view is matched, on a record
+-- as on a query
+unfoldable pub viewSheet : Pattern → Graph → List (List ℕ)
+viewSheet P G = matchSets P G
+
 -- each edge's ends are nodes, and each node is an end of an edge
 unfoldable pub sound : Pattern → Bool
 sound P =
