@@ -1,7 +1,7 @@
 -- Fields read from whole bytes, and written byte by byte.
 use Prim.Native.Nat.{ℕ, zero, suc, _+_, _*_, _-_, _/_, _%_, _^_, _≤_, _<_}
 use mathlib.Core.Path.{_≡_, refl, ap, sym, _∙_, subst}
-use mathlib.Core.List.{List, [], _∷_, _++_}
+use mathlib.Core.List.{List, [], _∷_, _++_, append-nil}
 use mathlib.Core.Bool.{Bool}
 use lib.ListN.{length, take, drop, getD, set, length-append}
 use lib.Seq.{sets, take-at, drop-at, drop-cons}
@@ -9,7 +9,7 @@ use lib.Dec.{eqb}
 use lib.Pow.{pow-pos, shr-shr, shr-lt, shl-exact, pow-add, pow-lt}
 use lib.Arith.{digits-lt}
 use native.Mathlib.Omega.{arith}
-use native.Mathlib.Nat.{mod-lt, mod-eq-of-lt, one-mul, div-add-mod'}
+use native.Mathlib.Nat.{mod-lt, mod-eq-of-lt, one-mul, div-add-mod', div-one, add-zero}
 use Rattle.packed.specs.Bits.{bitsOf, numFrom, num, bits, field, zeros, gap}
 use Rattle.packed.proofs.BitsLaws.{length-bitsOf, drop-bits, first-byte, bitsOf-add, bitsOf-mod, bitsOf-pair, zeros-num, field-add, field-inside}
 use Rattle.packed.proofs.Sets.{sets-append, sets-beyond, sets-drop, sets-left, sets-at}
@@ -126,20 +126,46 @@ put-inside s p k c y h e =
     bits-set s (p / 8) (p % 8) y (bitsOf k c) (omega (arith, length-bitsOf k c)) (e ∙ rw o)
     ∙ ap (λ (i : ℕ). sets (bits s) i (bitsOf k c)) f
 
+-- a whole byte
+pub put-whole : (s : List ℕ) (q c : ℕ) → bits (set s q c) ≡ sets (bits s) (8 * q) (bitsOf 8 c)
+put-whole s q c =
+    let x : List Bool = bitsOf 8 (getD s q 0) in
+    let n : length (bitsOf 8 c) ≡ length x = length-bitsOf 8 c ∙ sym (length-bitsOf 8 (getD s q 0)) in
+    let e : bitsOf 8 c ≡ sets x 0 (bitsOf 8 c) =
+    sym (ap (λ (l : List Bool). sets l 0 (bitsOf 8 c)) (sym (append-nil x)) ∙ sets-at [] x [] (bitsOf 8 c) 0 refl n ∙ append-nil (bitsOf 8 c)) in
+    bits-set s q 0 c (bitsOf 8 c) (omega (arith, length-bitsOf 8 c)) e ∙ ap (λ (i : ℕ). sets (bits s) i (bitsOf 8 c)) (add-zero (8 * q))
+
 pub put-start : (l : List Bool) (at v : ℕ) → l ≡ sets l at (bitsOf 0 v)
 unfolding bitsOf
 put-start l at v = refl
 
--- the first i bits of the n bits of v are written, then k more
-pub put-step : (l : List Bool) (at n i k v : ℕ) → i + k ≤ n
-    → sets (sets l at (bitsOf i (v / 2 ^ (n - i)))) (at + i) (bitsOf k (v / 2 ^ (n - i - k) % 2 ^ k))
-    ≡ sets l at (bitsOf (i + k) (v / 2 ^ (n - (i + k))))
-put-step l at n i k v h =
-    let y : ℕ = v / 2 ^ (n - (i + k)) in
-    let a : List Bool = bitsOf i (v / 2 ^ (n - i)) in
-    let e : n - i - k ≡ n - (i + k) = omega arith in
-    let f : n - (i + k) + k ≡ n - i = omega arith in
-    let j : bitsOf (i + k) y ≡ a ++ bitsOf k y = bitsOf-add i k y ∙ rw (shr-shr v (n - (i + k)) k, f) in
-    let la : length a ≡ i = length-bitsOf i (v / 2 ^ (n - i)) in
-    rw (e, bitsOf-mod, j)
-    (subst (λ (z : ℕ). sets (sets l at a) (at + z) (bitsOf k y) ≡ sets l at (a ++ bitsOf k y)) la (sets-append l at a (bitsOf k y)))
+-- the first i bits of v are written, then the k others
+pub put-next : (l : List Bool) (at i k v : ℕ) → sets (sets l at (bitsOf i (v / 2 ^ k))) (at + i) (bitsOf k v) ≡ sets l at (bitsOf (i + k) v)
+put-next l at i k v =
+    let a : List Bool = bitsOf i (v / 2 ^ k) in
+    rw bitsOf-add
+    (subst (λ (z : ℕ). sets (sets l at a) (at + z) (bitsOf k v) ≡ sets l at (a ++ bitsOf k v)) (length-bitsOf i (v / 2 ^ k)) (sets-append l at a (bitsOf k v)))
+
+-- all but left of the n bits of v are written, then a byte of those
+pub put-more : (l : List Bool) (at n left p v : ℕ) → left ≤ n → 8 ≤ left → p ≡ at + (n - left)
+    → sets (sets l at (bitsOf (n - left) (v / 2 ^ left))) p (bitsOf 8 (v / 2 ^ (left - 8) % 256)) ≡ sets l at (bitsOf (n - (left - 8)) (v / 2 ^ (left - 8)))
+put-more l at n left p v h g e =
+    let y : ℕ = v / 2 ^ (left - 8) in
+    let f : left - 8 + 8 ≡ left = omega arith in
+    let i : n - left + 8 ≡ n - (left - 8) = omega arith in
+    let d : v / 2 ^ left ≡ y / 2 ^ 8 = sym (shr-shr v (left - 8) 8 ∙ ap (λ (k : ℕ). v / 2 ^ k) f) in
+    rw (e, d, bitsOf-mod 8 y) (put-next l at (n - left) 8 y ∙ ap (λ (k : ℕ). sets l at (bitsOf k y)) i)
+
+-- or all of those
+pub put-last : (l : List Bool) (at n left p v : ℕ) → left ≤ n → p ≡ at + (n - left)
+    → sets (sets l at (bitsOf (n - left) (v / 2 ^ left))) p (bitsOf left (v % 2 ^ left)) ≡ sets l at (bitsOf n v)
+put-last l at n left p v h e =
+    let i : n - left + left ≡ n = omega arith in
+    rw (e, bitsOf-mod) (put-next l at (n - left) left v ∙ ap (λ (k : ℕ). sets l at (bitsOf k v)) i)
+
+-- up to a byte and from there on, if any are left
+pub put-split : (l : List Bool) (at k left n q v : ℕ) → k + left ≡ n → (0 < left → 8 * q ≡ at + k)
+    → sets (sets l at (bitsOf k (v / 2 ^ left))) (8 * q) (bitsOf left v) ≡ sets l at (bitsOf n v)
+unfolding bitsOf
+put-split l at k zero n q v e f = rw div-one (let z : k ≡ n = omega arith in ap (λ (w : ℕ). sets l at (bitsOf w v)) z)
+put-split l at k (suc left) n q v e f = rw (f (omega arith), ← e) (put-next l at k (suc left) v)

@@ -1,7 +1,7 @@
 // Fields of 1 to 32 bits at any bit offset, most significant bit first.
 
 ghost use mathlib.Core.Path.{_≡_};
-ghost use Prim.Native.Nat.{_+_, _*_, _^_, _-_, _%_, _<_, _≤_};
+ghost use Prim.Native.Nat.{_+_, _*_, _^_, _-_, _%_, _<_, _≤_, min};
 ghost use lib.ListN.{length, take, drop};
 ghost use lib.Seq.{sets};
 ghost use Rattle.packed.specs.Bits.{bitsOf, bits, field, zeros, gap};
@@ -46,13 +46,12 @@ pub fn is_clear(s: &[u8], at: usize) -> bool
     get_bits(s, at, n as u32) == 0
 }
 
-// How many of `left` bits the byte at the bit offset p has room for.
-fn room(p: usize, left: u32) -> u32
-    requires { ⌜ 0 < left ⌝ }
-    ensures { λ r. ⌜ (r ≤ left) × (p % 8 + r ≤ 8) × (0 < r) ⌝ }
+// How many of n bits the byte at the bit offset p has room for.
+fn room(p: usize, n: u32) -> u32
+    ensures { λ r. ⌜ r ≡ min n (8 - p % 8) ⌝ }
 {
     let r = 8 - (p % 8) as u32;
-    if left < r { left } else { r }
+    if n < r { n } else { r }
 }
 
 // The byte x, with c in the place of its k bits above the m low ones.
@@ -78,16 +77,39 @@ fn put_chunk(out: &mut [u8], p: usize, k: u32, c: u32)
     }
 }
 
-// The n bits at the bit offset at are set to v. What lies beyond the end of the slice is dropped.
+// The byte q is set to c, if the slice has it.
+fn put_byte(out: &mut [u8], q: usize, c: u32)
+    requires { ⌜ c < 256 ⌝ }
+    ensures { λ r. ⌜ bits (now (out .exit)) ≡ sets (bits (now (out .entry))) (8 * q) (bitsOf 8 c) ⌝ }
+{
+    if q < out.len() {
+        out[q] = c as u8;
+    }
+}
+
+// The low n bits of v are set from the byte q on: whole bytes, and what is left over.
+fn put_low(out: &mut [u8], q: usize, n: u32, v: u32)
+    requires { ⌜ (n ≤ 32) × (q < 2 ^ 58) ⌝ }
+    ensures { λ r. ⌜ bits (now (out .exit)) ≡ sets (bits (now (out .entry))) (8 * q) (bitsOf n v) ⌝ }
+{
+    let mut left = n;
+    let mut p = q;
+    while 8 <= left {
+        left -= 8;
+        put_byte(out, p, (v >> left) % 256);
+        p += 1;
+    }
+    put_chunk(out, 8 * p, left, v % (1 << left));
+}
+
+// The n bits at the bit offset at are set to v: those of the byte that they begin in, then the others. What lies beyond the end of the
+// slice is dropped.
 pub fn put_bits(out: &mut [u8], at: usize, n: u32, v: u32)
     requires { ⌜ (n ≤ 32) × (at + n < 2 ^ 60) × (v < 2 ^ n) ⌝ }
     ensures { λ r. ⌜ bits (now (out .exit)) ≡ sets (bits (now (out .entry))) at (bitsOf n v) ⌝ }
 {
-    let mut i: u32 = 0;
-    while i < n {
-        let p = at + i as usize;
-        let k = room(p, n - i);
-        put_chunk(out, p, k, (v >> (n - i - k)) % (1 << k));
-        i += k;
-    }
+    let k = room(at, n);
+    let left = n - k;
+    put_chunk(out, at, k, v >> left);
+    put_low(out, (at + k as usize) / 8, left, v);
 }
