@@ -14,11 +14,12 @@ use Rattle.packed.specs.BookSheets.{sheetAt}
 use Rattle.packed.specs.declared.by_value.Pattern.{Pattern as Given}
 use Rattle.packed.proofs.AcceptedBounds.{catalogue-views}
 use Rattle.matching.specs.Lists.{In, here, there, gather}
-use Rattle.matching.specs.Simulation.{Pair, Pattern, bit, edgesIn, patternOf, asGraph, viewSheet}
+use Rattle.matching.specs.Simulation.{Pair, Edge, Pattern, bit, edgesIn, patternOf, asGraph, viewSheet}
 use Rattle.matching.specs.Join.{lists, View, pairOf, under, candidates}
 use Rattle.matching.specs.Sweeps.{Has, OneOf}
 use Rattle.matching.specs.Candidates.{SheetListing, BookListing}
-use Rattle.matching.specs.Joining.{edgeAt, Agrees}
+use Rattle.matching.specs.Joining.{Agrees}
+use Rattle.matching.specs.Steps.{edgeAt}
 use Rattle.matching.proofs.ListLaws.{cond-case, not-in-none, in-cast, in-at, append-in, in-append-left, in-append-right, gather-in, in-gather, each-in, in-each}
 use Rattle.matching.proofs.CodeLaws.{member-in}
 use Rattle.matching.proofs.JoinLaws.{lists-by}
@@ -80,13 +81,13 @@ views-by set (P ∷ Ps) sheets (suc a) h b =
     pick-rest (bit set 0) _ _ (in-cast (view-after P Ps sheets a) (views-by (set / 2) Ps (drop 1 sheets) a (omega arith) (subst T (bit-half set a) b)))
 
 -- ---- what a sheet lists under the edges that match an edge, by their numbers
-lists-say : (e : Pair) (l : List ℕ) → T (lists e l) → In (code (e .0) (e .1)) l
+lists-say : (e : Edge) (l : List ℕ) → T (lists e l) → In (code (e .from) (e .to)) l
 unfolding lists
-lists-say e l t = member-in l (test-is (member (code (e .0) (e .1)) l) .1 t)
+lists-say e l t = member-in l (test-is (member (code (e .from) (e .to)) l) .1 t)
 
-module _ (e : Pair) where
+module _ (e : Edge) where
   abbrev Under : List (List ℕ) → List (List ℕ) → ℕ → Type 0
-  Under ms ls c = OneOf (length ls) (λ f. In (code (e .0) (e .1)) (getD ms f []) × In c (getD ls f []))
+  Under ms ls c = OneOf (length ls) (λ f. In (code (e .from) (e .to)) (getD ms f []) × In c (getD ls f []))
 
   pub under-say : (ms ls : List (List ℕ)) {c : ℕ} → In c (under e ms ls) → Under ms ls c
   unfolding under
@@ -100,7 +101,7 @@ module _ (e : Pair) where
       (λ j. let r = under-say ms ls {c = c} j in record { at = suc (r .at); below = omega (arith, r .below); holds = r .holds })
       (append-in (cond (lists e m) l []) i)
 
-  pub under-by : (ms ls : List (List ℕ)) (f : ℕ) {c : ℕ} → f < length ms → f < length ls → In (code (e .0) (e .1)) (getD ms f []) → In c (getD ls f []) → In c (under e ms ls)
+  pub under-by : (ms ls : List (List ℕ)) (f : ℕ) {c : ℕ} → f < length ms → f < length ls → In (code (e .from) (e .to)) (getD ms f []) → In c (getD ls f []) → In c (under e ms ls)
   unfolding under
   under-by [] ls f h k i j = absurd (omega arith)
   under-by (m ∷ ms) [] f h k i j = absurd (omega arith)
@@ -109,7 +110,7 @@ module _ (e : Pair) where
   under-by (m ∷ ms) (l ∷ ls) (suc f) h k i j = in-append-right (cond (lists e m) l []) (under-by ms ls f (omega arith) (omega arith) i j)
 
 -- ---- candidates by the numbers of a view in the set and of its edge
-module _ (Q : Pattern) (set : ℕ) (Ps : List Pattern) (sheets : List (List (List ℕ))) (e : Pair) where
+module _ (Q : Pattern) (set : ℕ) (Ps : List Pattern) (sheets : List (List (List ℕ))) (e : Edge) where
   -- the code c is listed under an edge f of a view a in the set, and f matches e
   pub record Offered (c : ℕ) : Type 0 where
     pub view : ℕ
@@ -117,7 +118,7 @@ module _ (Q : Pattern) (set : ℕ) (Ps : List Pattern) (sheets : List (List (Lis
     pub chosen : Has set view
     pub edge : ℕ
     pub below : edge < length (getD sheets view [])
-    pub matches : In (code (e .0) (e .1)) (getD (viewSheet (getD Ps view noPattern) (asGraph Q)) edge [])
+    pub matches : In (code (e .from) (e .to)) (getD (viewSheet (getD Ps view noPattern) (asGraph Q)) edge [])
     pub lists : In c (getD (getD sheets view []) edge [])
 
   abbrev vs : List View

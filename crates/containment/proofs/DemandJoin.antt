@@ -8,7 +8,7 @@ use native.Mathlib.Omega.{arith}
 use Rattle.packed.specs.Formats.{code}
 use Rattle.packed.specs.Contents.{edgeCounts, sheetsIn}
 use Rattle.matching.specs.Lists.{In}
-use Rattle.matching.specs.Simulation.{Pair, Pattern, patternOf, asGraph, ascending, viewSheet}
+use Rattle.matching.specs.Simulation.{Pair, Edge, noEdge, Pattern, patternOf, asGraph, ascending, viewSheet}
 use Rattle.matching.specs.Join.{View, pairOf, candidates, answerSets}
 use Rattle.matching.proofs.ByEdge.{answerTo}
 use Rattle.matching.proofs.ListLaws.{in-cast, getD-each}
@@ -31,7 +31,7 @@ module _ (Q : Pattern) (Ps : List Pattern) (sheets : List (List (List ℕ))) (se
   views = viewsIn set Ps sheets
 
   -- ---- candidates
-  candidate-say : {e f : Pair} → In f (candidates Q views e) → Candidate Q Ps sheets set e f
+  candidate-say : {e : Edge} {f : Pair} → In f (candidates Q views e) → Candidate Q Ps sheets set e f
   candidate-say {e} {f} i =
       let r = offered-say Q set Ps sheets e i in
       let o = r .2 in
@@ -42,7 +42,7 @@ module _ (Q : Pattern) (Ps : List Pattern) (sheets : List (List (List ℕ))) (se
         narrow = pair-narrow (r .0) (r .1);
       }
 
-  candidate-by : {e f : Pair} → Candidate Q Ps sheets set e f → In f (candidates Q views e)
+  candidate-by : {e : Edge} {f : Pair} → Candidate Q Ps sheets set e f → In f (candidates Q views e)
   candidate-by {e} {f} k =
       let m = k .by in
       let P : Pattern = getD Ps (m .extract) noPattern in
@@ -59,26 +59,22 @@ module _ (Q : Pattern) (Ps : List Pattern) (sheets : List (List (List ℕ))) (se
       in-cast (code-pair (k .narrow)) (offered-by Q set Ps sheets e o l)
 
   -- ---- the greatest choice
-  abbrev Keeps : Pair → Pair → Type 0
+  abbrev Keeps : Edge → Pair → Type 0
   Keeps e f = Joined Q views e f
 
   supports : SupportsItself Q Keeps
   supports = record {
-    leaving-from = λ u u′ v v′ k w i. begins (join-supported Q views k .tail (u, w) i refl);
-    leaving-to = λ u u′ v v′ k w i. begins (join-supported Q views k .head (u′, w) i refl);
+    leaving-from = λ e v v′ k g i q. begins (join-supported Q views k .tail g i q);
+    leaving-to = λ e v v′ k g i q. begins (join-supported Q views k .head g i q);
   }
     where
-      begins : {g : Pair} {v : ℕ} → (h : Pair) × Keeps g h × (h .0 ≡ v) → (x : ℕ) × Keeps g (v, x)
+      begins : {g : Edge} {v : ℕ} → (h : Pair) × Keeps g h × (h .0 ≡ v) → (x : ℕ) × Keeps g (v, x)
       begins {g} {v} (h, k, q) = (h .1, subst (λ z. Keeps g (z, h .1)) q k)
 
-  supported-of : (L : Pair → Pair → Type 0) → SupportsItself Q L → (e f : Pair) → L e f → Supported Q L e f
+  supported-of : (L : Edge → Pair → Type 0) → SupportsItself Q L → (e : Edge) (f : Pair) → L e f → Supported Q L e f
   supported-of L s e f k = record {
-    tail = λ g i q.
-        let r = s .leaving-from (e .0) (e .1) (f .0) (f .1) k (g .1) (subst (λ z. In (z, g .1) (Q .edges)) q i) in
-        ((f .0, r .0), subst (λ z. L (z, g .1) (f .0, r .0)) (sym q) (r .1), refl);
-    head = λ g i q.
-        let r = s .leaving-to (e .0) (e .1) (f .0) (f .1) k (g .1) (subst (λ z. In (z, g .1) (Q .edges)) q i) in
-        ((f .1, r .0), subst (λ z. L (z, g .1) (f .1, r .0)) (sym q) (r .1), refl);
+    tail = λ g i q. let r = s .leaving-from e (f .0) (f .1) k g i q in ((f .0, r .0), r .1, refl);
+    head = λ g i q. let r = s .leaving-to e (f .0) (f .1) k g i q in ((f .1, r .0), r .1, refl);
   }
 
   greatest-choice : GreatestChoice Q (Candidate Q Ps sheets set) Keeps
@@ -90,17 +86,17 @@ module _ (Q : Pattern) (Ps : List Pattern) (sheets : List (List (List ℕ))) (se
 
   -- ---- the lists of the answer
   abbrev Complete : Type 0
-  Complete = (e : Pair) → In e (Q .edges) → (h : Pair) × Keeps e h
+  Complete = (e : Edge) → In e (Q .edges) → (h : Pair) × Keeps e h
 
-  answer-narrow : (e : Pair) {f : Pair} → In f (answerTo Q views e) → f .1 < 4096
+  answer-narrow : (e : Edge) {f : Pair} → In f (answerTo Q views e) → f .1 < 4096
   answer-narrow e i = candidate-say (join-candidate Q views (answer-say Q views i .1) .1) .narrow
 
   answer-lists : (i : ℕ) → i < length (Q .edges) → (f : Pair) → f .1 < 4096
-      → In (code (f .0) (f .1)) (getD (answerSets Q views) i []) ↔ (Complete × Keeps (getD (Q .edges) i (0, 0)) f)
+      → In (code (f .0) (f .1)) (getD (answerSets Q views) i []) ↔ (Complete × Keeps (getD (Q .edges) i noEdge) f)
   answer-lists i h f n =
-      let e = getD (Q .edges) i (0, 0) in
+      let e = getD (Q .edges) i noEdge in
       let at : getD (answerSets Q views) i [] ≡ ascending (answerTo Q views e) =
-      ap (λ ls. getD ls i []) (answer-each Q views) ∙ getD-each (λ g. ascending (answerTo Q views g)) (Q .edges) i (0, 0) [] h in (
+      ap (λ ls. getD ls i []) (answer-each Q views) ∙ getD-each (λ g. ascending (answerTo Q views g)) (Q .edges) i noEdge [] h in (
         λ m.
             let r = ascending-say (answerTo Q views e) (subst (λ l. In (code (f .0) (f .1)) l) at m) in
             let a = answer-say Q views (in-cast (sym (code-same n (answer-narrow e (r .1)) (r .2))) (r .1)) in

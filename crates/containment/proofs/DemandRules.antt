@@ -17,7 +17,7 @@ use Rattle.packed.proofs.OrderCases.{lt-or-ge}
 use Rattle.packed.proofs.RoundTrip.{Bytes}
 use Rattle.packed.proofs.Accepted.{pattern-accepted, catalogue-accepted, record-accepted, sheet-accepted, book-accepted, written-accepted}
 use Rattle.matching.specs.Lists.{In}
-use Rattle.matching.specs.Simulation.{Pair, Pattern, patternOf, asGraph, viewSheet}
+use Rattle.matching.specs.Simulation.{Edge, Pattern, patternOf, asGraph, viewSheet}
 use Rattle.matching.specs.Join.{lists}
 use Rattle.matching.proofs.ByEdge.{matchedBy, matched}
 use Rattle.matching.specs.Search.{sheetBytes}
@@ -388,7 +388,7 @@ no-other f x =
 -- ---- covered and uncovered queries
 
 -- an edge of the query that is matched is so by a view that fits the query as a whole
-module _ (Q : Pattern) (Ps : List Pattern) (e : Pair) where
+module _ (Q : Pattern) (Ps : List Pattern) (e : Edge) where
   pub listed-matched : Listed Q Ps e → Matched Q Ps e
   listed-matched o = record { extract = o .view; given = o .given; link = o .at; below = o .below; lists = o .lists; whole = listed-whole Q Ps e o }
 
@@ -406,15 +406,15 @@ place-below ls i {c} m =
     (lt-or-ge i (length ls))
 
 -- an edge of the query that a view matches is listed under an edge of the view
-module _ (Q : Pattern) (e : Pair) (P : Pattern) where
-  link-of : T (matchedBy Q e P) → (f : ℕ) × In (code (e .0) (e .1)) (getD (viewSheet P (asGraph Q)) f [])
+module _ (Q : Pattern) (e : Edge) (P : Pattern) where
+  link-of : T (matchedBy Q e P) → (f : ℕ) × In (code (e .from) (e .to)) (getD (viewSheet P (asGraph Q)) f [])
   unfolding matchedBy lists
   link-of t =
       let l = some-in (lists e) (viewSheet P (asGraph Q)) t in
       let o = place-of [] (l .1) in
-      (o .at, subst (λ m. In (code (e .0) (e .1)) m) (o .holds) (member-in (l .0) (test-is (lists e (l .0)) .1 (l .2))))
+      (o .at, subst (λ m. In (code (e .from) (e .to)) m) (o .holds) (member-in (l .0) (test-is (lists e (l .0)) .1 (l .2))))
 
-  by-link : (f : ℕ) → In (code (e .0) (e .1)) (getD (viewSheet P (asGraph Q)) f []) → T (matchedBy Q e P)
+  by-link : (f : ℕ) → In (code (e .from) (e .to)) (getD (viewSheet P (asGraph Q)) f []) → T (matchedBy Q e P)
   unfolding matchedBy
   by-link f i = in-some (lists e) (in-at (viewSheet P (asGraph Q)) f [] (place-below (viewSheet P (asGraph Q)) f i)) (lists-by e i)
 

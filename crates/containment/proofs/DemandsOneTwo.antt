@@ -16,7 +16,7 @@ use Rattle.packed.specs.Calls.{Answer, give, toldOf, fronts, outputsOf, workOf,
 use Rattle.packed.proofs.Accepted.{pattern-read, catalogue-read, record-read, sheet-read, book-read}
 use Rattle.packed.proofs.CallRoundTrips.{pattern-back, pattern-again, catalogue-back, catalogue-again, record-back, record-again, sheet-back, sheet-again, book-back, book-again}
 use Rattle.matching.specs.Lists.{In}
-use Rattle.matching.specs.Simulation.{Pair, Pattern, bit, patternOf, graphOf, asGraph, matchSets, viewSheet}
+use Rattle.matching.specs.Simulation.{Pair, Edge, noEdge, Pattern, bit, patternOf, graphOf, asGraph, matchSets, viewSheet}
 use Rattle.matching.specs.Search.{searchAnswer, makeBookAnswer}
 use Rattle.matching.proofs.SimLaws.{sim-is, sim-most}
 use Rattle.matching.proofs.MatchSetLaws.{view-sheet}
@@ -152,15 +152,15 @@ demand-1 = record {
 -- ---- demand 2
 
 lists-exactly : (r rs : List ℕ) → Record r rs → (P : Pattern) (i : ℕ) → i < length (P .edges) → (f : Pair) → f .1 < 4096
-    → In (code (f .0) (f .1)) (getD (matchSets P (graphOf rs)) i []) ↔ Matching P (graphOf rs) (getD (P .edges) i (0, 0)) f
+    → In (code (f .0) (f .1)) (getD (matchSets P (graphOf rs)) i []) ↔ Matching P (graphOf rs) (getD (P .edges) i noEdge) f
 lists-exactly r rs e P i h f k =
     let d = record-is r rs e in
     let x = listed-exactly P (graphOf rs) (graph-narrow r rs d) i h f k in (
-      λ j. let m = related-matches P (graphOf rs) (x .0 j) in record { whole = m .whole; edge = m .edge; tail = m .tail; head = m .head },
-      λ m. x .1 (matches-related P (graphOf rs) (record { whole = m .whole; edge = m .edge; tail = m .tail; head = m .head })),
+      λ j. let m = related-matches P (graphOf rs) (x .0 j) in record { whole = m .whole; link = m .link; edge = m .edge; ends = m .ends; tail = m .tail; head = m .head },
+      λ m. x .1 (matches-related P (graphOf rs) (record { whole = m .whole; link = m .link; edge = m .edge; ends = m .ends; tail = m .tail; head = m .head })),
     )
 
-quote-exactly : (q c qs cs : List ℕ) → Question q qs → Catalogue c cs → Covered qs cs ↔ ((e : Pair) → In e (patternOf qs .edges) → Matched (patternOf qs) (extracts cs) e)
+quote-exactly : (q c qs cs : List ℕ) → Question q qs → Catalogue c cs → Covered qs cs ↔ ((e : Edge) → In e (patternOf qs .edges) → Matched (patternOf qs) (extracts cs) e)
 quote-exactly q c qs cs eq ec =
     let x = quote-says-covered (patternOf qs) (extracts cs) (few-views c cs ec) (question-bounds q qs eq .few-edges) in
     let m : length (patternOf qs .edges) ≡ edgesOf qs = question-bounds q qs eq .many in
@@ -171,7 +171,7 @@ quote-exactly q c qs cs eq ec =
 
 -- the masks of a quote
 maps-exactly : (q c qs cs : List ℕ) → Question q qs → Catalogue c cs → (i a f : ℕ) → i < edgesOf qs → a < length (extracts cs) → f < length (extractOf cs a .edges)
-    → T (bit (getD (mapping (patternOf qs) (extracts cs)) (16 * i + a) 0) f) ↔ In (code (linkOf qs i .0) (linkOf qs i .1)) (getD (viewSheet (extractOf cs a) (asGraph (patternOf qs))) f [])
+    → T (bit (getD (mapping (patternOf qs) (extracts cs)) (16 * i + a) 0) f) ↔ In (code (linkOf qs i .from) (linkOf qs i .to)) (getD (viewSheet (extractOf cs a) (asGraph (patternOf qs))) f [])
 maps-exactly q c qs cs eq ec i a f h l k =
     let b = question-bounds q qs eq in
     let n = few-views c cs ec in

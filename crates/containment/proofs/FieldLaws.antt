@@ -17,8 +17,9 @@ use Rattle.packed.specs.ByValue.{HoldsPattern}
 use Rattle.packed.specs.declared.by_value.Pattern.{Pattern as Given}
 use Rattle.packed.proofs.OrderCases.{lt-or-ge}
 use Rattle.packed.proofs.RoundTrip.{pick-yes, pick-no}
-use Rattle.matching.specs.Simulation.{Pair, Pattern, edgesIn, patternOf}
+use Rattle.matching.specs.Simulation.{Edge, noEdge, Pattern, edgesIn, patternOf}
 use Rattle.matching.specs.Steps.{patternIn}
+use Rattle.matching.specs.Steps.{edgeAt as givenAt}
 use Rattle.matching.specs.Lists.{upTo}
 use Rattle.matching.proofs.UpToLaws.{getD-upTo}
 use Rattle.matching.proofs.PatternLaws.{nodes-in, edges-in, pattern-is, pattern-same}
@@ -164,17 +165,17 @@ module _ {ws : List ℕ} {bs : List Bool} (q : PlainPattern ws bs) {p : Given} (
   unfolding patternIn
   labels-are = ap (λ (P : Pattern). P .labels) (pattern-same q h ∙ pattern-is q)
 
-  edges-are : upTo (λ e. (getD (p .from) e 0, getD (p .to) e 0)) (p .edges) ≡ edgesIn (q .ends)
+  edges-are : upTo (givenAt p) (p .edges) ≡ edgesIn (q .ends)
   unfolding patternIn
   edges-are = ap (λ (P : Pattern). P .edges) (pattern-same q h ∙ pattern-is q)
 
   pub number-is : p .edges ≡ q .number
   number-is = h .edges ∙ edges-in q
 
-  pub edge-is : (e : ℕ) → e < q .number → (getD (p .from) e 0, getD (p .to) e 0) ≡ edgeAt (q .ends) e
+  pub edge-is : (e : ℕ) → e < q .number → givenAt p e ≡ edgeAt (q .ends) e
   edge-is e l =
-      sym (getD-upTo (λ e. (getD (p .from) e 0, getD (p .to) e 0)) (p .edges) e (0, 0) (omega (arith, number-is)))
-      ∙ ap (λ (es : List Pair). getD es e (0, 0)) edges-are
+      sym (getD-upTo (givenAt p) (p .edges) e noEdge (omega (arith, number-is)))
+      ∙ ap (λ (es : List Edge). getD es e noEdge) edges-are
       ∙ edge-at (q .ends) (q .number) e (q .edges .two-each) l
 
   abbrev kept : ℕ → List ℕ
@@ -192,11 +193,11 @@ module _ {ws : List ℕ} {bs : List Bool} (q : PlainPattern ws bs) {p : Given} (
       (λ (l : skip < q .number).
       let t = lt-ltb skip (q .number) l in
       rw (edges-in q, t) (ap (λ (m : List ℕ). q .nodes ∷ (q .number - 1) ∷ (powers (q .labels) ++ m))
-      (ends-fewer (p .from) (p .to) skip (q .ends) (q .number) (q .edges .two-each) (λ e k. ap (λ (f : Pair). f .0) (edge-is e k)) (λ e k. ap (λ (f : Pair). f .1) (edge-is e k)) l)
+      (ends-fewer (p .from) (p .to) skip (q .ends) (q .number) (q .edges .two-each) (λ e k. ap (λ (f : Edge). f .from) (edge-is e k)) (λ e k. ap (λ (f : Edge). f .to) (edge-is e k)) l)
       ∙ sym (fewer-fields q skip)))
       (λ (l : q .number ≤ skip).
       let t = le-ltb skip (q .number) l in
       rw (edges-in q, t) (ap (λ (m : List ℕ). q .nodes ∷ q .number ∷ (powers (q .labels) ++ m))
-      (ends-whole (p .from) (p .to) skip (q .ends) (q .number) (q .edges .two-each) (λ e k. ap (λ (f : Pair). f .0) (edge-is e k)) (λ e k. ap (λ (f : Pair). f .1) (edge-is e k)) l)
+      (ends-whole (p .from) (p .to) skip (q .ends) (q .number) (q .edges .two-each) (λ e k. ap (λ (f : Edge). f .from) (edge-is e k)) (λ e k. ap (λ (f : Edge). f .to) (edge-is e k)) l)
       ∙ sym (graph-fields q)))
       (lt-or-ge skip (q .number))

@@ -19,7 +19,7 @@ use Rattle.packed.specs.Contents.{member}
 use Rattle.packed.specs.Matches.{marks, marked, markedFrom, anyEmpty, emptied, allOrNone, codesOf, masksOf, matchesOf, Marked, Listed}
 use Rattle.packed.proofs.OrderCases.{lt-or-ge, trichotomy}
 use Rattle.packed.proofs.RoundTrip.{and-no}
-use Rattle.matching.specs.Simulation.{Pair, Pattern, bit}
+use Rattle.matching.specs.Simulation.{Edge, noEdge, Pattern, bit}
 use Rattle.matching.specs.Lists.{upTo}
 use Rattle.matching.specs.Sweeps.{OneOf, Has}
 use Rattle.matching.proofs.UpToLaws.{length-upTo, getD-upTo}
@@ -172,8 +172,8 @@ module _ {m k : ℕ} {w : List ℕ} {r : ℕ} (g : Listed m k w r) where
 
 -- ---- the whole table
 module _ (Q : Pattern) where
-  abbrev edge : ℕ → Pair
-  edge e = getD (Q .edges) e (0, 0)
+  abbrev edge : ℕ → Edge
+  edge e = getD (Q .edges) e noEdge
 
   mask-in : (Ps : List Pattern) (k : ℕ) → k / 16 < length (Q .edges) → k % 16 < length Ps → maskAt Q Ps k ≡ matchMask Q (edge (k / 16)) (getD Ps (k % 16) noPattern)
   unfolding maskAt

@@ -16,7 +16,7 @@ use Rattle.packed.specs.declared.by_value.Pattern.{Pattern as Given}
 use Rattle.packed.proofs.DistinctLaws.{member-distinct}
 use Rattle.packed.proofs.AcceptedBounds.{catalogue-views}
 use Rattle.matching.specs.Lists.{In, here, there}
-use Rattle.matching.specs.Simulation.{Pair, Pattern, Graph, edgesIn, patternOf, graphOf, asGraph, matchSets, viewSheet}
+use Rattle.matching.specs.Simulation.{Edge, noEdge, Pattern, Graph, edgesIn, patternOf, graphOf, asGraph, matchSets, viewSheet}
 use Rattle.matching.specs.Steps.{patternIn, graphIn, Fair, Ready, Edges}
 use Rattle.matching.specs.Sweeps.{OneOf}
 use Rattle.matching.specs.Matched.{Proper, Rises, Matched, ViewAt}
@@ -121,9 +121,9 @@ module _ {q : Given} {s : List ℕ} {n m : ℕ} {w : List ℕ} (t : Query q) (h 
   code-in e l =
       let p = plain t in
       let j : e < p .number = omega (arith, number-is p (t .holds)) in
-      subst (λ (x : ℕ). In x (codes (p .ends))) (ap (λ (f : Pair). code (f .0) (f .1)) (sym (edge-is p (t .holds) e j)))
-      (subst (In (code (edgeAt (p .ends) e .0) (edgeAt (p .ends) e .1))) (sym (codes-each (p .ends)))
-      (in-each (λ f. code (f .0) (f .1)) (at-edgesIn (p .ends) (p .number) (p .edges .two-each) e j)))
+      subst (λ (x : ℕ). In x (codes (p .ends))) (ap (λ (f : Edge). code (f .from) (f .to)) (sym (edge-is p (t .holds) e j)))
+      (subst (In (code (edgeAt (p .ends) e .from) (edgeAt (p .ends) e .to))) (sym (codes-each (p .ends)))
+      (in-each (λ f. code (f .from) (f .to)) (at-edgesIn (p .ends) (p .number) (p .edges .two-each) e j)))
 
   front-in : (e : ℕ) → e < q .edges → In (codeAt q e) (take m w)
   front-in e l =
@@ -163,14 +163,14 @@ module _ {q : Given} {s : List ℕ} {n m : ℕ} {w : List ℕ} (t : Query q) (h 
         ∙ sets-query (patternOf here′)
         ∙ sym (view-sheet (patternOf here′) (asGraph Q))
 
-    mask-view : (e : ℕ) → e < q .edges → maskIn (codeAt q e) (matchesOf m (r .pattern .edges) w₂) ≡ matchMask Q (getD (Q .edges) e (0, 0)) (patternOf here′)
+    mask-view : (e : ℕ) → e < q .edges → maskIn (codeAt q e) (matchesOf m (r .pattern .edges) w₂) ≡ matchMask Q (getD (Q .edges) e noEdge) (patternOf here′)
     unfolding matchMask
-    mask-view e j = ap₂ (λ (f : Pair) (ls : List (List ℕ)). maskIn (code (f .0) (f .1)) ls) (sym (query-edge t e j)) sets-view
+    mask-view e j = ap₂ (λ (f : Edge) (ls : List (List ℕ)). maskIn (code (f .from) (f .to)) ls) (sym (query-edge t e j)) sets-view
 
-    column-view : Column (length Ps) (length (Q .edges)) (λ e x. x ≡ matchMask Q (getD (Q .edges) e (0, 0)) (patternOf here′)) table table′
+    column-view : Column (length Ps) (length (Q .edges)) (λ e x. x ≡ matchMask Q (getD (Q .edges) e noEdge) (patternOf here′)) table table′
     column-view =
-        subst (λ (i : ℕ). Column i (length (Q .edges)) (λ e x. x ≡ matchMask Q (getD (Q .edges) e (0, 0)) (patternOf here′)) table table′) (sym (taken-long o l v))
-        (subst (λ (i : ℕ). Column a i (λ e x. x ≡ matchMask Q (getD (Q .edges) e (0, 0)) (patternOf here′)) table table′) (sym (query-number t))
+        subst (λ (i : ℕ). Column i (length (Q .edges)) (λ e x. x ≡ matchMask Q (getD (Q .edges) e noEdge) (patternOf here′)) table table′) (sym (taken-long o l v))
+        (subst (λ (i : ℕ). Column a i (λ e x. x ≡ matchMask Q (getD (Q .edges) e noEdge) (patternOf here′)) table table′) (sym (query-number t))
         (column-map (λ e x j y. y ∙ mask-view e j) col))
 
     table-more : table′ ≡ mapping Q (map patternOf (take (a + 1) vs))

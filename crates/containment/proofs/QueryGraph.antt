@@ -23,11 +23,11 @@ use Rattle.packed.proofs.AcceptedLaws.{accepts-whole}
 use Rattle.packed.proofs.AcceptedGraphs.{accepts-record}
 use Rattle.packed.proofs.Accepted.{pattern-accepted, written-accepted}
 use Rattle.matching.specs.Lists.{In, each, keep, put}
-use Rattle.matching.specs.Simulation.{Pair, same, edgesIn, patternOf, Graph, graphOf, asGraph}
+use Rattle.matching.specs.Simulation.{Edge, sameEdge, between, noEdge, edgesIn, patternOf, Graph, graphOf, asGraph}
 use Rattle.matching.specs.Join.{without}
 use Rattle.matching.specs.Search.{bytesIn}
 use Rattle.matching.proofs.ListLaws.{getD-each}
-use Rattle.matching.proofs.SimLaws.{same-eq, same-refl}
+use Rattle.matching.proofs.SimLaws.{same-edge, same-edge-refl}
 use Rattle.matching.proofs.PatternLaws.{nodes-in, edges-in, pattern-is}
 use Rattle.matching.proofs.UpToLaws.{getD-upTo}
 use Rattle.matching.proofs.EdgeLaws.{edgeAt, edgesIn-upTo, edgesIn-length}
@@ -172,7 +172,7 @@ module _ (ends : List ℕ) (nodes number e : ℕ) (p : PlainEdges nodes number e
             (lt-or-ge j e);
       }
 
--- ---- the same as lists of pairs
+-- ---- the same as lists of edges
 edgesIn-fewer : (e : ℕ) (ends : List ℕ) (k : ℕ) → length ends ≡ 2 * k → e < k
     → edgesIn (take (2 * e) ends ++ drop (2 * e + 2) ends) ≡ take e (edgesIn ends) ++ drop (suc e) (edgesIn ends)
 unfolding edgesIn
@@ -182,7 +182,7 @@ edgesIn-fewer zero (a ∷ b ∷ ends) k n h = refl
 edgesIn-fewer (suc e) (a ∷ b ∷ ends) k n h =
     let x : 2 * suc e ≡ suc (suc (2 * e)) = omega arith in
     let y : 2 * suc e + 2 ≡ suc (suc (2 * e + 2)) = omega arith in
-    rw (y, x) (ap (λ (l : List Pair). (a, b) ∷ l) (edgesIn-fewer e ends (k - 1) (omega arith) (omega arith)))
+    rw (y, x) (ap (λ (l : List Edge). between a b ∷ l) (edgesIn-fewer e ends (k - 1) (omega arith) (omega arith)))
 
 -- a test that only the place e fails keeps the others
 put-yes : {A : Type 0} (b : Bool) (x : A) (l : List A) → b ≡ true → put b x l ≡ x ∷ l
@@ -214,27 +214,27 @@ test-no : (b : Bool) → (T b → ⊥) → not b ≡ true
 test-no true h = absurd (h tt)
 test-no false h = refl
 
-pub edge-at : (ends : List ℕ) (k i : ℕ) → length ends ≡ 2 * k → i < k → getD (edgesIn ends) i (0, 0) ≡ edgeAt ends i
-edge-at ends k i n h = ap (λ (l : List Pair). getD l i (0, 0)) (edgesIn-upTo ends k n) ∙ getD-upTo (edgeAt ends) k i (0, 0) h
+pub edge-at : (ends : List ℕ) (k i : ℕ) → length ends ≡ 2 * k → i < k → getD (edgesIn ends) i noEdge ≡ edgeAt ends i
+edge-at ends k i n h = ap (λ (l : List Edge). getD l i noEdge) (edgesIn-upTo ends k n) ∙ getD-upTo (edgeAt ends) k i noEdge h
 
 -- taking the edge e away leaves the others, since no edge stands twice
 keep-others : (ends : List ℕ) (nodes number e : ℕ) → PlainEdges nodes number ends → e < number
-    → keep (λ f. not (same (edgeAt ends e) f)) (edgesIn ends) ≡ edgesIn (take (2 * e) ends ++ drop (2 * e + 2) ends)
+    → keep (λ f. not (sameEdge (edgeAt ends e) f)) (edgesIn ends) ≡ edgesIn (take (2 * e) ends ++ drop (2 * e + 2) ends)
 keep-others ends nodes number e p h =
     let n = edgesIn-length ends number (p .two-each) in
-    let at : (i : ℕ) → i < number → getD (edgesIn ends) i (0, 0) ≡ edgeAt ends i = λ i l. edge-at ends number i (p .two-each) l in
-    let other : (i : ℕ) → i < number → (i ≡ e → ⊥) → T (same (edgeAt ends e) (edgeAt ends i)) → ⊥ =
+    let at : (i : ℕ) → i < number → getD (edgesIn ends) i noEdge ≡ edgeAt ends i = λ i l. edge-at ends number i (p .two-each) l in
+    let other : (i : ℕ) → i < number → (i ≡ e → ⊥) → T (sameEdge (edgeAt ends e) (edgeAt ends i)) → ⊥ =
     λ i l z s.
-    (let q = same-eq (edgeAt ends e) (edgeAt ends i) s in
-    trichotomy i e (λ k. p .differ i e k h (sym (ap (λ (f : Pair). f .0) q)) (sym (ap (λ (f : Pair). f .1) q))) z
-    (λ k. p .differ e i k l (ap (λ (f : Pair). f .0) q) (ap (λ (f : Pair). f .1) q))) in
-    keep-but (λ f. not (same (edgeAt ends e) f)) (0, 0) (edgesIn ends) e (omega arith)
-    (ap (λ (f : Pair). not (same (edgeAt ends e) f)) (at e h) ∙ test-yes (same (edgeAt ends e) (edgeAt ends e)) (same-refl (edgeAt ends e)))
-    (λ i l z. let k : i < number = omega arith in ap (λ (f : Pair). not (same (edgeAt ends e) f)) (at i k) ∙ test-no (same (edgeAt ends e) (edgeAt ends i)) (other i k z))
+    (let q = same-edge (edgeAt ends e) (edgeAt ends i) s in
+    trichotomy i e (λ k. p .differ i e k h (sym (ap (λ (f : Edge). f .from) q)) (sym (ap (λ (f : Edge). f .to) q))) z
+    (λ k. p .differ e i k l (ap (λ (f : Edge). f .from) q) (ap (λ (f : Edge). f .to) q))) in
+    keep-but (λ f. not (sameEdge (edgeAt ends e) f)) noEdge (edgesIn ends) e (omega arith)
+    (ap (λ (f : Edge). not (sameEdge (edgeAt ends e) f)) (at e h) ∙ test-yes (sameEdge (edgeAt ends e) (edgeAt ends e)) (same-edge-refl (edgeAt ends e)))
+    (λ i l z. let k : i < number = omega arith in ap (λ (f : Edge). not (sameEdge (edgeAt ends e) f)) (at i k) ∙ test-no (sameEdge (edgeAt ends e) (edgeAt ends i)) (other i k z))
     ∙ sym (edgesIn-fewer e ends number (p .two-each) h)
 
 -- ---- the content of an accepted query
-abbrev graph : List ℕ → List Pair → Graph
+abbrev graph : List ℕ → List Edge → Graph
 graph l es = record { labels = l; edges = es }
 
 map-each : (f : ℕ → ℕ) (l : List ℕ) → map f l ≡ each f l
@@ -327,4 +327,4 @@ module _ {ws : List ℕ} {bs : List Bool} (q : PlainPattern ws bs) where
       ap graphOf (fewer-fields e)
       ∙ graph-is (q .nodes) (q .number - 1) (powers (q .labels)) (fewerEnds e) (powers-length (q .labels) ∙ q .label-each)
       ∙ ap (graph (powers (q .labels))) (sym (keep-others (q .ends) (q .nodes) (q .number) e (q .edges) h))
-      ∙ ap (λ (G : Graph). graph (G .labels) (keep (λ f. not (same (edgeAt (q .ends) e) f)) (G .edges))) (sym as-graph)
+      ∙ ap (λ (G : Graph). graph (G .labels) (keep (λ f. not (sameEdge (edgeAt (q .ends) e) f)) (G .edges))) (sym as-graph)

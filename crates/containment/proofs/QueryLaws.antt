@@ -17,8 +17,8 @@ use Rattle.packed.specs.Reading.{Content}
 use Rattle.packed.specs.declared.by_value.Pattern.{Pattern as Given}
 use Rattle.packed.proofs.OrderCases.{lt-or-ge}
 use Rattle.packed.proofs.Accepted.{pattern-accepted}
-use Rattle.matching.specs.Simulation.{Pair, Pattern, patternOf}
-use Rattle.matching.specs.Steps.{patternIn, Fair}
+use Rattle.matching.specs.Simulation.{noEdge, Pattern, patternOf}
+use Rattle.matching.specs.Steps.{edgeAt, patternIn, Fair}
 use Rattle.matching.specs.Lists.{upTo}
 use Rattle.matching.proofs.UpToLaws.{length-upTo, getD-upTo}
 use Rattle.matching.proofs.PatternLaws.{edges-in, fair-by, pattern-same}
@@ -46,16 +46,13 @@ module _ {p : Given} (t : Query p) where
   few-edges = omega (arith, edges-in plain, plain .most-edges)
 
   -- its edges by value
-  abbrev ends-by : ℕ → Pair
-  ends-by e = (getD (p .from) e 0, getD (p .to) e 0)
-
   pub query-number : length (patternOf (t .content) .edges) ≡ p .edges
   unfolding patternIn
-  query-number = ap (λ (P : Pattern). length (P .edges)) (sym (pattern-same plain (t .holds))) ∙ length-upTo ends-by (p .edges)
+  query-number = ap (λ (P : Pattern). length (P .edges)) (sym (pattern-same plain (t .holds))) ∙ length-upTo (edgeAt p) (p .edges)
 
-  pub query-edge : (e : ℕ) → e < p .edges → getD (patternOf (t .content) .edges) e (0, 0) ≡ ends-by e
+  pub query-edge : (e : ℕ) → e < p .edges → getD (patternOf (t .content) .edges) e noEdge ≡ edgeAt p e
   unfolding patternIn
-  query-edge e l = ap (λ (P : Pattern). getD (P .edges) e (0, 0)) (sym (pattern-same plain (t .holds))) ∙ getD-upTo ends-by (p .edges) e (0, 0) l
+  query-edge e l = ap (λ (P : Pattern). getD (P .edges) e noEdge) (sym (pattern-same plain (t .holds))) ∙ getD-upTo (edgeAt p) (p .edges) e noEdge l
 
   pub shown-whole : (skip : ℕ) → edgesOf (t .content) ≤ skip → shownFields (t .content) skip ≡ graphFields (t .content)
   unfolding shownFields

@@ -14,7 +14,7 @@ use Rattle.packed.specs.Format.{pick}
 use Rattle.packed.specs.Formats.{code}
 use Rattle.packed.specs.Contents.{member}
 use Rattle.matching.specs.Lists.{_or_, In, here, there, some}
-use Rattle.matching.specs.Simulation.{Pair, Pattern, bit, asGraph, viewSheet}
+use Rattle.matching.specs.Simulation.{Edge, noEdge, Pattern, bit, asGraph, viewSheet}
 use Rattle.matching.specs.Join.{lists}
 use Rattle.matching.proofs.ByEdge.{matchedBy, matched, covered}
 use Rattle.matching.specs.Sweeps.{OneOf}
@@ -153,7 +153,7 @@ module _ (c : ℕ) where
   mask-none ls = (none-say ls, none-by ls)
 
 -- ---- the table
-module _ (e : Pair) where
+module _ (e : Edge) where
   -- the mask of an edge is not 0 exactly if some list has the edge
   mask-step : (b : Bool) (x : ℕ) (rest : Bool) → not (eqb x 0) ≡ rest → not (eqb (one b + 2 * x) 0) ≡ (b or rest)
   unfolding _or_
@@ -161,14 +161,14 @@ module _ (e : Pair) where
   mask-step false zero rest h = h
   mask-step false (suc x) rest h = ap not (ne-eqb (0 + 2 * suc x) 0 (λ (z : 0 + 2 * suc x ≡ 0). omega arith) ∙ sym (ne-eqb (suc x) 0 (λ (z : suc x ≡ 0). omega arith))) ∙ h
 
-  mask-some : (ls : List (List ℕ)) → not (eqb (maskIn (code (e .0) (e .1)) ls) 0) ≡ some (lists e) ls
+  mask-some : (ls : List (List ℕ)) → not (eqb (maskIn (code (e .from) (e .to)) ls) 0) ≡ some (lists e) ls
   unfolding maskIn some lists
   mask-some [] = refl
-  mask-some (l ∷ ls) = mask-step (member (code (e .0) (e .1)) l) (maskIn (code (e .0) (e .1)) ls) (some (lists e) ls) (mask-some ls)
+  mask-some (l ∷ ls) = mask-step (member (code (e .from) (e .to)) l) (maskIn (code (e .from) (e .to)) ls) (some (lists e) ls) (mask-some ls)
 
 module _ (Q : Pattern) (Ps : List Pattern) (few-edges : length (Q .edges) ≤ 32) where
-  abbrev edge : ℕ → Pair
-  edge i = getD (Q .edges) i (0, 0)
+  abbrev edge : ℕ → Edge
+  edge i = getD (Q .edges) i noEdge
 
   abbrev view : ℕ → Pattern
   view a = getD Ps a noPattern
@@ -179,23 +179,23 @@ module _ (Q : Pattern) (Ps : List Pattern) (few-edges : length (Q .edges) ≤ 32
 
   -- what stands in the table for the edge i and the view a
   mapping-at : (i a : ℕ) → i < length (Q .edges) → a < length Ps → a < 16
-      → getD (mapping Q Ps) (16 * i + a) 0 ≡ maskIn (code (edge i .0) (edge i .1)) (viewSheet (view a) (asGraph Q))
+      → getD (mapping Q Ps) (16 * i + a) 0 ≡ maskIn (code (edge i .from) (edge i .to)) (viewSheet (view a) (asGraph Q))
   unfolding mapping matchMask
   mapping-at i a h l few = getD-upTo (maskAt Q Ps) 512 (16 * i + a) 0 (omega arith) ∙ mask-is (16 * i + a) i a (omega arith) (omega arith) h l
 
   -- the edges of a view that match the edge i, exactly: those whose match sets, on the query read as a graph, have it
   pub mapping-exactly : (i a : ℕ) → i < length (Q .edges) → a < length Ps → a < 16 → (f : ℕ) → f < length (getD Ps a noPattern .edges)
       → (bit (getD (mapping Q Ps) (16 * i + a) 0) f ≡ true)
-      ↔ In (code (getD (Q .edges) i (0, 0) .0) (getD (Q .edges) i (0, 0) .1)) (getD (viewSheet (getD Ps a noPattern) (asGraph Q)) f [])
+      ↔ In (code (getD (Q .edges) i noEdge .from) (getD (Q .edges) i noEdge .to)) (getD (viewSheet (getD Ps a noPattern) (asGraph Q)) f [])
   mapping-exactly i a h l few f k =
       let e = mapping-at i a h l few in
-      let m = mask-exactly (code (edge i .0) (edge i .1)) (viewSheet (view a) (asGraph Q)) f (omega (arith, view-length (view a) (asGraph Q))) in
+      let m = mask-exactly (code (edge i .from) (edge i .to)) (viewSheet (view a) (asGraph Q)) f (omega (arith, view-length (view a) (asGraph Q))) in
       (λ p. member-in _ (m .0 (rw e at p)), λ p. rw e (m .1 (in-member p)))
 
   -- and no others
   pub mapping-small : (i a : ℕ) → i < length (Q .edges) → a < length Ps → a < 16 → getD (mapping Q Ps) (16 * i + a) 0 < 2 ^ length (getD Ps a noPattern .edges)
   mapping-small i a h l few =
-      rw (mapping-at i a h l few, ← view-length (view a) (asGraph Q)) (mask-small (code (edge i .0) (edge i .1)) (viewSheet (view a) (asGraph Q)))
+      rw (mapping-at i a h l few, ← view-length (view a) (asGraph Q)) (mask-small (code (edge i .from) (edge i .to)) (viewSheet (view a) (asGraph Q)))
 
   matches-is : (i a : ℕ) → i < length (Q .edges) → a < length Ps → a < 16 → matches (mapping Q Ps) i a ≡ matchedBy Q (edge i) (view a)
   unfolding matches matchedBy
@@ -203,7 +203,7 @@ module _ (Q : Pattern) (Ps : List Pattern) (few-edges : length (Q .edges) ≤ 32
 
   -- the table says exactly which views match an edge
   pub matched-exactly : (i a : ℕ) → i < length (Q .edges) → a < length Ps → a < 16
-      → (matches (mapping Q Ps) i a ≡ true) ↔ T (matchedBy Q (getD (Q .edges) i (0, 0)) (getD Ps a noPattern))
+      → (matches (mapping Q Ps) i a ≡ true) ↔ T (matchedBy Q (getD (Q .edges) i noEdge) (getD Ps a noPattern))
   matched-exactly i a h l few =
       let e = matches-is i a h l few in
       let t = test-is (matchedBy Q (edge i) (view a)) in
@@ -211,7 +211,7 @@ module _ (Q : Pattern) (Ps : List Pattern) (few-edges : length (Q .edges) ≤ 32
 
   module _ (few : length Ps ≤ 16) (set : ℕ) where
     -- an edge is matched by the views in the set exactly if the table has one of them that matches it
-    pub matched-places : (i : ℕ) → i < length (Q .edges) → T (matched Q (chosenFrom set Ps) (getD (Q .edges) i (0, 0))) ↔ MatchedBy (mapping Q Ps) set i (length Ps)
+    pub matched-places : (i : ℕ) → i < length (Q .edges) → T (matched Q (chosenFrom set Ps) (getD (Q .edges) i noEdge)) ↔ MatchedBy (mapping Q Ps) set i (length Ps)
     unfolding matched
     matched-places i h = (
       λ t.
@@ -224,11 +224,11 @@ module _ (Q : Pattern) (Ps : List Pattern) (few-edges : length (Q .edges) ≤ 32
           in-some (matchedBy Q (edge i)) (chosen-in set Ps (o .at) l (o .holds .0)) (matched-exactly i (o .at) h l (omega arith) .0 (o .holds .1)),
     )
 
-every-edge : (Q : Pattern) (Ps : List Pattern) → T (covered Q Ps) ↔ ((i : ℕ) → i < length (Q .edges) → T (matched Q Ps (getD (Q .edges) i (0, 0))))
+every-edge : (Q : Pattern) (Ps : List Pattern) → T (covered Q Ps) ↔ ((i : ℕ) → i < length (Q .edges) → T (matched Q Ps (getD (Q .edges) i noEdge)))
 unfolding covered
 every-edge Q Ps = (
-  λ t i h. every-in (matched Q Ps) t (in-at (Q .edges) i (0, 0) h),
-  λ f. in-every (matched Q Ps) (Q .edges) (λ e j. let o = place-of (0, 0) j in subst (λ g. T (matched Q Ps g)) (sym (o .holds)) (f (o .at) (o .below))),
+  λ t i h. every-in (matched Q Ps) t (in-at (Q .edges) i noEdge h),
+  λ f. in-every (matched Q Ps) (Q .edges) (λ e j. let o = place-of noEdge j in subst (λ g. T (matched Q Ps g)) (sym (o .holds)) (f (o .at) (o .below))),
 )
 
 -- ---- coverage
@@ -249,15 +249,15 @@ pub quote-covered-exactly : (Q : Pattern) (Ps : List Pattern) → length Ps ≤ 
 quote-covered-exactly Q Ps few few-edges = rw (chosen-every Ps few) at (set-covers-exactly Q Ps everyView few few-edges)
 
 -- a view of the list has an edge whose match set, on the query read as a graph, has the edge e
-pub record Listed (Q : Pattern) (Ps : List Pattern) (e : Pair) : Type 0 where
+pub record Listed (Q : Pattern) (Ps : List Pattern) (e : Edge) : Type 0 where
   pub view : Pattern
   pub given : In view Ps
   pub at : ℕ
   pub below : at < length (view .edges)
-  pub lists : In (code (e .0) (e .1)) (getD (viewSheet view (asGraph Q)) at [])
+  pub lists : In (code (e .from) (e .to)) (getD (viewSheet view (asGraph Q)) at [])
 
 module _ (Q : Pattern) (Ps : List Pattern) where
-  pub matched-say : (e : Pair) → T (matched Q Ps e) → Listed Q Ps e
+  pub matched-say : (e : Edge) → T (matched Q Ps e) → Listed Q Ps e
   unfolding matched matchedBy lists
   matched-say e t =
       let p = some-in (matchedBy Q e) Ps t in
@@ -268,17 +268,17 @@ module _ (Q : Pattern) (Ps : List Pattern) where
         given = p .1;
         at = o .at;
         below = omega (arith, o .below, view-length (p .0) (asGraph Q));
-        lists = subst (λ m. In (code (e .0) (e .1)) m) (o .holds) (member-in (l .0) (test-is (lists e (l .0)) .1 (l .2)));
+        lists = subst (λ m. In (code (e .from) (e .to)) m) (o .holds) (member-in (l .0) (test-is (lists e (l .0)) .1 (l .2)));
       }
 
-  pub matched-by : (e : Pair) → Listed Q Ps e → T (matched Q Ps e)
+  pub matched-by : (e : Edge) → Listed Q Ps e → T (matched Q Ps e)
   unfolding matched matchedBy lists
   matched-by e o =
       let ms : List (List ℕ) = viewSheet (o .view) (asGraph Q) in
       let h : o .at < length ms = omega (arith, o .below, view-length (o .view) (asGraph Q)) in
       in-some (matchedBy Q e) (o .given) (in-some (lists e) (in-at ms (o .at) [] h) (test-is (lists e (getD ms (o .at) [])) .0 (in-member (o .lists))))
 
-  pub covered-says : T (covered Q Ps) ↔ ((e : Pair) → In e (Q .edges) → Listed Q Ps e)
+  pub covered-says : T (covered Q Ps) ↔ ((e : Edge) → In e (Q .edges) → Listed Q Ps e)
   unfolding covered
   covered-says = (
     λ t e i. matched-say e (every-in (matched Q Ps) t i),
@@ -286,22 +286,22 @@ module _ (Q : Pattern) (Ps : List Pattern) where
   )
 
   -- the view then fits the query as a whole: every node of it has a partner
-  pub listed-whole : (e : Pair) (o : Listed Q Ps e) → Total (o .view) (Sim (o .view) (asGraph Q))
+  pub listed-whole : (e : Edge) (o : Listed Q Ps e) → Total (o .view) (Sim (o .view) (asGraph Q))
   listed-whole e o =
-      let r = listed-related (o .view) (asGraph Q) (o .at) (o .below) (code (e .0) (e .1)) (subst (λ ls. In (code (e .0) (e .1)) (getD ls (o .at) [])) (view-sheet (o .view) (asGraph Q)) (o .lists)) in
+      let r = listed-related (o .view) (asGraph Q) (o .at) (o .below) (code (e .from) (e .to)) (subst (λ ls. In (code (e .from) (e .to)) (getD ls (o .at) [])) (view-sheet (o .view) (asGraph Q)) (o .lists)) in
       related-matches (o .view) (asGraph Q) (r .2) .whole
 
 -- covered exactly if each edge of the query is in the match set of some edge of some view
 pub quote-says-covered : (Q : Pattern) (Ps : List Pattern) → length Ps ≤ 16 → length (Q .edges) ≤ 32
-    → (coversIn (mapping Q Ps) everyView (length Ps) (length (Q .edges)) ≡ true) ↔ ((e : Pair) → In e (Q .edges) → Listed Q Ps e)
+    → (coversIn (mapping Q Ps) everyView (length Ps) (length (Q .edges)) ≡ true) ↔ ((e : Edge) → In e (Q .edges) → Listed Q Ps e)
 quote-says-covered Q Ps few few-edges = Iff·trans (quote-covered-exactly Q Ps few few-edges) (covered-says Q Ps)
 
 -- ---- the lowest unmatched edge
 -- the edge i of the query is not matched, and each lower one is
 pub record LowestEdge (Q : Pattern) (Ps : List Pattern) (i : ℕ) : Type 0 where
   pub below : i < length (Q .edges)
-  pub unmatched : T (matched Q Ps (getD (Q .edges) i (0, 0))) → ⊥
-  pub lower : (j : ℕ) → j < i → T (matched Q Ps (getD (Q .edges) j (0, 0)))
+  pub unmatched : T (matched Q Ps (getD (Q .edges) i noEdge)) → ⊥
+  pub lower : (j : ℕ) → j < i → T (matched Q Ps (getD (Q .edges) j noEdge))
 
 pub lowest-edge : (Q : Pattern) (Ps : List Pattern) (set : ℕ) → length Ps ≤ 16 → length (Q .edges) ≤ 32
     → coversIn (mapping Q Ps) set (length Ps) (length (Q .edges)) ≡ false

@@ -14,12 +14,12 @@ use Rattle.packed.specs.Plain.{PlainPattern}
 use Rattle.packed.proofs.Accepted.{pattern-accepted, record-accepted, record-read}
 use Rattle.packed.proofs.AcceptedBounds.{catalogue-views}
 use Rattle.matching.specs.Lists.{In, here, there}
-use Rattle.matching.specs.Simulation.{Pair, same, Pattern, Graph, patternOf, graphOf, asGraph, matchSets, viewSheet}
+use Rattle.matching.specs.Simulation.{Edge, sameEdge, noEdge, Pattern, Graph, patternOf, graphOf, asGraph, matchSets, viewSheet}
 use Rattle.matching.proofs.ByEdge.{rowOf, matched}
 use Rattle.matching.specs.Join.{without}
 use Rattle.matching.specs.Search.{sheetBytes, bookBytes, viewSheets}
 use Rattle.matching.proofs.ListLaws.{in-at, keep-in, keep-length}
-use Rattle.matching.proofs.SimLaws.{same-refl}
+use Rattle.matching.proofs.SimLaws.{same-edge-refl}
 use Rattle.matching.proofs.CodeLaws.{ascending-length}
 use Rattle.matching.proofs.MatchSetLaws.{sets-length, sets-in, row-length, view-sheet}
 use Rattle.matching.proofs.EdgeLaws.{edgeAt}
@@ -74,8 +74,8 @@ bytes-injective ls ms a b n h =
 -- ---- the two records
 
 -- the edge e of the query with content qs
-abbrev pub queryEdge : List ℕ → ℕ → Pair
-queryEdge qs e = getD (patternOf qs .edges) e (0, 0)
+abbrev pub queryEdge : List ℕ → ℕ → Edge
+queryEdge qs e = getD (patternOf qs .edges) e noEdge
 
 -- what the query with content qs, read as a record, and the same without its edge e show of the views Ps
 pub record Shows (qs : List ℕ) (Ps : List Pattern) (e : ℕ) : Type 0 where
@@ -90,9 +90,9 @@ pub record Shows (qs : List ℕ) (Ps : List Pattern) (e : ℕ) : Type 0 where
   pub same : (P : Pattern) → In P Ps → sheetBytes (viewSheet P (graphOf (graphFields qs))) ≡ sheetBytes (viewSheet P (graphOf (fewerFields qs e)))
   pub differs : sheetBytes (matchSets (patternOf qs) (graphOf (graphFields qs))) ≡ sheetBytes (matchSets (patternOf qs) (graphOf (fewerFields qs e))) → ⊥
 
-not-without : (e : Pair) (G : Graph) → In e (without e G .edges) → ⊥
+not-without : (e : Edge) (G : Graph) → In e (without e G .edges) → ⊥
 unfolding without
-not-without e G i = T-not (same e e) (keep-in (λ f. not (same e f)) (G .edges) i .1) (same-refl e)
+not-without e G i = T-not (sameEdge e e) (keep-in (λ f. not (sameEdge e f)) (G .edges) i .1) (same-edge-refl e)
 
 made-read : {most : ℕ} {fs : List ℕ} → most ≤ 40964 → Made most fs → readRecord (recordBytes fs) ≡ accepted fs
 made-read {fs = fs} h m = record-read (recordBytes fs) fs .1 (omega (arith, m .size), record-accepted (recordBytes fs) fs .0 (m .back))
@@ -105,7 +105,7 @@ module _ {qs : List ℕ} {bs : List Bool} (q : PlainPattern qs bs) where
   few-nodes = omega (arith, ap (λ (P : Pattern). length (P .labels)) (pattern-is q), q .label-each, q .most-nodes)
 
   edge-is : (e : ℕ) → e < q .number → queryEdge qs e ≡ edgeAt (q .ends) e
-  edge-is e h = ap (λ (P : Pattern). getD (P .edges) e (0, 0)) (pattern-is q) ∙ edge-at (q .ends) (q .number) e (q .edges .two-each) h
+  edge-is e h = ap (λ (P : Pattern). getD (P .edges) e noEdge) (pattern-is q) ∙ edge-at (q .ends) (q .number) e (q .edges .two-each) h
 
   -- the match sets of a pattern in a record that was made
   made-sheet : {most : ℕ} {fs : List ℕ} → Made most fs → Sheet (matchSets (patternOf qs) (graphOf fs))
@@ -116,7 +116,7 @@ module _ {qs : List ℕ} {bs : List Bool} (q : PlainPattern qs bs) where
     below = omega (arith, number-is)
 
     an-edge : In (queryEdge qs e) (patternOf qs .edges)
-    an-edge = in-at (patternOf qs .edges) e (0, 0) h
+    an-edge = in-at (patternOf qs .edges) e noEdge h
 
     second-means : graphOf (fewerFields qs e) ≡ without (queryEdge qs e) (asGraph (patternOf qs))
     second-means = fewer-means q e below ∙ ap (λ f. without f (asGraph (patternOf qs))) (sym (edge-is e below))
@@ -247,7 +247,7 @@ module _ (s c qs cs : List ℕ) (p : decode pattern s ≡ ok qs) (d : decode cat
         let e = lackingIn everyView qs cs in
         let first = graphOf (graphFields qs) in
         short-by (fewer-made q e (omega (arith, lowest-of s c qs cs p d n .below, number-is q)))
-        (omega (arith, ap (λ (G : Graph). length (G .edges)) (shows s c qs cs p d n .lacks), keep-length (λ f. not (same (queryEdge qs e) f)) (first .edges), few-first))
+        (omega (arith, ap (λ (G : Graph). length (G .edges)) (shows s c qs cs p d n .lacks), keep-length (λ f. not (sameEdge (queryEdge qs e) f)) (first .edges), few-first))
 
     -- the two records have the same book
     pub shows-book : bookBytes (viewSheets cs (graphOf (graphFields qs))) ≡ bookBytes (viewSheets cs (graphOf (fewerFields qs (lackingIn everyView qs cs))))

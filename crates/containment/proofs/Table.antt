@@ -14,7 +14,7 @@ use Rattle.packed.specs.Contents.{patternSize, patternsIn, viewsOf, edgeCounts,
 use Rattle.packed.specs.Calls.{Answer, give, refuse, withWorkspace, readFile, writeFile, judged, pairsOf, uncrowdedBy, fit, fitFile, patternRead, catalogueRead, recordRead, sheetRead, bookRead, patternWritten, catalogueWritten, recordWritten, sheetWritten, bookWritten}
 use Rattle.matching.specs.Lists.{_and_, _or_, _implies_, every, some, keep, gather, each, below, upTo}
 use Rattle.matching.specs.Greatest.{settle, greatest}
-use Rattle.matching.specs.Simulation.{same, has, pairs as allPairs, bit, edgesIn, patternOf, graphOf, asGraph, fits, follows, sim, total, row, ascending, matchSets, viewSheet}
+use Rattle.matching.specs.Simulation.{same, has, sameEdge, pairs as allPairs, bit, edgesIn, patternOf, graphOf, asGraph, fits, follows, sim, total, row, ascending, matchSets, viewSheet}
 use Rattle.matching.specs.Search.{sheetBytes, bookBytes, searchAnswer, viewSheets, makeBookAnswer}
 use Rattle.matching.specs.Join.{lists as listsHere, pairOf, under, candidates, supported, join, complete, keptFor, answerSets}
 use Rattle.containment.specs.Choice.{matches, matchedIn, coversIn, lowestUnmatched, addsTo, taken, kept, chosen, used}
@@ -537,5 +537,5 @@ unfoldable pub table : List (List Case)
 table = patterns ∷ catalogues ∷ records ∷ sheets ∷ books ∷ searches ∷ quotes ∷ showings ∷ answers ∷ []
 
 pub cases : Agree table
-unfolding Agree table patterns catalogues records sheets books searches quotes showings answers digit hex next turned numbers bitsOf num numFrom bits zeros gap then times whole within scan lay bytesOf decode encode linked edges isEnd allEnds label joined pattern catalogue labels record′ pairs lists sheet book patternSize patternsIn viewsOf edgeCounts codesIn listsIn afterLists ends fieldsOf sheetsIn pairsIn sum member insert distinct withWorkspace readFile writeFile judged pairsOf uncrowdedBy fit fitFile patternRead catalogueRead recordRead sheetRead bookRead patternWritten catalogueWritten recordWritten sheetWritten bookWritten _and_ _or_ _implies_ every some keep gather each below upTo settle greatest same has allPairs bit edgesIn patternOf graphOf asGraph fits follows sim total row ascending matchSets viewSheet sheetBytes bookBytes searchAnswer viewSheets makeBookAnswer pairOf listsHere under candidates supported join complete keptFor answerSets matches matchedIn coversIn lowestUnmatched addsTo taken kept chosen used maskIn matchMask maskAt mapping valuesFrom quoteValues flat quoteAnswer viewsIn answerBytes answerIn answerBy usedFor answerAnswer graphFields fewerFields recordBytes fitBoth showFor showAnswer
+unfolding Agree table patterns catalogues records sheets books searches quotes showings answers digit hex next turned numbers bitsOf num numFrom bits zeros gap then times whole within scan lay bytesOf decode encode linked edges isEnd allEnds label joined pattern catalogue labels record′ pairs lists sheet book patternSize patternsIn viewsOf edgeCounts codesIn listsIn afterLists ends fieldsOf sheetsIn pairsIn sum member insert distinct withWorkspace readFile writeFile judged pairsOf uncrowdedBy fit fitFile patternRead catalogueRead recordRead sheetRead bookRead patternWritten catalogueWritten recordWritten sheetWritten bookWritten _and_ _or_ _implies_ every some keep gather each below upTo settle greatest same has sameEdge allPairs bit edgesIn patternOf graphOf asGraph fits follows sim total row ascending matchSets viewSheet sheetBytes bookBytes searchAnswer viewSheets makeBookAnswer pairOf listsHere under candidates supported join complete keptFor answerSets matches matchedIn coversIn lowestUnmatched addsTo taken kept chosen used maskIn matchMask maskAt mapping valuesFrom quoteValues flat quoteAnswer viewsIn answerBytes answerIn answerBy usedFor answerAnswer graphFields fewerFields recordBytes fitBoth showFor showAnswer
 cases = (refl, (refl, (refl, (refl, (refl, (refl, (refl, (refl, (refl, tt)))))))))

@@ -18,7 +18,7 @@ use Rattle.packed.specs.Contents.{edgesOf, viewsOf, edgeCounts, sheetsIn, ends,
 use Rattle.packed.specs.Refusals.{Told, told}
 use Rattle.packed.specs.Calls.{Answer, give, refuse, fronts, Settled, Answered, withWorkspace, accepted, readPattern, readCatalogue, readRecord, readSheet, readBook, pairsOf, fitFile, patternRead, catalogueRead, recordRead, sheetRead, bookRead, patternWritten, catalogueWritten, recordWritten, sheetWritten, bookWritten}
 use Rattle.matching.specs.Lists.{In}
-use Rattle.matching.specs.Simulation.{Pair, Pattern, Graph, patternOf, graphOf, asGraph, bit, IsSim, sim, sound, matchSets, viewSheet}
+use Rattle.matching.specs.Simulation.{Pair, Edge, asPair, noEdge, Pattern, Graph, patternOf, graphOf, asGraph, bit, IsSim, sim, sound, matchSets, viewSheet}
 use Rattle.matching.specs.Join.{without, answerSets}
 use Rattle.matching.specs.Search.{sheetBytes, bookBytes, viewSheets, searchAnswer, makeBookAnswer}
 use Rattle.containment.specs.Choice.{everyView, coversIn, lowestUnmatched, chosen}
@@ -60,8 +60,8 @@ extracts cs = map patternOf (viewsOf cs)
 abbrev pub extractOf : List ℕ → ℕ → Pattern
 extractOf cs a = getD (extracts cs) a noPattern
 
-abbrev pub linkOf : List ℕ → ℕ → Pair
-linkOf qs e = getD (patternOf qs .edges) e (0, 0)
+abbrev pub linkOf : List ℕ → ℕ → Edge
+linkOf qs e = getD (patternOf qs .edges) e noEdge
 
 -- the extracts in a set match every link of the question, or leave one unmatched
 abbrev pub Covers : ℕ → List ℕ → List ℕ → Type 0
@@ -248,35 +248,37 @@ pub record Demand1 : Type 0 where
 -- matched by a link of some extract that fits the question as a whole. Files read are written back as the same bytes; files written are read
 -- back as the same content."
 
--- a pair is listed under an edge: every node of P has a partner, and both ends of the pair, an edge of G, are partners of the edge's ends
-pub record Matching (P : Pattern) (G : Graph) (e f : Pair) : Type 0 where
+-- a pair is listed under an edge: every node of P has a partner, and the pair has the two ends of an edge of G, which are partners of the edge's ends
+pub record Matching (P : Pattern) (G : Graph) (e : Edge) (f : Pair) : Type 0 where
   pub whole : (u : ℕ) → u < length (P .labels) → (v : ℕ) × In (u, v) (sim P G)
-  pub edge : In f (G .edges)
-  pub tail : In (e .0, f .0) (sim P G)
-  pub head : In (e .1, f .1) (sim P G)
+  pub link : Edge
+  pub edge : In link (G .edges)
+  pub ends : f ≡ asPair link
+  pub tail : In (e .from, f .0) (sim P G)
+  pub head : In (e .to, f .1) (sim P G)
 
 -- two records with the same kinds and the same links, in whatever order
 pub record SameLinks (rs rs′ : List ℕ) : Type 0 where
   pub kinds : graphOf rs .labels ≡ graphOf rs′ .labels
-  pub there : (f : Pair) → In f (graphOf rs .edges) → In f (graphOf rs′ .edges)
-  pub back : (f : Pair) → In f (graphOf rs′ .edges) → In f (graphOf rs .edges)
+  pub there : (f : Edge) → In f (graphOf rs .edges) → In f (graphOf rs′ .edges)
+  pub back : (f : Edge) → In f (graphOf rs′ .edges) → In f (graphOf rs .edges)
 
 -- the link e of the question Q stands in the list of a link of an extract that fits Q, read as a record, as a whole
-pub record Matched (Q : Pattern) (Ps : List Pattern) (e : Pair) : Type 0 where
+pub record Matched (Q : Pattern) (Ps : List Pattern) (e : Edge) : Type 0 where
   pub extract : Pattern
   pub given : In extract Ps
   pub link : ℕ
   pub below : link < length (extract .edges)
-  pub lists : In (code (e .0) (e .1)) (getD (viewSheet extract (asGraph Q)) link [])
+  pub lists : In (code (e .from) (e .to)) (getD (viewSheet extract (asGraph Q)) link [])
   pub whole : (u : ℕ) → u < length (extract .labels) → (v : ℕ) × In (u, v) (sim extract (asGraph Q))
 
 -- "question link e is matched by an extract link if that link's list contains e": here by a link of one of the extracts in a set
-pub record MatchedIn (Q : Pattern) (Ps : List Pattern) (set : ℕ) (e : Pair) : Type 0 where
+pub record MatchedIn (Q : Pattern) (Ps : List Pattern) (set : ℕ) (e : Edge) : Type 0 where
   pub extract : ℕ
   pub given : extract < length Ps
   pub in-set : T (bit set extract)
   pub link : ℕ
-  pub lists : In (code (e .0) (e .1)) (getD (viewSheet (getD Ps extract noPattern) (asGraph Q)) link [])
+  pub lists : In (code (e .from) (e .to)) (getD (viewSheet (getD Ps extract noPattern) (asGraph Q)) link [])
 
 -- what was read is written back as the same bytes s; what was written is read back as the same content ws
 pub record RoundTrip (read : List ℕ → ℕ → Answer) (write : List ℕ → ℕ → Answer) : Type 0 where
@@ -294,7 +296,7 @@ pub record Demand2 : Type 1 where
   pub books : (c r cs rs : List ℕ) → Catalogue c cs → Record r rs → (room : ℕ) → makeBookAnswer c r room ≡ fitFile room (bookOf cs rs)
   -- "matches": the match sets list exactly what the greatest simulation matches
   pub lists : (r rs : List ℕ) → Record r rs → (P : Pattern) (i : ℕ) → i < length (P .edges) → (f : Pair) → f .1 < 4096
-      → In (code (f .0) (f .1)) (getD (matchSets P (graphOf rs)) i []) ↔ Matching P (graphOf rs) (getD (P .edges) i (0, 0)) f
+      → In (code (f .0) (f .1)) (getD (matchSets P (graphOf rs)) i []) ↔ Matching P (graphOf rs) (getD (P .edges) i noEdge) f
   -- and so do the lists of an extract, in a book as on a question read as a record
   pub of-extracts : (P : Pattern) (G : Graph) → viewSheet P G ≡ matchSets P G
   -- the sheet that a search gives is read back as its match sets: for each link the number of its pairs, then each pair's from and to
@@ -317,7 +319,7 @@ pub record Demand2 : Type 1 where
   pub patterns-sound : (p ps : List ℕ) → Question p ps → T (sound (patternOf ps))
   pub extracts-sound : (c cs : List ℕ) → Catalogue c cs → (P : Pattern) → In P (extracts cs) → T (sound P)
   -- "a quote says covered exactly when .."
-  pub quotes : (q c qs cs : List ℕ) → Question q qs → Catalogue c cs → Covered qs cs ↔ ((e : Pair) → In e (patternOf qs .edges) → Matched (patternOf qs) (extracts cs) e)
+  pub quotes : (q c qs cs : List ℕ) → Question q qs → Catalogue c cs → Covered qs cs ↔ ((e : Edge) → In e (patternOf qs .edges) → Matched (patternOf qs) (extracts cs) e)
   pub covers : (q c qs cs : List ℕ) → Question q qs → Catalogue c cs → (set : ℕ)
       → Covers set qs cs ↔ ((i : ℕ) → i < edgesOf qs → MatchedIn (patternOf qs) (extracts cs) set (linkOf qs i))
   -- which is the first value that the call gives, where enough words are lent: 1, or 0 for an uncovered question
@@ -332,7 +334,7 @@ pub record Demand2 : Type 1 where
       → quoteAnswer q c ≡ give (flat (record { covered = 0; mapping = mapping (patternOf qs) (extracts cs); edges = edgesOf qs; chosen = 0; lowest = lacking qs cs })) []
   -- "for each question link, the extract links that match it": bit f in the mask of link i and extract a says that link f of a lists i
   pub maps : (q c qs cs : List ℕ) → Question q qs → Catalogue c cs → (i a f : ℕ) → i < edgesOf qs → a < length (extracts cs) → f < length (extractOf cs a .edges)
-      → T (bit (getD (mapping (patternOf qs) (extracts cs)) (16 * i + a) 0) f) ↔ In (code (linkOf qs i .0) (linkOf qs i .1)) (getD (viewSheet (extractOf cs a) (asGraph (patternOf qs))) f [])
+      → T (bit (getD (mapping (patternOf qs) (extracts cs)) (16 * i + a) 0) f) ↔ In (code (linkOf qs i .from) (linkOf qs i .to)) (getD (viewSheet (extractOf cs a) (asGraph (patternOf qs))) f [])
   -- the chosen set covers the question, and "drop an extract if those still kept cover the question without it" has left none to drop
   pub choice-covers : (qs cs : List ℕ) → Covered qs cs → Covers (chosenOf qs cs) qs cs
   pub choice-needs : (qs cs : List ℕ) (a : ℕ) → T (bit (chosenOf qs cs) a) → Covers (chosenOf qs cs - 2 ^ a) qs cs → ⊥
@@ -400,33 +402,33 @@ pub record Demand3 : Type 0 where
 
 -- "candidates for question link e are the pairs listed under those links of chosen extracts that match e": here of the extracts in a set,
 -- each with its sheet from a book. A pair's second number has 12 bits.
-pub record Candidate (Q : Pattern) (Ps : List Pattern) (sheets : List (List (List ℕ))) (set : ℕ) (e f : Pair) : Type 0 where
+pub record Candidate (Q : Pattern) (Ps : List Pattern) (sheets : List (List (List ℕ))) (set : ℕ) (e : Edge) (f : Pair) : Type 0 where
   pub by : MatchedIn Q Ps set e
   pub lists : In (code (f .0) (f .1)) (getD (getD sheets (by .extract) []) (by .link) [])
   pub narrow : f .1 < 4096
 
 -- a choice K of pairs from the candidates: K e f says that the pair f is kept for the question link e
-abbrev pub Chooses : Pattern → (Pair → Pair → Type 0) → (Pair → Pair → Type 0) → Type 0
-Chooses Q Candidates K = (e f : Pair) → K e f → In e (Q .edges) × Candidates e f
+abbrev pub Chooses : Pattern → (Edge → Pair → Type 0) → (Edge → Pair → Type 0) → Type 0
+Chooses Q Candidates K = (e : Edge) (f : Pair) → K e f → In e (Q .edges) × Candidates e f
 
 -- "for each pair (v, v') kept for a link (u, u'), each question link leaving u keeps some pair that begins at v, and each leaving u' keeps some
 -- pair that begins at v'"
-pub record SupportsItself (Q : Pattern) (K : Pair → Pair → Type 0) : Type 0 where
-  pub leaving-from : (u u′ v v′ : ℕ) → K (u, u′) (v, v′) → (w : ℕ) → In (u, w) (Q .edges) → (x : ℕ) × K (u, w) (v, x)
-  pub leaving-to : (u u′ v v′ : ℕ) → K (u, u′) (v, v′) → (w : ℕ) → In (u′, w) (Q .edges) → (x : ℕ) × K (u′, w) (v′, x)
+pub record SupportsItself (Q : Pattern) (K : Edge → Pair → Type 0) : Type 0 where
+  pub leaving-from : (e : Edge) (v v′ : ℕ) → K e (v, v′) → (g : Edge) → In g (Q .edges) → g .from ≡ e .from → (x : ℕ) × K g (v, x)
+  pub leaving-to : (e : Edge) (v v′ : ℕ) → K e (v, v′) → (g : Edge) → In g (Q .edges) → g .from ≡ e .to → (x : ℕ) × K g (v′, x)
 
 -- "the greatest choice of pairs from the candidates such that .."
-pub record GreatestChoice (Q : Pattern) (Candidates K : Pair → Pair → Type 0) : Type 1 where
+pub record GreatestChoice (Q : Pattern) (Candidates K : Edge → Pair → Type 0) : Type 1 where
   pub chooses : Chooses Q Candidates K
   pub supports : SupportsItself Q K
-  pub greatest : (L : Pair → Pair → Type 0) → Chooses Q Candidates L → SupportsItself Q L → (e f : Pair) → L e f → K e f
+  pub greatest : (L : Edge → Pair → Type 0) → Chooses Q Candidates L → SupportsItself Q L → (e : Edge) (f : Pair) → L e f → K e f
 
 -- the answer lists, for each link, what the greatest choice keeps; "if any link keeps none, all are zero"
 pub record Joins (set : ℕ) (qs cs bs : List ℕ) : Type 1 where
-  pub keeps : Pair → Pair → Type 0
+  pub keeps : Edge → Pair → Type 0
   pub is : GreatestChoice (patternOf qs) (Candidate (patternOf qs) (extracts cs) (sheetsIn (edgeCounts cs) bs) set) keeps
   pub lists : (i : ℕ) → i < length (patternOf qs .edges) → (f : Pair) → f .1 < 4096
-      → In (code (f .0) (f .1)) (getD (answerOf set qs cs bs) i []) ↔ (((e : Pair) → In e (patternOf qs .edges) → (h : Pair) × keeps e h) × keeps (linkOf qs i) f)
+      → In (code (f .0) (f .1)) (getD (answerOf set qs cs bs) i []) ↔ (((e : Edge) → In e (patternOf qs .edges) → (h : Pair) × keeps e h) × keeps (linkOf qs i) f)
 
 pub record Answers : Type 1 where
   -- "the answer is the greatest choice ..", from any book, also one "that belongs to no record"

@@ -9,7 +9,7 @@ use Rattle.packed.specs.Formats.{code}
 use Rattle.packed.specs.Contents.{viewsOf, member}
 use Rattle.packed.specs.Refusals.{Told, told, numberOf, detailOf}
 use Rattle.packed.specs.Calls.{Answer, give, judged, readPattern, readCatalogue}
-use Rattle.matching.specs.Simulation.{Pair, Pattern, patternOf, asGraph, viewSheet}
+use Rattle.matching.specs.Simulation.{Edge, noEdge, Pattern, patternOf, asGraph, viewSheet}
 use Rattle.matching.specs.Lists.{upTo}
 use Rattle.containment.specs.Choice.{everyView, coversIn, lowestUnmatched, chosen}
 use Rattle.containment.specs.declared.quote_type.Coverage.{Coverage}
@@ -26,8 +26,8 @@ maskIn c [] = 0
 maskIn c (l ∷ ls) = one (member c l) + 2 * maskIn c ls
 
 -- the edges of the view P that match the edge e of the query Q: those whose lists, on Q read as a graph, have e
-unfoldable pub matchMask : Pattern → Pair → Pattern → ℕ
-matchMask Q e P = maskIn (code (e .0) (e .1)) (viewSheet P (asGraph Q))
+unfoldable pub matchMask : Pattern → Edge → Pattern → ℕ
+matchMask Q e P = maskIn (code (e .from) (e .to)) (viewSheet P (asGraph Q))
 
 abbrev pub noPattern : Pattern
 noPattern = record { labels = []; edges = [] }
@@ -36,7 +36,7 @@ noPattern = record { labels = []; edges = [] }
 unfoldable pub maskAt : Pattern → List Pattern → ℕ → ℕ
 maskAt Q Ps k =
     pick (ltb (k / 16) (length (Q .edges)) && ltb (k % 16) (length Ps))
-    (matchMask Q (getD (Q .edges) (k / 16) (0, 0)) (getD Ps (k % 16) noPattern)) 0
+    (matchMask Q (getD (Q .edges) (k / 16) noEdge) (getD Ps (k % 16) noPattern)) 0
 
 unfoldable pub mapping : Pattern → List Pattern → List ℕ
 mapping Q Ps = upTo (maskAt Q Ps) 512

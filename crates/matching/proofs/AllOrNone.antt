@@ -12,7 +12,7 @@ use Rattle.packed.specs.Format.{pick}
 use Rattle.packed.specs.Matches.{anyEmpty, emptied, allOrNone}
 use Rattle.packed.proofs.OrderCases.{or-cases, or-neither}
 use Rattle.matching.specs.Lists.{In, here, there, each}
-use Rattle.matching.specs.Simulation.{Pair, Pattern, Graph, sim, total, row, ascending, matchSets, sound}
+use Rattle.matching.specs.Simulation.{Pair, Edge, asPair, Pattern, Graph, sim, total, row, ascending, matchSets, sound}
 use Rattle.matching.proofs.ListLaws.{not-in-none, in-cases, each-in, in-each, in-length, first-in}
 use Rattle.matching.proofs.SimLaws.{sim-is}
 use Rattle.matching.proofs.MatchLaws.{Sim, Total, total-say, total-by, row-in, in-row, Sound, sound-say}
@@ -53,9 +53,9 @@ allOrNone-case Q ls f g = step (anyEmpty ls) (λ e. f (none-empty ls e)) (λ e. 
     step false h k = h refl
 
 -- lists that are emptied where a test fails, which passes exactly if none is empty
-pub cond-all-or-none : (f : Pair → List Pair) (es : List Pair) (b : Bool) → (((e : Pair) → In e es → (x : Pair) × In x (f e)) ↔ T b)
+pub cond-all-or-none : {A : Type 0} (f : A → List Pair) (es : List A) (b : Bool) → (((e : A) → In e es → (x : Pair) × In x (f e)) ↔ T b)
     → each (λ e. ascending (cond b (f e) [])) es ≡ allOrNone (each (λ e. ascending (f e)) es)
-cond-all-or-none f es b h = allOrNone-case (λ ls. sets b ≡ ls) lists (λ g. full b (h .0 (nonempty g))) (λ r. none b λ t. one (h .1 t) r)
+cond-all-or-none {A} f es b h = allOrNone-case (λ ls. sets b ≡ ls) lists (λ g. full b (h .0 (nonempty g))) (λ r. none b λ t. one (h .1 t) r)
   where
     sets : Bool → List (List ℕ)
     sets c = each (λ e. ascending (cond c (f e) [])) es
@@ -63,13 +63,13 @@ cond-all-or-none f es b h = allOrNone-case (λ ls. sets b ≡ ls) lists (λ g. f
     lists : List (List ℕ)
     lists = each (λ e. ascending (f e)) es
 
-    nonempty : ((l : List ℕ) → In l lists → 0 < length l) → (e : Pair) → In e es → (x : Pair) × In x (f e)
+    nonempty : ((l : List ℕ) → In l lists → 0 < length l) → (e : A) → In e es → (x : Pair) × In x (f e)
     nonempty g e i =
         let m = first-in (ascending (f e)) (g _ (in-each (λ x. ascending (f x)) i)) in
         let r = ascending-say _ (m .1) in
         (r .0, r .1)
 
-    one : ((e : Pair) → In e es → (x : Pair) × In x (f e)) → (l : List ℕ) × In l lists × (length l ≡ 0) → ⊥
+    one : ((e : A) → In e es → (x : Pair) × In x (f e)) → (l : List ℕ) × In l lists × (length l ≡ 0) → ⊥
     one g (l, i, z) =
         let m = each-in _ es i in
         let k = in-length (ascending-by (g (m .0) (m .1) .1)) in
@@ -97,18 +97,18 @@ module _ (P : Pattern) (G : Graph) (ok : T (sound P)) where
   s = sound-say P ok
 
   -- every node of the pattern has a partner exactly if no edge's row is empty
-  pub all-or-none : ((e : Pair) → In e (P .edges) → (f : Pair) × In f (row G (sim P G) e)) ↔ T (total P (sim P G))
-  all-or-none = (λ f. total-by P (sim P G) (partner f), λ t e i. some-edge e i (total-say P (sim P G) t (e .0) (s .ends e i .0)))
+  pub all-or-none : ((e : Edge) → In e (P .edges) → (f : Pair) × In f (row G (sim P G) e)) ↔ T (total P (sim P G))
+  all-or-none = (λ f. total-by P (sim P G) (partner f), λ t e i. some-edge e i (total-say P (sim P G) t (e .from) (s .ends e i .0)))
     where
-      partner : ((e : Pair) → In e (P .edges) → (f : Pair) × In f (row G (sim P G) e)) → Total P (Sim P G)
-      partner h u l = let c = s .touched u l in let r = h (c .0) (c .1) in let k = row-in P G (r .1) in which (c .0) (r .0) (k .1) (k .2) (c .2)
+      partner : ((e : Edge) → In e (P .edges) → (f : Pair) × In f (row G (sim P G) e)) → Total P (Sim P G)
+      partner h u l = let c = s .touched u l in let r = h (c .0) (c .1) in let k = row-in P G (r .1) in which (c .0) (k .0) (k .3) (k .4) (c .2)
         where
-          which : (e f : Pair) → Sim P G (e .0) (f .0) → Sim P G (e .1) (f .1) → (e .0 ≡ u) ⊎ (e .1 ≡ u) → (v : ℕ) × Sim P G u v
-          which e f a b (inl q) = (f .0, subst (λ w. Sim P G w (f .0)) q a)
-          which e f a b (inr q) = (f .1, subst (λ w. Sim P G w (f .1)) q b)
+          which : (e f : Edge) → Sim P G (e .from) (f .from) → Sim P G (e .to) (f .to) → (e .from ≡ u) ⊎ (e .to ≡ u) → (v : ℕ) × Sim P G u v
+          which e f a b (inl q) = (f .from, subst (λ w. Sim P G w (f .from)) q a)
+          which e f a b (inr q) = (f .to, subst (λ w. Sim P G w (f .to)) q b)
 
-      some-edge : (e : Pair) → In e (P .edges) → (v : ℕ) × Sim P G (e .0) v → (f : Pair) × In f (row G (sim P G) e)
-      some-edge e i (v, a) = let n = sim-is P G .follow (e .0) v a (e .1) i in ((v, n .0), in-row P G (n .1) a (n .2))
+      some-edge : (e : Edge) → In e (P .edges) → (v : ℕ) × Sim P G (e .from) v → (f : Pair) × In f (row G (sim P G) e)
+      some-edge e i (v, a) = let n = sim-is P G .follow (e .from) v a e i refl in (asPair (n .0), in-row P G e (n .0) (n .1) (subst (λ z. Sim P G (e .from) z) (sym (n .2)) a) (n .3))
 
   -- the match sets by the rows, found without asking whether every node has a partner
   pub sets-all-or-none : matchSets P G ≡ allOrNone (each (λ e. ascending (row G (sim P G) e)) (P .edges))

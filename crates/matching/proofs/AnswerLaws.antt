@@ -12,7 +12,7 @@ use Rattle.packed.specs.Contents.{distinct}
 use Rattle.packed.specs.Matches.{allOrNone}
 use Rattle.packed.proofs.DistinctLaws.{distinct-own}
 use Rattle.matching.specs.Lists.{In, here, there, gather, each}
-use Rattle.matching.specs.Simulation.{Pair, Pattern, asGraph, ascending, viewSheet}
+use Rattle.matching.specs.Simulation.{Pair, Edge, Pattern, asGraph, ascending, viewSheet}
 use Rattle.matching.specs.Join.{lists, View, pairOf, under, candidates, join, complete, keptFor, answerSets}
 use Rattle.matching.proofs.ByEdge.{answerTo}
 use Rattle.matching.proofs.ListLaws.{cond-case, not-in-none, append-in, gather-in, each-in}
@@ -29,7 +29,7 @@ pub record Stands (vs : List View) (c : ℕ) : Type 0 where
   pub of-view : In list (view .sheet)
   pub here : In c list
 
-under-from : (e : Pair) (ms ls : List (List ℕ)) {c : ℕ} → In c (under e ms ls) → (l : List ℕ) × In l ls × In c l
+under-from : (e : Edge) (ms ls : List (List ℕ)) {c : ℕ} → In c (under e ms ls) → (l : List ℕ) × In l ls × In c l
 unfolding under
 under-from e [] ls i = absurd (not-in-none i)
 under-from e (m ∷ ms) [] i = absurd (not-in-none i)
@@ -48,7 +48,7 @@ module _ (Q : Pattern) (vs : List View) where
         λ t e i. let r = complete-say Q vs t e i in (r .0, in-kept Q vs (r .1)),
       )
 
-  candidate-stands : (e : Pair) {f : Pair} → In f (candidates Q vs e) → Stands vs (code (f .0) (f .1))
+  candidate-stands : (e : Edge) {f : Pair} → In f (candidates Q vs e) → Stands vs (code (f .0) (f .1))
   unfolding candidates
   candidate-stands e {f} i = of-code (each-in pairOf _ i)
     where
@@ -64,10 +64,10 @@ module _ (Q : Pattern) (vs : List View) where
   pub answer-stands : {l : List ℕ} {c : ℕ} → In l (answerSets Q vs) → In c l → Stands vs c
   answer-stands {l} {c} i j = of-list (each-in _ (Q .edges) (subst (λ ls. In l ls) (answer-each Q vs) i))
     where
-      of-pair : (e : Pair) → (f : Pair) × In f (answerTo Q vs e) × (c ≡ code (f .0) (f .1)) → Stands vs c
+      of-pair : (e : Edge) → (f : Pair) × In f (answerTo Q vs e) × (c ≡ code (f .0) (f .1)) → Stands vs c
       of-pair e (f, k, q) = subst (Stands vs) (sym q) (candidate-stands e (join-candidate Q vs (answer-say Q vs k .1) .1))
 
-      of-list : (e : Pair) × In e (Q .edges) × (l ≡ ascending (answerTo Q vs e)) → Stands vs c
+      of-list : (e : Edge) × In e (Q .edges) × (l ≡ ascending (answerTo Q vs e)) → Stands vs c
       of-list (e, k, q) = of-pair e (ascending-say _ (subst (λ z. In c z) q j))
 
   pub answer-increasing : {l : List ℕ} → In l (answerSets Q vs) → Increasing l

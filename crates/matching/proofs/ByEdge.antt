@@ -2,21 +2,21 @@
 use mathlib.Core.Bool.{Bool, cond}
 use mathlib.Core.List.{List, []}
 use Rattle.matching.specs.Lists.{every, some, each}
-use Rattle.matching.specs.Simulation.{Pair, Pattern, Graph, asGraph, sim, total, row, viewSheet}
+use Rattle.matching.specs.Simulation.{Pair, Edge, Pattern, Graph, asGraph, sim, total, row, viewSheet}
 use Rattle.matching.specs.Join.{View, lists, join, complete, keptFor}
 
 -- the edges of G that are listed under the edge e of P: none where some node of P has no partner
-unfoldable pub rowOf : Pattern → Graph → Pair → List Pair
+unfoldable pub rowOf : Pattern → Graph → Edge → List Pair
 rowOf P G e = cond (total P (sim P G)) (row G (sim P G) e) []
 
 unfoldable pub rows : Pattern → Graph → List (List Pair)
 rows P G = each (rowOf P G) (P .edges)
 
 -- the edge e of the query Q is matched by an edge of the view P: that edge's list, on Q read as a graph, has e
-unfoldable pub matchedBy : Pattern → Pair → Pattern → Bool
+unfoldable pub matchedBy : Pattern → Edge → Pattern → Bool
 matchedBy Q e P = some (lists e) (viewSheet P (asGraph Q))
 
-unfoldable pub matched : Pattern → List Pattern → Pair → Bool
+unfoldable pub matched : Pattern → List Pattern → Edge → Bool
 matched Q Ps e = some (matchedBy Q e) Ps
 
 -- every edge of the query is matched by a view
@@ -28,5 +28,5 @@ unfoldable pub viewOf : Graph → Pattern → View
 viewOf G P = record { pattern = P; sheet = viewSheet P G }
 
 -- the pairs kept for the edge e, or none where some edge keeps none
-unfoldable pub answerTo : Pattern → List View → Pair → List Pair
+unfoldable pub answerTo : Pattern → List View → Edge → List Pair
 answerTo Q vs e = cond (complete Q (join Q vs)) (keptFor (join Q vs) e) []

@@ -1,5 +1,5 @@
 -- A query that its views cover is answered from their sheets as it is from the graph.
-use mathlib.Core.Path.{_≡_, refl, sym, subst, subst₂, _∙_}
+use mathlib.Core.Path.{_≡_, refl, sym, ap, subst, subst₂, _∙_}
 use mathlib.Core.Logic.{_⊎_, inl, inr, _↔_}
 use mathlib.Core.List.{List}
 use Prim.Native.Nat.{ℕ, _≤_, _<_}
@@ -7,14 +7,14 @@ use native.Mathlib.Omega.{arith}
 use lib.ListN.{length, getD}
 use lib.Dec.{T}
 use Rattle.matching.specs.Lists.{In, some, each}
-use Rattle.matching.specs.Simulation.{Pair, bit, Pattern, Graph, asGraph, ascending, matchSets, viewSheet, IsSim, sound}
+use Rattle.matching.specs.Simulation.{Pair, Edge, asPair, bit, Pattern, Graph, asGraph, ascending, matchSets, viewSheet, IsSim, sound}
 use Rattle.matching.proofs.ByEdge.{rowOf, matchedBy, matched, covered, viewOf, answerTo}
 use Rattle.matching.specs.Join.{lists, View, join, complete, answerSets}
 use Rattle.matching.proofs.ListLaws.{every-in, some-in, each-same}
 use Rattle.matching.proofs.SimLaws.{Fits, fits-say, fits-by, sim-is, sim-most}
-use Rattle.matching.proofs.MatchLaws.{Sim, Total, Matches, row-say, row-by, own-label, matches-through, Sound, sound-say}
+use Rattle.matching.proofs.MatchLaws.{Sim, Total, Matches, matches-edge, row-say, row-by, own-label, matches-through, Sound, sound-say}
 use Rattle.matching.proofs.CodeLaws.{ascending-same}
-use Rattle.matching.proofs.MatchSetLaws.{Narrow, sets-each, view-sheet, sets-in}
+use Rattle.matching.proofs.MatchSetLaws.{Narrow, matches-narrow, sets-each, view-sheet, sets-in}
 use Rattle.matching.proofs.JoinLaws.{Joined, join-candidate, join-supported, join-most, complete-say, complete-by, answer-say, answer-by, answer-each, lists-say, Found, candidates-say, candidates-by}
 
 -- the codes of a query's edges tell them apart
@@ -23,18 +23,18 @@ unfolding asGraph
 narrow-query Q ok h f i = let r = ok .ends f i in (omega arith, omega arith)
 
 -- the view, and its edge, that an edge of the query matches
-pub matched-say : (Q : Pattern) (Ps : List Pattern) → Narrow (asGraph Q) → (e : Pair) → e .1 < 4096 → T (matched Q Ps e)
-    → (P : Pattern) × In P Ps × (g : Pair) × In g (P .edges) × Matches P (asGraph Q) g e
+pub matched-say : (Q : Pattern) (Ps : List Pattern) → Narrow (asGraph Q) → (e : Edge) → e .to < 4096 → T (matched Q Ps e)
+    → (P : Pattern) × In P Ps × (g : Edge) × In g (P .edges) × Matches P (asGraph Q) g (asPair e)
 unfolding matched matchedBy
 matched-say Q Ps n e h t = of-view (some-in _ Ps t)
   where
-    of-view : (P : Pattern) × In P Ps × T (some (lists e) (viewSheet P (asGraph Q))) → (P : Pattern) × In P Ps × (g : Pair) × In g (P .edges) × Matches P (asGraph Q) g e
+    of-view : (P : Pattern) × In P Ps × T (some (lists e) (viewSheet P (asGraph Q))) → (P : Pattern) × In P Ps × (g : Edge) × In g (P .edges) × Matches P (asGraph Q) g (asPair e)
     of-view (P, p, s) = of-list (some-in _ (viewSheet P (asGraph Q)) s)
       where
-        of-edge : (l : List ℕ) → T (lists e l) → (g : Pair) × In g (P .edges) × (l ≡ ascending (rowOf P (asGraph Q) g)) → (P : Pattern) × In P Ps × (g : Pair) × In g (P .edges) × Matches P (asGraph Q) g e
-        of-edge l k (g, j, q) = (P, p, g, j, row-say P (asGraph Q) (lists-say (rowOf P (asGraph Q) g) h (λ f m. n f (row-say P (asGraph Q) m .edge) .1) (subst (λ z. T (lists e z)) q k)))
+        of-edge : (l : List ℕ) → T (lists e l) → (g : Edge) × In g (P .edges) × (l ≡ ascending (rowOf P (asGraph Q) g)) → (P : Pattern) × In P Ps × (g : Edge) × In g (P .edges) × Matches P (asGraph Q) g (asPair e)
+        of-edge l k (g, j, q) = (P, p, g, j, row-say P (asGraph Q) (lists-say (rowOf P (asGraph Q) g) h (λ f m. matches-narrow n (row-say P (asGraph Q) m) .1) (subst (λ z. T (lists e z)) q k)))
 
-        of-list : (l : List ℕ) × In l (viewSheet P (asGraph Q)) × T (lists e l) → (P : Pattern) × In P Ps × (g : Pair) × In g (P .edges) × Matches P (asGraph Q) g e
+        of-list : (l : List ℕ) × In l (viewSheet P (asGraph Q)) × T (lists e l) → (P : Pattern) × In P Ps × (g : Edge) × In g (P .edges) × Matches P (asGraph Q) g (asPair e)
         of-list (l, i, k) = of-edge l k (sets-in P (asGraph Q) (subst (λ ls. In l ls) (view-sheet P (asGraph Q)) i))
 
 module _ (Q : Pattern) (Ps : List Pattern) (G : Graph) (ok : Sound Q) (nq : Narrow (asGraph Q)) (ng : Narrow G) where
@@ -42,16 +42,16 @@ module _ (Q : Pattern) (Ps : List Pattern) (G : Graph) (ok : Sound Q) (nq : Narr
   abbrev views : List View
   views = each (viewOf G) Ps
 
-  narrow-edge : {e : Pair} → In e (Q .edges) → e .1 < 4096
+  narrow-edge : {e : Edge} → In e (Q .edges) → e .to < 4096
   unfolding asGraph
   narrow-edge {e} i = nq e i .1
 
-  join-found : {e f : Pair} → Joined Q views e f → In e (Q .edges) × Found Q Ps G e f
+  join-found : {e : Edge} {f : Pair} → Joined Q views e f → In e (Q .edges) × Found Q Ps G e f
   join-found i = let c = join-candidate Q views i in (c .0, candidates-say Q Ps G nq ng (narrow-edge (c .0)) (c .1))
 
   -- ---- the ends of what is kept are a simulation of the query in the graph
   pub Ends : ℕ → ℕ → Type 0
-  Ends u v = (e : Pair) × (f : Pair) × Joined Q views e f × (((e .0 ≡ u) × (f .0 ≡ v)) ⊎ ((e .1 ≡ u) × (f .1 ≡ v)))
+  Ends u v = (e : Edge) × (f : Pair) × Joined Q views e f × (((e .from ≡ u) × (f .0 ≡ v)) ⊎ ((e .to ≡ u) × (f .1 ≡ v)))
 
   -- because only matched edges count, the ends have the right labels
   fits-of : (P : Pattern) {w u v : ℕ} → Sim P (asGraph Q) w u → Sim P G w v → u < length (Q .labels) → Fits Q G u v
@@ -70,56 +70,60 @@ module _ (Q : Pattern) (Ps : List Pattern) (G : Graph) (ok : Sound Q) (nq : Narr
       subst₂ (Fits Q G) p q (fits-of (c .1 .view) (c .1 .of-query .head) (c .1 .of-graph .head) (ok .ends e (c .0) .1))
 
   -- one more kept pair, and its head
-  ends-next : (u v w : ℕ) → (h : Pair) × Joined Q views (u, w) h × (h .0 ≡ v) → (z : ℕ) × In (v, z) (G .edges) × Ends w z
+  ends-next : (v : ℕ) (g : Edge) → (h : Pair) × Joined Q views g h × (h .0 ≡ v) → (f : Edge) × In f (G .edges) × (f .from ≡ v) × Ends (g .to) (f .to)
   unfolding Ends
-  ends-next u v w (h, k, q) = (h .1, subst (λ x. In (x, h .1) (G .edges)) q (join-found k .1 .of-graph .edge), ((u, w), h, k, inr (refl, refl)))
+  ends-next v g (h, k, q) =
+      let m = join-found k .1 .of-graph in
+      (m .link, m .edge, sym (ap (λ (p : Pair). p .0) (m .ends)) ∙ q, (g, h, k, inr (refl, ap (λ (p : Pair). p .1) (m .ends))))
 
-  ends-follow : (u v : ℕ) → Ends u v → (w : ℕ) → In (u, w) (Q .edges) → (z : ℕ) × In (v, z) (G .edges) × Ends w z
+  ends-follow : (u v : ℕ) → Ends u v → (g : Edge) → In g (Q .edges) → g .from ≡ u → (f : Edge) × In f (G .edges) × (f .from ≡ v) × Ends (g .to) (f .to)
   unfolding Ends
-  ends-follow u v (e, f, i, inl (p, q)) w j = let r = join-supported Q views i .tail (u, w) j (sym p) in ends-next u v w (r .0, r .1, r .2 ∙ q)
-  ends-follow u v (e, f, i, inr (p, q)) w j = let r = join-supported Q views i .head (u, w) j (sym p) in ends-next u v w (r .0, r .1, r .2 ∙ q)
+  ends-follow u v (e, f, i, inl (p, q)) g j t = let r = join-supported Q views i .tail g j (t ∙ sym p) in ends-next v g (r .0, r .1, r .2 ∙ q)
+  ends-follow u v (e, f, i, inr (p, q)) g j t = let r = join-supported Q views i .head g j (t ∙ sym p) in ends-next v g (r .0, r .1, r .2 ∙ q)
 
   pub ends-sim : IsSim Q G Ends
   ends-sim = record { fit = λ u v r. fits-by Q G (ends-fit u v r); follow = ends-follow }
 
-  joined-tail : {e f : Pair} → Joined Q views e f → Sim Q G (e .0) (f .0)
+  joined-tail : {e : Edge} {f : Pair} → Joined Q views e f → Sim Q G (e .from) (f .0)
   unfolding Ends
-  joined-tail {e} {f} i = sim-most Q G Ends ends-sim (e .0) (f .0) (e, f, i, inl (refl, refl))
+  joined-tail {e} {f} i = sim-most Q G Ends ends-sim (e .from) (f .0) (e, f, i, inl (refl, refl))
 
-  joined-head : {e f : Pair} → Joined Q views e f → Sim Q G (e .1) (f .1)
+  joined-head : {e : Edge} {f : Pair} → Joined Q views e f → Sim Q G (e .to) (f .1)
   unfolding Ends
-  joined-head {e} {f} i = sim-most Q G Ends ends-sim (e .1) (f .1) (e, f, i, inr (refl, refl))
+  joined-head {e} {f} i = sim-most Q G Ends ends-sim (e .to) (f .1) (e, f, i, inr (refl, refl))
 
   complete-total : T (complete Q (join Q views)) → Total Q (Sim Q G)
   complete-total t u l = let c = ok .touched u l in let r = complete-say Q views t (c .0) (c .1) in which (c .0) (r .0) (r .1) (c .2)
     where
-      which : (e f : Pair) → Joined Q views e f → (e .0 ≡ u) ⊎ (e .1 ≡ u) → (v : ℕ) × Sim Q G u v
+      which : (e : Edge) (f : Pair) → Joined Q views e f → (e .from ≡ u) ⊎ (e .to ≡ u) → (v : ℕ) × Sim Q G u v
       which e f i (inl p) = (f .0, subst (λ w. Sim Q G w (f .0)) p (joined-tail i))
       which e f i (inr p) = (f .1, subst (λ w. Sim Q G w (f .1)) p (joined-head i))
 
   -- what is kept matches the query's edge
-  pub joined-matches : T (complete Q (join Q views)) → {e f : Pair} → Joined Q views e f → Matches Q G e f
-  joined-matches t i = record { whole = complete-total t; edge = join-found i .1 .of-graph .edge; tail = joined-tail i; head = joined-head i }
+  pub joined-matches : T (complete Q (join Q views)) → {e : Edge} {f : Pair} → Joined Q views e f → Matches Q G e f
+  joined-matches t i =
+      let m = join-found i .1 .of-graph in
+      record { whole = complete-total t; link = m .link; edge = m .edge; ends = m .ends; tail = joined-tail i; head = joined-head i }
 
   -- ---- what matches the query's edge is kept, where the views cover the query
   module _ (cover : T (covered Q Ps)) where
     -- from a partner of u, each edge that leaves u goes on
-    matches-next : Total Q (Sim Q G) → {u v : ℕ} → Sim Q G u v → (g : Pair) → In g (Q .edges) → g .0 ≡ u → (h : Pair) × Matches Q G g h × (h .0 ≡ v)
+    matches-next : Total Q (Sim Q G) → {u v : ℕ} → Sim Q G u v → (g : Edge) → In g (Q .edges) → g .from ≡ u → (h : Pair) × Matches Q G g h × (h .0 ≡ v)
     matches-next a {u} {v} s g j p =
-        let n = sim-is Q G .follow u v s (g .1) (subst (λ z. In (z, g .1) (Q .edges)) p j) in
-        ((v, n .0), record { whole = a; edge = n .1; tail = subst (λ z. Sim Q G z v) (sym p) s; head = n .2 }, refl)
+        let n = sim-is Q G .follow u v s g j p in
+        (asPair (n .0), matches-edge Q G g (n .0) a (n .1) (subst₂ (Sim Q G) (sym p) (sym (n .2)) s) (n .3), n .2)
 
-    matches-found : (e f : Pair) → In e (Q .edges) → Matches Q G e f → Found Q Ps G e f
+    matches-found : (e : Edge) (f : Pair) → In e (Q .edges) → Matches Q G e f → Found Q Ps G e f
     unfolding covered
     matches-found e f i m = from (matched-say Q Ps nq e (narrow-edge i) (every-in _ cover i))
       where
-        from : (P : Pattern) × In P Ps × (g : Pair) × In g (P .edges) × Matches P (asGraph Q) g e → Found Q Ps G e f
+        from : (P : Pattern) × In P Ps × (g : Edge) × In g (P .edges) × Matches P (asGraph Q) g (asPair e) → Found Q Ps G e f
         from (P, p, g, j, k) = record { view = P; given = p; at = g; at-edge = j; of-query = k; of-graph = matches-through P Q G g e f k m }
 
-    Asked : Pair → Pair → Type 0
+    Asked : Edge → Pair → Type 0
     Asked e f = In e (Q .edges) × Matches Q G e f
 
-    pub matches-joined : (e f : Pair) → In e (Q .edges) → Matches Q G e f → Joined Q views e f
+    pub matches-joined : (e : Edge) (f : Pair) → In e (Q .edges) → Matches Q G e f → Joined Q views e f
     unfolding Asked
     matches-joined e f i m =
         join-most Q views Asked
@@ -127,18 +131,18 @@ module _ (Q : Pattern) (Ps : List Pattern) (G : Graph) (ok : Sound Q) (nq : Narr
         (λ g h a. record { tail = next (a .1 .whole) (a .1 .tail); head = next (a .1 .whole) (a .1 .head) })
         e f (i, m)
       where
-        next : Total Q (Sim Q G) → {u v : ℕ} → Sim Q G u v → (g : Pair) → In g (Q .edges) → g .0 ≡ u → (h : Pair) × (In g (Q .edges) × Matches Q G g h) × (h .0 ≡ v)
+        next : Total Q (Sim Q G) → {u v : ℕ} → Sim Q G u v → (g : Edge) → In g (Q .edges) → g .from ≡ u → (h : Pair) × (In g (Q .edges) × Matches Q G g h) × (h .0 ≡ v)
         next a s g j p = let n = matches-next a s g j p in (n .0, (j, n .1), n .2)
 
     total-complete : Total Q (Sim Q G) → T (complete Q (join Q views))
     total-complete a =
         complete-by Q views λ e i.
-        let p = a (e .0) (ok .ends e i .0) in
+        let p = a (e .from) (ok .ends e i .0) in
         let n = matches-next a (p .1) e i refl in
         (n .0, matches-joined e (n .0) i (n .1))
 
     -- the answer to an edge has the members of its row
-    pub answer-row : (e f : Pair) → In e (Q .edges) → In f (answerTo Q views e) ↔ In f (rowOf Q G e)
+    pub answer-row : (e : Edge) (f : Pair) → In e (Q .edges) → In f (answerTo Q views e) ↔ In f (rowOf Q G e)
     answer-row e f i = (
       λ j. let r = answer-say Q views j in row-by Q G (joined-matches (r .0) (r .1)),
       λ j. let m = row-say Q G j in answer-by Q views (total-complete (m .whole)) (matches-joined e f i m),
@@ -148,7 +152,7 @@ module _ (Q : Pattern) (Ps : List Pattern) (G : Graph) (ok : Sound Q) (nq : Narr
 pub covered-answer : (Q : Pattern) (Ps : List Pattern) → T (sound Q) → length (Q .labels) ≤ 4096 → T (covered Q Ps) → (G : Graph) → Narrow G → answerSets Q (each (viewOf G) Ps) ≡ matchSets Q G
 covered-answer Q Ps s h c G n = answer-each Q (each (viewOf G) Ps) ∙ each-same _ _ (Q .edges) list ∙ sym (sets-each Q G)
   where
-    list : (e : Pair) → In e (Q .edges) → ascending (answerTo Q (each (viewOf G) Ps) e) ≡ ascending (rowOf Q G e)
+    list : (e : Edge) → In e (Q .edges) → ascending (answerTo Q (each (viewOf G) Ps) e) ≡ ascending (rowOf Q G e)
     list e i =
         let ok = sound-say Q s in
         let nq = narrow-query Q ok h in

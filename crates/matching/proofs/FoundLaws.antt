@@ -11,8 +11,8 @@ use Rattle.packed.specs.Bits.{field}
 use Rattle.packed.specs.declared.by_value.Pattern.{Pattern as Given}
 use Rattle.packed.proofs.OrderCases.{lt-or-ge}
 use Rattle.matching.specs.Lists.{In}
-use Rattle.matching.specs.Simulation.{Pair, Pattern, Graph, bit, fits, sim}
-use Rattle.matching.specs.Steps.{patternIn, graphIn, Fair, Ready, Edges}
+use Rattle.matching.specs.Simulation.{Pattern, Graph, bit, fits, sim}
+use Rattle.matching.specs.Steps.{edgeAt, edgeOfWord, patternIn, graphIn, Fair, Ready, Edges}
 use Rattle.matching.specs.Matched.{Rises}
 use Rattle.matching.specs.Sweeps.{Has, Mask, OneOf}
 use Rattle.matching.specs.Sweeping.{fromOf, toOf, Ends, heldAt, Tabled}
@@ -25,26 +25,17 @@ use Rattle.matching.proofs.SearchingLaws.{Numbered, Begun, held-say, he
 use Rattle.matching.proofs.MatchedLaws.{Lists}
 
 -- the edges of the pattern and of the graph, by their numbers
-links-numbered : (p : Given) → Numbered (patternIn p .edges) (p .edges) (λ e. getD (p .from) e 0) (λ e. getD (p .to) e 0)
+links-numbered : (p : Given) → Numbered (patternIn p .edges) (p .edges) (edgeAt p)
 unfolding patternIn
-links-numbered p =
-    record {
-      has = λ e l. in-upTo (λ j. (getD (p .from) j 0, getD (p .to) j 0)) (p .edges) e l;
-      is = λ u x i. (let r = upTo-in (λ j. (getD (p .from) j 0, getD (p .to) j 0)) (p .edges) i in
-          record { at = r .at; below = r .below; holds = (ap (λ (y : Pair). y .0) (sym (r .holds)), ap (λ (y : Pair). y .1) (sym (r .holds))) });
-    }
+links-numbered p = record { has = λ e l. in-upTo (edgeAt p) (p .edges) e l; is = λ f i. upTo-in (edgeAt p) (p .edges) i }
 
-pairs-numbered : (s : List ℕ) (n m : ℕ) (w w′ : List ℕ) → ((i : ℕ) → i < m → getD w′ i 0 ≡ getD w i 0) → Numbered (graphIn s n m w .edges) m (fromOf w′) (toOf w′)
+pairs-numbered : (s : List ℕ) (n m : ℕ) (w w′ : List ℕ) → ((i : ℕ) → i < m → getD w′ i 0 ≡ getD w i 0) → Numbered (graphIn s n m w .edges) m (λ i. edgeOfWord (getD w′ i 0))
 unfolding graphIn
 pairs-numbered s n m w w′ e =
     record {
-      has = λ i l. subst (λ (x : ℕ). In (x / 4096, x % 4096) (graphIn s n m w .edges)) (sym (e i l)) (in-upTo (λ j. (getD w j 0 / 4096, getD w j 0 % 4096)) m i l);
-      is = λ v z i. (let r = upTo-in (λ j. (getD w j 0 / 4096, getD w j 0 % 4096)) m i in
-          record {
-            at = r .at;
-            below = r .below;
-            holds = (ap (λ (x : ℕ). x / 4096) (e (r .at) (r .below)) ∙ ap (λ (y : Pair). y .0) (sym (r .holds)), ap (λ (x : ℕ). x % 4096) (e (r .at) (r .below)) ∙ ap (λ (y : Pair). y .1) (sym (r .holds)));
-          });
+      has = λ i l. subst (λ (x : ℕ). In (edgeOfWord x) (graphIn s n m w .edges)) (sym (e i l)) (in-upTo (λ j. edgeOfWord (getD w j 0)) m i l);
+      is = λ f i. (let r = upTo-in (λ j. edgeOfWord (getD w j 0)) m i in
+          record { at = r .at; below = r .below; holds = r .holds ∙ ap edgeOfWord (sym (e (r .at) (r .below))) });
     }
 
 module _ {p : Given} {s : List ℕ} {n m : ℕ} {w : List ℕ} (fair : Fair p) (ready : Ready s n m w) (rises : Rises m w) where

@@ -8,48 +8,48 @@ use native.Mathlib.Omega.{arith}
 use lib.Dec.{T, eqb, eqb→eq, eqb-refl}
 use Rattle.packed.specs.Formats.{code}
 use Rattle.matching.specs.Lists.{_and_, In, here, there, some, gather, each}
-use Rattle.matching.specs.Simulation.{Pair, same, Pattern, Graph, asGraph, ascending, viewSheet}
+use Rattle.matching.specs.Simulation.{Pair, Edge, sameEdge, asPair, Pattern, Graph, asGraph, ascending, viewSheet}
 use Rattle.matching.proofs.ByEdge.{rowOf, viewOf, answerTo}
 use Rattle.matching.specs.Join.{lists, View, pairOf, under, candidates, Kept, supported, join, complete, keptFor, answerSets}
 use Rattle.matching.proofs.ListLaws.{and-left, and-right, both, use-if, make-if, cond-case, not-in-none, in-cast, every-in, in-every, some-in, in-some, keep-in, in-keep, append-in, in-append-left, in-append-right, gather-in, in-gather, each-in, in-each}
 use Rattle.matching.proofs.GreatestLaws.{greatest-part, greatest-ok, greatest-all}
-use Rattle.matching.proofs.SimLaws.{same-eq, same-refl}
+use Rattle.matching.proofs.SimLaws.{same-edge, same-edge-refl}
 use Rattle.matching.proofs.MatchLaws.{Matches, row-say, row-by}
 use Rattle.matching.proofs.CodeLaws.{in-member, member-in, code-same, ascending-say, ascending-by}
-use Rattle.matching.proofs.MatchSetLaws.{Narrow, view-each}
+use Rattle.matching.proofs.MatchSetLaws.{Narrow, matches-narrow, view-each}
 
 -- ---- what `supported` says, for any choice K of pairs
-pub record Supported (Q : Pattern) (K : Pair → Pair → Type 0) (e f : Pair) : Type 0 where
-  pub tail : (g : Pair) → In g (Q .edges) → g .0 ≡ e .0 → (h : Pair) × K g h × (h .0 ≡ f .0)
-  pub head : (g : Pair) → In g (Q .edges) → g .0 ≡ e .1 → (h : Pair) × K g h × (h .0 ≡ f .1)
+pub record Supported (Q : Pattern) (K : Edge → Pair → Type 0) (e : Edge) (f : Pair) : Type 0 where
+  pub tail : (g : Edge) → In g (Q .edges) → g .from ≡ e .from → (h : Pair) × K g h × (h .0 ≡ f .0)
+  pub head : (g : Edge) → In g (Q .edges) → g .from ≡ e .to → (h : Pair) × K g h × (h .0 ≡ f .1)
 
 module _ (Q : Pattern) (l : List Kept) where
   -- the edge g keeps a pair that begins at v
-  begins-say : (g : Pair) (v : ℕ) → T (some (λ j. same (j .0) g and eqb (j .1 .0) v) l) → (h : Pair) × In (g, h) l × (h .0 ≡ v)
+  begins-say : (g : Edge) (v : ℕ) → T (some (λ j. sameEdge (j .0) g and eqb (j .1 .0) v) l) → (h : Pair) × In (g, h) l × (h .0 ≡ v)
   begins-say g v t =
       let r = some-in _ l t in
-      (r .0 .1, subst (λ z. In (z, r .0 .1) l) (same-eq (r .0 .0) g (and-left _ _ (r .2))) (r .1), eqb→eq _ v (and-right _ _ (r .2)))
+      (r .0 .1, subst (λ z. In (z, r .0 .1) l) (same-edge (r .0 .0) g (and-left _ _ (r .2))) (r .1), eqb→eq _ v (and-right _ _ (r .2)))
 
-  begins-by : (g : Pair) (v : ℕ) → (h : Pair) × In (g, h) l × (h .0 ≡ v) → T (some (λ j. same (j .0) g and eqb (j .1 .0) v) l)
-  begins-by g v (h, i, q) = in-some _ i (both _ _ (same-refl g) (subst (λ z. T (eqb (h .0) z)) q (eqb-refl (h .0))))
+  begins-by : (g : Edge) (v : ℕ) → (h : Pair) × In (g, h) l × (h .0 ≡ v) → T (some (λ j. sameEdge (j .0) g and eqb (j .1 .0) v) l)
+  begins-by g v (h, i, q) = in-some _ i (both _ _ (same-edge-refl g) (subst (λ z. T (eqb (h .0) z)) q (eqb-refl (h .0))))
 
-  pub supported-say : {e f : Pair} → T (supported Q l (e, f)) → Supported Q (λ g h. In (g, h) l) e f
+  pub supported-say : {e : Edge} {f : Pair} → T (supported Q l (e, f)) → Supported Q (λ g h. In (g, h) l) e f
   unfolding supported
   supported-say {e} {f} t = record {
-    tail = λ g i q. begins-say g (f .0) (use-if _ _ (and-left _ _ (every-in _ t i)) (subst (λ z. T (eqb (g .0) z)) q (eqb-refl (g .0))));
-    head = λ g i q. begins-say g (f .1) (use-if _ _ (and-right _ _ (every-in _ t i)) (subst (λ z. T (eqb (g .0) z)) q (eqb-refl (g .0))));
+    tail = λ g i q. begins-say g (f .0) (use-if _ _ (and-left _ _ (every-in _ t i)) (subst (λ z. T (eqb (g .from) z)) q (eqb-refl (g .from))));
+    head = λ g i q. begins-say g (f .1) (use-if _ _ (and-right _ _ (every-in _ t i)) (subst (λ z. T (eqb (g .from) z)) q (eqb-refl (g .from))));
   }
 
-  pub supported-by : {e f : Pair} → Supported Q (λ g h. In (g, h) l) e f → T (supported Q l (e, f))
+  pub supported-by : {e : Edge} {f : Pair} → Supported Q (λ g h. In (g, h) l) e f → T (supported Q l (e, f))
   unfolding supported
   supported-by {e} {f} s =
       in-every _ (Q .edges) λ g i.
       both _ _
-      (make-if _ _ λ t. begins-by g (f .0) (s .tail g i (eqb→eq (g .0) (e .0) t)))
-      (make-if _ _ λ t. begins-by g (f .1) (s .head g i (eqb→eq (g .0) (e .1) t)))
+      (make-if _ _ λ t. begins-by g (f .0) (s .tail g i (eqb→eq (g .from) (e .from) t)))
+      (make-if _ _ λ t. begins-by g (f .1) (s .head g i (eqb→eq (g .from) (e .to) t)))
 
 -- a larger choice supports what a smaller one does
-pub supported-more : (Q : Pattern) (K L : Pair → Pair → Type 0) → ((e f : Pair) → K e f → L e f) → {e f : Pair} → Supported Q K e f → Supported Q L e f
+pub supported-more : (Q : Pattern) (K L : Edge → Pair → Type 0) → ((e : Edge) (f : Pair) → K e f → L e f) → {e : Edge} {f : Pair} → Supported Q K e f → Supported Q L e f
 supported-more Q K L m s = record {
   tail = λ g i q. let r = s .tail g i q in (r .0, m g (r .0) (r .1), r .2);
   head = λ g i q. let r = s .head g i q in (r .0, m g (r .0) (r .1), r .2);
@@ -57,10 +57,10 @@ supported-more Q K L m s = record {
 
 -- ---- the join is a choice from the candidates, is supported by itself, and holds every such choice
 module _ (Q : Pattern) (vs : List View) where
-  abbrev pub Joined : Pair → Pair → Type 0
+  abbrev pub Joined : Edge → Pair → Type 0
   Joined e f = In (e, f) (join Q vs)
 
-  pub join-candidate : {e f : Pair} → Joined e f → In e (Q .edges) × In f (candidates Q vs e)
+  pub join-candidate : {e : Edge} {f : Pair} → Joined e f → In e (Q .edges) × In f (candidates Q vs e)
   unfolding join
   join-candidate {e} {f} i =
       let r = gather-in _ (Q .edges) (greatest-part _ _ (e, f) i) in
@@ -69,11 +69,11 @@ module _ (Q : Pattern) (vs : List View) where
       let q : f ≡ s .0 = ap (λ k. k .1) (s .2) in
       (in-cast (sym p) (r .1), subst (λ z. In f (candidates Q vs z)) (sym p) (in-cast (sym q) (s .1)))
 
-  pub join-supported : {e f : Pair} → Joined e f → Supported Q Joined e f
+  pub join-supported : {e : Edge} {f : Pair} → Joined e f → Supported Q Joined e f
   unfolding join
   join-supported {e} {f} i = supported-say Q _ (greatest-ok (supported Q) _ (e, f) i)
 
-  pub join-most : (K : Pair → Pair → Type 0) → ((e f : Pair) → K e f → In e (Q .edges) × In f (candidates Q vs e)) → ((e f : Pair) → K e f → Supported Q K e f) → (e f : Pair) → K e f → Joined e f
+  pub join-most : (K : Edge → Pair → Type 0) → ((e : Edge) (f : Pair) → K e f → In e (Q .edges) × In f (candidates Q vs e)) → ((e : Edge) (f : Pair) → K e f → Supported Q K e f) → (e : Edge) (f : Pair) → K e f → Joined e f
   unfolding join
   join-most K c s e f k =
       greatest-all (supported Q) (λ j. K (j .0) (j .1))
@@ -83,35 +83,35 @@ module _ (Q : Pattern) (vs : List View) where
       (e, f) k
 
   -- ---- the lists of the answer
-  pub kept-in : {e f : Pair} → In f (keptFor (join Q vs) e) → Joined e f
+  pub kept-in : {e : Edge} {f : Pair} → In f (keptFor (join Q vs) e) → Joined e f
   unfolding keptFor
   kept-in {e} {f} i =
       let r = each-in _ _ i in
       let s = keep-in _ (join Q vs) (r .1) in
-      subst (λ z. In (e, z) (join Q vs)) (sym (r .2)) (subst (λ z. In (z, r .0 .1) (join Q vs)) (same-eq (r .0 .0) e (s .1)) (s .0))
+      subst (λ z. In (e, z) (join Q vs)) (sym (r .2)) (subst (λ z. In (z, r .0 .1) (join Q vs)) (same-edge (r .0 .0) e (s .1)) (s .0))
 
-  pub in-kept : {e f : Pair} → Joined e f → In f (keptFor (join Q vs) e)
+  pub in-kept : {e : Edge} {f : Pair} → Joined e f → In f (keptFor (join Q vs) e)
   unfolding keptFor
-  in-kept {e} {f} i = in-each (λ k. k .1) {x = (e, f)} (in-keep _ i (same-refl e))
+  in-kept {e} {f} i = in-each (λ k. k .1) {x = (e, f)} (in-keep _ i (same-edge-refl e))
 
-  pub complete-say : T (complete Q (join Q vs)) → (e : Pair) → In e (Q .edges) → (f : Pair) × Joined e f
+  pub complete-say : T (complete Q (join Q vs)) → (e : Edge) → In e (Q .edges) → (f : Pair) × Joined e f
   unfolding complete
   complete-say t e i =
       let r = some-in _ (join Q vs) (every-in _ t i) in
-      (r .0 .1, subst (λ z. In (z, r .0 .1) (join Q vs)) (same-eq (r .0 .0) e (r .2)) (r .1))
+      (r .0 .1, subst (λ z. In (z, r .0 .1) (join Q vs)) (same-edge (r .0 .0) e (r .2)) (r .1))
 
-  pub complete-by : ((e : Pair) → In e (Q .edges) → (f : Pair) × Joined e f) → T (complete Q (join Q vs))
+  pub complete-by : ((e : Edge) → In e (Q .edges) → (f : Pair) × Joined e f) → T (complete Q (join Q vs))
   unfolding complete
-  complete-by h = in-every _ (Q .edges) λ e i. in-some _ (h e i .1) (same-refl e)
+  complete-by h = in-every _ (Q .edges) λ e i. in-some _ (h e i .1) (same-edge-refl e)
 
-  pub answer-say : {e f : Pair} → In f (answerTo Q vs e) → T (complete Q (join Q vs)) × Joined e f
+  pub answer-say : {e : Edge} {f : Pair} → In f (answerTo Q vs e) → T (complete Q (join Q vs)) × Joined e f
   unfolding answerTo
   answer-say {e} {f} =
       cond-case (λ l. In f l → T (complete Q (join Q vs)) × Joined e f) (complete Q (join Q vs)) (keptFor (join Q vs) e) []
       (λ t i. (t, kept-in i))
       (λ t i. absurd (not-in-none i))
 
-  pub answer-by : {e f : Pair} → T (complete Q (join Q vs)) → Joined e f → In f (answerTo Q vs e)
+  pub answer-by : {e : Edge} {f : Pair} → T (complete Q (join Q vs)) → Joined e f → In f (answerTo Q vs e)
   unfolding answerTo
   answer-by {e} {f} t i = cond-case (λ l. In f l) (complete Q (join Q vs)) (keptFor (join Q vs) e) [] (λ h. in-kept i) (λ h. absurd (h t))
 
@@ -132,7 +132,7 @@ unfolding pairOf
 pair-code c = omega arith
 
 -- a list of codes has e
-pub lists-say : {e : Pair} (l : List Pair) → e .1 < 4096 → ((f : Pair) → In f l → f .1 < 4096) → T (lists e (ascending l)) → In e l
+pub lists-say : {e : Edge} (l : List Pair) → e .to < 4096 → ((f : Pair) → In f l → f .1 < 4096) → T (lists e (ascending l)) → In (asPair e) l
 unfolding lists
 lists-say {e} l h n t = let r = ascending-say l (member-in _ (true-by _ t)) in in-cast (sym (code-same h (n (r .0) (r .1)) (r .2))) (r .1)
   where
@@ -140,57 +140,57 @@ lists-say {e} l h n t = let r = ascending-say l (member-in _ (true-by _ t)) in i
     true-by true t = refl
     true-by false t = absurd t
 
-pub lists-by : (e : Pair) {l : List ℕ} → In (code (e .0) (e .1)) l → T (lists e l)
+pub lists-by : (e : Edge) {l : List ℕ} → In (code (e .from) (e .to)) l → T (lists e l)
 unfolding lists
 lists-by e i = subst T (sym (in-member i)) tt
 
-module _ (e : Pair) (a b : Pair → List ℕ) where
-  pub under-in : (l : List Pair) {c : ℕ} → In c (under e (each a l) (each b l)) → (g : Pair) × In g l × T (lists e (a g)) × In c (b g)
+module _ (e : Edge) (a b : Edge → List ℕ) where
+  pub under-in : (l : List Edge) {c : ℕ} → In c (under e (each a l) (each b l)) → (g : Edge) × In g l × T (lists e (a g)) × In c (b g)
   unfolding under each
   under-in [] i = absurd (not-in-none i)
   under-in (g ∷ l) {c} i = ⊎-elim first (λ j. let r = under-in l {c = c} j in (r .0, there (r .1), r .2, r .3)) (append-in (cond (lists e (a g)) (b g) []) i)
     where
-      first : In c (cond (lists e (a g)) (b g) []) → (h : Pair) × In h (g ∷ l) × T (lists e (a h)) × In c (b h)
+      first : In c (cond (lists e (a g)) (b g) []) → (h : Edge) × In h (g ∷ l) × T (lists e (a h)) × In c (b h)
       first =
-          cond-case (λ k. In c k → (h : Pair) × In h (g ∷ l) × T (lists e (a h)) × In c (b h)) (lists e (a g)) (b g) []
+          cond-case (λ k. In c k → (h : Edge) × In h (g ∷ l) × T (lists e (a h)) × In c (b h)) (lists e (a g)) (b g) []
           (λ t j. (g, here refl, t, j))
           (λ t j. absurd (not-in-none j))
 
-  pub in-under : {l : List Pair} {c : ℕ} {g : Pair} → In g l → T (lists e (a g)) → In c (b g) → In c (under e (each a l) (each b l))
+  pub in-under : {l : List Edge} {c : ℕ} {g : Edge} → In g l → T (lists e (a g)) → In c (b g) → In c (under e (each a l) (each b l))
   unfolding under each
   in-under {c = c} (here {x = h} {l = l} q) t j =
       in-append-left _ (cond-case (λ k. In c k) (lists e (a h)) (b h) [] (λ s. subst (λ z. In c (b z)) q j) (λ s. absurd (s (subst (λ z. T (lists e (a z))) q t))))
   in-under (there {x = h} n) t j = in-append-right (cond (lists e (a h)) (b h) []) (in-under n t j)
 
 -- a view and its edge that both e, of the query, and f, of the graph, match
-pub record Found (Q : Pattern) (Ps : List Pattern) (G : Graph) (e f : Pair) : Type 0 where
+pub record Found (Q : Pattern) (Ps : List Pattern) (G : Graph) (e : Edge) (f : Pair) : Type 0 where
   pub view : Pattern
   pub given : In view Ps
-  pub at : Pair
+  pub at : Edge
   pub at-edge : In at (view .edges)
-  pub of-query : Matches view (asGraph Q) at e
+  pub of-query : Matches view (asGraph Q) at (asPair e)
   pub of-graph : Matches view G at f
 
 module _ (Q : Pattern) (Ps : List Pattern) (G : Graph) (nq : Narrow (asGraph Q)) (ng : Narrow G) where
   -- both lists of an edge g of a view P, read
-  found-at : (P : Pattern) (g e f : Pair) → In P Ps → In g (P .edges) → e .1 < 4096 → T (lists e (ascending (rowOf P (asGraph Q) g))) → In f (rowOf P G g) → Found Q Ps G e f
+  found-at : (P : Pattern) (g e : Edge) (f : Pair) → In P Ps → In g (P .edges) → e .to < 4096 → T (lists e (ascending (rowOf P (asGraph Q) g))) → In f (rowOf P G g) → Found Q Ps G e f
   found-at P g e f p i h t m =
-      let q = lists-say (rowOf P (asGraph Q) g) h (λ k n. nq k (row-say P (asGraph Q) n .edge) .1) t in
+      let q = lists-say (rowOf P (asGraph Q) g) h (λ k n. matches-narrow nq (row-say P (asGraph Q) n) .1) t in
       record { view = P; given = p; at = g; at-edge = i; of-query = row-say P (asGraph Q) q; of-graph = row-say P G m }
 
-  pair-in : (P : Pattern) (g : Pair) (c : ℕ) → In c (ascending (rowOf P G g)) → In (pairOf c) (rowOf P G g)
+  pair-in : (P : Pattern) (g : Edge) (c : ℕ) → In c (ascending (rowOf P G g)) → In (pairOf c) (rowOf P G g)
   pair-in P g c i = from (ascending-say (rowOf P G g) i)
     where
       from : (f : Pair) × In f (rowOf P G g) × (c ≡ code (f .0) (f .1)) → In (pairOf c) (rowOf P G g)
-      from (f, j, q) = in-cast (sym (ap pairOf q ∙ code-pair (ng f (row-say P G j .edge) .1))) j
+      from (f, j, q) = in-cast (sym (ap pairOf q ∙ code-pair (matches-narrow ng (row-say P G j) .1))) j
 
-  found-under : (P : Pattern) (e : Pair) (c : ℕ) → In P Ps → e .1 < 4096 → In c (under e (viewSheet P (asGraph Q)) (viewSheet P G)) → Found Q Ps G e (pairOf c)
+  found-under : (P : Pattern) (e : Edge) (c : ℕ) → In P Ps → e .to < 4096 → In c (under e (viewSheet P (asGraph Q)) (viewSheet P G)) → Found Q Ps G e (pairOf c)
   found-under P e c p h i = from (under-in e (λ g. ascending (rowOf P (asGraph Q) g)) (λ g. ascending (rowOf P G g)) (P .edges) (rw (view-each P (asGraph Q), view-each P G) at i))
     where
-      from : (g : Pair) × In g (P .edges) × T (lists e (ascending (rowOf P (asGraph Q) g))) × In c (ascending (rowOf P G g)) → Found Q Ps G e (pairOf c)
+      from : (g : Edge) × In g (P .edges) × T (lists e (ascending (rowOf P (asGraph Q) g))) × In c (ascending (rowOf P G g)) → Found Q Ps G e (pairOf c)
       from (g, j, t, k) = found-at P g e (pairOf c) p j h t (pair-in P g c k)
 
-  pub candidates-say : {e f : Pair} → e .1 < 4096 → In f (candidates Q (each (viewOf G) Ps) e) → Found Q Ps G e f
+  pub candidates-say : {e : Edge} {f : Pair} → e .to < 4096 → In f (candidates Q (each (viewOf G) Ps) e) → Found Q Ps G e f
   unfolding candidates viewOf
   candidates-say {e} {f} h i = code-of (each-in pairOf _ i)
     where
@@ -200,10 +200,10 @@ module _ (Q : Pattern) (Ps : List Pattern) (G : Graph) (nq : Narrow (asGraph Q))
       code-of : (c : ℕ) × In c (gather (λ v. under e (viewSheet (v .pattern) (asGraph Q)) (v .sheet)) (each (viewOf G) Ps)) × (f ≡ pairOf c) → Found Q Ps G e f
       code-of (c, j, q) = let r = gather-in _ (each (viewOf G) Ps) j in subst (Found Q Ps G e) (sym q) (view-of c (r .0) (r .2) (each-in (viewOf G) Ps (r .1)))
 
-  pub candidates-by : {e f : Pair} → Found Q Ps G e f → In f (candidates Q (each (viewOf G) Ps) e)
+  pub candidates-by : {e : Edge} {f : Pair} → Found Q Ps G e f → In f (candidates Q (each (viewOf G) Ps) e)
   unfolding candidates viewOf
   candidates-by {e} {f} c =
       let P = c .view in
       let k : In (code (f .0) (f .1)) (under e (each (λ g. ascending (rowOf P (asGraph Q) g)) (P .edges)) (each (λ g. ascending (rowOf P G g)) (P .edges))) =
       in-under e _ _ (c .at-edge) (lists-by e (ascending-by (row-by P (asGraph Q) (c .of-query)))) (ascending-by (row-by P G (c .of-graph))) in
-      in-cast (code-pair (ng f (c .of-graph .edge) .1)) (in-each pairOf (in-gather _ (in-each (viewOf G) (c .given)) (rw (view-each P (asGraph Q), view-each P G) k)))
+      in-cast (code-pair (matches-narrow ng (c .of-graph) .1)) (in-each pairOf (in-gather _ (in-each (viewOf G) (c .given)) (rw (view-each P (asGraph Q), view-each P G) k)))

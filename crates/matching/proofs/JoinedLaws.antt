@@ -13,16 +13,16 @@ use Rattle.packed.specs.BookSheets.{listAt}
 use Rattle.packed.specs.Matches.{marked, matchesOf}
 use Rattle.packed.specs.Matches.{Marked as MarkedPairs}
 use Rattle.packed.specs.declared.by_value.Pattern.{Pattern as Given}
-use Rattle.matching.specs.Lists.{In, here, there, gather, keep, upTo}
-use Rattle.matching.specs.Simulation.{Pair, Pattern, has, ascending}
+use Rattle.matching.specs.Lists.{In, here, there, gather, each, keep, upTo}
+use Rattle.matching.specs.Simulation.{Pair, Edge, Pattern, has, ascending}
 use Rattle.matching.specs.Join.{View, pairOf, candidates, Kept, join, keptFor, answerSets}
-use Rattle.matching.specs.Steps.{patternIn, Fair, Edges}
+use Rattle.matching.specs.Steps.{edgeAt, patternIn, Fair, Edges}
 use Rattle.matching.specs.Sweeps.{Has, OneOf}
 use Rattle.matching.specs.Candidates.{Booked, Blank, Taken, BookListing}
 use Rattle.matching.specs.Sweeping.{fromOf, toOf}
 use Rattle.matching.specs.Choices.{Offers, Supports, Chosen}
-use Rattle.matching.specs.Joining.{edgeAt, Agrees, Joined}
-use Rattle.matching.proofs.ListLaws.{same-test, in-cases, in-cast, not-in-none, gather-in, in-gather, keep-in, in-keep}
+use Rattle.matching.specs.Joining.{Agrees, Joined}
+use Rattle.matching.proofs.ListLaws.{same-test, in-cases, in-cast, not-in-none, gather-in, in-gather, each-in, in-each, keep-in, in-keep}
 use Rattle.matching.proofs.SimLaws.{has-in, in-has}
 use Rattle.matching.proofs.MaskBits.{none-has}
 use Rattle.matching.proofs.UpToLaws.{in-upTo, upTo-in}
@@ -34,30 +34,30 @@ use Rattle.matching.proofs.AnswerLaws.{answer-all-or-none}
 -- ---- the ends of what is kept
 -- the nodes that stand for nodes of the query as the ends of a pair that is kept for an edge
 ends : Kept → List Pair
-ends k = (k .0 .0, k .1 .0) ∷ (k .0 .1, k .1 .1) ∷ []
+ends k = (k .0 .from, k .1 .0) ∷ (k .0 .to, k .1 .1) ∷ []
 
 unfoldable stands : List Kept → ℕ → ℕ → Bool
 stands l u v = has (u, v) (gather ends l)
 
 module _ {l : List Kept} where
-  tail-stands : {e f : Pair} → In (e, f) l → T (stands l (e .0) (f .0))
+  tail-stands : {e : Edge} {f : Pair} → In (e, f) l → T (stands l (e .from) (f .0))
   unfolding stands ends
   tail-stands i = in-has (in-gather ends i (here refl))
 
-  head-stands : {e f : Pair} → In (e, f) l → T (stands l (e .1) (f .1))
+  head-stands : {e : Edge} {f : Pair} → In (e, f) l → T (stands l (e .to) (f .1))
   unfolding stands ends
   head-stands i = in-has (in-gather ends i (there (here refl)))
 
   -- what holds of both ends of each pair that is kept holds of all that stands
-  stands-all : (R : ℕ → ℕ → Type 0) → ((e f : Pair) → In (e, f) l → R (e .0) (f .0) × R (e .1) (f .1)) → {u v : ℕ} → T (stands l u v) → R u v
+  stands-all : (R : ℕ → ℕ → Type 0) → ((e : Edge) (f : Pair) → In (e, f) l → R (e .from) (f .0) × R (e .to) (f .1)) → {u v : ℕ} → T (stands l u v) → R u v
   unfolding stands ends
   stands-all R h {u} {v} t = from (gather-in ends l (has-in (u, v) t))
     where
       from : (k : Kept) × In k l × In (u, v) (ends k) → R u v
       from (k, i, j) =
           let r = h (k .0) (k .1) i in
-          ⊎-elim (λ (p : (u, v) ≡ (k .0 .0, k .1 .0)). subst (λ (x : Pair). R (x .0) (x .1)) (sym p) (r .0))
-          (λ m. ⊎-elim (λ (p : (u, v) ≡ (k .0 .1, k .1 .1)). subst (λ (x : Pair). R (x .0) (x .1)) (sym p) (r .1)) (λ n. absurd (not-in-none n)) (in-cases m))
+          ⊎-elim (λ (p : (u, v) ≡ (k .0 .from, k .1 .0)). subst (λ (x : Pair). R (x .0) (x .1)) (sym p) (r .0))
+          (λ m. ⊎-elim (λ (p : (u, v) ≡ (k .0 .to, k .1 .1)). subst (λ (x : Pair). R (x .0) (x .1)) (sym p) (r .1)) (λ n. absurd (not-in-none n)) (in-cases m))
           (in-cases j)
 
 module _ (q : Given) (t : List ℕ) (set : ℕ) {s counts : List ℕ} {k d : ℕ} {w w₁ w₂ w₃ : List ℕ} (fair : Fair q)
@@ -133,7 +133,7 @@ module _ (q : Given) (t : List ℕ) (set : ℕ) {s counts : List ℕ} {k d : ℕ
   unfolding patternIn
   in-edges n l = in-upTo (edgeAt q) (q .edges) n l
 
-  edges-in : {e : Pair} → In e (Q .edges) → OneOf (q .edges) (λ n. e ≡ edgeAt q n)
+  edges-in : {e : Edge} → In e (Q .edges) → OneOf (q .edges) (λ n. e ≡ edgeAt q n)
   unfolding patternIn
   edges-in i = upTo-in (edgeAt q) (q .edges) i
 
@@ -146,7 +146,7 @@ module _ (q : Given) (t : List ℕ) (set : ℕ) {s counts : List ℕ} {k d : ℕ
 
     -- ---- what is marked is in the join
     -- the pair f is marked with the edge e
-    abbrev Marks : Pair → Pair → Type 0
+    abbrev Marks : Edge → Pair → Type 0
     Marks e f = OneOf (q .edges) (λ n. (e ≡ edgeAt q n) × OneOf d (λ i. (f ≡ pair i) × After i n))
 
     candidate : (i n : ℕ) → i < d → After i n → In (pair i) (candidates Q vs (edgeAt q n))
@@ -157,11 +157,11 @@ module _ (q : Given) (t : List ℕ) (set : ℕ) {s counts : List ℕ} {k d : ℕ
 
     -- the edges that leave u keep pairs that begin at v
     marks-from : (u v : ℕ) → ((n : ℕ) → n < q .edges → getD (q .from) n 0 ≡ u → OneOf d (λ j. (fromOf w₂ j ≡ v) × After j n))
-        → (e : Pair) → In e (Q .edges) → e .0 ≡ u → (f : Pair) × Marks e f × (f .0 ≡ v)
+        → (e : Edge) → In e (Q .edges) → e .from ≡ u → (f : Pair) × Marks e f × (f .0 ≡ v)
     unfolding pair pairOf
     marks-from u v h e j p =
         let o = edges-in j in
-        let r = h (o .at) (o .below) (sym (ap (λ (x : Pair). x .0) (o .holds)) ∙ p) in
+        let r = h (o .at) (o .below) (sym (ap (λ (x : Edge). x .from) (o .holds)) ∙ p) in
         (pair (r .at), record { at = o .at; below = o .below; holds = (o .holds, record { at = r .at; below = r .below; holds = (refl, r .holds .1) }) }, r .holds .0)
 
     supports : (i n : ℕ) → i < d → After i n → Supported Q Marks (edgeAt q n) (pair i)
@@ -178,10 +178,10 @@ module _ (q : Given) (t : List ℕ) (set : ℕ) {s counts : List ℕ} {k d : ℕ
         join-most Q vs Marks
         (λ e f c. let o = c .holds .1 in (
           in-cast (sym (c .holds .0)) (in-edges (c .at) (c .below)),
-          subst (λ (x : Pair). In f (candidates Q vs x)) (sym (c .holds .0)) (in-cast (sym (o .holds .0)) (candidate (o .at) (c .at) (o .below) (o .holds .1))),
+          subst (λ (x : Edge). In f (candidates Q vs x)) (sym (c .holds .0)) (in-cast (sym (o .holds .0)) (candidate (o .at) (c .at) (o .below) (o .holds .1))),
         ))
         (λ e f c. let o = c .holds .1 in
-        subst (λ (x : Pair). Supported Q Marks x f) (sym (c .holds .0)) (subst (Supported Q Marks (edgeAt q (c .at))) (sym (o .holds .0)) (supports (o .at) (c .at) (o .below) (o .holds .1))))
+        subst (λ (x : Edge). Supported Q Marks x f) (sym (c .holds .0)) (subst (Supported Q Marks (edgeAt q (c .at))) (sym (o .holds .0)) (supports (o .at) (c .at) (o .below) (o .holds .1))))
         (edgeAt q n) (pair i) (record { at = n; below = m; holds = (refl, record { at = i; below = l; holds = (refl, h) }) })
 
     -- ---- what is in the join is marked
@@ -231,10 +231,10 @@ module _ (q : Given) (t : List ℕ) (set : ℕ) {s counts : List ℕ} {k d : ℕ
     unfolding pair pairOf
     stands-below u v h = stands-all (λ x y. y < 4096) below h
       where
-        below : (e f : Pair) → In (e, f) J → (f .0 < 4096) × (f .1 < 4096)
+        below : (e : Edge) (f : Pair) → In (e, f) J → (f .0 < 4096) × (f .1 < 4096)
         below e f j =
             let c = edges-in (join-candidate Q vs j .0) in
-            let o = joined-at (c .at) (c .below) (subst (λ (x : Pair). In (x, f) J) (c .holds) j) in
+            let o = joined-at (c .at) (c .below) (subst (λ (x : Edge). In (x, f) J) (c .holds) j) in
             subst (λ (x : Pair). (x .0 < 4096) × (x .1 < 4096)) (sym (o .holds)) (ends-below (o .at) (o .below))
 
     joined-after : (i n : ℕ) → i < d → n < q .edges → In (edgeAt q n, pair i) J → After i n
@@ -244,15 +244,17 @@ module _ (q : Given) (t : List ℕ) (set : ℕ) {s counts : List ℕ} {k d : ℕ
     -- ---- the lists
     row : (n : ℕ) → n < q .edges → distinct (marked n (take d w₃) (take d (drop 8192 w₃))) ≡ ascending (keptFor J (edgeAt q n))
     row n l =
-        row-marked pairs-marked n pair test
+        row-marked pairs-marked n (λ i. i) pair test
         (λ i m. same-test _ _ (λ h. in-has (in-kept Q vs (after-joined i n m l h))) (λ h. joined-after i n m l (kept-in Q vs (has-in (pair i) h))))
         (λ i m. chosen .falls .low i (short i m) ∙ sym (unfold pair in pair-code (getD w₂ i 0)))
-        ∙ ascending-same (keep test (upTo pair d)) (keptFor J (edgeAt q n))
-        (λ f j. has-in f (keep-in test (upTo pair d) j .1))
-        (λ f j. let o = joined-at n l (kept-in Q vs j) in in-keep test (in-cast (sym (o .holds)) (in-upTo pair d (o .at) (o .below))) (in-has j))
+        ∙ ascending-same (each pair (keep test (upTo (λ i. i) d))) (keptFor J (edgeAt q n))
+        (λ f j. let r = each-in pair _ j in in-cast (sym (r .2)) (has-in (pair (r .0)) (keep-in test (upTo (λ i. i) d) (r .1) .1)))
+        (λ f j.
+        let o = joined-at n l (kept-in Q vs j) in
+        in-cast (sym (o .holds)) (in-each pair (in-keep test (in-upTo (λ i. i) d (o .at) (o .below)) (in-has (in-cast (o .holds) j)))))
       where
-        test : Pair → Bool
-        test f = has f (keptFor J (edgeAt q n))
+        test : ℕ → Bool
+        test i = has (pair i) (keptFor J (edgeAt q n))
 
     sets : matchesOf d (q .edges) w₃ ≡ answerSets Q vs
     unfolding patternIn

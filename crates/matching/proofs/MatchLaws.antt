@@ -7,9 +7,9 @@ use native.Mathlib.Omega.{arith}
 use lib.ListN.{length, getD}
 use lib.Dec.{T, eqb, eqb→eq, eqb-refl, ltb→lt, lt→ltb}
 use Rattle.matching.specs.Lists.{_or_, In, each, below}
-use Rattle.matching.specs.Simulation.{Pair, bit, Pattern, Graph, asGraph, sim, total, row, IsSim, sound}
+use Rattle.matching.specs.Simulation.{Pair, Edge, asPair, bit, Pattern, Graph, asGraph, sim, total, row, IsSim, sound}
 use Rattle.matching.proofs.ByEdge.{rowOf, rows}
-use Rattle.matching.proofs.ListLaws.{and-left, and-right, both, or-left, or-right, or-cases, cond-case, not-in-none, every-in, in-every, some-in, in-some, keep-in, in-keep, length-each, getD-each, below-in, in-below}
+use Rattle.matching.proofs.ListLaws.{and-left, and-right, both, or-left, or-right, or-cases, cond-case, not-in-none, in-cast, every-in, in-every, some-in, in-some, keep-in, in-keep, each-in, in-each, length-each, getD-each, below-in, in-below}
 use Rattle.matching.proofs.Masks.{bit-one}
 use Rattle.matching.proofs.SimLaws.{has-in, in-has, Fits, fits-say, fits-by, sim-is, sim-most}
 
@@ -31,34 +31,45 @@ module _ (P : Pattern) (s : List Pair) where
   unfolding total
   total-by f = in-every _ _ λ u i. in-some _ (f u (below-in _ i) .1) (eqb-refl u)
 
--- the edge f of G matches the edge e of P: the greatest simulation gives every node of P a partner, and relates the ends of e to those of f
-pub record Matches (P : Pattern) (G : Graph) (e f : Pair) : Type 0 where
+-- the pair f matches the edge e of P: it has the ends of an edge of G, and the greatest simulation gives every node of P a partner, and relates the
+-- ends of e to those of f
+pub record Matches (P : Pattern) (G : Graph) (e : Edge) (f : Pair) : Type 0 where
   pub whole : Total P (Sim P G)
-  pub edge : In f (G .edges)
-  pub tail : Sim P G (e .0) (f .0)
-  pub head : Sim P G (e .1) (f .1)
+  pub link : Edge
+  pub edge : In link (G .edges)
+  pub ends : f ≡ asPair link
+  pub tail : Sim P G (e .from) (f .0)
+  pub head : Sim P G (e .to) (f .1)
 
 module _ (P : Pattern) (G : Graph) where
-  pub row-in : {e f : Pair} → In f (row G (sim P G) e) → In f (G .edges) × Sim P G (e .0) (f .0) × Sim P G (e .1) (f .1)
+  pub row-in : {e : Edge} {f : Pair} → In f (row G (sim P G) e) → (h : Edge) × In h (G .edges) × (f ≡ asPair h) × Sim P G (e .from) (h .from) × Sim P G (e .to) (h .to)
   unfolding row
-  row-in i = let k = keep-in _ (G .edges) i in (k .0, has-in _ (and-left _ _ (k .1)), has-in _ (and-right _ _ (k .1)))
+  row-in i =
+      let r = each-in asPair _ i in
+      let k = keep-in _ (G .edges) (r .1) in
+      (r .0, k .0, r .2, has-in _ (and-left _ _ (k .1)), has-in _ (and-right _ _ (k .1)))
 
-  pub in-row : {e f : Pair} → In f (G .edges) → Sim P G (e .0) (f .0) → Sim P G (e .1) (f .1) → In f (row G (sim P G) e)
+  pub in-row : (e h : Edge) → In h (G .edges) → Sim P G (e .from) (h .from) → Sim P G (e .to) (h .to) → In (asPair h) (row G (sim P G) e)
   unfolding row
-  in-row i a b = in-keep _ i (both _ _ (in-has a) (in-has b))
+  in-row e h i a b = in-each asPair (in-keep _ i (both _ _ (in-has a) (in-has b)))
 
-  pub row-say : {e f : Pair} → In f (rowOf P G e) → Matches P G e f
+  -- an edge of G, by its ends
+  pub matches-edge : (e h : Edge) → Total P (Sim P G) → In h (G .edges) → Sim P G (e .from) (h .from) → Sim P G (e .to) (h .to) → Matches P G e (asPair h)
+  matches-edge e h t i a b = record { whole = t; link = h; edge = i; ends = refl; tail = a; head = b }
+
+  pub row-say : {e : Edge} {f : Pair} → In f (rowOf P G e) → Matches P G e f
   unfolding rowOf
   row-say {e} {f} =
       cond-case (λ l. In f l → Matches P G e f) (total P (sim P G)) (row G (sim P G) e) []
-      (λ t i. let k = row-in i in record { whole = total-say P (sim P G) t; edge = k .0; tail = k .1; head = k .2 })
+      (λ t i. let k = row-in i in subst (Matches P G e) (sym (k .2)) (matches-edge e (k .0) (total-say P (sim P G) t) (k .1) (k .3) (k .4)))
       (λ t i. absurd (not-in-none i))
 
-  pub row-by : {e f : Pair} → Matches P G e f → In f (rowOf P G e)
+  pub row-by : {e : Edge} {f : Pair} → Matches P G e f → In f (rowOf P G e)
   unfolding rowOf
   row-by {e} {f} h =
       cond-case (λ l. In f l) (total P (sim P G)) (row G (sim P G) e) []
-      (λ t. in-row (h .edge) (h .tail) (h .head))
+      (λ t. in-cast (sym (h .ends))
+      (in-row e (h .link) (h .edge) (subst (λ z. Sim P G (e .from) (z .0)) (h .ends) (h .tail)) (subst (λ z. Sim P G (e .to) (z .1)) (h .ends) (h .head))))
       (λ t. absurd (t (total-by P (sim P G) (h .whole))))
 
   pub rows-are : rows P G ≡ each (rowOf P G) (P .edges)
@@ -68,7 +79,7 @@ module _ (P : Pattern) (G : Graph) where
 -- G is a subgraph of H: the same nodes, perhaps fewer edges
 pub record Subgraph (G H : Graph) : Type 0 where
   pub same-labels : G .labels ≡ H .labels
-  pub more : (f : Pair) → In f (G .edges) → In f (H .edges)
+  pub more : (f : Edge) → In f (G .edges) → In f (H .edges)
 
 pub subgraph-sim : (P : Pattern) (G H : Graph) (R : ℕ → ℕ → Type 0) → Subgraph G H → IsSim P G R → IsSim P H R
 subgraph-sim P G H R m s = record {
@@ -77,7 +88,7 @@ subgraph-sim P G H R m s = record {
     right = subst (λ l. v < length l) (m .same-labels) (f .right);
     label = subst (λ l. T (bit (getD l v 0) (getD (P .labels) u 0))) (m .same-labels) (f .label);
   });
-  follow = λ u v r w i. let n = s .follow u v r w i in (n .0, m .more (v, n .0) (n .1), n .2);
+  follow = λ u v r e i q. let n = s .follow u v r e i q in (n .0, m .more (n .0) (n .1), n .2, n .3);
 }
 
 pub subgraph-fewer : (P : Pattern) (G H : Graph) → Subgraph G H → (u v : ℕ) → Sim P G u v → Sim P H u v
@@ -102,10 +113,10 @@ pub compose : (P Q : Pattern) (G : Graph) (R S : ℕ → ℕ → Type 0) → IsS
 unfolding asGraph
 compose P Q G R S r s = record {
   fit = λ w v p. fits-by P G (fits-through P Q G (fits-say P (asGraph Q) (r .fit w (p .0) (p .1))) (fits-say Q G (s .fit (p .0) v (p .2))));
-  follow = λ w v p x i.
-      let a = r .follow w (p .0) (p .1) x i in
-      let b = s .follow (p .0) v (p .2) (a .0) (a .1) in
-      (b .0, b .1, (a .0, a .2, b .2));
+  follow = λ w v p x i q.
+      let a = r .follow w (p .0) (p .1) x i q in
+      let b = s .follow (p .0) v (p .2) (a .0) (a .1) (a .2) in
+      (b .0, b .1, b .2, (a .0 .to, a .3, b .3));
 }
 
 -- the greatest simulation of P in Q, followed by that of Q in G, lies in that of P in G
@@ -114,43 +125,45 @@ sim-through P Q G w u v i j =
     sim-most P G (λ a c. (b : ℕ) × Sim P (asGraph Q) a b × Sim Q G b c) (compose P Q G (Sim P (asGraph Q)) (Sim Q G) (sim-is P (asGraph Q)) (sim-is Q G)) w v (u, i, j)
 
 -- an edge that matches an edge that matches an edge
-pub matches-through : (P Q : Pattern) (G : Graph) (g e f : Pair) → Matches P (asGraph Q) g e → Matches Q G e f → Matches P G g f
+pub matches-through : (P Q : Pattern) (G : Graph) (g e : Edge) (f : Pair) → Matches P (asGraph Q) g (asPair e) → Matches Q G e f → Matches P G g f
 unfolding asGraph
 matches-through P Q G g e f a b = record {
   whole = λ w l.
       let p = a .whole w l in
       let q = b .whole (p .0) (omega (arith, fits-say P (asGraph Q) (sim-is P (asGraph Q) .fit w (p .0) (p .1)) .right, length-each (λ k. 2 ^ k) (Q .labels))) in
       (q .0, sim-through P Q G w (p .0) (q .0) (p .1) (q .1));
+  link = b .link;
   edge = b .edge;
-  tail = sim-through P Q G (g .0) (e .0) (f .0) (a .tail) (b .tail);
-  head = sim-through P Q G (g .1) (e .1) (f .1) (a .head) (b .head);
+  ends = b .ends;
+  tail = sim-through P Q G (g .from) (e .from) (f .0) (a .tail) (b .tail);
+  head = sim-through P Q G (g .to) (e .to) (f .1) (a .head) (b .head);
 }
 
 -- what `sound` says
 pub record Sound (P : Pattern) : Type 0 where
-  pub ends : (e : Pair) → In e (P .edges) → (e .0 < length (P .labels)) × (e .1 < length (P .labels))
-  pub touched : (u : ℕ) → u < length (P .labels) → (e : Pair) × In e (P .edges) × ((e .0 ≡ u) ⊎ (e .1 ≡ u))
+  pub ends : (e : Edge) → In e (P .edges) → (e .from < length (P .labels)) × (e .to < length (P .labels))
+  pub touched : (u : ℕ) → u < length (P .labels) → (e : Edge) × In e (P .edges) × ((e .from ≡ u) ⊎ (e .to ≡ u))
 
 pub sound-say : (P : Pattern) → T (sound P) → Sound P
 unfolding sound
 sound-say P h = record {
-  ends = λ e i. let r = every-in _ (and-left _ _ h) i in (ltb→lt (e .0) _ (and-left _ _ r), ltb→lt (e .1) _ (and-right _ _ r));
+  ends = λ e i. let r = every-in _ (and-left _ _ h) i in (ltb→lt (e .from) _ (and-left _ _ r), ltb→lt (e .to) _ (and-right _ _ r));
   touched = λ u l.
       let r = some-in _ (P .edges) (every-in _ (and-right _ _ h) (in-below _ u l)) in
       (r .0, r .1, which (r .0) u (or-cases _ _ (r .2)));
 }
   where
-    which : (e : Pair) (u : ℕ) → T (eqb (e .0) u) ⊎ T (eqb (e .1) u) → (e .0 ≡ u) ⊎ (e .1 ≡ u)
-    which e u (inl t) = inl (eqb→eq (e .0) u t)
-    which e u (inr t) = inr (eqb→eq (e .1) u t)
+    which : (e : Edge) (u : ℕ) → T (eqb (e .from) u) ⊎ T (eqb (e .to) u) → (e .from ≡ u) ⊎ (e .to ≡ u)
+    which e u (inl t) = inl (eqb→eq (e .from) u t)
+    which e u (inr t) = inr (eqb→eq (e .to) u t)
 
 pub sound-by : (P : Pattern) → Sound P → T (sound P)
 unfolding sound
 sound-by P s =
     both _ _
-    (in-every _ (P .edges) λ e i. let r = s .ends e i in both _ _ (lt→ltb (e .0) _ (r .0)) (lt→ltb (e .1) _ (r .1)))
+    (in-every _ (P .edges) λ e i. let r = s .ends e i in both _ _ (lt→ltb (e .from) _ (r .0)) (lt→ltb (e .to) _ (r .1)))
     (in-every _ (below (length (P .labels))) λ u i. let r = s .touched u (below-in _ i) in in-some _ (r .1) (which (r .0) u (r .2)))
   where
-    which : (e : Pair) (u : ℕ) → (e .0 ≡ u) ⊎ (e .1 ≡ u) → T (eqb (e .0) u or eqb (e .1) u)
-    which e u (inl q) = or-left _ _ (subst (λ z. T (eqb (e .0) z)) q (eqb-refl (e .0)))
-    which e u (inr q) = or-right (eqb (e .0) u) _ (subst (λ z. T (eqb (e .1) z)) q (eqb-refl (e .1)))
+    which : (e : Edge) (u : ℕ) → (e .from ≡ u) ⊎ (e .to ≡ u) → T (eqb (e .from) u or eqb (e .to) u)
+    which e u (inl q) = or-left _ _ (subst (λ z. T (eqb (e .from) z)) q (eqb-refl (e .from)))
+    which e u (inr q) = or-right (eqb (e .from) u) _ (subst (λ z. T (eqb (e .to) z)) q (eqb-refl (e .to)))

@@ -1,5 +1,6 @@
 -- The match sets edge by edge, the order of a graph's edges, and what a sheet needs of a list.
 use mathlib.Core.Path.{_≡_, refl, sym, ap, subst, _∙_}
+use mathlib.Core.Bool.{Bool}
 use mathlib.Core.List.{List, []}
 use Prim.Native.Nat.{ℕ, _^_, _≤_, _<_}
 use native.Mathlib.Omega.{arith}
@@ -7,8 +8,8 @@ use lib.ListN.{length, getD}
 use Rattle.packed.specs.Formats.{code}
 use Rattle.packed.specs.Distinct.{Increasing}
 use Rattle.packed.specs.Contents.{distinct}
-use Rattle.matching.specs.Lists.{In, gather, each}
-use Rattle.matching.specs.Simulation.{Pair, Pattern, Graph, sim, total, row, ascending, matchSets, viewSheet}
+use Rattle.matching.specs.Lists.{_and_, In, keep, gather, each}
+use Rattle.matching.specs.Simulation.{Pair, Edge, has, asPair, noEdge, Pattern, Graph, sim, total, row, ascending, matchSets, viewSheet}
 use Rattle.matching.proofs.ByEdge.{rowOf}
 use Rattle.matching.proofs.ListLaws.{cond-case, keep-length, gather-in, each-in, in-each, each-same, length-each, getD-each, in-at}
 use Rattle.matching.proofs.MatchLaws.{Matches, row-say, row-by, Subgraph, subgraph-fewer}
@@ -16,7 +17,10 @@ use Rattle.matching.proofs.CodeLaws.{ascending-say, ascending-same, asc
 
 -- the ends of each edge have 12 bits
 abbrev pub Narrow : Graph → Type 0
-Narrow G = (f : Pair) → In f (G .edges) → (f .0 < 4096) × (f .1 < 4096)
+Narrow G = (f : Edge) → In f (G .edges) → (f .from < 4096) × (f .to < 4096)
+
+pub matches-narrow : {P : Pattern} {G : Graph} {e : Edge} {f : Pair} → Narrow G → Matches P G e f → (f .0 < 4096) × (f .1 < 4096)
+matches-narrow n m = subst (λ z. (z .0 < 4096) × (z .1 < 4096)) (sym (m .ends)) (n (m .link) (m .edge))
 
 module _ (P : Pattern) (G : Graph) where
   pub sets-each : matchSets P G ≡ each (λ e. ascending (rowOf P G e)) (P .edges)
@@ -38,37 +42,42 @@ module _ (P : Pattern) (G : Graph) where
   view-length = ap length view-sheet ∙ sets-length
 
   -- the match set of the edge number i
-  pub set-at : (i : ℕ) → i < length (P .edges) → getD (matchSets P G) i [] ≡ ascending (rowOf P G (getD (P .edges) i (0, 0)))
-  set-at i h = ap (λ ls. getD ls i []) sets-each ∙ getD-each (λ e. ascending (rowOf P G e)) (P .edges) i (0, 0) [] h
+  pub set-at : (i : ℕ) → i < length (P .edges) → getD (matchSets P G) i [] ≡ ascending (rowOf P G (getD (P .edges) i noEdge))
+  set-at i h = ap (λ ls. getD ls i []) sets-each ∙ getD-each (λ e. ascending (rowOf P G e)) (P .edges) i noEdge [] h
 
   -- each match set is that of an edge
-  pub sets-in : {l : List ℕ} → In l (matchSets P G) → (e : Pair) × In e (P .edges) × (l ≡ ascending (rowOf P G e))
+  pub sets-in : {l : List ℕ} → In l (matchSets P G) → (e : Edge) × In e (P .edges) × (l ≡ ascending (rowOf P G e))
   sets-in {l} i = each-in _ (P .edges) (subst (λ ls. In l ls) sets-each i)
 
-  pub in-sets : {e : Pair} → In e (P .edges) → In (ascending (rowOf P G e)) (matchSets P G)
+  pub in-sets : {e : Edge} → In e (P .edges) → In (ascending (rowOf P G e)) (matchSets P G)
   in-sets {e} i = subst (λ ls. In (ascending (rowOf P G e)) ls) (sym sets-each) (in-each (λ g. ascending (rowOf P G g)) i)
 
-  pub row-length : (e : Pair) → length (rowOf P G e) ≤ length (G .edges)
+  pub row-length : (e : Edge) → length (rowOf P G e) ≤ length (G .edges)
   unfolding rowOf row
-  row-length e = cond-case (λ l. length l ≤ length (G .edges)) (total P (sim P G)) (row G (sim P G) e) [] (λ t. keep-length _ (G .edges)) (λ t. omega arith)
+  row-length e = cond-case (λ l. length l ≤ length (G .edges)) (total P (sim P G)) (row G (sim P G) e) [] (λ t. omega (arith, length-each asPair (keep both-ends (G .edges)), keep-length both-ends (G .edges))) (λ t. omega arith)
+    where
+      both-ends : Edge → Bool
+      both-ends f = has (e .from, f .from) (sim P G) and has (e .to, f .to) (sim P G)
 
 pub view-same : (P : Pattern) (G H : Graph) → matchSets P G ≡ matchSets P H → viewSheet P G ≡ viewSheet P H
 view-same P G H q = view-sheet P G ∙ q ∙ sym (view-sheet P H)
 
 -- ---- the same edges in another order
-pub subgraph-matches : (P : Pattern) (G H : Graph) → Subgraph G H → {e f : Pair} → Matches P G e f → Matches P H e f
+pub subgraph-matches : (P : Pattern) (G H : Graph) → Subgraph G H → {e : Edge} {f : Pair} → Matches P G e f → Matches P H e f
 subgraph-matches P G H w {e} {f} m = record {
   whole = λ u l. let p = m .whole u l in (p .0, subgraph-fewer P G H w u (p .0) (p .1));
-  edge = w .more f (m .edge);
-  tail = subgraph-fewer P G H w (e .0) (f .0) (m .tail);
-  head = subgraph-fewer P G H w (e .1) (f .1) (m .head);
+  link = m .link;
+  edge = w .more (m .link) (m .edge);
+  ends = m .ends;
+  tail = subgraph-fewer P G H w (e .from) (f .0) (m .tail);
+  head = subgraph-fewer P G H w (e .to) (f .1) (m .head);
 }
 
 -- graphs with the same labels and the same edges, in whatever order, have the same match sets
 pub order-free : (P : Pattern) (G H : Graph) → Subgraph G H → Subgraph H G → matchSets P G ≡ matchSets P H
 order-free P G H a b = sets-each P G ∙ each-same _ _ (P .edges) (λ e i. set e) ∙ sym (sets-each P H)
   where
-    set : (e : Pair) → ascending (rowOf P G e) ≡ ascending (rowOf P H e)
+    set : (e : Edge) → ascending (rowOf P G e) ≡ ascending (rowOf P H e)
     set e =
         ascending-same (rowOf P G e) (rowOf P H e)
         (λ f i. row-by P H (subgraph-matches P G H a (row-say P G i)))
@@ -86,30 +95,32 @@ listable-by l n s h = record { rises = increasing-at l n; small = λ i k. s _ (i
 pub sets-listable : (P : Pattern) (G : Graph) → Narrow G → length (G .edges) ≤ 8192 → (l : List ℕ) → In l (matchSets P G) → Listable l
 sets-listable P G n h l i = of-edge (sets-in P G i)
   where
-    of-edge : (e : Pair) × In e (P .edges) × (l ≡ ascending (rowOf P G e)) → Listable l
+    of-edge : (e : Edge) × In e (P .edges) × (l ≡ ascending (rowOf P G e)) → Listable l
     of-edge (e, j, q) = subst Listable (sym q) (listable-by (ascending (rowOf P G e)) (ascending-increasing (rowOf P G e)) small most)
       where
         small : (c : ℕ) → In c (ascending (rowOf P G e)) → c < 2 ^ 24
-        small c k = let r = ascending-say _ k in let z = n (r .0) (row-say P G (r .1) .edge) in omega arith
+        small c k = let r = ascending-say _ k in let z = matches-narrow n (row-say P G (r .1)) in omega arith
 
         most : length (ascending (rowOf P G e)) ≤ 8192
         most = omega (arith, ascending-length (rowOf P G e), row-length P G e)
 
 -- ---- a book made from a graph has at most as many different pairs as the graph has edges
-pub set-edge : (P : Pattern) (G : Graph) {l : List ℕ} {c : ℕ} → In l (matchSets P G) → In c l → In c (each (λ f. code (f .0) (f .1)) (G .edges))
+pub set-edge : (P : Pattern) (G : Graph) {l : List ℕ} {c : ℕ} → In l (matchSets P G) → In c l → In c (each (λ f. code (f .from) (f .to)) (G .edges))
 set-edge P G {l} {c} i j = of-list (sets-in P G i)
   where
-    of-edge : (e : Pair) → (f : Pair) × In f (rowOf P G e) × (c ≡ code (f .0) (f .1)) → In c (each (λ f. code (f .0) (f .1)) (G .edges))
-    of-edge e (f, k, q) = subst (λ z. In z (each (λ f. code (f .0) (f .1)) (G .edges))) (sym q) (in-each (λ f. code (f .0) (f .1)) (row-say P G k .edge))
+    of-edge : (e : Edge) → (f : Pair) × In f (rowOf P G e) × (c ≡ code (f .0) (f .1)) → In c (each (λ f. code (f .from) (f .to)) (G .edges))
+    of-edge e (f, k, q) =
+        let m = row-say P G k in
+        subst (λ z. In z (each (λ f. code (f .from) (f .to)) (G .edges))) (sym (q ∙ ap (λ (p : Pair). code (p .0) (p .1)) (m .ends))) (in-each (λ f. code (f .from) (f .to)) (m .edge))
 
-    of-list : (e : Pair) × In e (P .edges) × (l ≡ ascending (rowOf P G e)) → In c (each (λ f. code (f .0) (f .1)) (G .edges))
+    of-list : (e : Edge) × In e (P .edges) × (l ≡ ascending (rowOf P G e)) → In c (each (λ f. code (f .from) (f .to)) (G .edges))
     of-list (e, k, q) = of-edge e (ascending-say _ (subst (λ z. In c z) q j))
 
 pub book-pairs : (Ps : List Pattern) (G : Graph) → length (distinct (gather (λ P. gather (λ l. l) (viewSheet P G)) Ps)) ≤ length (G .edges)
 book-pairs Ps G =
     omega (
       arith,
-      distinct-fewer (gather (λ P. gather (λ l. l) (viewSheet P G)) Ps) (each (λ f. code (f .0) (f .1)) (G .edges))
+      distinct-fewer (gather (λ P. gather (λ l. l) (viewSheet P G)) Ps) (each (λ f. code (f .from) (f .to)) (G .edges))
           (λ c i. let p = gather-in _ Ps i in let r = gather-in (λ l. l) (viewSheet (p .0) G) (p .2) in set-edge (p .0) G (subst (λ ls. In (r .0) ls) (view-sheet (p .0) G) (r .1)) (r .2)),
-      length-each (λ f. code (f .0) (f .1)) (G .edges),
+      length-each (λ f. code (f .from) (f .to)) (G .edges),
     )

@@ -18,8 +18,8 @@ use Rattle.packed.proofs.DistinctLaws.{distinct-own}
 use Rattle.packed.proofs.SheetLaws.{Rising, rising-none, rising-next, Fit, fit-next}
 use Rattle.packed.proofs.MatchLaws.{fit-lists}
 use Rattle.matching.specs.Lists.{_and_, In, each, keep, put, upTo}
-use Rattle.matching.specs.Simulation.{Pair, Pattern, Graph, bit, has, sim, row, ascending, matchSets}
-use Rattle.matching.specs.Steps.{patternIn, graphIn, Ready, Edges}
+use Rattle.matching.specs.Simulation.{Pair, Edge, asPair, Pattern, Graph, bit, has, sim, row, ascending, matchSets}
+use Rattle.matching.specs.Steps.{edgeAt, edgeOfWord, patternIn, graphIn, Ready, Edges}
 use Rattle.matching.specs.Matched.{Proper, Rises, Matched}
 use Rattle.matching.proofs.ListLaws.{and-left, and-right, both, same-test}
 use Rattle.matching.proofs.SimLaws.{has-in, in-has}
@@ -39,30 +39,31 @@ rising-increasing (rising-next h s r) = (below-rising r, rising-increasing r)
 fit-first : {l : List ℕ} {ls : List (List ℕ)} → Fit (l ∷ ls) → Rising 0 l × Fit ls
 fit-first (fit-next r h f) = (r, f)
 
--- edges by their codes, in order
+-- pairs by their codes, in order
 abbrev pub coded : List Pair → List ℕ
 coded l = each (λ f. code (f .0) (f .1)) l
 
-coded-put : (b : Bool) (x : Pair) (l : List Pair) → coded (put b x l) ≡ pick b (code (x .0) (x .1) ∷ coded l) (coded l)
-unfolding each
-coded-put true x l = refl
-coded-put false x l = refl
+module _ {A : Type 0} (pair : A → Pair) (t : A → Bool) where
+  coded-put : (b : Bool) (x : A) (l : List A) → coded (each pair (put b x l)) ≡ pick b (code (pair x .0) (pair x .1) ∷ coded (each pair l)) (coded (each pair l))
+  unfolding each
+  coded-put true x l = refl
+  coded-put false x l = refl
 
--- the codes that are marked with e are those of the edges that pass a test which says the same
-marked-kept : (e : ℕ) (ps qs : List ℕ) (h : ℕ → Pair) (t : Pair → Bool) → length ps ≡ length qs
-    → ((i : ℕ) → i < length ps → marks e (getD qs i 0) ≡ t (h i)) → ((i : ℕ) → i < length ps → getD ps i 0 ≡ code (h i .0) (h i .1))
-    → marked e ps qs ≡ coded (keep t (upTo h (length ps)))
-unfolding marked upTo keep
-marked-kept e [] qs h t l m c = unfold each in refl
-marked-kept e (p ∷ ps) [] h t l m c = absurd (omega arith)
-marked-kept e (p ∷ ps) (q ∷ qs) h t l m c =
-    ap (λ (b : Bool). pick b (p ∷ marked e ps qs) (marked e ps qs)) (m 0 (omega arith))
-    ∙ ap₂ (λ (x : ℕ) (l : List ℕ). pick (t (h 0)) (x ∷ l) l) (c 0 (omega arith))
-    (marked-kept e ps qs (λ i. h (suc i)) t (omega arith) (λ i j. m (suc i) (omega arith)) (λ i j. c (suc i) (omega arith)))
-    ∙ sym (coded-put (t (h 0)) (h 0) (keep t (upTo (λ i. h (suc i)) (length ps))))
+  -- the codes that are marked with e are those of the pairs that pass a test which says the same
+  marked-kept : (e : ℕ) (ps qs : List ℕ) (h : ℕ → A) → length ps ≡ length qs
+      → ((i : ℕ) → i < length ps → marks e (getD qs i 0) ≡ t (h i)) → ((i : ℕ) → i < length ps → getD ps i 0 ≡ code (pair (h i) .0) (pair (h i) .1))
+      → marked e ps qs ≡ coded (each pair (keep t (upTo h (length ps))))
+  unfolding marked upTo keep
+  marked-kept e [] qs h l m c = unfold each in refl
+  marked-kept e (p ∷ ps) [] h l m c = absurd (omega arith)
+  marked-kept e (p ∷ ps) (q ∷ qs) h l m c =
+      ap (λ (b : Bool). pick b (p ∷ marked e ps qs) (marked e ps qs)) (m 0 (omega arith))
+      ∙ ap₂ (λ (x : ℕ) (l : List ℕ). pick (t (h 0)) (x ∷ l) l) (c 0 (omega arith))
+      (marked-kept e ps qs (λ i. h (suc i)) (omega arith) (λ i j. m (suc i) (omega arith)) (λ i j. c (suc i) (omega arith)))
+      ∙ sym (coded-put (t (h 0)) (h 0) (keep t (upTo (λ i. h (suc i)) (length ps))))
 
 -- the lists of so many edges of a pattern, each by itself
-from-each : (e k : ℕ) (ps qs : List ℕ) (g : ℕ → Pair) (f : Pair → List ℕ) → Fit (markedFrom e k ps qs)
+from-each : {A : Type 0} (e k : ℕ) (ps qs : List ℕ) (g : ℕ → A) (f : A → List ℕ) → Fit (markedFrom e k ps qs)
     → ((j : ℕ) → j < k → (i : ℕ) → i ≡ e + j → distinct (marked i ps qs) ≡ f (g j)) → markedFrom e k ps qs ≡ each f (upTo g k)
 unfolding markedFrom upTo each
 from-each e zero ps qs g f t h = refl
@@ -76,7 +77,7 @@ marks-bit : (e q : ℕ) → marks e q ≡ bit q e
 unfolding marks bit
 marks-bit e q = refl
 
--- the lists of n pairs by their masks, each by the edges h i that pass a test, and all or none of them
+-- the lists of n pairs by their masks, each by what passes a test, and all or none of them
 module _ {n : ℕ} {w : List ℕ} (k : MarkedPairs n w) where
   abbrev codes : List ℕ
   codes = take n w
@@ -84,24 +85,24 @@ module _ {n : ℕ} {w : List ℕ} (k : MarkedPairs n w) where
   abbrev masks : List ℕ
   masks = take n (drop 8192 w)
 
-  pub row-marked : (e : ℕ) (h : ℕ → Pair) (t : Pair → Bool) → ((i : ℕ) → i < n → bit (getD w (8192 + i) 0) e ≡ t (h i)) → ((i : ℕ) → i < n → getD w i 0 ≡ code (h i .0) (h i .1))
-      → distinct (marked e codes masks) ≡ ascending (keep t (upTo h n))
+  pub row-marked : {A : Type 0} (e : ℕ) (h : ℕ → A) (pair : A → Pair) (t : A → Bool) → ((i : ℕ) → i < n → bit (getD w (8192 + i) 0) e ≡ t (h i))
+      → ((i : ℕ) → i < n → getD w i 0 ≡ code (pair (h i) .0) (pair (h i) .1)) → distinct (marked e codes masks) ≡ ascending (each pair (keep t (upTo h n)))
   unfolding ascending
-  row-marked e h t m c =
+  row-marked e h pair t m c =
       let b = k .most in
       let o = k .long in
       let x : length codes ≡ n = length-take-le n w (omega arith) in
       let y : length masks ≡ n = length-take-le n (drop 8192 w) (omega (arith, length-drop 8192 w)) in
-      ap distinct (marked-kept e codes masks h t (x ∙ sym y)
+      ap distinct (marked-kept pair t e codes masks h (x ∙ sym y)
       (λ i l.
       let j : i < n = omega arith in
       marks-bit e (getD masks i 0) ∙ ap (λ (z : ℕ). bit z e) (getD-take n (drop 8192 w) i 0 j ∙ getD-drop 8192 w i 0) ∙ m i j)
       (λ i l.
       let j : i < n = omega arith in
       getD-take n w i 0 j ∙ c i j)
-      ∙ ap (λ (z : ℕ). coded (keep t (upTo h z))) x)
+      ∙ ap (λ (z : ℕ). coded (each pair (keep t (upTo h z)))) x)
 
-  pub sets-marked : (m : ℕ) (g : ℕ → Pair) (f : Pair → List Pair) → ((e : ℕ) → e < m → distinct (marked e codes masks) ≡ ascending (f (g e)))
+  pub sets-marked : {A : Type 0} (m : ℕ) (g : ℕ → A) (f : A → List Pair) → ((e : ℕ) → e < m → distinct (marked e codes masks) ≡ ascending (f (g e)))
       → matchesOf n m w ≡ allOrNone (each (λ e. ascending (f e)) (upTo g m))
   unfolding matchesOf
   sets-marked m g f r =
@@ -128,14 +129,11 @@ module _ {p : Given} {s : List ℕ} {n m : ℕ} {w w₂ : List ℕ} (ready : Rea
   abbrev G : Graph
   G = graphIn s n m w
 
-  abbrev ends : ℕ → Pair
-  ends e = (getD (p .from) e 0, getD (p .to) e 0)
+  abbrev edge : ℕ → Edge
+  edge i = edgeOfWord (getD w i 0)
 
-  abbrev edge : ℕ → Pair
-  edge i = (getD w i 0 / 4096, getD w i 0 % 4096)
-
-  abbrev passes : ℕ → Pair → Bool
-  passes e f = has (ends e .0, f .0) (sim P G) and has (ends e .1, f .1) (sim P G)
+  abbrev passes : ℕ → Edge → Bool
+  passes e f = has (edgeAt p e .from, f .from) (sim P G) and has (edgeAt p e .to, f .to) (sim P G)
 
   long : length w₂ ≡ 16384
   long = k .edges .long ∙ ready .long
@@ -157,15 +155,15 @@ module _ {p : Given} {s : List ℕ} {n m : ℕ} {w w₂ : List ℕ} (ready : Rea
           rises = λ i j l h. rw (k .edges .same i (omega arith), k .edges .same j (omega arith)) (rises i j l h);
         }
 
-    edge-row : (e : ℕ) → e < p .edges → distinct (marked e (take m w₂) (take m (drop 8192 w₂))) ≡ ascending (row G (sim P G) (ends e))
+    edge-row : (e : ℕ) → e < p .edges → distinct (marked e (take m w₂) (take m (drop 8192 w₂))) ≡ ascending (row G (sim P G) (edgeAt p e))
     unfolding row graphIn
     edge-row e l =
-        row-marked pairs-marked e edge (passes e) (λ i h. test e i l h)
+        row-marked pairs-marked e edge asPair (passes e) (λ i h. test e i l h)
         (λ i h. let b = ready .edges in k .edges .same i (omega arith) ∙ omega arith)
 
     edge-sets : matchesOf m (p .edges) w₂ ≡ matchSets P G
     unfolding patternIn
-    edge-sets = sets-marked pairs-marked (p .edges) ends (row G (sim P G)) edge-row ∙ sym (sets-all-or-none P G (proper .sound))
+    edge-sets = sets-marked pairs-marked (p .edges) (edgeAt p) (row G (sim P G)) edge-row ∙ sym (sets-all-or-none P G (proper .sound))
 
     pub matches : Matched p s n m w w₂
     matches = record { edges = k .edges; marked = pairs-marked; sets = edge-sets; only = k .only }

@@ -12,15 +12,16 @@ use Rattle.packed.specs.Contents.{nodesOf, edgesOf}
 use Rattle.packed.specs.Plain.{PlainPattern, fromAt, toAt}
 use Rattle.packed.specs.ByValue.{HoldsPattern}
 use Rattle.packed.specs.declared.by_value.Pattern.{Pattern as Given}
-use Rattle.matching.specs.Simulation.{Pair, Pattern, edgesIn, patternOf, sound}
+use Rattle.matching.specs.Simulation.{Edge, between, Pattern, edgesIn, patternOf, sound}
 use Rattle.matching.specs.Steps.{patternIn, Fair}
+use Rattle.matching.specs.Steps.{edgeAt as givenAt}
 use Rattle.matching.specs.Lists.{upTo}
 use Rattle.matching.specs.Matched.{Proper}
 use Rattle.matching.proofs.UpToLaws.{upTo-same}
 use Rattle.matching.proofs.MatchLaws.{Sound, sound-by}
 use Rattle.matching.proofs.EdgeLaws.{edgeAt, edgesIn-upTo, edgesIn-length, edgesIn-at, at-edgesIn}
 
-abbrev made : List ℕ → List Pair → Pattern
+abbrev made : List ℕ → List Edge → Pattern
 made l es = record { labels = l; edges = es }
 
 module _ {ws : List ℕ} {bs : List Bool} (q : PlainPattern ws bs) where
@@ -70,7 +71,7 @@ module _ {ws : List ℕ} {bs : List Bool} (q : PlainPattern ws bs) where
             let a = q .edges .are-nodes (2 * r .at) (omega (arith, ends-long)) in
             let b = q .edges .are-nodes (2 * r .at + 1) (omega (arith, ends-long)) in
             let c : (fromAt (q .ends) (r .at) < length (q .labels)) × (toAt (q .ends) (r .at) < length (q .labels)) = (omega arith, omega arith) in
-            subst (λ f. (f .0 < length (q .labels)) × (f .1 < length (q .labels))) (sym (r .holds)) c;
+            subst (λ f. (f .from < length (q .labels)) × (f .to < length (q .labels))) (sym (r .holds)) c;
         touched = λ u l.
             let r = q .met u (omega (arith, q .label-each)) in
             let i : ℕ = r .0 in
@@ -132,13 +133,10 @@ module _ {ws : List ℕ} {bs : List Bool} (q : PlainPattern ws bs) where
         ext-getD 0 labels-front (q .labels) (front-long ∙ nodes-are ∙ sym (q .label-each))
         (λ i l. getD-take (p .nodes) (p .labels) i 0 (omega (arith, front-long)) ∙ label-at i (omega (arith, front-long, nodes-are)))
 
-    abbrev ends-by : ℕ → Pair
-    ends-by e = (getD (p .from) e 0, getD (p .to) e 0)
-
-    edges-same : upTo ends-by (p .edges) ≡ edgesIn (q .ends)
+    edges-same : upTo (givenAt p) (p .edges) ≡ edgesIn (q .ends)
     edges-same =
-        ap (upTo ends-by) edges-are
-        ∙ upTo-same ends-by (edgeAt (q .ends)) (q .number) (λ i l. λ z. (from-at i l z, to-at i l z))
+        ap (upTo (givenAt p)) edges-are
+        ∙ upTo-same (givenAt p) (edgeAt (q .ends)) (q .number) (λ i l. λ z. between (from-at i l z) (to-at i l z))
         ∙ sym (edgesIn-upTo (q .ends) (q .number) ends-long)
 
     -- by value it means the same

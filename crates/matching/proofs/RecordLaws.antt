@@ -15,8 +15,8 @@ use Rattle.packed.specs.Distinct.{Increasing}
 use Rattle.packed.proofs.DistinctLaws.{member-distinct, distinct-increasing}
 use Rattle.packed.proofs.GraphLaws.{labels-field, record-bounds, ends-below}
 use Rattle.matching.specs.Lists.{In, here, there, upTo}
-use Rattle.matching.specs.Simulation.{Pair, Pattern, Graph, edgesIn, graphOf, matchSets}
-use Rattle.matching.specs.Steps.{graphIn, Ready, Edges}
+use Rattle.matching.specs.Simulation.{Edge, between, Pattern, Graph, edgesIn, graphOf, matchSets}
+use Rattle.matching.specs.Steps.{edgeOfWord, graphIn, Ready, Edges}
 use Rattle.matching.specs.Sweeps.{OneOf}
 use Rattle.matching.specs.Matched.{Rises}
 use Rattle.matching.proofs.ListLaws.{in-at, each-in, in-each}
@@ -40,11 +40,11 @@ module _ (s ws : List ℕ) (e : decode record′ s ≡ ok ws) where
       let z : 2 + nodesOf ws + j ≡ 2 + (nodesOf ws + j) = omega arith in
       rw (getD-drop (2 + nodesOf ws) ws j 0, z) (ends-below s ws e j l)
 
-  edge-below : {f : Pair} → In f (edgesIn (endsOf ws)) → (f .0 < nodesOf ws) × (f .1 < nodesOf ws)
+  edge-below : {f : Edge} → In f (edgesIn (endsOf ws)) → (f .from < nodesOf ws) × (f .to < nodesOf ws)
   edge-below {f} j =
       let r = edgesIn-at (endsOf ws) (edgesOf ws) ends-long j in
       let l = r .below in
-      subst (λ g. (g .0 < nodesOf ws) × (g .1 < nodesOf ws)) (sym (r .holds)) (end-below (2 * r .at) (omega arith), end-below (2 * r .at + 1) (omega arith))
+      subst (λ g. (g .from < nodesOf ws) × (g .to < nodesOf ws)) (sym (r .holds)) (end-below (2 * r .at) (omega arith), end-below (2 * r .at + 1) (omega arith))
 
   pub graph-narrow : Narrow (graphOf ws)
   unfolding graphOf
@@ -64,8 +64,8 @@ module _ {s : List ℕ} {n m : ℕ} {w : List ℕ} (h : Holds s n m w) where
   abbrev ws : List ℕ
   ws = h .fields
 
-  abbrev edge : ℕ → Pair
-  edge i = (getD w i 0 / 4096, getD w i 0 % 4096)
+  abbrev edge : ℕ → Edge
+  edge i = edgeOfWord (getD w i 0)
 
   few : m ≤ 8192
   few = omega (arith, h .edges, record-bounds s ws (h .is) .1)
@@ -83,37 +83,37 @@ module _ {s : List ℕ} {n m : ℕ} {w : List ℕ} (h : Holds s n m w) where
   front-in {c} i = member-in _ (sym (member-distinct c (codes (endsOf ws))) ∙ in-member (subst (λ l. In c l) (h .front) i))
 
   -- each code in the workspace is that of an edge of the content
-  edge-of : (i : ℕ) → i < m → (f : Pair) × In f (edgesIn (endsOf ws)) × (edge i ≡ f)
+  edge-of : (i : ℕ) → i < m → (f : Edge) × In f (edgesIn (endsOf ws)) × (edge i ≡ f)
   edge-of i l =
       let c = front-in (in-at (take m w) i 0 (omega (arith, front-long))) in
-      let r = each-in (λ f. code (f .0) (f .1)) (edgesIn (endsOf ws)) (subst (λ t. In (getD (take m w) i 0) t) (codes-each (endsOf ws)) c) in
+      let r = each-in (λ f. code (f .from) (f .to)) (edgesIn (endsOf ws)) (subst (λ t. In (getD (take m w) i 0) t) (codes-each (endsOf ws)) c) in
       let b = edge-below s ws (h .is) (r .1) in
-      let q : getD w i 0 ≡ code (r .0 .0) (r .0 .1) = sym (front-at i l) ∙ r .2 in
+      let q : getD w i 0 ≡ code (r .0 .from) (r .0 .to) = sym (front-at i l) ∙ r .2 in
       let k = record-bounds s ws (h .is) .0 in
-      let x : getD w i 0 / 4096 ≡ r .0 .0 = omega arith in
-      let y : getD w i 0 % 4096 ≡ r .0 .1 = omega arith in
-      (r .0, r .1, λ z. (x z, y z))
+      let x : getD w i 0 / 4096 ≡ r .0 .from = omega arith in
+      let y : getD w i 0 % 4096 ≡ r .0 .to = omega arith in
+      (r .0, r .1, λ z. between (x z) (y z))
 
-  edge-at : {f : Pair} → In f (edgesIn (endsOf ws)) → OneOf m (λ i. f ≡ edge i)
+  edge-at : {f : Edge} → In f (edgesIn (endsOf ws)) → OneOf m (λ i. f ≡ edge i)
   edge-at {f} j =
-      let c : In (code (f .0) (f .1)) (codes (endsOf ws)) =
-      subst (λ t. In (code (f .0) (f .1)) t) (sym (codes-each (endsOf ws))) (in-each (λ g. code (g .0) (g .1)) j) in
+      let c : In (code (f .from) (f .to)) (codes (endsOf ws)) =
+      subst (λ t. In (code (f .from) (f .to)) t) (sym (codes-each (endsOf ws))) (in-each (λ g. code (g .from) (g .to)) j) in
       let r = in-place (in-front c) in
       let l : r .at < m = omega (arith, r .below, front-long) in
-      let q : code (f .0) (f .1) ≡ getD w (r .at) 0 = r .holds ∙ front-at (r .at) l in
+      let q : code (f .from) (f .to) ≡ getD w (r .at) 0 = r .holds ∙ front-at (r .at) l in
       let b = edge-below s ws (h .is) j in
       let k = record-bounds s ws (h .is) .0 in
-      let x : f .0 ≡ getD w (r .at) 0 / 4096 = omega arith in
-      let y : f .1 ≡ getD w (r .at) 0 % 4096 = omega arith in
-      record { at = r .at; below = l; holds = λ z. (x z, y z) }
+      let x : f .from ≡ getD w (r .at) 0 / 4096 = omega arith in
+      let y : f .to ≡ getD w (r .at) 0 % 4096 = omega arith in
+      record { at = r .at; below = l; holds = λ z. between (x z) (y z) }
 
   ends-in : (i : ℕ) → i < m → (getD w i 0 / 4096 < n) × (getD w i 0 % 4096 < n)
   ends-in i l =
       let r = edge-of i l in
       let b = edge-below s ws (h .is) (r .1) in
       let k = h .nodes in
-      let c : (r .0 .0 < n) × (r .0 .1 < n) = (omega arith, omega arith) in
-      subst (λ f. (f .0 < n) × (f .1 < n)) (sym (r .2)) c
+      let c : (r .0 .from < n) × (r .0 .to < n) = (omega arith, omega arith) in
+      subst (λ f. (f .from < n) × (f .to < n)) (sym (r .2)) c
 
   pub ready-by : length s ≤ 65536 → Ready s n m w
   ready-by l =
@@ -170,7 +170,7 @@ module _ {s : List ℕ} {n m : ℕ} {w : List ℕ} (h : Holds s n m w) where
   pub sets-same : (P : Pattern) → matchSets P (graphIn s n m w) ≡ matchSets P (graphOf ws)
   sets-same P = order-free P (graphIn s n m w) (graphOf ws) below-content above-content
 
-abbrev with-edges : List ℕ → List Pair → Graph
+abbrev with-edges : List ℕ → List Edge → Graph
 with-edges l es = record { labels = l; edges = es }
 
 -- ---- after a match the edges are there for the next
@@ -196,5 +196,4 @@ module _ {m : ℕ} {w w′ : List ℕ} (e : Edges w w′) where
   unfolding graphIn
   graph-again s n b =
       ap (with-edges (upTo (λ v. field s (27 + 32 * v) 32) n))
-      (upTo-same (λ i. (getD w′ i 0 / 4096, getD w′ i 0 % 4096)) (λ i. (getD w i 0 / 4096, getD w i 0 % 4096)) m
-      (λ i l. ap (λ (x : ℕ). (x / 4096, x % 4096)) (e .same i (omega arith))))
+      (upTo-same (λ i. edgeOfWord (getD w′ i 0)) (λ i. edgeOfWord (getD w i 0)) m (λ i l. ap edgeOfWord (e .same i (omega arith))))

@@ -1,39 +1,39 @@
 -- An edge that stands in no row can be removed.
-use mathlib.Core.Path.{_≡_, refl, sym, ap, subst, _∙_}
+use mathlib.Core.Path.{_≡_, refl, sym, ap, subst, subst₂, _∙_}
 use mathlib.Core.Bool.{Bool, not}
 use mathlib.Core.List.{List, []}
 use Prim.Native.Nat.{ℕ}
 use lib.Dec.{T, not-T}
 use Rattle.packed.specs.Formats.{code}
-use Rattle.matching.specs.Lists.{_and_, In, keep}
-use Rattle.matching.specs.Simulation.{Pair, same, has, Pattern, Graph, sim, total, row, ascending, matchSets, IsSim}
+use Rattle.matching.specs.Lists.{_and_, In, keep, each}
+use Rattle.matching.specs.Simulation.{has, Edge, sameEdge, asPair, Pattern, Graph, sim, total, row, ascending, matchSets, IsSim}
 use Rattle.matching.proofs.ByEdge.{rowOf, rows}
 use Rattle.matching.specs.Join.{without}
 use Rattle.matching.proofs.ListLaws.{and-left, and-right, both, cond-same, same-test, keep-in, in-keep, keep-same, keep-keep, each-same}
-use Rattle.matching.proofs.SimLaws.{same-eq, has-in, in-has, fits-say, fits-by, sim-is, sim-most}
-use Rattle.matching.proofs.MatchLaws.{Sim, Total, total-say, total-by, Matches, row-by, rows-are, Subgraph, subgraph-fewer}
+use Rattle.matching.proofs.SimLaws.{same-edge, has-in, in-has, fits-say, fits-by, sim-is, sim-most}
+use Rattle.matching.proofs.MatchLaws.{Sim, Total, total-say, total-by, Matches, matches-edge, row-by, rows-are, Subgraph, subgraph-fewer}
 use Rattle.matching.proofs.CodeLaws.{ascending-by}
 use Rattle.matching.proofs.MatchSetLaws.{sets-each, in-sets}
 
-pub without-subgraph : (e : Pair) (G : Graph) → Subgraph (without e G) G
+pub without-subgraph : (e : Edge) (G : Graph) → Subgraph (without e G) G
 unfolding without
 without-subgraph e G = record { same-labels = refl; more = λ f i. keep-in _ (G .edges) i .0 }
 
-module _ (P : Pattern) (G : Graph) (e : Pair) (never : (g : Pair) → In g (P .edges) → In e (rowOf P G g) → ⊥) where
+module _ (P : Pattern) (G : Graph) (e : Edge) (never : (g : Edge) → In g (P .edges) → In (asPair e) (rowOf P G g) → ⊥) where
   abbrev H : Graph
   H = without e G
 
   -- what matches an edge of P is not e
-  other : {g f : Pair} → In g (P .edges) → Matches P G g f → T (not (same e f))
-  other {g} {f} i h = not-T (same e f) λ t. never g i (row-by P G (subst (λ z. Matches P G g z) (sym (same-eq e f t)) h))
+  other : (g f : Edge) → In g (P .edges) → Matches P G g (asPair f) → T (not (sameEdge e f))
+  other g f i h = not-T (sameEdge e f) λ t. never g i (row-by P G (subst (λ z. Matches P G g (asPair z)) (sym (same-edge e f t)) h))
 
   stays : Total P (Sim P G) → IsSim P H (Sim P G)
   unfolding without
   stays a = record {
     fit = λ u v i. let f = fits-say P G (sim-is P G .fit u v i) in fits-by P H (record { left = f .left; right = f .right; label = f .label });
-    follow = λ u v i w j.
-        let n = sim-is P G .follow u v i w j in
-        (n .0, in-keep _ (n .1) (other j (record { whole = a; edge = n .1; tail = i; head = n .2 })), n .2);
+    follow = λ u v i g j q.
+        let n = sim-is P G .follow u v i g j q in
+        (n .0, in-keep _ (n .1) (other g (n .0) j (matches-edge P G g (n .0) a (n .1) (subst₂ (Sim P G) (sym q) (sym (n .2)) i) (n .3))), n .2, n .3);
   }
 
   up : (u v : ℕ) → Sim P H u v → Sim P G u v
@@ -48,25 +48,25 @@ module _ (P : Pattern) (G : Graph) (e : Pair) (never : (g : Pair) → In g (P .e
       (λ t. let a = total-say P (sim P G) t in total-by P (sim P H) λ u l. (a u l .0, down a u (a u l .0) (a u l .1)))
       (λ t. let a = total-say P (sim P H) t in total-by P (sim P G) λ u l. (a u l .0, up u (a u l .0) (a u l .1)))
 
-  pub row-same : (g : Pair) → In g (P .edges) → rowOf P G g ≡ rowOf P (without e G) g
+  pub row-same : (g : Edge) → In g (P .edges) → rowOf P G g ≡ rowOf P (without e G) g
   unfolding rowOf row without
-  row-same g i = cond-same _ _ _ _ [] total-same λ t. kept (total-say P (sim P G) t)
+  row-same g i = cond-same _ _ _ _ [] total-same λ t. ap (each asPair) (kept (total-say P (sim P G) t))
     where
-      on : Graph → Pair → Bool
-      on K f = has (g .0, f .0) (sim P K) and has (g .1, f .1) (sim P K)
+      on : Graph → Edge → Bool
+      on K f = has (g .from, f .from) (sim P K) and has (g .to, f .to) (sim P K)
 
-      kept : Total P (Sim P G) → keep (on G) (G .edges) ≡ keep (on H) (keep (λ f. not (same e f)) (G .edges))
-      kept a = keep-same (on G) (on H) (G .edges) agree ∙ sym (keep-keep (on H) (λ f. not (same e f)) (G .edges) apart)
+      kept : Total P (Sim P G) → keep (on G) (G .edges) ≡ keep (on H) (keep (λ f. not (sameEdge e f)) (G .edges))
+      kept a = keep-same (on G) (on H) (G .edges) agree ∙ sym (keep-keep (on H) (λ f. not (sameEdge e f)) (G .edges) apart)
         where
-          agree : (f : Pair) → In f (G .edges) → on G f ≡ on H f
+          agree : (f : Edge) → In f (G .edges) → on G f ≡ on H f
           agree f j =
               same-test _ _
-              (λ t. both _ _ (in-has (down a (g .0) (f .0) (has-in _ (and-left _ _ t)))) (in-has (down a (g .1) (f .1) (has-in _ (and-right _ _ t)))))
-              (λ t. both _ _ (in-has (up (g .0) (f .0) (has-in _ (and-left _ _ t)))) (in-has (up (g .1) (f .1) (has-in _ (and-right _ _ t)))))
+              (λ t. both _ _ (in-has (down a (g .from) (f .from) (has-in _ (and-left _ _ t)))) (in-has (down a (g .to) (f .to) (has-in _ (and-right _ _ t)))))
+              (λ t. both _ _ (in-has (up (g .from) (f .from) (has-in _ (and-left _ _ t)))) (in-has (up (g .to) (f .to) (has-in _ (and-right _ _ t)))))
 
-          apart : (f : Pair) → In f (G .edges) → T (on H f) → T (not (same e f))
+          apart : (f : Edge) → In f (G .edges) → T (on H f) → T (not (sameEdge e f))
           apart f j t =
-              other i (record { whole = a; edge = j; tail = up (g .0) (f .0) (has-in _ (and-left _ _ t)); head = up (g .1) (f .1) (has-in _ (and-right _ _ t)) })
+              other g f i (matches-edge P G g f a j (up (g .from) (f .from) (has-in _ (and-left _ _ t))) (up (g .to) (f .to) (has-in _ (and-right _ _ t))))
 
   -- it can be removed, and no row changes, nor a match set
   pub edge-removed : rows P G ≡ rows P (without e G)
@@ -76,5 +76,5 @@ module _ (P : Pattern) (G : Graph) (e : Pair) (never : (g : Pair) → In g (P .e
   edge-removed-sets = sets-each P G ∙ each-same _ _ (P .edges) (λ g i. ap ascending (row-same g i)) ∙ sym (sets-each P H)
 
 -- the same, where its code stands in no match set
-pub unlisted-removed : (P : Pattern) (G : Graph) (e : Pair) → ((l : List ℕ) → In l (matchSets P G) → In (code (e .0) (e .1)) l → ⊥) → matchSets P G ≡ matchSets P (without e G)
+pub unlisted-removed : (P : Pattern) (G : Graph) (e : Edge) → ((l : List ℕ) → In l (matchSets P G) → In (code (e .from) (e .to)) l → ⊥) → matchSets P G ≡ matchSets P (without e G)
 unlisted-removed P G e n = edge-removed-sets P G e λ g i j. n (ascending (rowOf P G g)) (in-sets P G i) (ascending-by j)

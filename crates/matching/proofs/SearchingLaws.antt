@@ -1,5 +1,5 @@
 -- The search: all links are due at once and none is free. What is left is the greatest simulation.
-use mathlib.Core.Path.{_≡_, refl, ap, _∙_, sym, subst}
+use mathlib.Core.Path.{_≡_, refl, ap, _∙_, sym, subst, subst₂}
 use mathlib.Core.Logic.{_⊎_, inl, inr, ⊎-elim}
 use mathlib.Core.List.{List}
 use Prim.Native.Nat.{ℕ, _≤_, _<_, _/_, _%_}
@@ -7,7 +7,7 @@ use native.Mathlib.Omega.{arith}
 use lib.ListN.{length, getD}
 use lib.Dec.{T}
 use Rattle.matching.specs.Lists.{In}
-use Rattle.matching.specs.Simulation.{Pair, Pattern, Graph, has, fits, sim, IsSim}
+use Rattle.matching.specs.Simulation.{Edge, between, Pattern, Graph, has, fits, sim, IsSim}
 use Rattle.matching.specs.Sweeps.{Has, OneOf}
 use Rattle.matching.proofs.MaskBits.{none-has}
 use Rattle.matching.proofs.SimLaws.{fits-say, has-in, in-has, sim-is, sim-most}
@@ -16,15 +16,15 @@ use Rattle.matching.specs.Choices.{Safe, Shape, May, Prepared, Fixed}
 use Rattle.matching.proofs.RoundLaws.{fixed-prepared}
 use Rattle.matching.proofs.RestingLaws.{Stands, safe-may, rests-supports}
 
--- the edges are those from f e to t e, for e below m
-pub record Numbered (edges : List Pair) (m : ℕ) (f t : ℕ → ℕ) : Type 0 where
-  pub has : (e : ℕ) → e < m → In (f e, t e) edges
-  pub is : (u x : ℕ) → In (u, x) edges → OneOf m (λ e. (f e ≡ u) × (t e ≡ x))
+-- the edges are those numbered below m
+pub record Numbered (edges : List Edge) (m : ℕ) (numbered : ℕ → Edge) : Type 0 where
+  pub has : (e : ℕ) → e < m → In (numbered e) edges
+  pub is : (f : Edge) → In f edges → OneOf m (λ e. f ≡ numbered e)
 
 -- each pair is held for all links, and the masks have those whose end fits
 pub record Begun (P : Pattern) (G : Graph) (from to : List ℕ) (m n d : ℕ) (w leave arrive : List ℕ) : Type 0 where
-  pub links : Numbered (P .edges) m (λ e. getD from e 0) (λ e. getD to e 0)
-  pub pairs : Numbered (G .edges) d (fromOf w) (toOf w)
+  pub links : Numbered (P .edges) m (λ e. between (getD from e 0) (getD to e 0))
+  pub pairs : Numbered (G .edges) d (λ i. between (fromOf w i) (toOf w i))
   pub nodes : length (G .labels) ≡ n
   pub held : (i e : ℕ) → i < d → e < m → Has (heldAt w i) e
   pub leave-by : (v e : ℕ) → e < m → T (fits P G (getD from e 0, v)) → Has (getD leave v 0) e
@@ -50,13 +50,16 @@ module _ (P : Pattern) (G : Graph) (from to : List ℕ) (m n d : ℕ) (w leave a
   begun-safe free =
       record {
         supports = λ u v p e le nf q.
-            (let i : In (u, getD to e 0) (P .edges) = subst (λ (x : ℕ). In (x, getD to e 0) (P .edges)) q (B .links .has e le) in
-            let s = sim-is P G .follow u v (has-in (u, v) p) (getD to e 0) i in
-            let o = B .pairs .is v (s .0) (s .1) in
+            (let s = sim-is P G .follow u v (has-in (u, v) p) (between (getD from e 0) (getD to e 0)) (B .links .has e le) q in
+            let o = B .pairs .is (s .0) (s .1) in
             record {
               at = o .at;
               below = o .below;
-              holds = (o .holds .0, B .held (o .at) e (o .below) le, subst (λ (x : ℕ). T (has (getD to e 0, x) (sim P G))) (sym (o .holds .1)) (in-has (s .2)));
+              holds = (
+                sym (ap (λ (f : Edge). f .from) (o .holds)) ∙ s .2,
+                B .held (o .at) e (o .below) le,
+                subst (λ (x : ℕ). T (has (getD to e 0, x) (sim P G))) (ap (λ (f : Edge). f .to) (o .holds)) (in-has (s .3)),
+              );
             });
         leaves = λ u v e p le q. B .leave-by v e le (subst (λ (x : ℕ). T (fits P G (x, v))) (sym q) (sim-is P G .fit u v (has-in (u, v) p)));
         arrives = λ u v e p le q. B .arrive-by v e le (subst (λ (x : ℕ). T (fits P G (x, v))) (sym q) (sim-is P G .fit u v (has-in (u, v) p)));
@@ -87,18 +90,20 @@ module _ (P : Pattern) (G : Graph) (from to : List ℕ) (m n d : ℕ) (w leave a
               (λ (q : getD from e 0 ≡ u). subst (λ (x : ℕ). T (fits P G (x, v))) q (B .leave-say v e le (s .leave-part v e (p .0 .0 .leaves e le q))))
               (λ (q : getD to e 0 ≡ u). subst (λ (x : ℕ). T (fits P G (x, v))) q (B .arrive-say v e le (s .arrive-part v e (p .0 .0 .arrives e le q))))
               (p .1 .holds));
-          follow = λ u v p x j.
-              (let k = B .links .is u x j in
+          follow = λ u v p g j t.
+              (let k = B .links .is g j in
               let e = k .at in
-              let o = rests-supports from to m (T₁ .few) (fixed-prepared F E .ends) apart (s .shape begun-shape) (F .rests z) u v (p .0) e (k .below) (all e (k .below)) (k .holds .0) in
+              let a : getD from e 0 ≡ u = sym (ap (λ (f : Edge). f .from) (k .holds)) ∙ t in
+              let b : getD to e 0 ≡ g .to = sym (ap (λ (f : Edge). f .to) (k .holds)) in
+              let o = rests-supports from to m (T₁ .few) (fixed-prepared F E .ends) apart (s .shape begun-shape) (F .rests z) u v (p .0) e (k .below) (all e (k .below)) a in
               let i = o .at in
-              let c = F .falls .same i (o .below) in
-              let g : fromOf w i ≡ v = sym (ap (λ (y : ℕ). y / 4096) c) ∙ o .holds .0 in (
-                toOf w′ i,
-                subst (λ (y : ℕ). In (v, y) (G .edges)) (sym (ap (λ (y : ℕ). y % 4096) c)) (subst (λ (y : ℕ). In (y, toOf w i) (G .edges)) g (B .pairs .has i (o .below))),
+              let c = F .falls .same i (o .below) in (
+                between (fromOf w i) (toOf w i),
+                B .pairs .has i (o .below),
+                sym (ap (λ (y : ℕ). y / 4096) c) ∙ o .holds .0,
                 (
-                  subst (λ (y : ℕ). Stands from to m n leave′ arrive′ y (toOf w′ i)) (k .holds .1) (o .holds .2),
-                  record { at = e; below = k .below; holds = inr (k .holds .1) },
+                  subst₂ (Stands from to m n leave′ arrive′) b (ap (λ (y : ℕ). y % 4096) c) (o .holds .2),
+                  record { at = e; below = k .below; holds = inr b },
                 ),
               ));
         }

@@ -1,5 +1,5 @@
 -- An edge of a query that no view matches: the views' sheets don't tell the query from the query without it, and the query's own does.
-use mathlib.Core.Path.{_≡_, refl, sym, subst}
+use mathlib.Core.Path.{_≡_, refl, sym, ap, subst, _∙_}
 use mathlib.Core.List.{List}
 use Prim.Native.Nat.{ℕ, _^_, _≤_, _<_}
 use native.Mathlib.Omega.{arith}
@@ -7,13 +7,13 @@ use lib.ListN.{length, getD}
 use lib.Dec.{T, T-not}
 use Rattle.packed.specs.Formats.{code}
 use Rattle.matching.specs.Lists.{In}
-use Rattle.matching.specs.Simulation.{Pair, same, bit, Pattern, Graph, asGraph, fits, ascending, matchSets, viewSheet, IsSim, sound}
+use Rattle.matching.specs.Simulation.{Pair, Edge, sameEdge, asPair, bit, Pattern, Graph, asGraph, fits, ascending, matchSets, viewSheet, IsSim, sound}
 use Rattle.matching.proofs.ByEdge.{rowOf, matchedBy, matched, covered}
 use Rattle.matching.specs.Join.{lists, without}
 use Rattle.matching.proofs.ListLaws.{keep-in, in-some, every-fails, length-each, getD-each}
 use Rattle.matching.proofs.Masks.{bit-self}
-use Rattle.matching.proofs.SimLaws.{same-refl, Fits, fits-by, sim-most}
-use Rattle.matching.proofs.MatchLaws.{Matches, row-say, row-by, Sound, sound-say}
+use Rattle.matching.proofs.SimLaws.{same-edge-refl, pair-edge, Fits, fits-by, sim-most}
+use Rattle.matching.proofs.MatchLaws.{Matches, matches-edge, row-say, row-by, Sound, sound-say}
 use Rattle.matching.proofs.CodeLaws.{code-same, ascending-say, ascending-by}
 use Rattle.matching.proofs.MatchSetLaws.{Narrow, sets-in, in-sets, view-sheet, view-same}
 use Rattle.matching.proofs.Removed.{unlisted-removed}
@@ -21,7 +21,7 @@ use Rattle.matching.proofs.JoinLaws.{lists-by}
 use Rattle.matching.proofs.Covered.{narrow-query}
 
 -- no view's sheet changes
-pub uncovered-views : (Q : Pattern) (Ps : List Pattern) (e : Pair) → (T (matched Q Ps e) → ⊥) → (P : Pattern) → In P Ps → viewSheet P (asGraph Q) ≡ viewSheet P (without e (asGraph Q))
+pub uncovered-views : (Q : Pattern) (Ps : List Pattern) (e : Edge) → (T (matched Q Ps e) → ⊥) → (P : Pattern) → In P Ps → viewSheet P (asGraph Q) ≡ viewSheet P (without e (asGraph Q))
 unfolding matched matchedBy
 uncovered-views Q Ps e n P i =
     let q = view-sheet P (asGraph Q) in
@@ -36,7 +36,7 @@ module _ (Q : Pattern) (ok : Sound Q) where
   unfolding asGraph Own
   own-sim = record {
     fit = λ u v r. subst (λ z. T (fits Q (asGraph Q) (u, z))) (r .0) (fits-by Q (asGraph Q) (own u (r .1)));
-    follow = λ u v r w i. (w, subst (λ z. In (z, w) (Q .edges)) (r .0) i, (refl, ok .ends (u, w) i .1));
+    follow = λ u v r e i q. (e, i, q ∙ r .0, (refl, ok .ends e i .1));
   }
     where
       own : (u : ℕ) → u < length (Q .labels) → Fits Q (asGraph Q) u u
@@ -47,30 +47,30 @@ module _ (Q : Pattern) (ok : Sound Q) where
       }
 
   -- a pattern's edge matches itself
-  pub matches-self : {e : Pair} → In e (Q .edges) → Matches Q (asGraph Q) e e
+  pub matches-self : {e : Edge} → In e (Q .edges) → Matches Q (asGraph Q) e (asPair e)
   unfolding asGraph Own
-  matches-self {e} i = record {
-    whole = λ u l. (u, sim-most Q (asGraph Q) Own own-sim u u (refl, l));
-    edge = i;
-    tail = sim-most Q (asGraph Q) Own own-sim (e .0) (e .0) (refl, ok .ends e i .0);
-    head = sim-most Q (asGraph Q) Own own-sim (e .1) (e .1) (refl, ok .ends e i .1);
-  }
+  matches-self {e} i =
+      matches-edge Q (asGraph Q) e e (λ u l. (u, sim-most Q (asGraph Q) Own own-sim u u (refl, l))) i
+      (sim-most Q (asGraph Q) Own own-sim (e .from) (e .from) (refl, ok .ends e i .0))
+      (sim-most Q (asGraph Q) Own own-sim (e .to) (e .to) (refl, ok .ends e i .1))
 
 -- no list has the code of a removed edge
-removed-unlisted : (P : Pattern) (G : Graph) → Narrow G → (e : Pair) → e .1 < 4096 → {l : List ℕ} → In l (matchSets P (without e G)) → In (code (e .0) (e .1)) l → ⊥
+removed-unlisted : (P : Pattern) (G : Graph) → Narrow G → (e : Edge) → e .to < 4096 → {l : List ℕ} → In l (matchSets P (without e G)) → In (code (e .from) (e .to)) l → ⊥
 unfolding without
 removed-unlisted P G n e h {l} i j = of-list (sets-in P (without e G) i)
   where
-    of-edge : (g : Pair) → (f : Pair) × In f (rowOf P (without e G) g) × (code (e .0) (e .1) ≡ code (f .0) (f .1)) → ⊥
+    of-edge : (g : Edge) → (f : Pair) × In f (rowOf P (without e G) g) × (code (e .from) (e .to) ≡ code (f .0) (f .1)) → ⊥
     of-edge g (f, k, q) =
-        let m = keep-in _ (G .edges) (row-say P (without e G) k .edge) in
-        T-not (same e f) (m .1) (subst (λ z. T (same e z)) (code-same h (n f (m .0) .1) q) (same-refl e))
+        let r = row-say P (without e G) k in
+        let m = keep-in _ (G .edges) (r .edge) in
+        let p : asPair e ≡ asPair (r .link) = code-same h (n (r .link) (m .0) .1) (q ∙ ap (λ (x : Pair). code (x .0) (x .1)) (r .ends)) in
+        T-not (sameEdge e (r .link)) (m .1) (subst (λ z. T (sameEdge e z)) (pair-edge p) (same-edge-refl e))
 
-    of-list : (g : Pair) × In g (P .edges) × (l ≡ ascending (rowOf P (without e G) g)) → ⊥
-    of-list (g, k, q) = of-edge g (ascending-say _ (subst (λ z. In (code (e .0) (e .1)) z) q j))
+    of-list : (g : Edge) × In g (P .edges) × (l ≡ ascending (rowOf P (without e G) g)) → ⊥
+    of-list (g, k, q) = of-edge g (ascending-say _ (subst (λ z. In (code (e .from) (e .to)) z) q j))
 
 -- the query's own do
-pub uncovered-query : (Q : Pattern) → T (sound Q) → length (Q .labels) ≤ 4096 → (e : Pair) → In e (Q .edges) → matchSets Q (asGraph Q) ≡ matchSets Q (without e (asGraph Q)) → ⊥
+pub uncovered-query : (Q : Pattern) → T (sound Q) → length (Q .labels) ≤ 4096 → (e : Edge) → In e (Q .edges) → matchSets Q (asGraph Q) ≡ matchSets Q (without e (asGraph Q)) → ⊥
 uncovered-query Q s h e i q =
     let ok = sound-say Q s in
     let l = ascending (rowOf Q (asGraph Q) e) in
@@ -79,6 +79,6 @@ uncovered-query Q s h e i q =
     (ascending-by (row-by Q (asGraph Q) (matches-self Q ok i)))
 
 -- where the query is not covered there is such an edge
-pub uncovered-edge : (Q : Pattern) (Ps : List Pattern) → (T (covered Q Ps) → ⊥) → (e : Pair) × In e (Q .edges) × (T (matched Q Ps e) → ⊥)
+pub uncovered-edge : (Q : Pattern) (Ps : List Pattern) → (T (covered Q Ps) → ⊥) → (e : Edge) × In e (Q .edges) × (T (matched Q Ps e) → ⊥)
 unfolding covered
 uncovered-edge Q Ps n = every-fails (matched Q Ps) (Q .edges) n

@@ -7,7 +7,7 @@ use Rattle.packed.specs.Formats.{code}
 use Rattle.packed.specs.Contents.{member}
 use Rattle.matching.specs.Lists.{_and_, _implies_, every, some, keep, gather, each}
 use Rattle.matching.specs.Greatest.{greatest}
-use Rattle.matching.specs.Simulation.{Pair, same, Pattern, Graph, asGraph, ascending, viewSheet}
+use Rattle.matching.specs.Simulation.{Pair, Edge, sameEdge, Pattern, Graph, asGraph, ascending, viewSheet}
 
 -- ---- answering
 
@@ -20,24 +20,24 @@ pub record View : Type 0 where
 unfoldable pub pairOf : ℕ → Pair
 pairOf c = (c / 4096, c % 4096)
 
--- the list of codes has the edge e
-unfoldable pub lists : Pair → List ℕ → Bool
-lists e l = member (code (e .0) (e .1)) l
+-- the list has the edge e
+unfoldable pub lists : Edge → List ℕ → Bool
+lists e l = member (code (e .from) (e .to)) l
 
 -- what the second sheet lists under those edges under which the first lists e
-unfoldable pub under : Pair → List (List ℕ) → List (List ℕ) → List ℕ
+unfoldable pub under : Edge → List (List ℕ) → List (List ℕ) → List ℕ
 under e [] ls = []
 under e (m ∷ ms) [] = []
 under e (m ∷ ms) (l ∷ ls) = cond (lists e m) l [] ++ under e ms ls
 
 -- the candidates for the edge e of the query ("question") Q: the pairs listed under those edges of the views that match e, which are those whose
 -- lists, on Q read as a graph, have e
-unfoldable pub candidates : Pattern → List View → Pair → List Pair
+unfoldable pub candidates : Pattern → List View → Edge → List Pair
 candidates Q vs e = each pairOf (gather (λ v. under e (viewSheet (v .pattern) (asGraph Q)) (v .sheet)) vs)
 
 -- an edge of the query and a pair kept for it
 abbrev pub Kept : Type 0
-Kept = Pair × Pair
+Kept = Edge × Pair
 
 -- the one test of whether a pair may be kept for an edge: each edge of Q that leaves an end of the edge k .0 keeps some pair that begins at
 -- the same end of the pair k .1
@@ -45,8 +45,8 @@ unfoldable pub supported : Pattern → List Kept → Kept → Bool
 supported Q l k =
     every
     (λ g.
-    (eqb (g .0) (k .0 .0) implies some (λ j. same (j .0) g and eqb (j .1 .0) (k .1 .0)) l)
-    and (eqb (g .0) (k .0 .1) implies some (λ j. same (j .0) g and eqb (j .1 .0) (k .1 .1)) l))
+    (eqb (g .from) (k .0 .from) implies some (λ j. sameEdge (j .0) g and eqb (j .1 .0) (k .1 .0)) l)
+    and (eqb (g .from) (k .0 .to) implies some (λ j. sameEdge (j .0) g and eqb (j .1 .0) (k .1 .1)) l))
     (Q .edges)
 
 -- the greatest choice of pairs from the candidates that is so supported
@@ -55,11 +55,11 @@ join Q vs = greatest (supported Q) (gather (λ e. each (λ f. (e, f)) (candidate
 
 -- every edge of Q keeps some pair
 unfoldable pub complete : Pattern → List Kept → Bool
-complete Q ks = every (λ e. some (λ j. same (j .0) e) ks) (Q .edges)
+complete Q ks = every (λ e. some (λ j. sameEdge (j .0) e) ks) (Q .edges)
 
 -- the pairs kept for the edge e
-unfoldable pub keptFor : List Kept → Pair → List Pair
-keptFor ks e = each (λ j. j .1) (keep (λ j. same (j .0) e) ks)
+unfoldable pub keptFor : List Kept → Edge → List Pair
+keptFor ks e = each (λ j. j .1) (keep (λ j. sameEdge (j .0) e) ks)
 
 -- the answer to Q from the sheets of views: a list for each edge of Q, all empty where some edge keeps none
 unfoldable pub answerSets : Pattern → List View → List (List ℕ)
@@ -68,5 +68,5 @@ answerSets Q vs = let ks = join Q vs in let b = complete Q ks in each (λ e. asc
 -- ---- showing
 
 -- the graph without the edge e
-unfoldable pub without : Pair → Graph → Graph
-without e G = record { labels = G .labels; edges = keep (λ f. not (same e f)) (G .edges) }
+unfoldable pub without : Edge → Graph → Graph
+without e G = record { labels = G .labels; edges = keep (λ f. not (sameEdge e f)) (G .edges) }

@@ -2,17 +2,13 @@
 use Prim.Native.Nat.{ℕ, _<_}
 use mathlib.Core.Path.{_≡_}
 use mathlib.Core.List.{List}
-use lib.ListN.{getD}
 use Rattle.packed.specs.Matches.{matchesOf}
 use Rattle.packed.specs.declared.by_value.Pattern.{Pattern as Given}
 use Rattle.matching.specs.Lists.{In}
 use Rattle.matching.specs.Simulation.{Pair}
 use Rattle.matching.specs.Join.{View, pairOf, candidates, answerSets}
-use Rattle.matching.specs.Steps.{patternIn, Edges}
+use Rattle.matching.specs.Steps.{edgeAt, patternIn, Edges}
 use Rattle.matching.specs.Candidates.{BookListing}
-
-abbrev pub edgeAt : Given → ℕ → Pair
-edgeAt q e = (getD (q .from) e 0, getD (q .to) e 0)
 
 -- the book's lists, by the table t, have the candidates that the views vs give
 pub record Agrees (q : Given) (t : List ℕ) (set : ℕ) (s counts : List ℕ) (k : ℕ) (vs : List View) : Type 0 where

@@ -1,4 +1,5 @@
 -- Patterns, data graphs, the greatest simulation and the match sets.
+use mathlib.Core.Path.{_≡_}
 use mathlib.Core.Bool.{Bool, cond}
 use mathlib.Core.List.{List, [], _∷_}
 use Prim.Native.Nat.{ℕ, _+_, _/_, _%_, _^_}
@@ -9,7 +10,7 @@ use Rattle.packed.specs.Contents.{nodesOf, distinct}
 use Rattle.matching.specs.Lists.{_and_, _or_, _implies_, In, every, some, keep, gather, each, below}
 use Rattle.matching.specs.Greatest.{greatest}
 
--- two numbers: the ends of an edge, or a node of a pattern and a node of a graph
+-- two numbers: a node of a pattern and a node of a graph, or what a sheet lists of an edge of a graph, its ends
 abbrev pub Pair : Type 0
 Pair = ℕ × ℕ
 
@@ -22,6 +23,25 @@ has a l = some (same a) l
 unfoldable pub pairs : ℕ → ℕ → List Pair
 pairs n m = gather (λ u. each (λ v. (u, v)) (below m)) (below n)
 
+-- an edge ("link") of a pattern or of a graph: all its fields tell it from another, and one test compares them
+pub record Edge : Type 0 where
+  pub from : ℕ
+  pub to : ℕ
+
+unfoldable pub sameEdge : Edge → Edge → Bool
+sameEdge e f = eqb (e .from) (f .from) and eqb (e .to) (f .to)
+
+abbrev pub between : ℕ → ℕ → Edge
+between a b = record { from = a; to = b }
+
+-- its ends, as a sheet lists them
+abbrev pub asPair : Edge → Pair
+asPair e = (e .from, e .to)
+
+-- what stands for an edge beyond the last
+abbrev pub noEdge : Edge
+noEdge = between 0 0
+
 -- bit k of the mask m
 unfoldable pub bit : ℕ → ℕ → Bool
 bit m k = eqb (m / 2 ^ k % 2) 1
@@ -29,18 +49,18 @@ bit m k = eqb (m / 2 ^ k % 2) 1
 -- a pattern: node ("item") u has the label ("kind") labels[u]; its edges are its links
 pub record Pattern : Type 0 where
   pub labels : List ℕ
-  pub edges : List Pair
+  pub edges : List Edge
 
 -- a data graph, which is what a record means: node v has each label whose bit is set in labels[v]
 pub record Graph : Type 0 where
   pub labels : List ℕ
-  pub edges : List Pair
+  pub edges : List Edge
 
 -- edges by their ends: from, to, from, to, ..
-unfoldable pub edgesIn : List ℕ → List Pair
+unfoldable pub edgesIn : List ℕ → List Edge
 edgesIn [] = []
 edgesIn (a ∷ []) = []
-edgesIn (a ∷ b ∷ ends) = (a, b) ∷ edgesIn ends
+edgesIn (a ∷ b ∷ ends) = between a b ∷ edgesIn ends
 
 -- what the content of a pattern and of a record mean
 unfoldable pub patternOf : List ℕ → Pattern
@@ -61,11 +81,11 @@ fits P G x =
 -- R is a simulation of P in G: partners have the label, and each edge that leaves u is followed by one that leaves its partner, to a partner
 pub record IsSim (P : Pattern) (G : Graph) (R : ℕ → ℕ → Type 0) : Type 0 where
   pub fit : (u v : ℕ) → R u v → T (fits P G (u, v))
-  pub follow : (u v : ℕ) → R u v → (w : ℕ) → In (u, w) (P .edges) → (z : ℕ) × In (v, z) (G .edges) × R w z
+  pub follow : (u v : ℕ) → R u v → (e : Edge) → In e (P .edges) → e .from ≡ u → (f : Edge) × In f (G .edges) × (f .from ≡ v) × R (e .to) (f .to)
 
 -- the same as a test: each edge of P that leaves x .0 is followed by one of G that leaves x .1, to a partner in l
 unfoldable pub follows : Pattern → Graph → List Pair → Pair → Bool
-follows P G l x = every (λ e. eqb (e .0) (x .0) implies some (λ f. eqb (f .0) (x .1) and has (e .1, f .1) l) (G .edges)) (P .edges)
+follows P G l x = every (λ e. eqb (e .from) (x .0) implies some (λ f. eqb (f .from) (x .1) and has (e .to, f .to) l) (G .edges)) (P .edges)
 
 -- the greatest simulation of P in G
 unfoldable pub sim : Pattern → Graph → List Pair
@@ -75,11 +95,11 @@ sim P G = greatest (follows P G) (keep (fits P G) (pairs (length (P .labels)) (l
 unfoldable pub total : Pattern → List Pair → Bool
 total P s = every (λ u. some (λ x. eqb (x .0) u) s) (below (length (P .labels)))
 
--- the edges of G both of whose ends are partners of the ends of e
-unfoldable pub row : Graph → List Pair → Pair → List Pair
-row G s e = keep (λ f. has (e .0, f .0) s and has (e .1, f .1) s) (G .edges)
+-- the edges of G both of whose ends are partners of the ends of e, as a sheet lists them
+unfoldable pub row : Graph → List Pair → Edge → List Pair
+row G s e = each asPair (keep (λ f. has (e .from, f .from) s and has (e .to, f .to) s) (G .edges))
 
--- edges by their codes, ascending, as a sheet lists them
+-- pairs by their codes, ascending
 unfoldable pub ascending : List Pair → List ℕ
 ascending l = distinct (each (λ f. code (f .0) (f .1)) l)
 
@@ -95,5 +115,5 @@ viewSheet P G = matchSets P G
 -- each edge's ends are nodes, and each node is an end of an edge
 unfoldable pub sound : Pattern → Bool
 sound P =
-    every (λ e. ltb (e .0) (length (P .labels)) and ltb (e .1) (length (P .labels))) (P .edges)
-    and every (λ u. some (λ e. eqb (e .0) u or eqb (e .1) u) (P .edges)) (below (length (P .labels)))
+    every (λ e. ltb (e .from) (length (P .labels)) and ltb (e .to) (length (P .labels))) (P .edges)
+    and every (λ u. some (λ e. eqb (e .from) u or eqb (e .to) u) (P .edges)) (below (length (P .labels)))

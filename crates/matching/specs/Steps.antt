@@ -6,15 +6,22 @@ use lib.ListN.{length, getD, take}
 use Rattle.packed.specs.Bits.{field}
 use Rattle.packed.specs.declared.by_value.Pattern.{Pattern as Given}
 use Rattle.matching.specs.Lists.{upTo}
-use Rattle.matching.specs.Simulation.{Pair, Pattern, Graph}
+use Rattle.matching.specs.Simulation.{Edge, between, Pattern, Graph}
+
+-- the edge number e of a pattern that is given by value, and the edge whose code stands in a word
+abbrev pub edgeAt : Given → ℕ → Edge
+edgeAt p e = between (getD (p .from) e 0) (getD (p .to) e 0)
+
+abbrev pub edgeOfWord : ℕ → Edge
+edgeOfWord c = between (c / 4096) (c % 4096)
 
 -- the pattern that is given by value
 unfoldable pub patternIn : Given → Pattern
-patternIn p = record { labels = take (p .nodes) (p .labels); edges = upTo (λ e. (getD (p .from) e 0, getD (p .to) e 0)) (p .edges) }
+patternIn p = record { labels = take (p .nodes) (p .labels); edges = upTo (edgeAt p) (p .edges) }
 
 -- the graph of a record s with n nodes whose m edges stand in the workspace
 unfoldable pub graphIn : List ℕ → ℕ → ℕ → List ℕ → Graph
-graphIn s n m w = record { labels = upTo (λ v. field s (27 + 32 * v) 32) n; edges = upTo (λ i. (getD w i 0 / 4096, getD w i 0 % 4096)) m }
+graphIn s n m w = record { labels = upTo (λ v. field s (27 + 32 * v) 32) n; edges = upTo (λ i. edgeOfWord (getD w i 0)) m }
 
 -- the pattern's numbers are in range
 pub record Fair (p : Given) : Type 0 where
