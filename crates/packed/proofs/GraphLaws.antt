@@ -17,7 +17,10 @@ use Rattle.packed.specs.Plain.{fieldsOf, Below, fromAt, toAt, PlainEdges
 use Rattle.packed.specs.Order.{word, Ascends, SameTo, Sorted, Repeats}
 use Rattle.packed.specs.Distinct.{BelowHead, Increasing}
 use Rattle.packed.specs.Loading.{codes}
-use Rattle.packed.specs.LoadedGraph.{CodesAt, Accepted, Ordered, Holds}
+use Rattle.packed.specs.LoadedGraph.{CodesAt, CodesLoaded, Ordered, Orders, Holds}
+use Rattle.packed.specs.Reading.{TwoValues, Judges}
+use Rattle.packed.specs.declared.reply.Part.{Part}
+use Rattle.packed.specs.declared.reply.Part.the-variants as part-is
 use Rattle.packed.proofs.BitsLaws.{length-bitsOf, length-bits, num-bitsOf-lt, field-lt}
 use Rattle.packed.proofs.OrderCases.{lt-or-ge, eq-or-ne, or-cases}
 use Rattle.packed.proofs.Places.{times-find, times-le}
@@ -263,9 +266,9 @@ sorted-front m w w′ h d s =
 pub load-start : (s : List ℕ) (start : ℕ) (w : List ℕ) → CodesAt s start 0 w w
 load-start s start w = record { long = refl; each = λ j h. absurd (omega arith); rest = λ j h. refl }
 
-pub load-more : {s : List ℕ} {start k : ℕ} {w w′ : List ℕ} {a b : ℕ} → k < length w → a ≡ field s (start + 24 * k) 12 → b ≡ field s (start + 24 * k + 12) 12
+pub load-more : {s : List ℕ} {start k at nodes i a b : ℕ} {w w′ words words′ : List ℕ} → k < length w → at ≡ start + 24 * k → TwoValues 12 nodes s at words i a b words′
     → CodesAt s start k w w′ → CodesAt s start (k + 1) w (set w′ k (code a b))
-load-more {s} {start} {k} {w} {w′} {a} {b} h p q c =
+load-more {s} {start} {k} {at} {a = a} {b} {w} {w′} h z p c =
     record {
       long = length-set w′ k (code a b) ∙ c .long;
       each = λ j l.
@@ -273,8 +276,8 @@ load-more {s} {start} {k} {w} {w′} {a} {b} h p q c =
           (λ (e : j ≡ k).
           ap (λ (i : ℕ). getD (set w′ k (code a b)) i 0) e
           ∙ getD-set-same w′ k (code a b) 0 (let n = c .long in omega arith)
-          ∙ ap₂ code p q
-          ∙ ap (λ (i : ℕ). code (field s (start + 24 * i) 12) (field s (start + 24 * i + 12) 12)) (sym e))
+          ∙ ap₂ code (p .first .is) (p .second .is)
+          ∙ ap (λ (i : ℕ). code (field s i 12) (field s (i + 12) 12)) (z ∙ ap (λ (i : ℕ). start + 24 * i) (sym e)))
           (λ (e : j ≡ k → ⊥). getD-set-other w′ k j (code a b) 0 e ∙ c .each j (ne-lt e l))
           (eq-or-ne j k);
       rest = λ j l. getD-set-other w′ k j (code a b) 0 (λ e. omega arith) ∙ c .rest j (omega arith);
@@ -283,107 +286,103 @@ load-more {s} {start} {k} {w} {w′} {a} {b} h p q c =
     ne-lt : {j : ℕ} → (j ≡ k → ⊥) → j < k + 1 → j < k
     ne-lt {j} e l = ⊎-elim (λ (u : j < k). u) (λ (u : k ≤ j). absurd (e (omega arith))) (lt-or-ge j k)
 
-pub load-small : {s : List ℕ} {start m : ℕ} {w w′ : List ℕ} → CodesAt s start m w w′ → (j : ℕ) → j < m → word w′ 0 j < 2 ^ 24
-load-small {s} {start} {m} {w} {w′} c j h =
-    let a = field-lt s (start + 24 * j) 12 12 (omega arith) in
-    let b = field-lt s (start + 24 * j + 12) 12 12 (omega arith) in
-    let e = word-front w′ j ∙ c .each j h in
-    omega arith
+-- the same edges, with their place and number said otherwise
+pub loaded-same : (s w : List ℕ) (p : Part) (k : ℕ) (w′ : List ℕ) {start start′ m m′ : ℕ} → start ≡ start′ → m ≡ m′ → CodesLoaded s start m w p k w′ → CodesLoaded s start′ m′ w p k w′
+loaded-same s w p k w′ e d c = rw (← e, ← d) c
 
--- ---- the edges of an accepted record, loaded into a cleared workspace and sorted
-module _ (s : List ℕ) (a : Accepted (decode record′ s)) {n m : ℕ} (en : n ≡ field s 0 13) (em : m ≡ field s 13 14) where
-  g : Sited s (a .fields)
-  g = sited s (a .fields) (a .is)
+-- ---- the edges of an accepted record, loaded and sorted
+module _ (s ws : List ℕ) (is : decode record′ s ≡ ok ws) {w w₁ w₂ : List ℕ} (fits : 8192 ≤ length w) (c : CodesAt s (27 + 32 * field s 0 13) (field s 13 14) w w₁) (o : Sorted (field s 13 14) w₁ w₂) where
+  g : Sited s ws
+  g = sited s ws is
 
-  nodes-same : n ≡ nodesOf (a .fields)
-  nodes-same = en ∙ sited-nodes g
+  abbrev m : ℕ
+  m = field s 13 14
 
-  edges-same : m ≡ edgesOf (a .fields)
-  edges-same = em ∙ sited-number g
+  edges-few : m ≤ 8192
+  edges-few = omega (arith, sited-number g, number-is g, g .most-edges)
 
-  pub edges-fit : 27 + 32 * n + 24 * m ≤ 8 * length s
-  edges-fit = omega (arith, nodes-same, edges-same, sited-fits g)
+  loaded-at : (j : ℕ) → j < m → getD w₁ j 0 ≡ code (fromAt (g .ends) j) (toAt (g .ends) j)
+  loaded-at j h =
+      let x = sited-nodes g in
+      let y = sited-number g in
+      let from : 27 + 32 * field s 0 13 + 24 * j ≡ 27 + 32 * nodesOf ws + 12 * (2 * j) = omega arith in
+      let to : 27 + 32 * field s 0 13 + 24 * j + 12 ≡ 27 + 32 * nodesOf ws + 12 * (2 * j + 1) = omega arith in
+      c .each j h
+      ∙ ap₂ (λ (u v : ℕ). code (field s u 12) (field s v 12)) from to
+      ∙ ap₂ code (sited-end g (2 * j) (omega arith)) (sited-end g (2 * j + 1) (omega arith))
 
-  pub edges-few : m ≤ 8192
-  edges-few = omega (arith, edges-same, number-is g, g .most-edges)
+  codes-many : length (codes (g .ends)) ≡ m
+  codes-many = codes-length m (g .ends) (omega (arith, g .edges .two-each, sited-number g, number-is g))
 
-  module _ (w : List ℕ) {w₁ w₂ : List ℕ} (long : length w ≡ 16384) (c : CodesAt s (27 + 32 * n) m (replicate 8192 0 ++ drop 8192 w) w₁) (o : Sorted m w₁ w₂) where
-    loaded-long : length w₁ ≡ 16384
-    loaded-long =
-        c .long
-        ∙ length-append (replicate 8192 0) (drop 8192 w)
-        ∙ omega (arith, length-replicate {A = ℕ} 8192 0, length-drop 8192 w, long)
+  loaded-front : take m w₁ ≡ codes (g .ends)
+  loaded-front =
+      let l : length (take m w₁) ≡ m = length-take-le m w₁ (omega (arith, c .long, edges-few)) in
+      let k = codes-many in
+      ext-getD 0 (take m w₁) (codes (g .ends)) (l ∙ sym k)
+      (λ j h. let z : j < m = omega arith in
+      getD-take m w₁ j 0 z ∙ loaded-at j z ∙ sym (codes-at (g .ends) j (omega arith)))
 
-    loaded-at : (j : ℕ) → j < m → getD w₁ j 0 ≡ code (fromAt (g .ends) j) (toAt (g .ends) j)
-    loaded-at j h =
-        let x = nodes-same in
-        let y = edges-same in
-        let from : 27 + 32 * n + 24 * j ≡ 27 + 32 * nodesOf (a .fields) + 12 * (2 * j) = omega arith in
-        let to : 27 + 32 * n + 24 * j + 12 ≡ 27 + 32 * nodesOf (a .fields) + 12 * (2 * j + 1) = omega arith in
-        c .each j h
-        ∙ ap₂ (λ (u v : ℕ). code (field s u 12) (field s v 12)) from to
-        ∙ ap₂ code (sited-end g (2 * j) (omega arith)) (sited-end g (2 * j + 1) (omega arith))
+  loaded-differ : (i j : ℕ) → i < j → j < m → getD w₁ i 0 ≡ getD w₁ j 0 → ⊥
+  loaded-differ i j p q e =
+      let x = sited-number g in
+      let y = number-is g in
+      codes-differ (g .most-nodes) (g .edges) i j p (omega arith) (sym (loaded-at i (omega arith)) ∙ e ∙ loaded-at j q)
 
-    codes-many : length (codes (g .ends)) ≡ m
-    codes-many = codes-length m (g .ends) (omega (arith, g .edges .two-each, edges-same, number-is g))
+  -- a word is one of the codes
+  ordered-small : (i : ℕ) → i < m → getD w₂ i 0 < 2 ^ 24
+  ordered-small i h =
+      let q = same-in m (word w₁ 0) (word w₂ 0) (o .same) i h in
+      let j : ℕ = q .0 in
+      let a = field-lt s (27 + 32 * field s 0 13 + 24 * j) 12 12 (omega arith) in
+      let b = field-lt s (27 + 32 * field s 0 13 + 24 * j + 12) 12 12 (omega arith) in
+      let e = word-front w₁ j ∙ c .each j (q .1) in
+      let v = q .2 in
+      let z = word-front w₂ i in
+      omega arith
 
-    loaded-front : take m w₁ ≡ codes (g .ends)
-    loaded-front =
-        let l : length (take m w₁) ≡ m = length-take-le m w₁ (omega (arith, loaded-long, edges-few)) in
-        let k = codes-many in
-        ext-getD 0 (take m w₁) (codes (g .ends)) (l ∙ sym k)
-        (λ j h. let z : j < m = omega arith in
-        getD-take m w₁ j 0 z ∙ loaded-at j z ∙ sym (codes-at (g .ends) j (omega arith)))
+  pub edges-ordered : Ordered (decode record′ s) w w₂
+  edges-ordered =
+      let y = sited-number g in
+      record {
+        fields = ws;
+        is = is;
+        long = o .long ∙ c .long;
+        front =
+            ap (λ (k : ℕ). take k w₂) (sym y)
+            ∙ sorted-front m w₁ w₂ (omega (arith, c .long, edges-few)) loaded-differ o
+            ∙ ap distinct (loaded-front ∙ ap codes (sym (sited-ends g)));
+        small = λ i h. ordered-small i (omega arith);
+        rest = λ i h l. o .between i (omega arith) l ∙ c .rest i (omega arith);
+      }
 
-    loaded-differ : (i j : ℕ) → i < j → j < m → getD w₁ i 0 ≡ getD w₁ j 0 → ⊥
-    loaded-differ i j p q e =
-        let x = edges-same in
-        let y = number-is g in
-        codes-differ (g .most-nodes) (g .edges) i j p (omega arith) (sym (loaded-at i (omega arith)) ∙ e ∙ loaded-at j q)
+pub orders-by : (r : Part) (s words words′ : List ℕ) (file : ℕ) {k : ℕ} {w w₁ w₂ : List ℕ} → Judges (decode record′ s) file r words words′ → 8192 ≤ length w
+    → (k ≡ field s 13 14) × CodesAt s (27 + 32 * field s 0 13) (field s 13 14) w w₁ → Sorted k w₁ w₂ → Orders (decode record′ s) r w w₂
+orders-by (part-is.Upto at i) s words words′ file j fits c o = edges-ordered s (j .fields) (j .is) fits (c .1) (rw (c .0) at o)
+orders-by (part-is.Refused x) s words words′ file j fits c o = tt
 
-    -- a word is one of the codes, or was cleared
-    ordered-small : (i : ℕ) → i < 8192 → getD w₂ i 0 < 2 ^ 24
-    ordered-small i h =
-        ⊎-elim
-        (λ (p : i < m).
-        let q = same-in m (word w₁ 0) (word w₂ 0) (o .same) i p in
-        let u = load-small c (q .0) (q .1) in
-        let v = q .2 in
-        let z = word-front w₂ i in
-        omega arith)
-        (λ (p : m ≤ i).
-        let e : getD w₂ i 0 ≡ 0 =
-        o .between i p h
-        ∙ c .rest i p
-        ∙ List·getD-append (replicate 8192 0) (drop 8192 w) 0 i (omega (arith, length-replicate {A = ℕ} 8192 0))
-        ∙ getD-replicate 8192 i 0 0 h in
-        omega arith)
-        (lt-or-ge i m)
-
-    pub edges-ordered : Ordered (decode record′ s) w₂
-    edges-ordered =
-        record {
-          fields = a .fields;
-          is = a .is;
-          long = o .long ∙ loaded-long;
-          front =
-              ap (λ (k : ℕ). take k w₂) (sym edges-same)
-              ∙ sorted-front m w₁ w₂ (omega (arith, loaded-long, edges-few)) loaded-differ o
-              ∙ ap distinct (loaded-front ∙ ap codes (sym (sited-ends g)));
-          small = ordered-small;
-        }
-
-pub holds-by : (s : List ℕ) {n m : ℕ} {w : List ℕ} → Ordered (decode record′ s) w → n ≡ field s 0 13 → m ≡ field s 13 14 → Holds s n m w
-holds-by s {n} {m} {w} o en em =
+-- into a cleared workspace
+pub holds-by : (s w : List ℕ) {n m : ℕ} {w′ : List ℕ} → length w ≡ 16384 → Ordered (decode record′ s) (replicate 8192 0 ++ drop 8192 w) w′ → n ≡ field s 0 13 → m ≡ field s 13 14 → Holds s n m w′
+holds-by s w {n} {m} {w′} long o en em =
     let y : m ≡ edgesOf (o .fields) = em ∙ record-edges-field s (o .fields) (o .is) in
     record {
       fields = o .fields;
       is = o .is;
       nodes = en ∙ record-nodes-field s (o .fields) (o .is);
       edges = y;
-      long = o .long;
-      front = ap (λ (k : ℕ). take k w) y ∙ o .front;
-      small = o .small;
+      long =
+          o .long
+          ∙ length-append (replicate 8192 0) (drop 8192 w)
+          ∙ omega (arith, length-replicate {A = ℕ} 8192 0, length-drop 8192 w, long);
+      front = ap (λ (k : ℕ). take k w′) y ∙ o .front;
+      small = λ i h. ⊎-elim
+          (λ (p : i < edgesOf (o .fields)). o .small i p)
+          (λ (p : edgesOf (o .fields) ≤ i).
+          let e : getD w′ i 0 ≡ 0 =
+          o .rest i p h
+          ∙ List·getD-append (replicate 8192 0) (drop 8192 w) 0 i (omega (arith, length-replicate {A = ℕ} 8192 0))
+          ∙ getD-replicate 8192 i 0 0 h in
+          omega arith)
+          (lt-or-ge i (edgesOf (o .fields)));
     }
 
 -- ---- the ends of the edges held

@@ -9,6 +9,8 @@ use Rattle.packed.specs.Formats.{record′, code}
 use Rattle.packed.specs.Contents.{nodesOf, edgesOf, distinct}
 use Rattle.packed.specs.Loading.{codes}
 use Rattle.packed.specs.Refusals.{numberOf, detailOf}
+use Rattle.packed.specs.declared.reply.Part.{Part}
+use Rattle.packed.specs.declared.reply.Part.the-variants as part-is
 use Rattle.packed.specs.declared.graph.Graph.{Graph}
 use Rattle.packed.specs.declared.graph.Graph.the-variants as graph-is
 
@@ -18,21 +20,32 @@ pub record CodesAt (s : List ℕ) (start m : ℕ) (w w′ : List ℕ) : Type 0 w
   pub each : (j : ℕ) → j < m → getD w′ j 0 ≡ code (field s (start + 24 * j) 12) (field s (start + 24 * j + 12) 12)
   pub rest : (j : ℕ) → m ≤ j → getD w′ j 0 ≡ getD w j 0
 
--- a file was accepted
-pub record Accepted (r : Result ℕ) : Type 0 where
+-- all m of them are, unless something before or among them is refused
+abbrev pub CodesLoaded : List ℕ → ℕ → ℕ → List ℕ → Part → ℕ → List ℕ → Type 0
+CodesLoaded s start m w (part-is.Upto at i) k w′ = (k ≡ m) × CodesAt s start m w w′
+CodesLoaded s start m w (part-is.Refused x) k w′ = Unit {0}
+
+-- a part that is read ends at the bit offset end
+abbrev pub EndsAt : ℕ → Part → Type 0
+EndsAt end (part-is.Upto at i) = at ≡ end
+EndsAt end (part-is.Refused x) = Unit {0}
+
+-- a record was accepted; the codes of its edges, each of 24 bits, stand at the front of the workspace, ascending, each once; the words
+-- after them up to 8192 are as they were
+pub record Ordered (r : Result ℕ) (w w′ : List ℕ) : Type 0 where
   pub fields : List ℕ
   pub is : r ≡ ok fields
+  pub long : length w′ ≡ length w
+  pub front : take (edgesOf fields) w′ ≡ distinct (codes (drop (2 + nodesOf fields) fields))
+  pub small : (i : ℕ) → i < edgesOf fields → getD w′ i 0 < 2 ^ 24
+  pub rest : (i : ℕ) → edgesOf fields ≤ i → i < 8192 → getD w′ i 0 ≡ getD w i 0
 
--- a record was accepted; the codes of its edges stand at the front of the workspace, ascending, each once, and each word up to 8192 has
--- 24 bits
-pub record Ordered (r : Result ℕ) (w : List ℕ) : Type 0 where
-  pub fields : List ℕ
-  pub is : r ≡ ok fields
-  pub long : length w ≡ 16384
-  pub front : take (edgesOf fields) w ≡ distinct (codes (drop (2 + nodesOf fields) fields))
-  pub small : (i : ℕ) → i < 8192 → getD w i 0 < 2 ^ 24
+abbrev pub Orders : Result ℕ → Part → List ℕ → List ℕ → Type 0
+Orders r (part-is.Upto at i) w w′ = Ordered r w w′
+Orders r (part-is.Refused x) w w′ = Unit {0}
 
--- the same with the content's numbers of nodes and edges
+-- a record was accepted, with so many nodes and edges; the codes of its edges stand at the front of the workspace, ascending, each once,
+-- and each word up to 8192 has 24 bits
 pub record Holds (s : List ℕ) (n m : ℕ) (w : List ℕ) : Type 0 where
   pub fields : List ℕ
   pub is : decode record′ s ≡ ok fields

@@ -3,11 +3,13 @@ ghost use mathlib.Core.Path.{_≡_};
 ghost use mathlib.Core.List.{List, []};
 ghost use Prim.Native.Nat.{ℕ, _+_, _*_, _^_, _<_, _≤_};
 ghost use lib.ListN.{length};
+ghost use Rattle.packed.specs.Bits.{field};
 ghost use Rattle.packed.specs.Format.{times, decode, encode};
 ghost use Rattle.packed.specs.Formats.{labels, edges, nothing, record′};
 ghost use Rattle.packed.specs.Reading.{Stands, Reads, Judges};
 ghost use Rattle.packed.specs.Writing.{Writes, JudgesFields};
 ghost use Rattle.packed.specs.Loading.{Loads, LoadsFields};
+ghost use Rattle.packed.specs.LoadedGraph.{CodesLoaded, EndsAt, Orders};
 use crate::field;
 use crate::limits;
 use crate::reply::Field;
@@ -20,7 +22,7 @@ use crate::sort;
 // The labels of so many nodes.
 fn read_labels(s: &[u8], start: usize, n: u32, words: &mut [u32], first: usize) -> Part
     requires { ⌜ Stands (now s) start first ⌝ }
-    ensures { λ r. ⌜ Reads (times n labels) (now (s .entry)) start (now (words .entry)) first 3 r (now (words .exit)) ⌝ }
+    ensures { λ r. ⌜ Reads (times n labels) (now (s .entry)) start (now (words .entry)) first 3 r (now (words .exit)) × EndsAt (start + 32 * n) r ⌝ }
 {
     let mut at = start;
     let mut i = first;
@@ -62,7 +64,8 @@ fn read_edges(
     work: &mut [u32],
 ) -> Loaded
     requires { ⌜ Stands (now s) start first × (nodes ≤ 4096) × (number ≤ 8192) × (8192 ≤ length (now work)) ⌝ }
-    ensures { λ r. ⌜ Loads (edges 12 nodes nothing number []) (now (s .entry)) start (now (words .entry)) first 3 (now (work .entry)) r (now (words .exit)) (now (work .exit)) ⌝ }
+    ensures { λ r. ⌜ Loads (edges 12 nodes nothing number []) (now (s .entry)) start (now (words .entry)) first 3 (now (work .entry)) r (now (words .exit)) (now (work .exit))
+        × CodesLoaded (now (s .entry)) start number (now (work .entry)) (r .part) (r .edges) (now (work .exit)) ⌝ }
 {
     let mut at = start;
     let mut i = first;
@@ -105,7 +108,8 @@ fn stopped(x: Refusal) -> Loaded
 // The fields of a record, repeats aside.
 fn read_fields(s: &[u8], words: &mut [u32], work: &mut [u32]) -> Loaded
     requires { ⌜ (length (now s) ≤ 65536) × (8192 ≤ length (now work)) ⌝ }
-    ensures { λ r. ⌜ Loads record′ (now (s .entry)) 0 (now (words .entry)) 0 3 (now (work .entry)) r (now (words .exit)) (now (work .exit)) ⌝ }
+    ensures { λ r. ⌜ Loads record′ (now (s .entry)) 0 (now (words .entry)) 0 3 (now (work .entry)) r (now (words .exit)) (now (work .exit))
+        × CodesLoaded (now (s .entry)) (27 + 32 * field (now (s .entry)) 0 13) (field (now (s .entry)) 13 14) (now (work .entry)) (r .part) (r .edges) (now (work .exit)) ⌝ }
 {
     let f = field::read_field(s, 0, 13, 0, 4097, Refusal::OutOfRange(3), 3, words, 0);
     let nodes = match f {
@@ -129,10 +133,11 @@ fn read_fields(s: &[u8], words: &mut [u32], work: &mut [u32]) -> Loaded
 }
 
 // A whole record: its content goes to the front of the words as far as they go. On acceptance the codes of its edges stand at the
-// front of the workspace, ascending.
+// front of the workspace, ascending, and the words after them up to 8192 are as they were.
 pub(crate) fn judge_record(s: &[u8], words: &mut [u32], work: &mut [u32]) -> Part
     requires { ⌜ (length (now s) ≤ 65536) × (length (now work) ≡ 16384) ⌝ }
-    ensures { λ r. ⌜ Judges (decode record′ (now (s .entry))) 3 r (now (words .entry)) (now (words .exit)) ⌝ }
+    ensures { λ r. ⌜ Judges (decode record′ (now (s .entry))) 3 r (now (words .entry)) (now (words .exit))
+        × Orders (decode record′ (now (s .entry))) r (now (work .entry)) (now (work .exit)) ⌝ }
 {
     let l = read_fields(s, words, work);
     let k = l.edges;

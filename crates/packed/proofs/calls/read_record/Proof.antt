@@ -42,7 +42,7 @@ unfolding recordRead
 returns-2 c =
     let j = c .before .before .before .before .before .before .before .before .judge-record in
     let a = c .before .before .before .before .before .before .before .before .before .before .before .before .before .before .before .args in
-    let q = rw (c .before .before .p .given .1) at (j .ensures) in
+    let q = rw (c .before .before .p .given .1) at (j .ensures .0) in
     body-tight (read-finds 40964 3 record′ (a .bytes .now) (c .before .before .before .before .before .before .before .before .before .before .before .if1 .left)) (a .out .now) (none-lent (a .out .now) (j .last .1 .0) (j .kept .1 .0)) q fit-fits untested (λ b. refl) (lt-ltb _ _ (c .if2 .taken))
 
 judge-record-requires-2 : tie.Need-judge-record-requires-2
@@ -62,9 +62,9 @@ unfolding recordRead
 returns-3 c =
     let j = c .before .before .before .before .before .before .before .before .before .before .before .before .before .before .before .judge-record in
     let a = c .before .before .before .before .before .before .before .before .before .before .before .before .before .before .before .before .before .before .before .before .before .before .args in
-    let q = rw (c .before .before .before .before .before .before .before .before .before .p .given .1) at (j .ensures) in
+    let q = rw (c .before .before .before .before .before .before .before .before .before .p .given .1) at (j .ensures .0) in
     body-given (read-finds 40964 3 record′ (a .bytes .now) (c .before .before .before .before .before .before .before .before .before .before .before .before .before .before .before .before .before .before .if1 .left)) (a .out .now) (none-lent (a .out .now) (j .last .1 .0) (j .kept .1 .0)) q fit-fits untested (λ b. refl) (le-ltb _ _ (c .before .before .before .before .before .before .before .if2 .left))
-    (judges-front (decode record′ (a .bytes .now)) 3 (c .before .before .before .before .judge-record2 .result) (q .fields) _ _ (c .before .before .before .before .judge-record2 .ensures) (q .is))
+    (judges-front (decode record′ (a .bytes .now)) 3 (c .before .before .before .before .judge-record2 .result) (q .fields) _ _ (c .before .before .before .before .judge-record2 .ensures .0) (q .is))
 
 same-length-5 : tie.Need-same-length-5
 same-length-5 c = search needs
@@ -77,7 +77,7 @@ unfolding recordRead
 returns-4 c =
     let j = c .before .before .before .before .before .before .before .judge-record in
     let a = c .before .before .before .before .before .before .before .before .before .before .before .before .before .before .args in
-    let q = rw (c .before .p2 .given .1) at (j .ensures) in
+    let q = rw (c .before .p2 .given .1) at (j .ensures .0) in
     body-refused (read-finds 40964 3 record′ (a .bytes .now) (c .before .before .before .before .before .before .before .before .before .before .if1 .left)) (a .out .now) (none-lent (a .out .now) (j .last .1 .0) (j .kept .1 .0)) (fit (length (a .out .now))) (c .before .p2 .given .0 .0) q
 
 pub read-record-spec : {M : Type 1} → statement M

@@ -5,6 +5,9 @@ use borrow.Author.Needs.{needs}
 use Rattle.packed.proofs.graph.load_record.Statement.{statement}
 use Rattle.packed.proofs.graph.load_record.Tie as tie
 
+clear-requires : tie.Need-clear-requires
+clear-requires c κs = search needs
+
 sub-judge-record : tie.Need-sub-judge-record
 sub-judge-record c = search needs
 
@@ -20,14 +23,10 @@ judge-record-requires c κs = search needs
 enum-told : tie.Need-enum-told
 enum-told c = search needs
 
-order-edges-requires : tie.Need-order-edges-requires
-order-edges-requires c κs =
-    let o = rw (c .before .enum-told .given .1) at (c .before .before .before .before .before .before .judge-record .ensures) in
-    (omega (arith, c .before .before .before .before .before .before .before .before .before .before .before .pre .0), search needs, record { fields = o .fields; is = o .is })
-
 get-bits-requires : tie.Need-get-bits-requires
 get-bits-requires c κs =
-    let f = record-fits _ _ (c .before .before .order-edges .ensures .is) in
+    let o = rw (c .enum-told .given .1) at (c .before .before .before .before .before .judge-record .ensures .1) in
+    let f = record-fits _ _ (o .is) in
     (omega arith, omega arith, omega (arith, c .before .before .before .before .before .before .before .before .before .before .before .before .before .before .pre .0))
 
 cast-t18 : tie.Need-cast-t18
@@ -35,7 +34,8 @@ cast-t18 c = search needs
 
 get-bits-requires-2 : tie.Need-get-bits-requires-2
 get-bits-requires-2 c κs =
-    let f = record-fits _ _ (c .before .before .before .order-edges .ensures .is) in
+    let o = rw (c .before .enum-told .given .1) at (c .before .before .before .before .before .before .judge-record .ensures .1) in
+    let f = record-fits _ _ (o .is) in
     (omega arith, omega arith, omega (arith, c .before .before .before .before .before .before .before .before .before .before .before .before .before .before .before .pre .0))
 
 cast-t20 : tie.Need-cast-t20
@@ -49,25 +49,25 @@ same-length c = search needs
 
 returns : tie.Need-returns
 returns c =
-    holds-by _ (c .before .before .before .before .order-edges .ensures) (c .before .get-bits .ensures) (c .get-bits2 .ensures)
+    let o = rw (c .before .before .enum-told .given .1) at (c .before .before .before .before .before .before .before .judge-record .ensures .1) in
+    holds-by _ (c .before .before .before .before .before .before .before .before .before .before .before .before .before .before .before .before .args .work .now) (c .before .before .before .before .before .before .before .before .before .before .before .before .before .before .before .before .pre .1) (rw (c .before .before .before .before .before .before .before .before .before .before .before .before .clear .ensures) at o) (c .before .get-bits .ensures) (c .get-bits2 .ensures)
 
 same-length-2 : tie.Need-same-length-2
 same-length-2 c = search needs
 
 returns-2 : tie.Need-returns-2
-returns-2 c =
-    rw (c .before .p .given .1) at (c .before .before .before .before .before .before .judge-record .ensures)
+returns-2 c = rw (c .before .p .given .1) at (c .before .before .before .before .before .before .judge-record .ensures .0)
 
 pub load-record-spec : {M : Type 1} → statement M
 load-record-spec =
     tie.close
     (tie.spec
+    clear-requires
     sub-judge-record
     part-none-start
     part-none-end
     judge-record-requires
     enum-told
-    order-edges-requires
     get-bits-requires
     cast-t18
     get-bits-requires-2

@@ -2,6 +2,7 @@
 use native.Mathlib.Omega.{arith}
 use Rattle.packed.specs.Formats.{record′}
 use Rattle.packed.proofs.Records.{kept-small, kept-once, kept-twice}
+use Rattle.packed.proofs.GraphLaws.{orders-by}
 use Rattle.packed.proofs.LoadingLaws.{loads-repeat, loads-wrong, lazy-ends}
 use borrow.Author.Needs.{needs}
 use Rattle.packed.proofs.record.judge_record.Statement.{statement}
@@ -12,7 +13,7 @@ read-fields-requires c κs = search needs
 
 repeats-requires : tie.Need-repeats-requires
 repeats-requires c κs =
-    let l = c .before .before .before .before .before .read-fields .ensures in
+    let l = c .before .before .before .before .before .read-fields .ensures .0 in
     (l .kept .few, search needs, kept-small (omega (arith, c .before .before .before .before .before .before .before .before .before .before .before .pre .1)) (l .kept))
 
 same-length : tie.Need-same-length
@@ -23,8 +24,8 @@ same-length-2 c = search needs
 
 returns : tie.Need-returns
 returns c =
-    let l = c .before .before .before .before .before .before .before .before .before .read-fields .ensures in
-    loads-repeat l (kept-twice (omega (arith, c .before .before .before .before .before .before .before .before .before .before .before .before .before .before .before .pre .1)) (l .kept) (c .before .before .before .repeats .ensures .0) (c .if1 .taken))
+    let l = c .before .before .before .before .before .before .before .before .before .read-fields .ensures .0 in
+    (loads-repeat l (kept-twice (omega (arith, c .before .before .before .before .before .before .before .before .before .before .before .before .before .before .before .pre .1)) (l .kept) (c .before .before .before .repeats .ensures .0) (c .if1 .taken)), tt)
 
 enum-known-p : tie.Need-enum-known-p
 enum-known-p c = search needs
@@ -40,12 +41,12 @@ same-length-4 c = search needs
 
 returns-2 : tie.Need-returns-2
 returns-2 c =
-    let l = c .before .before .before .before .before .before .before .before .before .before .before .read-fields .ensures in
-    loads-wrong l (kept-once (omega (arith, c .before .before .before .before .before .before .before .before .before .before .before .before .before .before .before .before .before .pre .1)) (l .kept) (c .before .before .before .before .before .repeats .ensures .0) (c .before .before .if1 .left)) (c .enum-told .given .1)
+    let l = c .before .before .before .before .before .before .before .before .before .before .before .read-fields .ensures .0 in
+    (loads-wrong l (kept-once (omega (arith, c .before .before .before .before .before .before .before .before .before .before .before .before .before .before .before .before .before .pre .1)) (l .kept) (c .before .before .before .before .before .repeats .ensures .0) (c .before .before .if1 .left)) (c .enum-told .given .1), rw (c .enum-told .given .1) tt)
 
 close-file-requires : tie.Need-close-file-requires
 close-file-requires c κs =
-    let l = c .before .before .before .before .before .before .before .before .before .before .before .before .read-fields .ensures in
+    let l = c .before .before .before .before .before .before .before .before .before .before .before .before .read-fields .ensures .0 in
     let q = rw (c .before .p .given .1) at (l .part) in
     record { small = c .before .before .before .before .before .before .before .before .before .before .before .before .before .before .before .before .before .before .pre .0; inside = q .inside; few = q .few }
 
@@ -57,10 +58,15 @@ same-length-6 c = search needs
 
 returns-3 : tie.Need-returns-3
 returns-3 c =
-    let l = c .before .before .before .before .before .before .before .before .before .before .before .before .before .read-fields .ensures in
+    let a = c .before .before .before .before .before .before .before .before .before .before .before .before .before .before .before .before .before .before .before .args in
+    let e = c .before .before .before .before .before .before .before .before .before .before .before .before .before .read-fields .ensures in
+    let l = e .0 in
     let q = rw (c .before .before .p .given .1) at (l .part) in
-    c .close-file .ensures record′ _ _
-    (lazy-ends (kept-once (omega (arith, c .before .before .before .before .before .before .before .before .before .before .before .before .before .before .before .before .before .before .before .pre .1)) (l .kept) (c .before .before .before .before .before .before .before .repeats .ensures .0) (c .before .before .before .before .if1 .left)) q)
+    let d = rw (c .before .before .p .given .1) at (e .1) in
+    let t = c .before .before .before .before .before .before .before .repeats .ensures in
+    let j = c .close-file .ensures record′ _ _
+    (lazy-ends (kept-once (omega (arith, c .before .before .before .before .before .before .before .before .before .before .before .before .before .before .before .before .before .before .before .pre .1)) (l .kept) (t .0) (c .before .before .before .before .if1 .left)) q) in
+    (j, orders-by (c .close-file .result) (a .s .now) (a .words .now) (c .before .before .before .before .before .before .before .before .before .before .before .before .before .read-fields .last .1 .0) 3 j (omega (arith, c .before .before .before .before .before .before .before .before .before .before .before .before .before .before .before .before .before .before .before .pre .1)) d (t .1))
 
 pub judge-record-spec : {M : Type 1} → statement M
 judge-record-spec =

@@ -3,9 +3,12 @@ use borrow.Author.Needs.{needs}
 use mathlib.Core.Path.{_≡_, refl}
 use mathlib.Core.List.{[]}
 use native.Mathlib.Omega.{arith}
+use Prim.Native.Nat.{_+_, _*_}
 use lib.ListN.{length}
 use Rattle.packed.specs.Formats.{edges, nothing}
+use Rattle.packed.specs.LoadedGraph.{CodesAt}
 use Rattle.packed.proofs.ReadingLaws.{starts}
+use Rattle.packed.proofs.GraphLaws.{load-start, load-more}
 use Rattle.packed.proofs.LoadingLaws.{EdgesRead, edges-start, edges-read, edges-refused, edges-ended}
 use Rattle.packed.proofs.record.read_edges.Statement.{statement}
 use Rattle.packed.proofs.record.read_edges.Tie as tie
@@ -14,12 +17,14 @@ abbrev Inv-loop : tie.InvT-loop
 Inv-loop s start nodes number words₀ first work₀ at₀ i₀ k₀ left₀ words work at i k left =
     (length words ≡ length words₀)
     × EdgesRead (edges 12 nodes nothing number []) s start words₀ first 3 nodes number work₀ words work at i k left
+    × (at ≡ start + 24 * k)
+    × CodesAt s start k work₀ work
 
 abbrev μ-loop : tie.MeasureT-loop
 μ-loop s start nodes number words₀ first work₀ at₀ i₀ k₀ left₀ words work at i k left = left
 
 loop-holds : tie.Need-loop-holds Inv-loop μ-loop
-loop-holds c = (refl, edges-start (c .before .before .before .args .number) (starts (c .before .before .before .pre .0 .inside)) (c .before .before .before .pre .0 .few))
+loop-holds c = (refl, edges-start (c .before .before .before .args .number) (starts (c .before .before .before .pre .0 .inside)) (c .before .before .before .pre .0 .few), search needs, load-start _ _ _)
 
 read-two-requires : tie.Need-read-two-requires Inv-loop μ-loop
 read-two-requires c κs = search needs
@@ -61,7 +66,7 @@ loop-less c = search needs
 loop-again : tie.Need-loop-again Inv-loop μ-loop
 loop-again c =
     let p = rw (c .before .f .given .1) at (c .before .before .before .before .before .read-two .ensures) in
-    (search needs, edges-read (c .before .before .before .before .before .before .before .before .before .before .before .before .pre .2) (c .before .before .before .before .before .before .before .before .before .before .before .before .pre .1) (c .before .before .before .before .before .before .before .loop-test .taken) (c .before .before .before .before .before .before .before .before .loop .inv .1) p)
+    (search needs, edges-read (c .before .before .before .before .before .before .before .before .before .before .before .before .pre .2) (c .before .before .before .before .before .before .before .before .before .before .before .before .pre .1) (c .before .before .before .before .before .before .before .loop-test .taken) (c .before .before .before .before .before .before .before .before .loop .inv .1) p, search needs, load-more (omega arith) (c .before .before .before .before .before .before .before .before .loop .inv .2) p (c .before .before .before .before .before .before .before .before .loop .inv .3))
 
 enum-known-f-2 : tie.Need-enum-known-f-2 Inv-loop μ-loop
 enum-known-f-2 c = search needs
@@ -75,7 +80,7 @@ same-length-2 c = search needs
 returns : tie.Need-returns Inv-loop μ-loop
 returns c =
     let p = rw (c .before .f2 .given .1) at (c .before .before .before .before .before .read-two .ensures) in
-    edges-refused _ refl refl (c .before .before .before .before .before .before .before .loop-test .taken) (c .before .before .before .before .before .before .before .before .loop .inv .1) p
+    (edges-refused _ refl refl (c .before .before .before .before .before .before .before .loop-test .taken) (c .before .before .before .before .before .before .before .before .loop .inv .1) p, tt)
 
 same-length-3 : tie.Need-same-length-3 Inv-loop μ-loop
 same-length-3 c = search needs
@@ -84,7 +89,10 @@ same-length-4 : tie.Need-same-length-4 Inv-loop μ-loop
 same-length-4 c = search needs
 
 returns-2 : tie.Need-returns-2 Inv-loop μ-loop
-returns-2 c = edges-ended _ refl refl (c .loop-test .left) (c .before .loop .inv .1)
+returns-2 c =
+    let i = c .before .loop .inv in
+    let e : c .before .loop .k ≡ c .before .before .before .before .before .args .number = omega (arith, i .1 .held .rest) in
+    (edges-ended _ refl refl (c .loop-test .left) (i .1), (e, rw e at (i .3)))
 
 pub read-edges-spec : {M : Type 1} → statement M
 read-edges-spec =

@@ -1,7 +1,9 @@
 -- `packed::record::read_fields` meets its contract.
-use mathlib.Core.Path.{refl}
+use mathlib.Core.Path.{refl, ap, _∙_}
+use Prim.Native.Nat.{ℕ, _+_, _*_}
 use native.Mathlib.Omega.{arith}
 use Rattle.packed.proofs.ReadingLaws.{refused, calls-refused}
+use Rattle.packed.proofs.GraphLaws.{loaded-same}
 use Rattle.packed.proofs.LoadingLaws.{record-is, record-nodes, record-number, record-labels, loads-stopped, loads-tail}
 use borrow.Author.Needs.{needs}
 use Rattle.packed.proofs.record.read_fields.Statement.{statement}
@@ -25,7 +27,7 @@ same-length c = search needs
 returns : tie.Need-returns
 returns c =
     let p = rw (c .before .before .f2 .given .1) at (c .before .before .before .before .before .before .read-field .ensures) in
-    loads-stopped _ (c .stopped .ensures .1) (c .stopped .ensures .0) (rw record-is (p _))
+    (loads-stopped _ (c .stopped .ensures .1) (c .stopped .ensures .0) (rw record-is (p _)), rw (c .stopped .ensures .0) tt)
 
 read-field-requires-2 : tie.Need-read-field-requires-2
 read-field-requires-2 c κs =
@@ -48,7 +50,7 @@ returns-2 : tie.Need-returns-2
 returns-2 c =
     let p = rw (c .before .before .before .before .before .before .before .before .before .f .given .1) at (c .before .before .before .before .before .before .before .before .before .before .before .before .before .read-field .ensures) in
     let q = rw (c .before .before .g2 .given .1) at (c .before .before .before .before .before .before .read-field2 .ensures) in
-    loads-stopped _ (c .stopped2 .ensures .1) (c .stopped2 .ensures .0) (refused (record-nodes p) (q _))
+    (loads-stopped _ (c .stopped2 .ensures .1) (c .stopped2 .ensures .0) (refused (record-nodes p) (q _)), rw (c .stopped2 .ensures .0) tt)
 
 read-labels-requires : tie.Need-read-labels-requires
 read-labels-requires c κs =
@@ -62,7 +64,7 @@ read-edges-requires : tie.Need-read-edges-requires
 read-edges-requires c κs =
     let p = rw (c .before .before .before .before .before .before .before .before .before .before .before .before .before .before .before .before .before .f .given .1) at (c .before .before .before .before .before .before .before .before .before .before .before .before .before .before .before .before .before .before .before .before .before .read-field .ensures) in
     let q = rw (c .before .before .before .before .before .before .before .before .before .before .g .given .1) at (c .before .before .before .before .before .before .before .before .before .before .before .before .before .before .read-field2 .ensures) in
-    let r = rw (c .before .before .before .p .given .1) at (c .before .before .before .before .before .before .before .read-labels .ensures) in
+    let r = rw (c .before .before .before .p .given .1) at (c .before .before .before .before .before .before .before .read-labels .ensures .0) in
     (record { small = c .before .before .before .before .before .before .before .before .before .before .before .before .before .before .before .before .before .before .before .before .before .before .before .before .before .before .pre .0; inside = r .inside; few = omega (arith, r .paced) }, omega (arith, p .most), omega (arith, q .most), c .before .before .before .before .before .before .before .before .before .before .before .before .before .before .before .before .before .before .before .before .before .before .before .before .before .before .pre .1)
 
 enum-known-p-2 : tie.Need-enum-known-p-2
@@ -81,8 +83,11 @@ returns-3 : tie.Need-returns-3
 returns-3 c =
     let p = rw (c .before .before .before .before .before .before .before .before .before .before .before .before .before .before .before .before .before .before .before .before .before .before .f .given .1) at (c .before .before .before .before .before .before .before .before .before .before .before .before .before .before .before .before .before .before .before .before .before .before .before .before .before .before .read-field .ensures) in
     let q = rw (c .before .before .before .before .before .before .before .before .before .before .before .before .before .before .before .g .given .1) at (c .before .before .before .before .before .before .before .before .before .before .before .before .before .before .before .before .before .before .before .read-field2 .ensures) in
-    let r = rw (c .before .before .before .before .before .before .before .before .p .given .1) at (c .before .before .before .before .before .before .before .before .before .before .before .before .read-labels .ensures) in
-    loads-tail (record-labels p q r) (c .before .before .before .before .read-edges .ensures)
+    let r = rw (c .before .before .before .before .before .before .before .before .p .given .1) at (c .before .before .before .before .before .before .before .before .before .before .before .before .read-labels .ensures .0) in
+    let d = rw (c .before .before .before .before .before .before .before .before .p .given .1) at (c .before .before .before .before .before .before .before .before .before .before .before .before .read-labels .ensures .1) in
+    let a = c .before .before .before .before .before .before .before .before .before .before .before .before .before .before .before .before .before .before .before .before .before .before .before .before .before .before .before .before .before .before .before .args in
+    let k = c .before .before .before .before .read-edges in
+    (loads-tail (record-labels p q r) (k .ensures .0), loaded-same (a .s .now) (a .work .now) (k .result .part) (k .result .edges) (k .last .1 .1 .1 .1 .1 .1 .0) (d ∙ ap (λ (n : ℕ). 27 + 32 * n) (p .is)) (q .is) (k .ensures .1))
 
 same-length-5 : tie.Need-same-length-5
 same-length-5 c = search needs
@@ -91,8 +96,8 @@ returns-4 : tie.Need-returns-4
 returns-4 c =
     let p = rw (c .before .before .before .before .before .before .before .before .before .before .before .before .before .before .before .before .f .given .1) at (c .before .before .before .before .before .before .before .before .before .before .before .before .before .before .before .before .before .before .before .before .read-field .ensures) in
     let q = rw (c .before .before .before .before .before .before .before .before .before .g .given .1) at (c .before .before .before .before .before .before .before .before .before .before .before .before .before .read-field2 .ensures) in
-    let r = rw (c .before .before .p2 .given .1) at (c .before .before .before .before .before .before .read-labels .ensures) in
-    loads-stopped _ (c .stopped3 .ensures .1) (c .stopped3 .ensures .0) (calls-refused _ _ (record-number p q) r)
+    let r = rw (c .before .before .p2 .given .1) at (c .before .before .before .before .before .before .read-labels .ensures .0) in
+    (loads-stopped _ (c .stopped3 .ensures .1) (c .stopped3 .ensures .0) (calls-refused _ _ (record-number p q) r), rw (c .stopped3 .ensures .0) tt)
 
 pub read-fields-spec : {M : Type 1} → statement M
 read-fields-spec =

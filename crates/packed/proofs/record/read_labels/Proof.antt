@@ -1,6 +1,8 @@
 -- `packed::record::read_labels` meets its contract. The loop: what was read so far, then the labels that are left.
 use borrow.Author.Needs.{needs}
 use mathlib.Core.Path.{_≡_, refl}
+use Prim.Native.Nat.{_+_, _*_}
+use native.Mathlib.Omega.{arith}
 use lib.ListN.{length}
 use Rattle.packed.specs.Format.{times}
 use Rattle.packed.specs.Formats.{labels}
@@ -11,13 +13,14 @@ use Rattle.packed.proofs.record.read_labels.Statement.{statement}
 use Rattle.packed.proofs.record.read_labels.Tie as tie
 
 abbrev Inv-loop : tie.InvT-loop
-Inv-loop s start n words₀ first at₀ i₀ left₀ words at i left = (length words ≡ length words₀) × Reading (times n labels) s start words₀ first (times left labels) at words i
+Inv-loop s start n words₀ first at₀ i₀ left₀ words at i left =
+    (length words ≡ length words₀) × Reading (times n labels) s start words₀ first (times left labels) at words i × (at + 32 * left ≡ start + 32 * n)
 
 abbrev μ-loop : tie.MeasureT-loop
 μ-loop s start n words₀ first at₀ i₀ left₀ words at i left = left
 
 loop-holds : tie.Need-loop-holds Inv-loop μ-loop
-loop-holds c = (refl, starts (c .before .before .pre .inside))
+loop-holds c = (refl, starts (c .before .before .pre .inside), refl)
 
 read-field-requires : tie.Need-read-field-requires Inv-loop μ-loop
 read-field-requires c κs = search needs
@@ -40,7 +43,7 @@ loop-less c = search needs
 loop-again : tie.Need-loop-again Inv-loop μ-loop
 loop-again c =
     let p = rw (c .enum-told .given .1) at (c .before .before .before .before .read-field .ensures) in
-    (search needs, reads (left-is (labels-next _ (c .before .before .before .before .before .before .loop-test .taken)) (c .before .before .before .before .before .before .before .loop .inv .1)) p)
+    (search needs, reads (left-is (labels-next _ (c .before .before .before .before .before .before .loop-test .taken)) (c .before .before .before .before .before .before .before .loop .inv .1)) p, search needs)
 
 enum-known-f : tie.Need-enum-known-f Inv-loop μ-loop
 enum-known-f c = search needs
@@ -51,13 +54,13 @@ same-length c = search needs
 returns : tie.Need-returns Inv-loop μ-loop
 returns c =
     let p = rw (c .before .f .given .1) at (c .before .before .before .before .before .read-field .ensures) in
-    refused (left-is (labels-next _ (c .before .before .before .before .before .before .before .loop-test .taken)) (c .before .before .before .before .before .before .before .before .loop .inv .1)) (p _)
+    (refused (left-is (labels-next _ (c .before .before .before .before .before .before .before .loop-test .taken)) (c .before .before .before .before .before .before .before .before .loop .inv .1)) (p _), tt)
 
 same-length-2 : tie.Need-same-length-2 Inv-loop μ-loop
 same-length-2 c = search needs
 
 returns-2 : tie.Need-returns-2 Inv-loop μ-loop
-returns-2 c = left-is (labels-none _ (c .loop-test .left)) (c .before .loop .inv .1)
+returns-2 c = (left-is (labels-none _ (c .loop-test .left)) (c .before .loop .inv .1), omega arith)
 
 pub read-labels-spec : {M : Type 1} → statement M
 read-labels-spec =
