@@ -1,18 +1,20 @@
 -- The loops over the views of an accepted catalogue: one sheet a turn.
-use Prim.Native.Nat.{ℕ, _+_, _-_, _*_, _/_, _<_, _≤_}
+use Prim.Native.Nat.{ℕ, zero, suc, _+_, _-_, _*_, _/_, _<_, _≤_}
 use mathlib.Core.Path.{_≡_, refl, sym, ap, ap₂, subst, _∙_}
 use mathlib.Core.List.{List, [], _∷_, _++_, map, append-assoc, append-nil}
-use lib.ListN.{length, take, drop, length-append, length-drop, drop-of-length-le}
-use lib.Seq.{sets, length-sets, take-all}
+use mathlib.Core.Bool.{Bool, true, false}
+use lib.ListN.{length, take, drop, getD, set, replicate, length-append, length-drop, length-set, drop-of-length-le, List·getD-append}
+use lib.Seq.{sets, length-sets, take-all, getD-append-add, getD-set-same, getD-set-other}
+use borrow.Author.Count.{below-more}
 use native.Mathlib.Omega.{arith}
 use native.Mathlib.Nat.{add-zero, zero-add}
 use borrow.Rule.Slice.PartMut.{putMid, postOf}
-use Rattle.packed.specs.Format.{ok, decode}
+use Rattle.packed.specs.Format.{pick, ok, decode}
 use Rattle.packed.specs.Formats.{catalogue}
 use Rattle.packed.specs.Contents.{viewsOf, total}
 use Rattle.packed.specs.Reading.{Stands}
 use Rattle.packed.specs.LoadedGraph.{Holds}
-use Rattle.packed.specs.Matches.{matchesOf, Written}
+use Rattle.packed.specs.Matches.{marked, markedFrom, anyEmpty, emptied, allOrNone, matchesOf, Written}
 use Rattle.packed.proofs.Sets.{sets-append, sets-drop}
 use Rattle.packed.proofs.SheetLaws.{Fit, fit-none, fit-next, fit-all}
 use Rattle.packed.proofs.MatchLaws.{fit-lists, matches-encode}
@@ -21,8 +23,8 @@ use Rattle.packed.specs.declared.by_value.Pattern.{Pattern as Given}
 use Rattle.matching.specs.Simulation.{Pattern, Graph, patternOf, matchSets, viewSheet}
 use Rattle.matching.specs.Search.{sheetBytes, bookBytes, viewSheets}
 use Rattle.matching.specs.Steps.{patternIn, graphIn, Fair, Ready, Edges}
-use Rattle.matching.specs.Matched.{Proper, Rises, Matched, ViewAt}
-use Rattle.matching.specs.Books.{Catalogued, Bookable, bookIn, Sized, Fits, Filled}
+use Rattle.matching.specs.Matched.{Proper, Rises, Matched, Sheeted, ViewAt}
+use Rattle.matching.specs.Books.{Catalogued, Bookable, bookIn, sheetSize, Sizes, Sized, Fits, Filled}
 use Rattle.matching.specs.declared.views.View.{View}
 use Rattle.matching.proofs.MatchSetLaws.{sets-length, view-sheet}
 use Rattle.matching.proofs.UpToLaws.{length-upTo}
@@ -39,31 +41,79 @@ unfolding total
 total-most fit-none = omega arith
 total-most (fit-next r h f) = omega (arith, total-most f)
 
-module _ {p : Given} {s : List ℕ} {n m : ℕ} {w w′ : List ℕ} (q : Matched p s n m w w′) where
-  abbrev marked : List (List ℕ)
-  marked = matchesOf m (p .edges) w′
+pub sheeted-by : {p : Given} {s : List ℕ} {n m : ℕ} {w w′ : List ℕ} → Matched p s n m w w′ → Sheeted p s n m w m w′
+sheeted-by q = record { edges = q .edges; marked = q .marked; sets = q .sets }
+
+module _ {p : Given} {s : List ℕ} {n m : ℕ} {w : List ℕ} {d : ℕ} {w′ : List ℕ} (q : Sheeted p s n m w d w′) where
+  abbrev made : List (List ℕ)
+  made = matchesOf d (p .edges) w′
 
   abbrev listed : List (List ℕ)
   listed = matchSets (patternIn p) (graphIn s n m w)
 
-  marked-long : length marked ≡ p .edges
+  made-long : length made ≡ p .edges
   unfolding patternIn
-  marked-long = ap length (q .sets) ∙ sets-length (patternIn p) (graphIn s n m w) ∙ length-upTo _ (p .edges)
+  made-long = ap length (q .sets) ∙ sets-length (patternIn p) (graphIn s n m w) ∙ length-upTo _ (p .edges)
 
   -- the bytes that are counted
-  pub size-is : (14 * p .edges + 24 * total marked + 7) / 8 ≡ length (sheetBytes listed)
+  pub size-is : (14 * p .edges + 24 * total made + 7) / 8 ≡ length (sheetBytes listed)
   size-is =
-      let x = sheet-by (p .edges) marked marked-long (matches-encode m (p .edges) w′ (q .marked)) in
-      let y = rw marked-long at (x .size) in
+      let x = sheet-by (p .edges) made made-long (matches-encode d (p .edges) w′ (q .marked)) in
+      let y = rw made-long at (x .size) in
       sym y ∙ ap (λ (ls : List (List ℕ)). length (sheetBytes ls)) (q .sets)
 
-  pub size-most : p .edges ≤ 32 → (14 * p .edges + 24 * total marked + 7) / 8 ≤ 786489
+  pub size-most : p .edges ≤ 32 → (14 * p .edges + 24 * total made + 7) / 8 ≤ 786489
   unfolding matchesOf
-  size-most h = omega (arith, total-most (fit-all _ (fit-lists m (p .edges) w′ (q .marked))), marked-long)
+  size-most h = omega (arith, total-most (fit-all _ (fit-lists d (p .edges) w′ (q .marked))), made-long)
 
   -- the bytes that are written
-  pub bytes-are : {out out′ : List ℕ} {r : ℕ} (x : Written m (p .edges) w′ out r out′) → x .bytes ≡ sheetBytes listed
-  bytes-are x = sym (sheet-is (p .edges) marked (x .bytes) marked-long (x .is)) ∙ ap sheetBytes (q .sets)
+  pub bytes-are : {out out′ : List ℕ} {r : ℕ} (x : Written d (p .edges) w′ out r out′) → x .bytes ≡ sheetBytes listed
+  bytes-are x = sym (sheet-is (p .edges) made (x .bytes) made-long (x .is)) ∙ ap sheetBytes (q .sets)
+
+  -- what is kept of its size
+  pub size-kept : (14 * p .edges + 24 * total made + 7) / 8 ≡ sheetSize listed
+  size-kept = ap (λ (k : ℕ). (14 * k + 24 * total made + 7) / 8) (sym made-long) ∙ ap sheetSize (q .sets)
+
+-- ---- a sheet that lists nothing
+none-marked : (e m : ℕ) (qs : List ℕ) → markedFrom e m [] qs ≡ replicate m []
+unfolding markedFrom marked
+none-marked e zero qs = refl
+none-marked e (suc m) qs = ap (λ (l : List (List ℕ)). [] ∷ l) (none-marked (suc e) m qs)
+
+none-emptied : (m : ℕ) → emptied (replicate m []) ≡ replicate m []
+unfolding emptied
+none-emptied zero = refl
+none-emptied (suc m) = ap (λ (l : List (List ℕ)). [] ∷ l) (none-emptied m)
+
+pick-same : (b : Bool) {x y : List (List ℕ)} → x ≡ y → pick b x y ≡ y
+pick-same true e = e
+pick-same false e = refl
+
+none-matches : (m : ℕ) (w : List ℕ) → matchesOf 0 m w ≡ replicate m []
+unfolding matchesOf allOrNone
+none-matches m w =
+    ap (λ (ls : List (List ℕ)). pick (anyEmpty ls) (emptied ls) ls) (none-marked 0 m [])
+    ∙ pick-same (anyEmpty (replicate m [])) (none-emptied m)
+
+none-total : (ls : List (List ℕ)) → total ls ≡ 0 → ls ≡ replicate (length ls) []
+unfolding total
+none-total [] h = refl
+none-total ([] ∷ ls) h = ap (λ (x : List (List ℕ)). [] ∷ x) (none-total ls (omega arith))
+none-total ((x ∷ l) ∷ ls) h = absurd (omega arith)
+
+-- it is made from no pairs
+pub sheeted-none : (p : Given) (s : List ℕ) (n m : ℕ) (w : List ℕ) → Ready s n m w
+    → (14 * p .edges + 7) / 8 ≡ sheetSize (matchSets (patternIn p) (graphIn s n m w)) → Sheeted p s n m w 0 w
+unfolding patternIn
+sheeted-none p s n m w r e =
+    let ls : List (List ℕ) = matchSets (patternIn p) (graphIn s n m w) in
+    let l : length ls ≡ p .edges = sets-length (patternIn p) (graphIn s n m w) ∙ length-upTo _ (p .edges) in
+    let z : total ls ≡ 0 = omega arith in
+    record {
+      edges = record { long = refl; same = λ i h. refl };
+      marked = record { long = omega (arith, r .long); most = omega arith; small = λ i h. absurd (omega arith); rises = λ i j a b. absurd (omega arith) };
+      sets = none-matches (p .edges) w ∙ ap (λ (k : ℕ). replicate k []) (sym l) ∙ sym (none-total ls z);
+    }
 
 -- ---- the views that are left
 -- the sheets of views on a graph
@@ -80,26 +130,27 @@ map-append f (x ∷ xs) ys = ap (λ l. f x ∷ l) (map-append f xs ys)
 on-append : (G : Graph) (us vs : List (List ℕ)) → bookOn G (us ++ vs) ≡ bookOn G us ++ bookOn G vs
 on-append G us vs = ap bookBytes (map-append (λ v. viewSheet (patternOf v) G) us vs) ∙ book-append (sheetsOn G us) (sheetsOn G vs)
 
--- a catalogue of which some views are past, and so many are left, from a byte on
-pub record Turned (c s : List ℕ) (n m : ℕ) (w₀ : List ℕ) (byte left : ℕ) (w : List ℕ) : Type 0 where
+-- a catalogue of k views of which a are past, the rest from a byte on
+pub record Turned (c s : List ℕ) (n m : ℕ) (w₀ : List ℕ) (k byte a : ℕ) (w : List ℕ) : Type 0 where
   pub small : length c ≤ 65536
   pub fields : List ℕ
   pub is : decode catalogue c ≡ ok fields
   pub past : List (List ℕ)
   pub rest : List (List ℕ)
   pub views : viewsOf fields ≡ past ++ rest
-  pub many : length rest ≡ left
-  pub few : length past + left ≤ 16
+  pub many : length past ≡ a
+  pub number : length (viewsOf fields) ≡ k
+  pub few : k ≤ 16
   pub ahead : Ahead c byte rest
   pub ready : Ready s n m w
   pub rises : Rises m w
   pub edges : Edges w₀ w
 
 -- the book of the views that are past
-abbrev pub bookPast : {c s : List ℕ} {n m : ℕ} {w₀ : List ℕ} {byte left : ℕ} {w : List ℕ} → Turned c s n m w₀ byte left w → List ℕ
+abbrev pub bookPast : {c s : List ℕ} {n m : ℕ} {w₀ : List ℕ} {k byte a : ℕ} {w : List ℕ} → Turned c s n m w₀ k byte a w → List ℕ
 bookPast {s = s} {n} {m} {w₀} t = bookOn (graphIn s n m w₀) (t .past)
 
-pub turned-start : {c : List ℕ} {k : ℕ} {s : List ℕ} {n m : ℕ} {w : List ℕ} → Bookable c k s n m w → Turned c s n m w 1 k w
+pub turned-start : {c : List ℕ} {k : ℕ} {s : List ℕ} {n m : ℕ} {w : List ℕ} → Bookable c k s n m w → Turned c s n m w k 1 0 w
 turned-start {c} {k} b =
     let q = b .views in
     let v = catalogue-views c (q .fields) (q .is) in
@@ -111,7 +162,8 @@ turned-start {c} {k} b =
       past = [];
       rest = viewsOf (q .fields);
       views = refl;
-      many = v .many ∙ sym e;
+      many = refl;
+      number = v .many ∙ sym e;
       few = omega (arith, v .most);
       ahead = all-ahead c (q .fields) (q .is);
       ready = b .ready;
@@ -127,7 +179,7 @@ none-left : (l : List (List ℕ)) → length l ≡ 0 → l ≡ []
 none-left [] h = refl
 none-left (x ∷ xs) h = absurd (omega arith)
 
-module _ {c s : List ℕ} {n m : ℕ} {w₀ : List ℕ} {byte left : ℕ} {w : List ℕ} (t : Turned c s n m w₀ byte left w) where
+module _ {c s : List ℕ} {n m : ℕ} {w₀ : List ℕ} {k byte a : ℕ} {w : List ℕ} (t : Turned c s n m w₀ k byte a w) where
   abbrev G : Graph
   G = graphIn s n m w₀
 
@@ -142,17 +194,24 @@ module _ {c s : List ℕ} {n m : ℕ} {w₀ : List ℕ} {byte left : ℕ} {w : L
   pub past-most : length (bookPast t) ≤ length (bookIn (t .fields) s n m w₀)
   past-most = omega (arith, ap (λ (x : List (List (List ℕ))). length (bookBytes x)) whole-book, ap length (on-append G (t .past) (t .rest)), length-append (bookPast t) (bookOn G (t .rest)))
 
+  -- how many are left
+  parts : a + length (t .rest) ≡ k
+  parts = omega (arith, t .many, t .number, ap length (t .views), length-append (t .past) (t .rest))
+
+  pub turned-most : a ≤ k
+  turned-most = omega (arith, parts)
+
   -- no view is left
-  pub past-all : left ≡ 0 → bookPast t ≡ bookIn (t .fields) s n m w₀
-  past-all z = sym (ap bookBytes (whole-book ∙ ap (λ (l : List (List ℕ)). sheetsOn G (t .past ++ l)) (none-left (t .rest) (t .many ∙ z)) ∙ ap (sheetsOn G) (append-nil (t .past))))
+  pub past-all : k ≤ a → bookPast t ≡ bookIn (t .fields) s n m w₀
+  past-all z = sym (ap bookBytes (whole-book ∙ ap (λ (l : List (List ℕ)). sheetsOn G (t .past ++ l)) (none-left (t .rest) (omega (arith, parts))) ∙ ap (sheetsOn G) (append-nil (t .past))))
 
   -- a view comes
-  module _ (some : 0 < left) (v : View) (a : ViewAt c byte v) where
+  module _ (some : a < k) (v : View) (at : ViewAt c byte v) where
     next : (x : List ℕ) × (xs : List (List ℕ)) × (t .rest ≡ x ∷ xs)
-    next = some-first (t .rest) (omega (arith, t .many))
+    next = some-first (t .rest) (omega (arith, parts))
 
     advanced : Advanced c (next .0) (next .1) v
-    advanced = advance (subst (λ l. Ahead c byte l) (next .2) (t .ahead)) a
+    advanced = advance (subst (λ l. Ahead c byte l) (next .2) (t .ahead)) at
 
     pub turn-fair : Fair (v .pattern)
     turn-fair = fair-by (advanced .plain) (advanced .holds)
@@ -160,12 +219,27 @@ module _ {c s : List ℕ} {n m : ℕ} {w₀ : List ℕ} {byte left : ℕ} {w : L
     pub turn-ready : Fair (v .pattern) × Proper (v .pattern) × Ready s n m w × Rises m w
     turn-ready = (turn-fair, proper-by (advanced .plain) (advanced .holds), t .ready, t .rises)
 
+    -- its lists, by the record as it came
+    turn-lists : matchSets (patternIn (v .pattern)) (graphIn s n m w) ≡ viewSheet (patternOf (next .0)) G
+    turn-lists =
+        ap₂ matchSets (pattern-same (advanced .plain) (advanced .holds)) (graph-again (t .edges) s n (t .ready .edges))
+        ∙ sym (view-sheet (patternOf (next .0)) G)
+
+    -- and its size, if those of all were kept
+    pub turn-size : (sizes : List ℕ) → Sizes c s n m w₀ sizes → getD sizes a 0 ≡ sheetSize (matchSets (patternIn (v .pattern)) (graphIn s n m w))
+    turn-size sizes h =
+        let e : getD (viewsOf (t .fields)) a [] ≡ next .0 =
+        ap (λ (l : List (List ℕ)). getD l a []) (t .views ∙ ap (λ (l : List (List ℕ)). t .past ++ l) (next .2))
+        ∙ ap (λ (j : ℕ). getD (t .past ++ (next .0 ∷ next .1)) j []) (sym (t .many) ∙ sym (add-zero (length (t .past))))
+        ∙ getD-append-add (t .past) (next .0 ∷ next .1) 0 [] in
+        h (t .fields) (t .is) a (omega (arith, t .number))
+        ∙ ap (λ (u : List ℕ). sheetSize (viewSheet (patternOf u) G)) e
+        ∙ ap sheetSize (sym turn-lists)
+
     -- and was matched
-    module _ {w′ : List ℕ} (q : Matched (v .pattern) s n m w w′) where
-      pub turned-next : Turned c s n m w₀ (v .next) (left - 1) w′
+    module _ {d : ℕ} {w′ : List ℕ} (q : Sheeted (v .pattern) s n m w d w′) where
+      pub turned-next : Turned c s n m w₀ k (v .next) (a + 1) w′
       turned-next =
-          let k = t .many in
-          let z = ap length (next .2) in
           record {
             small = t .small;
             fields = t .fields;
@@ -173,8 +247,9 @@ module _ {c s : List ℕ} {n m : ℕ} {w₀ : List ℕ} {byte left : ℕ} {w : L
             past = t .past ++ (next .0 ∷ []);
             rest = next .1;
             views = t .views ∙ ap (λ (l : List (List ℕ)). t .past ++ l) (next .2) ∙ sym (append-assoc (t .past) (next .0 ∷ []) (next .1));
-            many = omega arith;
-            few = omega (arith, t .few, length-append (t .past) (next .0 ∷ []));
+            many = omega (arith, t .many, length-append (t .past) (next .0 ∷ []));
+            number = t .number;
+            few = t .few;
             ahead = advanced .ahead;
             ready = ready-again (q .edges) (t .ready);
             rises = rises-again (q .edges) (t .ready .edges) (t .rises);
@@ -190,38 +265,73 @@ module _ {c s : List ℕ} {n m : ℕ} {w₀ : List ℕ} {byte left : ℕ} {w : L
       past-next =
           on-append G (t .past) (next .0 ∷ [])
           ∙ ap (λ (l : List ℕ). bookPast t ++ l)
-          (book-one (viewSheet (patternOf (next .0)) G)
-          ∙ ap sheetBytes (view-sheet (patternOf (next .0)) G)
-          ∙ ap₂ (λ (P : Pattern) (H : Graph). sheetBytes (matchSets P H)) (sym (pattern-same (advanced .plain) (advanced .holds))) (sym (graph-again (t .edges) s n (t .ready .edges))))
+          (book-one (viewSheet (patternOf (next .0)) G) ∙ ap sheetBytes (sym turn-lists))
 
 -- ---- the size of a book
-pub record Sizing (c s : List ℕ) (n m : ℕ) (w₀ : List ℕ) (size byte left : ℕ) (w : List ℕ) : Type 0 where
-  pub turn : Turned c s n m w₀ byte left w
+pub record Sizing (c s : List ℕ) (n m : ℕ) (w₀ : List ℕ) (k size byte a : ℕ) (w : List ℕ) : Type 0 where
+  pub turn : Turned c s n m w₀ k byte a w
   pub is : size ≡ length (bookPast turn)
-  pub most : size + 786489 * left ≤ 786489 * 16
+  pub most : size ≤ 786489 * a
 
-pub sizing-start : {c : List ℕ} {k : ℕ} {s : List ℕ} {n m : ℕ} {w : List ℕ} → Bookable c k s n m w → Sizing c s n m w 0 1 k w
+pub sizing-start : {c : List ℕ} {k : ℕ} {s : List ℕ} {n m : ℕ} {w : List ℕ} → Bookable c k s n m w → Sizing c s n m w k 0 1 0 w
 unfolding bookBytes turned-start
-sizing-start b = let t = turned-start b in record { turn = t; is = refl; most = omega (arith, t .few) }
+sizing-start b = record { turn = turned-start b; is = refl; most = omega arith }
 
-module _ {c s : List ℕ} {n m : ℕ} {w₀ : List ℕ} {size byte left : ℕ} {w : List ℕ} (z : Sizing c s n m w₀ size byte left w) where
-  pub sizing-next : (some : 0 < left) (v : View) (a : ViewAt c byte v) {w′ : List ℕ} (q : Matched (v .pattern) s n m w w′) (r : ℕ)
-      → r ≡ (14 * v .pattern .edges + 24 * total (matchesOf m (v .pattern .edges) w′) + 7) / 8 → Sizing c s n m w₀ (size + r) (v .next) (left - 1) w′
-  sizing-next some v a q r e =
-      let t = z .turn in
-      let f = turn-fair t some v a .edges in
+pub sizing-next : {c s : List ℕ} {n m : ℕ} {w₀ : List ℕ} {k size byte a : ℕ} {w : List ℕ} (z : Sizing c s n m w₀ k size byte a w)
+    (some : a < k) (v : View) (at : ViewAt c byte v) {d : ℕ} {w′ : List ℕ} (q : Sheeted (v .pattern) s n m w d w′) (r : ℕ)
+    → r ≡ (14 * v .pattern .edges + 24 * total (matchesOf d (v .pattern .edges) w′) + 7) / 8 → Sizing c s n m w₀ k (size + r) (v .next) (a + 1) w′
+sizing-next z some v at q r e =
+    let t = z .turn in
+    let f = turn-fair t some v at .edges in
+    record {
+      turn = turned-next t some v at q;
+      is = omega (arith, z .is, e, size-is q, ap length (past-next t some v at q), length-append (bookPast t) (sheet t some v at q));
+      most = omega (arith, z .most, e, size-most q f);
+    }
+
+-- the sizes of the sheets are kept
+pub record Keeping (c s : List ℕ) (n m : ℕ) (w₀ : List ℕ) (k size byte a : ℕ) (sizes w : List ℕ) : Type 0 where
+  pub sizing : Sizing c s n m w₀ k size byte a w
+  pub long : length sizes ≡ 16
+  pub each : (j : ℕ) → j < a → getD sizes j 0 ≡ sheetSize (viewSheet (patternOf (getD (sizing .turn .past) j [])) (graphIn s n m w₀))
+
+pub keeping-start : {c : List ℕ} {k : ℕ} {s : List ℕ} {n m : ℕ} {w sizes : List ℕ} → Bookable c k s n m w → length sizes ≡ 16 → Keeping c s n m w k 0 1 0 sizes w
+keeping-start b l = record { sizing = sizing-start b; long = l; each = λ j h. absurd (omega arith) }
+
+module _ {c s : List ℕ} {n m : ℕ} {w₀ : List ℕ} {k size byte a : ℕ} {sizes w : List ℕ} (z : Keeping c s n m w₀ k size byte a sizes w) where
+  pub keeping-room : a < k → a < length sizes
+  keeping-room h = omega (arith, z .long, z .sizing .turn .few)
+
+  pub keeping-next : (some : a < k) (v : View) (at : ViewAt c byte v) {w′ : List ℕ} (q : Matched (v .pattern) s n m w w′) (r : ℕ)
+      → r ≡ (14 * v .pattern .edges + 24 * total (matchesOf m (v .pattern .edges) w′) + 7) / 8 → Keeping c s n m w₀ k (size + r) (v .next) (a + 1) (set sizes a r) w′
+  unfolding sizing-next turned-next
+  keeping-next some v at q r e =
+      let t = z .sizing .turn in
+      let x : List ℕ = next t some v at .0 in
+      let more : List (List ℕ) = t .past ++ (x ∷ []) in
       record {
-        turn = turned-next t some v a q;
-        is = omega (arith, z .is, e, size-is q, ap length (past-next t some v a q), length-append (bookPast t) (sheet t some v a q));
-        most = omega (arith, z .most, e, size-most q f);
+        sizing = sizing-next (z .sizing) some v at (sheeted-by q) r e;
+        long = length-set sizes a r ∙ z .long;
+        each = below-more (λ j. getD (set sizes a r) j 0 ≡ sheetSize (viewSheet (patternOf (getD more j [])) (graphIn s n m w₀))) a
+            (λ j h. getD-set-other sizes a j r 0 (λ p. omega arith) ∙ z .each j h
+            ∙ ap (λ (u : List ℕ). sheetSize (viewSheet (patternOf u) (graphIn s n m w₀))) (sym (List·getD-append (t .past) (x ∷ []) [] j (omega (arith, t .many)))))
+            (getD-set-same sizes a r 0 (keeping-room some) ∙ e ∙ size-kept (sheeted-by q) ∙ ap sheetSize (turn-lists t some v at)
+            ∙ ap (λ (u : List ℕ). sheetSize (viewSheet (patternOf u) (graphIn s n m w₀)))
+            (sym (ap (λ (j : ℕ). getD more j []) (sym (t .many) ∙ sym (add-zero (length (t .past)))) ∙ getD-append-add (t .past) (x ∷ []) 0 [])));
       }
 
-  pub sizing-end : left ≡ 0 → Sized c s n m w₀ size w
-  sizing-end h =
-      let t = z .turn in
+  pub keeping-end : k ≤ a → Sized c s n m w₀ sizes size w
+  keeping-end h =
+      let t = z .sizing .turn in
+      let p : viewsOf (t .fields) ≡ t .past = t .views ∙ ap (λ (l : List (List ℕ)). t .past ++ l) (none-left (t .rest) (omega (arith, parts t))) ∙ append-nil (t .past) in
       record {
         edges = t .edges;
-        is = λ cs e. let i = t .is in let q : t .fields ≡ cs = cc in z .is ∙ ap length (past-all t h) ∙ ap (λ (l : List ℕ). length (bookIn l s n m w₀)) q;
+        each = λ cs e j l.
+            let i = t .is in
+            let q : t .fields ≡ cs = cc in
+            let y : viewsOf cs ≡ t .past = ap viewsOf (sym q) ∙ p in
+            z .each j (omega (arith, ap length y, t .many)) ∙ ap (λ (us : List (List ℕ)). sheetSize (viewSheet (patternOf (getD us j [])) (graphIn s n m w₀))) (sym y);
+        is = λ cs e. let i = t .is in let q : t .fields ≡ cs = cc in z .sizing .is ∙ ap length (past-all t h) ∙ ap (λ (l : List ℕ). length (bookIn l s n m w₀)) q;
       }
 
 -- ---- its bytes
@@ -235,17 +345,17 @@ rest-written out at part bytes h e =
     ∙ sym (sets-drop out at 0 bytes h)
     ∙ ap (λ (i : ℕ). sets out i bytes) (add-zero at)
 
-pub record Filling (c s : List ℕ) (n m : ℕ) (w₀ out₀ : List ℕ) (at byte left : ℕ) (out w : List ℕ) : Type 0 where
-  pub sizing : Sizing c s n m w₀ at byte left w
+pub record Filling (c s : List ℕ) (n m : ℕ) (w₀ out₀ : List ℕ) (k at byte a : ℕ) (out w : List ℕ) : Type 0 where
+  pub sizing : Sizing c s n m w₀ k at byte a w
   pub fits : length (bookIn (sizing .turn .fields) s n m w₀) ≤ length out₀
   pub front : out ≡ sets out₀ 0 (bookPast (sizing .turn))
 
-pub filling-start : {c : List ℕ} {k : ℕ} {s : List ℕ} {n m : ℕ} {w out : List ℕ} → Bookable c k s n m w → Fits c s n m w out → Filling c s n m w out 0 1 k out w
+pub filling-start : {c : List ℕ} {k : ℕ} {s : List ℕ} {n m : ℕ} {w out : List ℕ} → Bookable c k s n m w → Fits c s n m w out → Filling c s n m w out k 0 1 0 out w
 unfolding bookBytes sizing-start turned-start
 filling-start b f = record { sizing = sizing-start b; fits = f (b .views .fields) (b .views .is); front = refl }
 
-module _ {c s : List ℕ} {n m : ℕ} {w₀ out₀ : List ℕ} {at byte left : ℕ} {out w : List ℕ} (z : Filling c s n m w₀ out₀ at byte left out w) where
-  abbrev turn : Turned c s n m w₀ byte left w
+module _ {c s : List ℕ} {n m : ℕ} {w₀ out₀ : List ℕ} {k at byte a : ℕ} {out w : List ℕ} (z : Filling c s n m w₀ out₀ k at byte a out w) where
+  abbrev turn : Turned c s n m w₀ k byte a w
   turn = z .sizing .turn
 
   pub filling-long : length out ≡ length out₀
@@ -255,27 +365,27 @@ module _ {c s : List ℕ} {n m : ℕ} {w₀ out₀ : List ℕ} {at byte left : �
   filling-inside = omega (arith, z .sizing .is, z .fits, past-most turn, filling-long)
 
   -- a sheet was written there
-  module _ (some : 0 < left) (v : View) (a : ViewAt c byte v) {w′ : List ℕ} (q : Matched (v .pattern) s n m w w′)
-      {r : ℕ} {part : List ℕ} (x : Written m (v .pattern .edges) w′ (take (length out - at) (drop at out)) r part) where
-    pub filling-sized : Sizing c s n m w₀ (at + r) (v .next) (left - 1) w′
-    filling-sized = sizing-next (z .sizing) some v a q r (x .number ∙ ap length (bytes-are q x) ∙ sym (size-is q))
+  module _ (some : a < k) (v : View) (y : ViewAt c byte v) {d : ℕ} {w′ : List ℕ} (q : Sheeted (v .pattern) s n m w d w′)
+      {r : ℕ} {part : List ℕ} (x : Written d (v .pattern .edges) w′ (take (length out - at) (drop at out)) r part) where
+    pub filling-sized : Sizing c s n m w₀ k (at + r) (v .next) (a + 1) w′
+    filling-sized = sizing-next (z .sizing) some v y q r (x .number ∙ ap length (bytes-are q x) ∙ sym (size-is q))
 
-    pub filling-next : Filling c s n m w₀ out₀ (at + r) (v .next) (left - 1) (putMid at (length out - at) out part) w′
+    pub filling-next : Filling c s n m w₀ out₀ k (at + r) (v .next) (a + 1) (putMid at (length out - at) out part) w′
     unfolding filling-sized sizing-next turned-next
     filling-next =
-        let e = past-next turn some v a q in
+        let e = past-next turn some v y q in
         record {
           sizing = filling-sized;
           fits = z .fits;
           front =
               rest-written out at part (x .bytes) filling-inside (x .front)
               ∙ ap₂ (λ (o l : List ℕ). sets o at l) (z .front) (bytes-are q x)
-              ∙ ap (λ (i : ℕ). sets (sets out₀ 0 (bookPast turn)) i (sheet turn some v a q)) (z .sizing .is ∙ sym (zero-add (length (bookPast turn))))
-              ∙ sets-append out₀ 0 (bookPast turn) (sheet turn some v a q)
+              ∙ ap (λ (i : ℕ). sets (sets out₀ 0 (bookPast turn)) i (sheet turn some v y q)) (z .sizing .is ∙ sym (zero-add (length (bookPast turn))))
+              ∙ sets-append out₀ 0 (bookPast turn) (sheet turn some v y q)
               ∙ ap (sets out₀ 0) (sym e);
         }
 
-  pub filling-end : left ≡ 0 → Filled c s n m w₀ out₀ out
+  pub filling-end : k ≤ a → Filled c s n m w₀ out₀ out
   filling-end h cs e =
       let i = turn .is in
       let q : turn .fields ≡ cs = cc in
@@ -285,7 +395,7 @@ module _ {c s : List ℕ} {n m : ℕ} {w₀ out₀ : List ℕ} {at byte left : �
 pub bookable-by : {c : List ℕ} {k : ℕ} {s : List ℕ} {n m : ℕ} {w : List ℕ} → Catalogued c k → Holds s n m w → length s ≤ 65536 → Bookable c k s n m w
 bookable-by v h l = record { views = v; ready = ready-by h l; rises = rises-by h }
 
-module _ {c s : List ℕ} {n m : ℕ} {w : List ℕ} {size : ℕ} {w′ : List ℕ} (z : Sized c s n m w size w′) where
+module _ {c s : List ℕ} {n m : ℕ} {w sizes : List ℕ} {size : ℕ} {w′ : List ℕ} (z : Sized c s n m w sizes size w′) where
   sized-same : m ≤ 8192 → (cs : List ℕ) → bookIn cs s n m w′ ≡ bookIn cs s n m w
   sized-same b cs = ap (λ (H : Graph). bookBytes (viewSheets cs H)) (graph-again (z .edges) s n b)
 
@@ -297,3 +407,6 @@ module _ {c s : List ℕ} {n m : ℕ} {w : List ℕ} {size : ℕ} {w′ : List �
 
   pub sized-fits : m ≤ 8192 → (out : List ℕ) → size ≤ length out → Fits c s n m w′ out
   sized-fits b out l cs e = omega (arith, z .is cs e, ap length (sized-same b cs))
+
+  pub sized-sizes : m ≤ 8192 → Sizes c s n m w′ sizes
+  sized-sizes b cs e j l = z .each cs e j l ∙ ap (λ (H : Graph). sheetSize (viewSheet (patternOf (getD (viewsOf cs) j [])) H)) (sym (graph-again (z .edges) s n b))

@@ -1,13 +1,15 @@
 -- inner: what the loops over the views of an accepted catalogue c need and leave, where the edges of the record s stand in the workspace.
-use Prim.Native.Nat.{ℕ, _≤_}
+use Prim.Native.Nat.{ℕ, _+_, _*_, _/_, _<_, _≤_}
 use mathlib.Core.Path.{_≡_}
-use mathlib.Core.List.{List}
+use mathlib.Core.List.{List, []}
 use lib.ListN.{length, getD}
 use lib.Seq.{sets}
 use Rattle.packed.specs.Format.{ok, decode}
 use Rattle.packed.specs.Formats.{catalogue}
+use Rattle.packed.specs.Contents.{viewsOf, total}
 use Rattle.packed.specs.Refusals.{Told}
 use Rattle.packed.specs.Calls.{Answered}
+use Rattle.matching.specs.Simulation.{patternOf, viewSheet}
 use Rattle.matching.specs.Search.{bookBytes, viewSheets, bookFor}
 use Rattle.matching.specs.Steps.{graphIn, Ready, Edges}
 use Rattle.matching.specs.Matched.{Rises}
@@ -28,8 +30,18 @@ pub record Bookable (c : List ℕ) (k : ℕ) (s : List ℕ) (n m : ℕ) (w : Lis
 abbrev pub bookIn : List ℕ → List ℕ → ℕ → ℕ → List ℕ → List ℕ
 bookIn cs s n m w = bookBytes (viewSheets cs (graphIn s n m w))
 
-pub record Sized (c s : List ℕ) (n m : ℕ) (w : List ℕ) (r : ℕ) (w′ : List ℕ) : Type 0 where
+-- how many bytes the sheet of these lists takes
+abbrev pub sheetSize : List (List ℕ) → ℕ
+sheetSize ls = (14 * length ls + 24 * total ls + 7) / 8
+
+-- the sizes of the sheets
+abbrev pub Sizes : List ℕ → List ℕ → ℕ → ℕ → List ℕ → List ℕ → Type 0
+Sizes c s n m w sizes =
+    (cs : List ℕ) → decode catalogue c ≡ ok cs → (j : ℕ) → j < length (viewsOf cs) → getD sizes j 0 ≡ sheetSize (viewSheet (patternOf (getD (viewsOf cs) j [])) (graphIn s n m w))
+
+pub record Sized (c s : List ℕ) (n m : ℕ) (w sizes : List ℕ) (r : ℕ) (w′ : List ℕ) : Type 0 where
   pub edges : Edges w w′
+  pub each : Sizes c s n m w sizes
   pub is : (cs : List ℕ) → decode catalogue c ≡ ok cs → r ≡ length (bookIn cs s n m w)
 
 abbrev pub Fits : List ℕ → List ℕ → ℕ → ℕ → List ℕ → List ℕ → Type 0

@@ -32,6 +32,12 @@ pub record Matched (p : Given) (s : List ℕ) (n m : ℕ) (w w′ : List ℕ) : 
   pub sets : matchesOf m (p .edges) w′ ≡ matchSets (patternIn p) (graphIn s n m w)
   pub only : (i e : ℕ) → i < m → e < 32 → T (bit (getD w′ (8192 + i) 0) e) → e < p .edges
 
+-- the first d pairs of the workspace make the pattern's sheet
+pub record Sheeted (p : Given) (s : List ℕ) (n m : ℕ) (w : List ℕ) (d : ℕ) (w′ : List ℕ) : Type 0 where
+  pub edges : Edges w w′
+  pub marked : MarkedPairs d w′
+  pub sets : matchesOf d (p .edges) w′ ≡ matchSets (patternIn p) (graphIn s n m w)
+
 -- the pattern from a byte on, if one is there: its fields by value, and the byte after it
 abbrev pub ViewAt : List ℕ → ℕ → View → Type 0
 ViewAt s byte r = (ws : List ℕ) (end : ℕ) → from (whole pattern) s (8 * byte) ≡ got ws (drop end (bits s)) → end ≤ 8 * length s → (HoldsPattern ws (r .pattern)) × (8 * r .next ≡ end)

@@ -6,8 +6,10 @@ ghost use Rattle.packed.specs.Calls.{Answered};
 ghost use Rattle.matching.specs.Search.{searchFor, searchAnswer, makeBookAnswer};
 ghost use Rattle.matching.specs.Steps.{patternIn, Fair};
 ghost use Rattle.matching.specs.Starting.{Room};
-ghost use Rattle.matching.specs.Matched.{Proper};
-ghost use Rattle.matching.specs.Books.{Catalogued, Bookable, Sized, Fits, Filled, BookAnswered};
+ghost use Rattle.matching.specs.Steps.{Ready, graphIn};
+ghost use Rattle.matching.specs.Simulation.{matchSets};
+ghost use Rattle.matching.specs.Matched.{Proper, Rises, Sheeted};
+ghost use Rattle.matching.specs.Books.{Catalogued, Bookable, sheetSize, Sizes, Sized, Fits, Filled, BookAnswered};
 use crate::matched;
 use crate::views;
 use packed::by_value;
@@ -73,66 +75,105 @@ pub fn search(pattern: &[u8], record: &[u8], out: &mut [u8], work: &mut [u32]) -
     }
 }
 
-// How many bytes the book of the k views of a catalogue takes.
+fn no_sizes() -> [usize; 16]
+    ensures { λ r. ⌜ r ≡ replicate 16 0 ⌝ }
+{
+    [0usize; 16]
+}
+
+// How many bytes the book of the k views of a catalogue takes, and each of its sheets.
 fn book_size(
     catalogue: &[u8],
-    k: u32,
+    k: usize,
     record: &[u8],
     n: usize,
     m: usize,
+    sizes: &mut [usize; 16],
     work: &mut [u32],
     leave: &mut [u32],
     arrive: &mut [u32],
     held: &mut [u32],
 ) -> usize
-    requires { ⌜ Bookable (now catalogue) k (now «record») n m (now work) × Room n (now leave) (now arrive) (now held) ⌝ }
-    ensures { λ r. ⌜ Sized (now (catalogue .entry)) (now («record» .entry)) n m (now (work .entry)) r (now (work .exit)) × Room n (now (leave .exit)) (now (arrive .exit)) (now (held .exit)) ⌝ }
+    requires { ⌜ Bookable (now catalogue) k (now «record») n m (now work) × (length (now sizes) ≡ 16) × Room n (now leave) (now arrive) (now held) ⌝ }
+    ensures { λ r. ⌜ Sized (now (catalogue .entry)) (now («record» .entry)) n m (now (work .entry)) (now (sizes .exit)) r (now (work .exit)) × Room n (now (leave .exit)) (now (arrive .exit)) (now (held .exit)) ⌝ }
 {
     let mut size: usize = 0;
     let mut byte: usize = 1;
-    let mut left = k;
-    while 0 < left {
+    let mut a: usize = 0;
+    while a < k {
         let v = views::view_at(catalogue, byte);
         let p = v.pattern;
         matched::match_edges(record, n, m, p, work, leave, arrive, held);
-        size += matches::sheet_size(work, m, p.edges as u32);
+        let more = matches::sheet_size(work, m, p.edges as u32);
+        sizes[a] = more;
+        size += more;
         byte = v.next;
-        left -= 1;
+        a += 1;
     }
     size
+}
+
+// The pattern is matched again, and the result is how many pairs its sheet is written from. A sheet whose size shows that it lists
+// nothing is written from none, and needs no match.
+fn match_again(
+    record: &[u8],
+    n: usize,
+    m: usize,
+    p: Pattern,
+    size: usize,
+    work: &mut [u32],
+    leave: &mut [u32],
+    arrive: &mut [u32],
+    held: &mut [u32],
+) -> usize
+    requires { ⌜ Fair p × Proper p × Ready (now «record») n m (now work) × Rises m (now work) × Room n (now leave) (now arrive) (now held) × (size ≡ sheetSize (matchSets (patternIn p) (graphIn (now «record») n m (now work)))) ⌝ }
+    ensures { λ r. ⌜ Sheeted p (now («record» .entry)) n m (now (work .entry)) r (now (work .exit)) × Room n (now (leave .exit)) (now (arrive .exit)) (now (held .exit)) ⌝ }
+{
+    if size == (14 * p.edges + 7) / 8 {
+        return 0;
+    }
+    matched::match_edges(record, n, m, p, work, leave, arrive, held);
+    m
 }
 
 // The sheets of the k views, each from the byte after the one before: the rest of the lent book is lent to the sheet's writer.
 fn write_book(
     catalogue: &[u8],
-    k: u32,
+    k: usize,
     record: &[u8],
     n: usize,
     m: usize,
+    sizes: [usize; 16],
     out: &mut [u8],
     work: &mut [u32],
     leave: &mut [u32],
     arrive: &mut [u32],
     held: &mut [u32],
 )
-    requires { ⌜ Bookable (now catalogue) k (now «record») n m (now work) × Fits (now catalogue) (now «record») n m (now work) (now out) × Room n (now leave) (now arrive) (now held) ⌝ }
+    requires { ⌜ Bookable (now catalogue) k (now «record») n m (now work) × Sizes (now catalogue) (now «record») n m (now work) sizes × Fits (now catalogue) (now «record») n m (now work) (now out) × Room n (now leave) (now arrive) (now held) ⌝ }
     ensures { λ r. ⌜ Filled (now (catalogue .entry)) (now («record» .entry)) n m (now (work .entry)) (now (out .entry)) (now (out .exit)) ⌝ }
 {
     let mut at: usize = 0;
     let mut byte: usize = 1;
-    let mut left = k;
-    while 0 < left {
+    let mut a: usize = 0;
+    while a < k {
         let v = views::view_at(catalogue, byte);
         let p = v.pattern;
-        matched::match_edges(record, n, m, p, work, leave, arrive, held);
-        at += matches::write_sheet(work, m, p.edges as u32, &mut out[at..]);
+        let d = match_again(record, n, m, p, sizes[a], work, leave, arrive, held);
+        at += matches::write_sheet(work, d, p.edges as u32, &mut out[at..]);
         byte = v.next;
-        left -= 1;
+        a += 1;
     }
 }
 
 // Makes the book of the k views of an accepted catalogue.
-fn make_book_of(catalogue: &[u8], k: u32, record: &[u8], out: &mut [u8], work: &mut [u32]) -> Reply
+fn make_book_of(
+    catalogue: &[u8],
+    k: usize,
+    record: &[u8],
+    out: &mut [u8],
+    work: &mut [u32],
+) -> Reply
     requires { ⌜ (length (now work) ≡ 16384) × Catalogued (now catalogue) k ⌝ }
     ensures { λ r. ⌜ BookAnswered (now (catalogue .entry)) (now («record» .entry)) (replyTold r) (now (out .entry)) (now (out .exit)) ⌝ }
 {
@@ -145,12 +186,14 @@ fn make_book_of(catalogue: &[u8], k: u32, record: &[u8], out: &mut [u8], work: &
             let mut leave = no_words();
             let mut arrive = no_words();
             let mut held = no_words();
+            let mut sizes = no_sizes();
             let total = book_size(
                 catalogue,
                 k,
                 record,
                 n,
                 m,
+                &mut sizes,
                 work,
                 &mut leave,
                 &mut arrive,
@@ -165,6 +208,7 @@ fn make_book_of(catalogue: &[u8], k: u32, record: &[u8], out: &mut [u8], work: &
                 record,
                 n,
                 m,
+                sizes,
                 out,
                 work,
                 &mut leave,
@@ -187,7 +231,7 @@ pub fn make_book(catalogue: &[u8], record: &[u8], out: &mut [u8], work: &mut [u3
     let p = catalogue::judge_catalogue(catalogue, work);
     match p {
         Part::Upto(_, n) => {
-            let k = catalogue::word_at(&work[0..n], 0);
+            let k = catalogue::word_at(&work[0..n], 0) as usize;
             make_book_of(catalogue, k, record, out, work)
         }
         Part::Refused(x) => Reply::Refused(x),

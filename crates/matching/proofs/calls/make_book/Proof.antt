@@ -37,6 +37,9 @@ part-word-at-end c =
 word-at-requires : tie.Need-word-at-requires
 word-at-requires c κs = search needs
 
+cast-k : tie.Need-cast-k
+cast-k c = search needs
+
 make-book-of-requires : tie.Need-make-book-of-requires
 make-book-of-requires c κs =
     let q = rw (c .before .before .before .before .before .before .p .given .1) at (c .before .before .before .before .before .before .before .before .before .before .judge-catalogue .ensures) in
@@ -80,7 +83,7 @@ make-book-spec =
     part-word-at-start
     part-word-at-end
     word-at-requires
-    make-book-of-requires
+    cast-k make-book-of-requires
     enum-known-p-2
     same-length
     same-length-2

@@ -10,7 +10,7 @@ use Rattle.matching.specs.Simulation.{graphOf, matchSets}
 use Rattle.matching.specs.Search.{sheetBytes}
 use Rattle.matching.specs.Steps.{patternIn}
 use Rattle.matching.proofs.RecordLaws.{ready-by, rises-by}
-use Rattle.matching.proofs.BookLaws.{size-is, bytes-are}
+use Rattle.matching.proofs.BookLaws.{sheeted-by, size-is, bytes-are}
 use Rattle.matching.proofs.AnswerFits.{fitted-tight, fitted-given, search-found}
 use borrow.Author.Needs.{needs}
 use Rattle.matching.proofs.StartLaws.{room-blank}
@@ -65,7 +65,7 @@ returns-2 : tie.Need-returns-2
 returns-2 c =
     let a = c .before .before .before .before .before .before .before .before .before .before .before .before .before .before .before .before .before .before .before .before .before .before .before .before .before .before .before .before .args in
     let h = rw (c .before .before .before .before .before .before .before .before .before .before .before .before .before .before .before .before .before .before .g .given .1) at (c .before .before .before .before .before .before .before .before .before .before .before .before .before .before .before .before .before .before .before .before .before .before .load-record .ensures) in
-    fitted-tight (a .out .now) _ (search-found (patternIn (a .p)) (length (a .out .now)) (c .before .before .before .before .before .before .before .before .before .before .before .before .before .before .before .before .before .before .before .before .before .before .before .before .if1 .left) h) (c .before .sheet-size .ensures ∙ size-is (c .before .before .before .before .before .before .before .before .before .match-edges .ensures .0)) (c .if2 .taken)
+    fitted-tight (a .out .now) _ (search-found (patternIn (a .p)) (length (a .out .now)) (c .before .before .before .before .before .before .before .before .before .before .before .before .before .before .before .before .before .before .before .before .before .before .before .before .if1 .left) h) (c .before .sheet-size .ensures ∙ size-is (sheeted-by (c .before .before .before .before .before .before .before .before .before .match-edges .ensures .0))) (c .if2 .taken)
 
 write-sheet-requires : tie.Need-write-sheet-requires
 write-sheet-requires c κs = (c .before .before .before .before .before .before .before .before .before .before .before .match-edges .ensures .0 .marked, c .before .before .before .before .before .before .before .before .before .before .before .before .before .before .before .before .before .before .before .before .before .before .before .before .before .before .before .before .before .before .pre .1 .edges)
@@ -83,7 +83,7 @@ returns-3 : tie.Need-returns-3
 returns-3 c =
     let a = c .before .before .before .before .before .before .before .before .before .before .before .before .before .before .before .before .before .before .before .before .before .before .before .before .before .before .before .before .before .before .before .before .before .args in
     let h = rw (c .before .before .before .before .before .before .before .before .before .before .before .before .before .before .before .before .before .before .before .before .before .before .before .g .given .1) at (c .before .before .before .before .before .before .before .before .before .before .before .before .before .before .before .before .before .before .before .before .before .before .before .before .before .before .before .load-record .ensures) in
-    let q = c .before .before .before .before .before .before .before .before .before .before .before .before .before .before .match-edges .ensures .0 in
+    let q = sheeted-by (c .before .before .before .before .before .before .before .before .before .before .before .before .before .before .match-edges .ensures .0) in
     let x = c .before .before .write-sheet .ensures in
     fitted-given (a .out .now) _ (search-found (patternIn (a .p)) (length (a .out .now)) (c .before .before .before .before .before .before .before .before .before .before .before .before .before .before .before .before .before .before .before .before .before .before .before .before .before .before .before .before .before .if1 .left) h) (c .before .before .before .before .before .before .sheet-size .ensures ∙ size-is q) (c .before .before .before .before .before .if2 .left) (x .front ∙ ap (sets (a .out .now) 0) (bytes-are q x))
 

@@ -1,0 +1,37 @@
+-- `matching::calls::match_again` meets its contract.
+use native.Mathlib.Omega.{arith}
+use borrow.Author.Needs.{needs}
+use mathlib.Core.Path.{sym, _∙_}
+use Rattle.matching.proofs.BookLaws.{sheeted-by, sheeted-none}
+use Rattle.matching.proofs.calls.match_again.Statement.{statement}
+use Rattle.matching.proofs.calls.match_again.Tie as tie
+
+mul-if1 : tie.Need-mul-if1
+mul-if1 c = search needs
+
+add-if1 : tie.Need-add-if1
+add-if1 c = search needs
+
+returns : tie.Need-returns
+returns c = (sheeted-none _ _ _ _ _ (c .before .before .before .before .before .before .before .pre .2) (sym (c .if1 .taken) ∙ c .before .before .before .before .before .before .before .pre .5), c .before .before .before .before .before .before .before .pre .4)
+
+match-edges-requires : tie.Need-match-edges-requires
+match-edges-requires c κs = search needs
+
+same-length : tie.Need-same-length
+same-length c = search needs
+
+same-length-2 : tie.Need-same-length-2
+same-length-2 c = search needs
+
+same-length-3 : tie.Need-same-length-3
+same-length-3 c = search needs
+
+same-length-4 : tie.Need-same-length-4
+same-length-4 c = search needs
+
+returns-2 : tie.Need-returns-2
+returns-2 c = (sheeted-by (c .before .before .before .before .before .before .before .before .match-edges .ensures .0), c .before .before .before .before .before .before .before .before .match-edges .ensures .1)
+
+pub match-again-spec : {M : Type 1} → statement M
+match-again-spec = tie.close (tie.spec mul-if1 add-if1 returns match-edges-requires same-length same-length-2 same-length-3 same-length-4 returns-2)
