@@ -78,6 +78,16 @@ module _ (t : List ℕ) (i : ℕ) (li : i < 128) where
       (picked _ (i % 16) 2 (i % 16 / 4 % 2) c refl (subst (λ (y : ℕ). PickedBy (getD t (y + 2) 0) (i % 16 / 4 % 2) c) e C))
       (picked _ (i % 16) 3 (i % 16 / 8 % 2) d refl (subst (λ (y : ℕ). PickedBy (getD t (y + 3) 0) (i % 16 / 8 % 2) d) e D))))
 
+-- the words of the groups that have links were made, and the others are zero
+pub words-of : (a b : List ℕ) (m most : ℕ) {t u₀ u : List ℕ} {i : ℕ} → most ≡ (m + 3) / 4 * 16 → RowsOf a b m t → u₀ ≡ replicate 128 0
+    → Filling 0 most (λ j x. WordOf t j x) u₀ u i → most ≤ i → (j : ℕ) → WordOf t j (getD u j 0)
+words-of a b m most {t} {u₀} {u} {i} e R z f l j =
+    ⊎-elim
+    (λ (p : j < most). filling-front most _ f l j p)
+    (λ (p : most ≤ j). subst (WordOf t j) (sym (f .later j (let y = f .upto in omega arith) ∙ ap (λ (y : List ℕ). getD y j 0) z ∙ zeros 128 j))
+    (mask-none (λ k o. let g = o .holds .0 .group in none-has k (subst (λ (y : ℕ). Has y k) (R .rest (o .at) (omega arith)) (o .holds .1)))))
+    (lt-or-ge j most)
+
 -- the words make a table
 pub tabled : (a b : List ℕ) (m : ℕ) (t u : List ℕ) → m ≤ 32 → RowsOf a b m t → ((i : ℕ) → i < 128 → WordOf t i (getD u i 0)) → Tabled a b m u
 tabled a b m t u few R h =

@@ -79,15 +79,16 @@ fn word(t: &[u32; 32], i: usize) -> u32
     low | high
 }
 
-// The table of the links that have in b what one of a set has in a.
+// The table of the links that have in b what one of a set has in a; words for groups without links stay zero.
 pub fn table(a: &[u32; 32], b: &[u32; 32], m: usize) -> [u32; 128]
     requires { ⌜ m ≤ 32 ⌝ }
     ensures { λ r. ⌜ Tabled (now (a .entry)) (now (b .entry)) m r ⌝ }
 {
     let each = rows(a, b, m);
+    let most = (m + 3) / 4 * 16;
     let mut t = no_table();
     let mut i: usize = 0;
-    while i < 128 {
+    while i < most {
         t[i] = word(&each, i);
         i += 1;
     }

@@ -1,23 +1,29 @@
+-- `matching::link_tables::table` meets its contract.
 use borrow.Author.Needs.{needs}
-use borrow.Author.Needs.{needs}
-use mathlib.Core.Path.{sym}
-use Prim.Native.Nat.{_-_}
+use mathlib.Core.Path.{refl, sym}
+use Prim.Native.Nat.{_+_, _-_, _*_, _/_}
 use native.Mathlib.Nat.{zero-add}
 use native.Mathlib.Omega.{arith}
-use Rattle.matching.proofs.Filling.{Filling, filling-start, filling-more, filling-front}
+use Rattle.matching.proofs.Filling.{Filling, filling-start, filling-more}
 use Rattle.matching.specs.Rows.{WordOf}
-use Rattle.matching.proofs.RowLaws.{tabled, blank-long}
+use Rattle.matching.proofs.RowLaws.{words-of, tabled, blank-long}
 use Rattle.matching.proofs.link_tables.table.Statement.{statement}
 use Rattle.matching.proofs.link_tables.table.Tie as tie
 
 abbrev Inv-loop : tie.InvT-loop
-Inv-loop a b m each t₀ i₀ t i = Filling 0 128 (λ j x. WordOf each j x) t₀ t i
+Inv-loop a b m each most t₀ i₀ t i = Filling 0 most (λ j x. WordOf each j x) t₀ t i
 
 abbrev μ-loop : tie.MeasureT-loop
-μ-loop a b m each t₀ i₀ t i = 128 - i
+μ-loop a b m each most t₀ i₀ t i = most - i
 
 rows-requires : tie.Need-rows-requires Inv-loop μ-loop
 rows-requires c κs = search needs
+
+add-most : tie.Need-add-most Inv-loop μ-loop
+add-most c = search needs
+
+mul-most : tie.Need-mul-most Inv-loop μ-loop
+mul-most c = search needs
 
 no-table-requires : tie.Need-no-table-requires Inv-loop μ-loop
 no-table-requires c κs = search needs
@@ -44,7 +50,7 @@ loop-again : tie.Need-loop-again Inv-loop μ-loop
 loop-again c = filling-more _ _ _ (c .before .before .before .loop .inv) _ _ (c .before .before .loop-test .taken) (omega (arith, blank-long 128 (c .before .before .before .before .no-table .ensures))) (sym (zero-add _)) (c .word .ensures)
 
 returns : tie.Need-returns Inv-loop μ-loop
-returns c = tabled _ _ _ _ _ (c .before .before .before .before .pre) (c .before .before .before .rows .ensures) (filling-front _ _ (c .before .loop .inv) (c .loop-test .left))
+returns c = tabled _ _ _ _ _ (c .before .before .before .before .pre) (c .before .before .before .rows .ensures) (λ i l. words-of _ _ _ _ refl (c .before .before .before .rows .ensures) (c .before .before .no-table .ensures) (c .before .loop .inv) (c .loop-test .left) i)
 
 pub table-spec : {M : Type 1} → statement M
 table-spec =
@@ -53,6 +59,8 @@ table-spec =
     Inv-loop
     μ-loop
     rows-requires
+    add-most
+    mul-most
     no-table-requires
     loop-holds
     word-requires
