@@ -121,7 +121,7 @@ fn all_cases<'a>(beginning: &str, desk: &'a RefCell<Desk>) -> Vec<Case<'a>> {
 fn print_stack() {
     let mut desk = Desk::new();
     let files: Vec<Files> = workloads::all(1).iter().map(|workload| files_of(workload, &mut desk)).collect();
-    stack::print(&files, &mut desk);
+    stack::print(&files);
 }
 
 /// `bench [ROUNDS [CALL]]` or `bench stack`

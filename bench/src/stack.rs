@@ -2,28 +2,25 @@
 //! changed tells how deep it went. What the caller's own frame takes is counted too: some hundred bytes, for a quote the
 //! struct that it gives.
 
-use crate::calls::{Call, Desk, Files, CALLS};
+use crate::calls::Files;
 use std::arch::asm;
+use std::hint::black_box;
+use yuthaqim::*;
 
 const SIZE: usize = 1 << 20;
 const MARK: u8 = 0xa5;
 
-struct Turn<'a> {
-    desk: &'a mut Desk,
-    call: Call,
-    files: &'a Files,
-}
+type Job<'a> = Box<dyn FnMut() + 'a>;
 
-extern "C" fn make(turn: &mut Turn) {
-    turn.desk.run(turn.call, turn.files);
+extern "C" fn make(job: &mut Job) {
+    job();
 }
 
 /// How many bytes of stack a call took.
-fn depth(desk: &mut Desk, call: Call, files: &Files) -> usize {
+fn depth(mut job: Job) -> usize {
     let mut stack = vec![MARK; SIZE];
     let bottom = stack.as_mut_ptr() as usize;
     let top = (bottom + SIZE) & !15;
-    let mut turn = Turn { desk, call, files };
     // The call runs with the stack pointer at the top of the marked memory; r12 keeps the old one.
     unsafe {
         asm!(
@@ -33,7 +30,7 @@ fn depth(desk: &mut Desk, call: Call, files: &Files) -> usize {
             "mov rsp, r12",
             top = in(reg) top,
             make = sym make,
-            in("rdi") &mut turn,
+            in("rdi") &mut job,
             out("r12") _,
             clobber_abi("C"),
         );
@@ -42,10 +39,71 @@ fn depth(desk: &mut Desk, call: Call, files: &Files) -> usize {
     top - bottom - untouched
 }
 
+/// The stack that each call takes of the files of a workload.
+fn depths(files: &Files) -> Vec<(&'static str, usize)> {
+    let Files { record, question, catalogue, book } = files;
+    let mut work = vec![0; WORK_WORDS];
+    let mut sheet = vec![0; SHEET_BYTES];
+    let length = search(question, record, &mut sheet, &mut work).expect("a sheet");
+    sheet.truncate(length);
+    let mut content = |read: &dyn Fn(&mut [u32], &mut [u32]) -> Result<usize, Refusal>| {
+        let mut words = vec![0; BOOK_WORDS];
+        let length = read(&mut words, &mut work).expect("content");
+        words.truncate(length);
+        words
+    };
+    let pattern_words = content(&|out, work| read_pattern(question, out, work));
+    let catalogue_words = content(&|out, work| read_catalogue(catalogue, out, work));
+    let record_words = content(&|out, work| read_record(record, out, work));
+    let sheet_words = content(&|out, work| read_sheet(question, &sheet, out, work));
+    let book_words = content(&|out, work| read_book(catalogue, book, out, work));
+    let mut words = vec![0; BOOK_WORDS];
+    let mut bytes = vec![0; BOOK_BYTES];
+    let mut more = vec![0; BOOK_BYTES];
+    let mut found = Vec::new();
+    macro_rules! measure {
+        ($($name:literal: $call:expr;)*) => {
+            $(
+                found.push(($name, depth(Box::new(|| {
+                    let _ = black_box($call);
+                }))));
+            )*
+        };
+    }
+    measure! {
+        "read a pattern": read_pattern(question, &mut words, &mut work);
+        "read a catalogue": read_catalogue(catalogue, &mut words, &mut work);
+        "read a record": read_record(record, &mut words, &mut work);
+        "read a sheet": read_sheet(question, &sheet, &mut words, &mut work);
+        "read a book": read_book(catalogue, book, &mut words, &mut work);
+        "write a pattern": write_pattern(&pattern_words, &mut bytes, &mut work);
+        "write a catalogue": write_catalogue(&catalogue_words, &mut bytes, &mut work);
+        "write a record": write_record(&record_words, &mut bytes, &mut work);
+        "write a sheet": write_sheet(question, &sheet_words, &mut bytes, &mut work);
+        "write a book": write_book(catalogue, &book_words, &mut bytes, &mut work);
+        "search": search(question, record, &mut bytes, &mut work);
+        "make a book": make_book(catalogue, record, &mut bytes, &mut work);
+        "quote": raw::quote(question, catalogue, &mut work);
+        "answer": answer(question, catalogue, book, &mut bytes, &mut work);
+        "show": show_uncovered(question, catalogue, &mut bytes, &mut more, &mut work);
+        "show": show_uncovered(question, NO_VIEWS, &mut bytes, &mut more, &mut work);
+    }
+    found
+}
+
+/// A catalogue without extracts, which leaves every question uncovered.
+const NO_VIEWS: &[u8] = &[0];
+
 /// The most that each call takes of the files of all workloads.
-pub fn print(files: &[Files], desk: &mut Desk) {
-    for call in CALLS.into_iter().filter(|&call| call != Call::AnswerBySort) {
-        let most = files.iter().map(|files| depth(desk, call, files)).max().unwrap_or(0);
-        println!("{}: {most} bytes", call.name());
+pub fn print(files: &[Files]) {
+    let mut most: Vec<(&str, usize)> = Vec::new();
+    for (name, depth) in files.iter().flat_map(depths) {
+        match most.iter_mut().find(|(other, _)| *other == name) {
+            Some((_, most)) => *most = depth.max(*most),
+            None => most.push((name, depth)),
+        }
+    }
+    for (name, bytes) in most {
+        println!("{name}: {bytes} bytes");
     }
 }
