@@ -2,14 +2,15 @@
 use mathlib.Core.Path.{_≡_, refl, ap, _∙_, sym, subst}
 use mathlib.Core.Logic.{_⊎_, inl, inr, ⊎-elim}
 use mathlib.Core.List.{List, _∷_}
-use Prim.Native.Nat.{ℕ, _≤_, _<_, _+_, _-_, zero-le}
+use Prim.Native.Nat.{ℕ, _≤_, _<_, _+_, _-_, _*_, zero-le}
 use native.Mathlib.Omega.{arith}
 use lib.ListN.{length, getD, set, length-set}
 use lib.Seq.{getD-set-same, getD-set-other}
 use lib.Bits.{bitOr}
 use Rattle.packed.specs.Order.{Outside}
 use Rattle.packed.specs.Distinct.{Increasing}
-use Rattle.packed.specs.Walks.{fieldOr, codesAt}
+use Rattle.packed.specs.Limits.{pairWidth}
+use Rattle.packed.specs.Walks.{fieldOr, pairPlace, codesOn}
 use Rattle.packed.proofs.OrderCases.{lt-or-ge, eq-or-ne}
 use Rattle.packed.proofs.DistinctLaws.{increasing-tail}
 use Rattle.packed.proofs.Walks.{codes-none, codes-more}
@@ -130,30 +131,50 @@ halving-end t l =
 abbrev marked : List ℕ → ℕ → ℕ → List ℕ
 marked w r x = set w (8192 + r) (bitOr (getD w (8192 + r) 0) x)
 
--- the pairs of the list from at on are still to be taken, and the next of them stands not before i
-pub record Taking (s : List ℕ) (start n x d : ℕ) (w₀ w : List ℕ) (at i left : ℕ) : Type 0 where
-  pub rest : Walkable s at left d w
-  pub next : (c : ℕ) (l : List ℕ) → codesAt s at left ≡ c ∷ l → (j : ℕ) → j < d → getD w j 0 ≡ c → i ≤ j
-  pub onward : (w′ : List ℕ) → Taken d (Listing s at left x) w w′ → Taken d (Listing s start n x) w₀ w′
+-- listed among the pairs after the past ones
+abbrev ListingOn : List ℕ → ℕ → ℕ → ℕ → ℕ → ℕ → ℕ → Type 0
+ListingOn s first n past x c e = Listing s (pairPlace first past) (n - past) x c e
 
-pub taking-start : {s : List ℕ} {start n x d : ℕ} {w : List ℕ} → Walkable s start n d w → Taking s start n x d w w start 0 n
-taking-start t = record { rest = t; next = λ c l e j h q. zero-le; onward = λ w′ k. k }
+-- the pairs after the past ones are still to be taken, and the next of them stands not before i
+pub record Taking (s : List ℕ) (first n x d : ℕ) (w₀ w : List ℕ) (i past : ℕ) : Type 0 where
+  pub upto : past ≤ n
+  pub rest : Walkable s (pairPlace first past) (n - past) d w
+  pub next : (c : ℕ) (l : List ℕ) → codesOn s first n past ≡ c ∷ l → (j : ℕ) → j < d → getD w j 0 ≡ c → i ≤ j
+  pub onward : (w′ : List ℕ) → Taken d (ListingOn s first n past x) w w′ → Taken d (Listing s first n x) w₀ w′
 
-module _ {s : List ℕ} {start n x d : ℕ} {w₀ w : List ℕ} {at i left : ℕ} (t : Taking s start n x d w₀ w at i left) where
-  pub taking-end : left ≤ 0 → Taken d (Listing s start n x) w₀ w
+-- the pairs from the first one on are all
+all-on : (P : ℕ → ℕ → Type 0) {first n : ℕ} → P first n → P (pairPlace first 0) (n - 0)
+all-on P {first} {n} p =
+    subst (λ (at : ℕ). P at (n - 0)) (let z : first ≡ first + pairWidth * 0 = omega arith in z) (subst (P first) (let z : n ≡ n - 0 = omega arith in z) p)
+
+on-all : (P : ℕ → ℕ → Type 0) {first n : ℕ} → P (pairPlace first 0) (n - 0) → P first n
+on-all P {first} {n} p =
+    subst (λ (at : ℕ). P at n) (let z : first + pairWidth * 0 ≡ first = omega arith in z) (subst (P (pairPlace first 0)) (let z : n - 0 ≡ n = omega arith in z) p)
+
+pub taking-start : {s : List ℕ} {first n x d : ℕ} {w : List ℕ} → Walkable s first n d w → Taking s first n x d w w 0 0
+taking-start {s} {first} {n} {x} {d} {w} t =
+    record {
+      upto = zero-le;
+      rest = all-on (λ at left. Walkable s at left d w) t;
+      next = λ c l e j h q. zero-le;
+      onward = λ w′ k. on-all (λ at left. Taken d (Listing s at left x) w w′) k;
+    }
+
+module _ {s : List ℕ} {first n x d : ℕ} {w₀ w : List ℕ} {i past : ℕ} (t : Taking s first n x d w₀ w i past) where
+  pub taking-end : n ≤ past → Taken d (Listing s first n x) w₀ w
   taking-end z =
       t .onward w
       (record {
-        around = record { long = refl; low = λ k l. refl; high = λ k l. refl };
+        around = record { long = refl; low = λ j l. refl; high = λ j l. refl };
         each = λ j l. mask-cast
             (λ e h. inl h)
-            (λ e. ⊎-elim (λ h. h) (λ k. absurd (not-in-none (subst (λ (a : List ℕ). In (getD w j 0) a) (codes-none s at left z) (k .listed)))))
+            (λ e. ⊎-elim (λ h. h) (λ q. absurd (not-in-none (subst (λ (a : List ℕ). In (getD w j 0) a) (codes-none s first n past z) (q .listed)))))
             (mask-self (getD w (8192 + j) 0));
       })
 
-  module _ {code : ℕ} (more : 0 < left) (is : code ≡ fieldOr s at 24) where
-    codes : codesAt s at left ≡ code ∷ codesAt s (at + 24) (left - 1)
-    codes = codes-more s at left code more is
+  module _ {code : ℕ} (more : past < n) (is : code ≡ fieldOr s (pairPlace first past) pairWidth) where
+    codes : codesOn s first n past ≡ code ∷ codesOn s first n (past + 1)
+    codes = codes-more s first n past code more is
 
     -- where the next code stands
     stands : OneOf d (λ j. getD w j 0 ≡ code)
@@ -185,17 +206,17 @@ module _ {s : List ℕ} {start n x d : ℕ} {w₀ w : List ℕ} {at i left : ℕ
             high = λ k l. getD-set-other w (8192 + r) k _ 0 (λ e. omega arith);
           }
 
-      here-cases : (j : ℕ) → j < d → In (getD w j 0) (codesAt s at left) → (j ≡ r) ⊎ In (getD w j 0) (codesAt s (at + 24) (left - 1))
+      here-cases : (j : ℕ) → j < d → In (getD w j 0) (codesOn s first n past) → (j ≡ r) ⊎ In (getD w j 0) (codesOn s first n (past + 1))
       here-cases j h k =
           ⊎-elim (λ e. inl (pool-one (t .rest .pool) j r h (found .0) (e ∙ sym (found .1)))) (λ o. inr o) (in-cases (subst (λ (a : List ℕ). In (getD w j 0) a) codes k))
 
-      later-in : {c : ℕ} → In c (codesAt s (at + 24) (left - 1)) → In c (codesAt s at left)
+      later-in : {c : ℕ} → In c (codesOn s first n (past + 1)) → In c (codesOn s first n past)
       later-in {c} k = subst (λ (a : List ℕ). In c a) (sym codes) (there k)
 
       same-code : (j : ℕ) → j < d → getD (marked w r x) j 0 ≡ getD w j 0
       same-code j h = around .low j (omega (arith, t .rest .pool .most))
 
-      wider : (j e : ℕ) → j < d → Listing s (at + 24) (left - 1) x (getD (marked w r x) j 0) e → Listing s at left x (getD w j 0) e
+      wider : (j e : ℕ) → j < d → ListingOn s first n (past + 1) x (getD (marked w r x) j 0) e → ListingOn s first n past x (getD w j 0) e
       wider j e h o = record { listed = later-in (in-cast (same-code j h) (o .listed)); asked = o .asked }
 
       mask-found : (j : ℕ) → j < d → j ≡ r → getD (marked w r x) (8192 + j) 0 ≡ bitOr (getD w (8192 + j) 0) x
@@ -207,13 +228,13 @@ module _ {s : List ℕ} {start n x d : ℕ} {w₀ w : List ℕ} {at i left : ℕ
       mask-other j z = getD-set-other w (8192 + r) (8192 + j) _ 0 (λ e. z (omega arith))
 
       -- the mask of the pair j, whether it is the one that was found or another
-      mask-at : (j m : ℕ) → j < d → Mask (λ e. Has (getD (marked w r x) (8192 + j) 0) e ⊎ Listing s (at + 24) (left - 1) x (getD (marked w r x) j 0) e) m
-          → Mask (λ e. Has (getD w (8192 + j) 0) e ⊎ Listing s at left x (getD w j 0) e) m
+      mask-at : (j m : ℕ) → j < d → Mask (λ e. Has (getD (marked w r x) (8192 + j) 0) e ⊎ ListingOn s first n (past + 1) x (getD (marked w r x) j 0) e) m
+          → Mask (λ e. Has (getD w (8192 + j) 0) e ⊎ ListingOn s first n past x (getD w j 0) e) m
       mask-at j m h k =
           ⊎-elim
           (λ (z : j ≡ r).
           let y = mask-found j h z in
-          let in-list : In (getD w j 0) (codesAt s at left) = subst (λ (a : List ℕ). In (getD w j 0) a) (sym codes) (here (ap (λ (q : ℕ). getD w q 0) z ∙ found .1)) in
+          let in-list : In (getD w j 0) (codesOn s first n past) = subst (λ (a : List ℕ). In (getD w j 0) a) (sym codes) (here (ap (λ (q : ℕ). getD w q 0) z ∙ found .1)) in
           mask-cast
           (λ e. ⊎-elim
           (λ q. ⊎-elim (λ o. inl o) (λ o. inr (record { listed = in-list; asked = o })) (or-cases _ x e (subst (λ (a : ℕ). Has a e) y q)))
@@ -233,7 +254,7 @@ module _ {s : List ℕ} {start n x d : ℕ} {w₀ w : List ℕ} {at i left : ℕ
           (eq-or-ne j r)
 
       -- taking the later pairs after this one is taking this one and the later ones
-      both : (w′ : List ℕ) → Taken d (Listing s (at + 24) (left - 1) x) (marked w r x) w′ → Taken d (Listing s at left x) w w′
+      both : (w′ : List ℕ) → Taken d (ListingOn s first n (past + 1) x) (marked w r x) w′ → Taken d (ListingOn s first n past x) w w′
       both w′ k =
           record {
             around = record {
@@ -244,11 +265,12 @@ module _ {s : List ℕ} {start n x d : ℕ} {w₀ w : List ℕ} {at i left : ℕ
             each = λ j l. mask-at j _ l (k .each j l);
           }
 
-      pub taking-more : Taking s start n x d w₀ (marked w r x) (at + 24) r (left - 1)
+      pub taking-more : Taking s first n x d w₀ (marked w r x) r (past + 1)
       taking-more =
-          let rises : Increasing (code ∷ codesAt s (at + 24) (left - 1)) = subst Increasing codes (t .rest .ascends) in
+          let rises : Increasing (code ∷ codesOn s first n (past + 1)) = subst Increasing codes (t .rest .ascends) in
           let fits = t .rest .fits in
           record {
+            upto = omega arith;
             rest = walkable-keep (record {
               pool = t .rest .pool;
               short = t .rest .short;

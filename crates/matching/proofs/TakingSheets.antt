@@ -2,15 +2,16 @@
 use mathlib.Core.Path.{_≡_, refl, ap, ap₂, _∙_, sym, subst}
 use mathlib.Core.Logic.{_⊎_, inl, inr, ⊎-elim}
 use mathlib.Core.List.{List, [], _∷_}
-use Prim.Native.Nat.{ℕ, zero, suc, _≤_, _<_, _+_, _*_, _/_, _^_, zero-le}
+use Prim.Native.Nat.{ℕ, zero, suc, _≤_, _<_, _+_, _*_, zero-le}
 use native.Mathlib.Numerals.{add-one}
 use native.Mathlib.Omega.{arith}
 use lib.ListN.{length, getD, take}
 use lib.Seq.{getD-take, length-take-le}
 use Rattle.packed.specs.Bits.{gap}
 use Rattle.packed.specs.Order.{Outside}
-use Rattle.packed.specs.Walks.{fieldOr, codesAt, listEnd, listsEnd, sheetEnd}
+use Rattle.packed.specs.Walks.{codesAt, pairPlace, listFirst, listCount, listEnd, Spans, listsEnd, sheetEnd}
 use Rattle.packed.specs.BookSheets.{listAt, sheetAt}
+use Rattle.packed.specs.declared.cursor.Extent.{Extent}
 use Rattle.matching.specs.Lists.{In}
 use Rattle.matching.specs.Sweeps.{Has, Mask, OneOf}
 use Rattle.matching.specs.Candidates.{Pool, Walkable, Sheeted, Booked, Taken, Listing, SheetListing, BookListing}
@@ -80,6 +81,11 @@ unfolding listsEnd
 lists-more s at zero = refl
 lists-more s at (suc m) = lists-more s (listEnd s at) m
 
+-- a list ends where its pairs do
+list-within : {s : List ℕ} {at : ℕ} {l : Extent} → Spans s at l → pairPlace (l .first) (l .count) ≤ 8 * length s → l .next ≤ 8 * length s
+unfolding listEnd
+list-within p h = omega (arith, p .first, p .count, p .next)
+
 -- the lists below f have been taken
 pub record TakingSheet (s : List ℕ) (start lists : ℕ) (t : List ℕ) (a m d : ℕ) (w₀ w : List ℕ) (at f : ℕ) : Type 0 where
   pub upto : f ≤ lists
@@ -92,24 +98,25 @@ unfolding listsEnd
 sheet-start s start lists t a m d w h = record { upto = zero-le; ends = refl; fits = h; taken = taken-none w (λ c e q. one-none (q .under)) }
 
 module _ {s : List ℕ} {start lists : ℕ} {t : List ℕ} {a m d : ℕ} {w₀ w : List ℕ} {at f : ℕ} (g : TakingSheet s start lists t a m d w₀ w at f) where
-  module _ (p : Sheeted s start lists d w₀) (l : f < lists) {n : ℕ} (count : n ≡ fieldOr s at 14) where
+  module _ (p : Sheeted s start lists d w₀) (h : f < lists) {l : Extent} (list : Spans s at l) where
     -- the list f can be walked
-    pub sheet-list : Walkable s (at + 14) n d w
+    pub sheet-list : Walkable s (l .first) (l .count) d w
     sheet-list =
-        walkable-keep
-        (subst (λ (x : ℕ). Walkable s (at + 14) x d w₀) (sym count)
-        (subst (λ (x : ℕ). Walkable s (x + 14) (fieldOr s x 14) d w₀) (sym (g .ends)) (p .each f l)))
-        (g .taken .around)
+        let here : Walkable s (listFirst at) (listCount s at) d w₀ =
+        subst (λ (x : ℕ). Walkable s (listFirst x) (listCount s x) d w₀) (sym (g .ends)) (p .each f h) in
+        let there : Walkable s (l .first) (l .count) d w₀ = rw (list .first, list .count) here in
+        walkable-keep there (g .taken .around)
 
-    pub sheet-more : {x : ℕ} {w′ : List ℕ} → Mask (λ e. (e < m) × Has (getD t (16 * e + a) 0) f) x → Taken d (Listing s (at + 14) n x) w w′
-        → TakingSheet s start lists t a m d w₀ w′ (at + (14 + 24 * n)) (f + 1)
-    unfolding listAt listEnd
+    pub sheet-more : {x : ℕ} {w′ : List ℕ} → Mask (λ e. (e < m) × Has (getD t (16 * e + a) 0) f) x → Taken d (Listing s (l .first) (l .count) x) w w′
+        → TakingSheet s start lists t a m d w₀ w′ (l .next) (f + 1)
+    unfolding listAt
     sheet-more mask u =
-        let here : codesAt s (at + 14) n ≡ listAt s start f = ap (codesAt s (at + 14)) count ∙ ap (λ (x : ℕ). codesAt s (x + 14) (fieldOr s x 14)) (g .ends) in
+        let here : codesAt s (l .first) (l .count) ≡ listAt s start f =
+        ap₂ (codesAt s) (list .first) (list .count) ∙ ap (λ (x : ℕ). codesAt s (listFirst x) (listCount s x)) (g .ends) in
         record {
           upto = omega arith;
-          ends = ap (λ (x : ℕ). at + (14 + 24 * x)) count ∙ ap (listEnd s) (g .ends) ∙ sym (lists-more s start f) ∙ ap (listsEnd s start) (sym (add-one f));
-          fits = (let z = sheet-list .fits in omega arith);
+          ends = list .next ∙ ap (listEnd s) (g .ends) ∙ sym (lists-more s start f) ∙ ap (listsEnd s start) (sym (add-one f));
+          fits = list-within list (sheet-list .fits);
           taken = taken-cast
               (λ c e. ⊎-elim
               (λ q. record { edge = q .edge; under = one-more f (q .under) })
@@ -121,10 +128,10 @@ module _ {s : List ℕ} {start lists : ℕ} {t : List ℕ} {a m d : ℕ} {w₀ w
               (taken-then (p .pool .most) (g .taken) u);
         }
 
-  pub sheet-end : lists ≤ f → (at ≡ listsEnd s start lists) × (at ≤ 8 * length s) × Taken d (SheetListing s start lists t a m) w₀ w
-  sheet-end h =
+  pub sheet-end : lists ≤ f → {next : ℕ} → next ≡ at + gap at → (next ≡ sheetEnd s start lists) × Taken d (SheetListing s start lists t a m) w₀ w
+  sheet-end h n =
       let e : f ≡ lists = let z = g .upto in omega arith in
-      (g .ends ∙ ap (listsEnd s start) e, g .fits, subst (λ (x : ℕ). Taken d (SheetListing s start x t a m) w₀ w) e (g .taken))
+      (n ∙ ap (λ (x : ℕ). x + gap x) (g .ends ∙ ap (listsEnd s start) e), subst (λ (x : ℕ). Taken d (SheetListing s start x t a m) w₀ w) e (g .taken))
 
 -- ---- the sheets of a book
 sheet-next : (s : List ℕ) (at : ℕ) (ms : List ℕ) (a : ℕ) → a < length ms → sheetAt s at ms (suc a) ≡ sheetEnd s (sheetAt s at ms a) (getD ms a 0)
@@ -132,11 +139,6 @@ unfolding sheetAt
 sheet-next s at [] a h = absurd (omega arith)
 sheet-next s at (m ∷ ms) zero h = refl
 sheet-next s at (m ∷ ms) (suc a) h = sheet-next s (sheetEnd s at m) ms a (omega arith)
-
--- the next whole byte, as it is computed
-gap-up : (at : ℕ) → at + gap at ≡ (at + 7) / 8 * 8
-unfolding gap
-gap-up at = omega arith
 
 -- the sheets below a have been taken
 pub record TakingBook (s counts : List ℕ) (k : ℕ) (t : List ℕ) (set m d : ℕ) (w₀ w : List ℕ) (at a : ℕ) : Type 0 where
@@ -154,17 +156,17 @@ module _ {s counts : List ℕ} {k : ℕ} {t : List ℕ} {set m d : ℕ} {w₀ w 
     pub book-sheet : Sheeted s at (getD counts a 0) d w
     book-sheet = sheeted-keep (subst (λ (x : ℕ). Sheeted s x (getD counts a 0) d w₀) (sym (g .begins)) (p .each a l)) (g .taken .around)
 
-    pub book-more : {r end : ℕ} {w′ : List ℕ} → k ≤ length counts → ((e : ℕ) → e < r → (e < m) × Has set a) → ((e : ℕ) → e < m → Has set a → e < r)
-        → end ≡ listsEnd s at (getD counts a 0) → Taken d (SheetListing s at (getD counts a 0) t a r) w w′
-        → TakingBook s counts k t set m d w₀ w′ ((end + 7) / 8 * 8) (a + 1)
-    book-more {r} {end} {w′} h within has ends u =
+    pub book-more : {r next : ℕ} {w′ : List ℕ} → k ≤ length counts → ((e : ℕ) → e < r → (e < m) × Has set a) → ((e : ℕ) → e < m → Has set a → e < r)
+        → next ≡ sheetEnd s at (getD counts a 0) → Taken d (SheetListing s at (getD counts a 0) t a r) w w′
+        → TakingBook s counts k t set m d w₀ w′ next (a + 1)
+    book-more {r} {next} {w′} h within has ends u =
         let there : sheetEnd s at (getD counts a 0) ≡ sheetAt s 0 (take k counts) (a + 1) =
         ap₂ (sheetEnd s) (g .begins) (sym (getD-take k counts a 0 l))
         ∙ sym (sheet-next s 0 (take k counts) a (omega (arith, length-take-le k counts h)))
         ∙ ap (sheetAt s 0 (take k counts)) (sym (add-one a)) in
         record {
           upto = omega arith;
-          begins = sym (gap-up end) ∙ ap (λ (x : ℕ). x + gap x) ends ∙ there;
+          begins = ends ∙ there;
           taken = taken-cast
               (λ c e. ⊎-elim
               (λ o. one-more a o)

@@ -5,10 +5,11 @@ use mathlib.Core.Path.{_≡_}
 use mathlib.Core.List.{List}
 use mathlib.Core.Logic.{_⊎_}
 use lib.ListN.{length, getD, take}
+use Rattle.packed.specs.Limits.{bookMost, pairsMost, pairWidth, workspace}
 use Rattle.packed.specs.ByValue.{Small}
 use Rattle.packed.specs.Distinct.{Increasing}
 use Rattle.packed.specs.Order.{Outside}
-use Rattle.packed.specs.Walks.{fieldOr, codesAt, listsEnd}
+use Rattle.packed.specs.Walks.{codesAt, pairPlace, listFirst, listCount, listsEnd}
 use Rattle.packed.specs.BookSheets.{listAt, sheetAt}
 use Rattle.matching.specs.Lists.{In}
 use Rattle.matching.specs.Sweeps.{Has, Mask, OneOf}
@@ -16,9 +17,9 @@ use Rattle.matching.specs.Matched.{Rises}
 
 -- the codes of d pairs ascend, each once, at the front of the workspace
 pub record Pool (d : ℕ) (w : List ℕ) : Type 0 where
-  pub most : d ≤ 8192
-  pub long : length w ≡ 16384
-  pub small : (i : ℕ) → i < d → getD w i 0 < 2 ^ 24
+  pub most : d ≤ pairsMost
+  pub long : length w ≡ workspace
+  pub small : (i : ℕ) → i < d → getD w i 0 < 2 ^ pairWidth
   pub rises : Rises d w
 
 -- the codes from r on are greater
@@ -34,25 +35,25 @@ pub record PlaceIn (w : List ℕ) (first last code r : ℕ) : Type 0 where
   pub is : (j : ℕ) → first ≤ j → j < last → getD w j 0 ≡ code → r ≡ j
 
 -- n pairs from a bit offset on ascend and stand among the d pairs
-pub record Walkable (s : List ℕ) (start n d : ℕ) (w : List ℕ) : Type 0 where
+pub record Walkable (s : List ℕ) (first n d : ℕ) (w : List ℕ) : Type 0 where
   pub pool : Pool d w
-  pub short : length s ≤ 65536
-  pub fits : start + 24 * n ≤ 8 * length s
-  pub ascends : Increasing (codesAt s start n)
-  pub present : (c : ℕ) → In c (codesAt s start n) → OneOf d (λ i. getD w i 0 ≡ c)
+  pub short : length s ≤ bookMost
+  pub fits : pairPlace first n ≤ 8 * length s
+  pub ascends : Increasing (codesAt s first n)
+  pub present : (c : ℕ) → In c (codesAt s first n) → OneOf d (λ i. getD w i 0 ≡ c)
 
 -- the same of each of so many lists
 pub record Sheeted (s : List ℕ) (start lists d : ℕ) (w : List ℕ) : Type 0 where
   pub pool : Pool d w
-  pub short : length s ≤ 65536
+  pub short : length s ≤ bookMost
   pub few : lists ≤ 32
   pub begins : start ≤ 8 * length s
-  pub each : (f : ℕ) → f < lists → Walkable s (listsEnd s start f + 14) (fieldOr s (listsEnd s start f) 14) d w
+  pub each : (f : ℕ) → f < lists → Walkable s (listFirst (listsEnd s start f)) (listCount s (listsEnd s start f)) d w
 
 -- the same of the sheets of k views
 pub record Booked (s counts : List ℕ) (k d : ℕ) (w : List ℕ) : Type 0 where
   pub pool : Pool d w
-  pub short : length s ≤ 65536
+  pub short : length s ≤ bookMost
   pub few : k ≤ 16
   pub small : Small counts
   pub each : (a : ℕ) → a < k → Sheeted s (sheetAt s 0 (take k counts) a) (getD counts a 0) d w
@@ -68,8 +69,8 @@ pub record Taken (d : ℕ) (Q : ℕ → ℕ → Type 0) (w w′ : List ℕ) : Ty
   pub each : (i : ℕ) → i < d → Mask (λ e. Has (getD w (8192 + i) 0) e ⊎ Q (getD w i 0) e) (getD w′ (8192 + i) 0)
 
 -- c is listed, and e is one of the edges x
-pub record Listing (s : List ℕ) (start n x c e : ℕ) : Type 0 where
-  pub listed : In c (codesAt s start n)
+pub record Listing (s : List ℕ) (first n x c e : ℕ) : Type 0 where
+  pub listed : In c (codesAt s first n)
   pub asked : Has x e
 
 -- c is listed under an edge f of the view a, and the table t says that f matches the edge e, which is below m

@@ -3,10 +3,11 @@
 ghost use mathlib.Core.Path.{_≡_};
 ghost use Prim.Native.Nat.{ℕ, _+_, _*_, _<_, _≤_};
 ghost use lib.ListN.{length, getD};
-ghost use Rattle.packed.specs.Walks.{listsEnd};
+ghost use Rattle.packed.specs.Limits.{pairsMost, workspace};
+ghost use Rattle.packed.specs.Walks.{sheetEnd};
 ghost use Rattle.matching.specs.Sweeps.{Has, Mask};
 ghost use Rattle.matching.specs.Candidates.{Pool, Beyond, PlaceIn, Walkable, Sheeted, Booked, Blank, Taken, Listing, SheetListing, BookListing};
-use packed::gather;
+use packed::cursor;
 use packed::limits;
 
 // A place after first, at most d, from which on all codes are greater; reached by steps that double.
@@ -44,23 +45,21 @@ fn find(work: &[u32], first: usize, last: usize, code: u32) -> usize
     low
 }
 
-// The n pairs of an ascending list, from the bit offset start on, are taken for the edges x.
-fn take_list(s: &[u8], start: usize, n: u32, x: u32, work: &mut [u32], d: usize)
-    requires { ⌜ Walkable (now s) start n d (now work) ⌝ }
-    ensures { λ r. ⌜ Taken d (Listing (now (s .entry)) start n x) (now (work .entry)) (now (work .exit)) ⌝ }
+// The n pairs of an ascending list, from the bit offset first on, are taken for the edges x.
+fn take_list(s: &[u8], first: usize, n: usize, x: u32, work: &mut [u32], d: usize)
+    requires { ⌜ Walkable (now s) first n d (now work) ⌝ }
+    ensures { λ r. ⌜ Taken d (Listing (now (s .entry)) first n x) (now (work .entry)) (now (work .exit)) ⌝ }
 {
-    let mut at = start;
     let mut i: usize = 0;
-    let mut left = n;
-    while 0 < left {
-        let code = gather::field_or(s, at, 24);
+    let mut k: usize = 0;
+    while k < n {
+        let code = cursor::pair_at(s, first, k);
         let end = reach(work, i, d, code);
         i = find(work, i, end, code);
         let mask = limits::HELD + i;
         let old = work[mask];
         work[mask] = old | x;
-        at += 24;
-        left -= 1;
+        k += 1;
     }
 }
 
@@ -92,7 +91,8 @@ fn matched_by(t: &[u32; 512], a: usize, f: u32, m: usize) -> u32
     r
 }
 
-// The lists of the view a, from the bit offset start on, are taken for the edges below m that they match; where they end.
+// The lists of the sheet of the view a, from the bit offset start on, are taken for the edges below m that they match; where the next sheet
+// begins.
 fn take_sheet(
     s: &[u8],
     start: usize,
@@ -104,20 +104,20 @@ fn take_sheet(
     d: usize,
 ) -> usize
     requires { ⌜ (a < 16) × (m ≤ 32) × Sheeted (now s) start lists d (now work) ⌝ }
-    ensures { λ r. ⌜ (r ≡ listsEnd (now (s .entry)) start lists) × (r ≤ 8 * length (now (s .entry))) × Taken d (SheetListing (now (s .entry)) start lists (now (t .entry)) a m) (now (work .entry)) (now (work .exit)) ⌝ }
+    ensures { λ r. ⌜ (r ≡ sheetEnd (now (s .entry)) start lists) × Taken d (SheetListing (now (s .entry)) start lists (now (t .entry)) a m) (now (work .entry)) (now (work .exit)) ⌝ }
 {
     let mut at = start;
     let mut f: u32 = 0;
     while f < lists {
-        let n = gather::field_or(s, at, 14);
+        let l = cursor::list_at(s, at);
         let x = matched_by(t, a, f, m);
         if x != 0 {
-            take_list(s, at + 14, n, x, work, d);
+            take_list(s, l.first, l.count, x, work, d);
         }
-        at += 14 + 24 * n as usize;
+        at = l.next;
         f += 1;
     }
-    at
+    cursor::next_sheet(at)
 }
 
 // m, where the set has the view a; else 0.
@@ -148,15 +148,14 @@ pub fn take_book(
     let mut a: usize = 0;
     while a < k {
         let within = edges_in(set, a, m);
-        let end = take_sheet(s, at, counts[a], t, a, within, work, d);
-        at = (end + 7) / 8 * 8;
+        at = take_sheet(s, at, counts[a], t, a, within, work, d);
         a += 1;
     }
 }
 
 // No pair is taken for any edge.
 pub fn clear_masks(work: &mut [u32], d: usize)
-    requires { ⌜ (d ≤ 8192) × (length (now work) ≡ 16384) ⌝ }
+    requires { ⌜ (d ≤ pairsMost) × (length (now work) ≡ workspace) ⌝ }
     ensures { λ r. ⌜ Blank d (now (work .entry)) (now (work .exit)) ⌝ }
 {
     let mut i: usize = 0;

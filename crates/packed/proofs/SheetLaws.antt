@@ -10,7 +10,7 @@ use native.Mathlib.Nat.{zero-add}
 use borrow.Author.Tests.{le-leb}
 use Rattle.packed.specs.Bits.{bits, bitsOf, gap}
 use Rattle.packed.specs.Format.{Format, done, test, pad, then, whole, Got, got, fault, pick, push, lay, ok, ended, bytesOf, inBytes, decode, encode}
-use Rattle.packed.specs.Formats.{code, number12, pairs, lists, sheet}
+use Rattle.packed.specs.Formats.{code, node, pairs, lists, sheet}
 use Rattle.packed.specs.Matches.{anyEmpty, emptied, allOrNone, pairBits, listBits}
 use Rattle.packed.specs.Contents.{ends, fieldsOf, total}
 use Rattle.packed.proofs.BitsLaws.{length-bitsOf, bitsOf-add, bitsOf-mod}
@@ -132,13 +132,13 @@ pair-bits : (c : ℕ) → bitsOf 12 (c / 4096) ++ bitsOf 12 (c % 4096) ≡ bitsO
 pair-bits c = ap (λ (l : List Bool). bitsOf 12 (c / 4096) ++ l) (bitsOf-mod 12 c) ∙ sym (bitsOf-add 12 12 c)
 
 lay-pair : (f : ℕ → ℕ → Format) (at c : ℕ) (ws : List ℕ) → c < 2 ^ 24
-    → lay (number12 (λ a. number12 (λ b. f a b))) at (c / 4096 ∷ c % 4096 ∷ ws) ≡ push (bitsOf 24 c) (lay (f (c / 4096) (c % 4096)) (at + 12 + 12) ws)
+    → lay (node (λ a. node (λ b. f a b))) at (c / 4096 ∷ c % 4096 ∷ ws) ≡ push (bitsOf 24 c) (lay (f (c / 4096) (c % 4096)) (at + 12 + 12) ws)
 lay-pair f at c ws h =
     let a : ℕ = c / 4096 in
     let b : ℕ = c % 4096 in
     let p : a < 4096 = omega arith in
     let q : b < 4096 = omega arith in
-    lay-ask 12 0 4096 3 (λ x. number12 (λ y. f x y)) at a (b ∷ ws) (in-range 0 4096 a (omega arith) p) p
+    lay-ask 12 0 4096 3 (λ x. node (λ y. f x y)) at a (b ∷ ws) (in-range 0 4096 a (omega arith) p) p
     ∙ ap (push (bitsOf 12 a)) (lay-ask 12 0 4096 3 (λ y. f a y) (at + 12) b ws (in-range 0 4096 b (omega arith) q) q)
     ∙ push-push (bitsOf 12 a) (bitsOf 12 b) (lay (f a b) (at + 12 + 12) ws)
     ∙ ap (λ (l : List Bool). push l (lay (f a b) (at + 12 + 12) ws)) (pair-bits c)

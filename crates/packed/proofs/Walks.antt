@@ -1,15 +1,17 @@
 -- The walks over the pairs of sheets and books, one step at a time.
-use mathlib.Core.Path.{_≡_, refl, sym}
+use mathlib.Core.Path.{_≡_, refl, sym, ap₂, _∙_}
 use mathlib.Core.List.{List, [], _∷_, _++_}
-use Prim.Native.Nat.{ℕ, zero, suc, _+_, _-_, _*_, _/_, _%_, _<_, _≤_}
+use Prim.Native.Nat.{ℕ, zero, suc, _+_, _-_, _*_, _%_, _<_, _≤_}
 use native.Mathlib.Omega.{arith}
 use native.Mathlib.Numerals.{add-one}
 use native.Mathlib.Nat.{mod-eq-of-lt}
 use lib.ListN.{length, take, drop, getD, length-take, drop-of-length-le, List·getD-eq-default}
 use lib.Seq.{drop-cons, getD-take, length-take-le}
 use borrow.Author.Tests.{le-leb, lt-leb}
-use Rattle.packed.specs.Bits.{field, gap}
-use Rattle.packed.specs.Walks.{fieldOr, codesAt, listEnd, pairsAt, listsEnd, bookPairs, codesFrom, pairsFrom}
+use Rattle.packed.specs.Bits.{field}
+use Rattle.packed.specs.Limits.{pairWidth}
+use Rattle.packed.specs.Walks.{fieldOr, codesAt, pairPlace, codesOn, Spans, pairsAt, listsEnd, sheetEnd, bookPairs, codesFrom, pairsFrom}
+use Rattle.packed.specs.declared.cursor.Extent.{Extent}
 
 -- ---- a field, or 0
 pub field-or-in : (s : List ℕ) (at n : ℕ) → at + n ≤ 8 * length s → fieldOr s at n ≡ field s at n
@@ -24,15 +26,24 @@ pub low-none : (ws : List ℕ) (i n : ℕ) → length ws ≤ i → 0 < n → 0 �
 low-none ws i n h p = rw (List·getD-eq-default ws 0 h) (sym (mod-eq-of-lt p))
 
 -- ---- a list, pair by pair
-pub codes-none : (s : List ℕ) (at k : ℕ) → k ≤ 0 → codesAt s at k ≡ []
-unfolding codesAt
-codes-none s at zero h = refl
-codes-none s at (suc k) h = absurd (omega arith)
+pub codes-start : (s : List ℕ) (first n : ℕ) → codesOn s first n 0 ≡ codesAt s first n
+codes-start s first n = ap₂ (codesAt s) (let z : first + pairWidth * 0 ≡ first = omega arith in z) (let z : n - 0 ≡ n = omega arith in z)
 
-pub codes-more : (s : List ℕ) (at k v : ℕ) → 0 < k → v ≡ fieldOr s at 24 → codesAt s at k ≡ (v ∷ []) ++ codesAt s (at + 24) (k - 1)
+pub codes-none : (s : List ℕ) (first n i : ℕ) → n ≤ i → codesOn s first n i ≡ []
 unfolding codesAt
-codes-more s at zero v h e = absurd (omega arith)
-codes-more s at (suc k) v h e = let z : suc k - 1 ≡ k = omega arith in rw (z, e)
+codes-none s first n i h = let z : n - i ≡ 0 = omega arith in rw z
+
+codes-next : (s : List ℕ) (at k v : ℕ) → 0 < k → v ≡ fieldOr s at pairWidth → codesAt s at k ≡ (v ∷ []) ++ codesAt s (at + pairWidth) (k - 1)
+unfolding codesAt
+codes-next s at zero v h e = absurd (omega arith)
+codes-next s at (suc k) v h e = let z : suc k - 1 ≡ k = omega arith in rw (z, e)
+
+pub codes-more : (s : List ℕ) (first n i v : ℕ) → i < n → v ≡ fieldOr s (pairPlace first i) pairWidth
+    → codesOn s first n i ≡ (v ∷ []) ++ codesOn s first n (i + 1)
+codes-more s first n i v h e =
+    let p : first + pairWidth * i + pairWidth ≡ first + pairWidth * (i + 1) = omega arith in
+    let q : n - i - 1 ≡ n - (i + 1) = omega arith in
+    codes-next s (pairPlace first i) (n - i) v (omega arith) e ∙ ap₂ (λ (at k : ℕ). v ∷ codesAt s at k) p q
 
 -- ---- lists
 pub pairs-none : (s : List ℕ) (at m : ℕ) → m ≤ 0 → pairsAt s at m ≡ []
@@ -40,38 +51,33 @@ unfolding pairsAt
 pairs-none s at zero h = refl
 pairs-none s at (suc m) h = absurd (omega arith)
 
-pub pairs-more : (s : List ℕ) (at m n : ℕ) → 0 < m → n ≡ fieldOr s at 14
-    → pairsAt s at m ≡ codesAt s (at + 14) n ++ pairsAt s (at + (14 + 24 * n)) (m - 1)
-unfolding pairsAt listEnd
-pairs-more s at zero n h e = absurd (omega arith)
-pairs-more s at (suc m) n h e = let z : suc m - 1 ≡ m = omega arith in rw (z, e)
-
 pub ends-none : (s : List ℕ) (at m : ℕ) → m ≤ 0 → listsEnd s at m ≡ at
 unfolding listsEnd
 ends-none s at zero h = refl
 ends-none s at (suc m) h = absurd (omega arith)
 
-pub ends-more : (s : List ℕ) (at m n : ℕ) → 0 < m → n ≡ fieldOr s at 14 → listsEnd s at m ≡ listsEnd s (at + (14 + 24 * n)) (m - 1)
-unfolding listsEnd listEnd
-ends-more s at zero n h e = absurd (omega arith)
-ends-more s at (suc m) n h e = let z : suc m - 1 ≡ m = omega arith in rw (z, e)
+module _ {s : List ℕ} {at : ℕ} {l : Extent} (p : Spans s at l) where
+  pub pairs-more : (m : ℕ) → 0 < m → pairsAt s at m ≡ codesAt s (l .first) (l .count) ++ pairsAt s (l .next) (m - 1)
+  unfolding pairsAt
+  pairs-more zero h = absurd (omega arith)
+  pairs-more (suc m) h = let z : suc m - 1 ≡ m = omega arith in rw (z, p .first, p .count, p .next)
+
+  pub ends-more : (m : ℕ) → 0 < m → listsEnd s at m ≡ listsEnd s (l .next) (m - 1)
+  unfolding listsEnd
+  ends-more zero h = absurd (omega arith)
+  ends-more (suc m) h = let z : suc m - 1 ≡ m = omega arith in rw (z, p .next)
 
 -- ---- a book, sheet by sheet
--- the next whole byte, as it is computed
-gap-up : (at : ℕ) → at + gap at ≡ (at + 7) / 8 * 8
-unfolding gap
-gap-up at = omega arith
-
 pub book-none : (s : List ℕ) (at j k : ℕ) (counts : List ℕ) → k ≤ j → bookPairs s at (drop j (take k counts)) ≡ []
 unfolding bookPairs
 book-none s at j k counts h = rw (drop-of-length-le (take k counts) {i = j} (omega (arith, length-take k counts)))
 
-pub book-more : (s : List ℕ) (at j k end : ℕ) (counts : List ℕ) → j < k → k ≤ length counts → end ≡ listsEnd s at (getD counts j 0)
-    → bookPairs s at (drop j (take k counts)) ≡ pairsAt s at (getD counts j 0) ++ bookPairs s ((end + 7) / 8 * 8) (drop (j + 1) (take k counts))
+pub book-more : (s : List ℕ) (at j k next : ℕ) (counts : List ℕ) → j < k → k ≤ length counts → next ≡ sheetEnd s at (getD counts j 0)
+    → bookPairs s at (drop j (take k counts)) ≡ pairsAt s at (getD counts j 0) ++ bookPairs s next (drop (j + 1) (take k counts))
 unfolding bookPairs
-book-more s at j k end counts h l e =
+book-more s at j k next counts h l e =
     let z = length-take-le k counts l in
-    rw (drop-cons (take k counts) j 0 (omega arith), getD-take k counts j 0 h, ← e, gap-up end, add-one)
+    rw (drop-cons (take k counts) j 0 (omega arith), getD-take k counts j 0 h, ← e, add-one)
 
 -- ---- the same among fields
 pub codes-from-none : (ws : List ℕ) (i k : ℕ) → k ≤ 0 → codesFrom ws i k ≡ []

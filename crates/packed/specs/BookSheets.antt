@@ -1,11 +1,11 @@
 -- inner: where the sheets of a book and their lists stand among its bits.
 use Prim.Native.Nat.{ℕ, zero, suc, _+_}
 use mathlib.Core.List.{List, [], _∷_}
-use Rattle.packed.specs.Walks.{fieldOr, codesAt, listsEnd, sheetEnd}
+use Rattle.packed.specs.Walks.{codesAt, listFirst, listCount, listsEnd, sheetEnd}
 
 -- the codes of the list f of the sheet at a bit offset
 unfoldable pub listAt : List ℕ → ℕ → ℕ → List ℕ
-listAt s at f = codesAt s (listsEnd s at f + 14) (fieldOr s (listsEnd s at f) 14)
+listAt s at f = codesAt s (listFirst (listsEnd s at f)) (listCount s (listsEnd s at f))
 
 -- where the sheet a begins, of those from a bit offset on
 unfoldable pub sheetAt : List ℕ → ℕ → List ℕ → ℕ → ℕ

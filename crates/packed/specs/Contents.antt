@@ -4,6 +4,7 @@ use mathlib.Core.List.{List, [], _∷_, _++_, map}
 use mathlib.Core.Bool.{Bool, false, cond, _||_}
 use lib.ListN.{length, take, drop, getD}
 use lib.Dec.{eqb, ltb}
+use Rattle.packed.specs.Limits.{nodesMost}
 use Rattle.packed.specs.Formats.{code}
 
 -- ---- a pattern: how many nodes and edges it has, and how many fields
@@ -49,7 +50,7 @@ afterLists (suc m) ws = afterLists m (drop (1 + 2 * getD ws 0 0) ws)
 -- the fields of a list's pairs, and of lists: each a count and its pairs
 unfoldable pub ends : List ℕ → List ℕ
 ends [] = []
-ends (c ∷ cs) = c / 4096 ∷ c % 4096 ∷ ends cs
+ends (c ∷ cs) = c / nodesMost ∷ c % nodesMost ∷ ends cs
 
 unfoldable pub fieldsOf : List (List ℕ) → List ℕ
 fieldsOf [] = []

@@ -4,6 +4,8 @@ use mathlib.Core.List.{List, [], _∷_, _++_}
 use mathlib.Core.Bool.{Bool, true, false, not, _&&_, _||_}
 use lib.Dec.{eqb, leb}
 use Rattle.packed.specs.Format.{Format, done, ask, test, pad, then, times, whole}
+use Rattle.packed.specs.Limits.{patternNodesMost, patternEdgesMost, viewsMost, nodesMost, edgesMost, countMost}
+use Rattle.packed.specs.Limits.{patternNodesWidth, patternEdgesWidth, labelWidth, endWidth, viewsWidth, nodesWidth, edgesWidth, labelsWidth, nodeWidth, countWidth}
 
 -- a count: w bits, low to high, else 3
 abbrev pub count : ℕ → ℕ → ℕ → (ℕ → Format) → Format
@@ -39,9 +41,9 @@ unfoldable pub allEnds : ℕ → List ℕ → Bool
 allEnds zero ends = true
 allEnds (suc n) ends = allEnds n ends && isEnd n ends
 
--- a label ("kind"): 5 bits
+-- a label ("kind")
 unfoldable pub label : Format
-label = ask 5 0 32 3 (λ v. done)
+label = ask labelWidth 0 (2 ^ labelWidth) 3 (λ v. done)
 
 -- each node is an end of some edge (7)
 unfoldable pub joined : ℕ → List ℕ → Format
@@ -49,43 +51,47 @@ joined nodes ends = test (allEnds nodes ends) 7 done
 
 -- the numbers of nodes and edges, the labels, the edges
 unfoldable pub pattern : Format
-pattern = count 5 1 16 (λ nodes. count 6 1 32 (λ number. then (times nodes label) (edges 4 nodes (joined nodes) number [])))
+pattern =
+    count patternNodesWidth 1 patternNodesMost (λ nodes. count patternEdgesWidth 1 patternEdgesMost (λ number.
+    then (times nodes label) (edges endWidth nodes (joined nodes) number [])))
 
 -- ---- a catalogue: the number of views, and the views, each on a byte
 unfoldable pub catalogue : Format
-catalogue = count 5 0 16 (λ number. pad (times number (whole pattern)))
+catalogue = count viewsWidth 0 viewsMost (λ number. pad (times number (whole pattern)))
 
 -- ---- a record
 
--- the labels of a node: 32 bits
+-- the labels of a node
 unfoldable pub labels : Format
-labels = ask 32 0 (2 ^ 32) 3 (λ v. done)
+labels = ask labelsWidth 0 (2 ^ labelsWidth) 3 (λ v. done)
 
 abbrev pub nothing : List ℕ → Format
 nothing ends = done
 
 unfoldable pub record′ : Format
-record′ = count 13 0 4096 (λ nodes. count 14 0 8192 (λ number. then (times nodes labels) (edges 12 nodes nothing number [])))
+record′ =
+    count nodesWidth 0 nodesMost (λ nodes. count edgesWidth 0 edgesMost (λ number.
+    then (times nodes labels) (edges nodeWidth nodes nothing number [])))
 
 -- ---- a sheet: the match sets of a pattern with m edges
 
 -- the code of a pair
 abbrev pub code : ℕ → ℕ → ℕ
-code a b = a * 4096 + b
+code a b = a * nodesMost + b
 
--- a pair's number: 12 bits
-abbrev pub number12 : (ℕ → Format) → Format
-number12 f = ask 12 0 4096 3 f
+-- a node of a pair
+abbrev pub node : (ℕ → Format) → Format
+node f = ask nodeWidth 0 nodesMost 3 f
 
 -- so many pairs, each with a code of at least least (6)
 unfoldable pub pairs : ℕ → ℕ → Format
 pairs zero least = done
-pairs (suc k) least = number12 (λ a. number12 (λ b. test (leb least (code a b)) 6 (pairs k (suc (code a b)))))
+pairs (suc k) least = node (λ a. node (λ b. test (leb least (code a b)) 6 (pairs k (suc (code a b)))))
 
 -- so many lists; none: a count was zero, some: a count was not; not both (8)
 unfoldable pub lists : ℕ → Bool → Bool → Format
 lists zero none some = test (not (none && some)) 8 done
-lists (suc m) none some = count 14 0 8192 (λ n. then (pairs n 0) (lists m (none || eqb n 0) (some || not (eqb n 0))))
+lists (suc m) none some = count countWidth 0 countMost (λ n. then (pairs n 0) (lists m (none || eqb n 0) (some || not (eqb n 0))))
 
 unfoldable pub sheet : ℕ → Format
 sheet m = lists m false false

@@ -1,5 +1,6 @@
--- The limits of the files and of the workspace, each in one line; the code has the same names in src/limits.rt.
-use Prim.Native.Nat.{ℕ}
+-- The limits of the files, the widths of their fields and the places in the workspace, each in one line; the code has the same names in
+-- src/limits.rt.
+use Prim.Native.Nat.{ℕ, _*_}
 
 -- "at most 44 bytes", "705", "40,964"; "a book, a lone sheet and an answer each have at most 65,536 bytes"
 abbrev pub patternMost : ℕ
@@ -18,6 +19,70 @@ bookMost = 65536
 abbrev pub pairsMost : ℕ
 pairsMost = 8192
 
+-- the most nodes and edges of a pattern, and views of a catalogue
+abbrev pub patternNodesMost : ℕ
+patternNodesMost = 16
+
+abbrev pub patternEdgesMost : ℕ
+patternEdgesMost = 32
+
+abbrev pub viewsMost : ℕ
+viewsMost = 16
+
+-- the most nodes and edges of a record, and pairs of a list
+abbrev pub nodesMost : ℕ
+nodesMost = 4096
+
+abbrev pub edgesMost : ℕ
+edgesMost = 8192
+
+abbrev pub countMost : ℕ
+countMost = 8192
+
+-- how many bits the fields of a pattern have: its numbers of nodes and edges, a label, an end of an edge
+abbrev pub patternNodesWidth : ℕ
+patternNodesWidth = 5
+
+abbrev pub patternEdgesWidth : ℕ
+patternEdgesWidth = 6
+
+abbrev pub labelWidth : ℕ
+labelWidth = 5
+
+abbrev pub endWidth : ℕ
+endWidth = 4
+
+-- the number of views of a catalogue
+abbrev pub viewsWidth : ℕ
+viewsWidth = 5
+
+-- how many bits the fields of a record have: its numbers of nodes and edges, the labels of a node, a node's number
+abbrev pub nodesWidth : ℕ
+nodesWidth = 13
+
+abbrev pub edgesWidth : ℕ
+edgesWidth = 14
+
+abbrev pub labelsWidth : ℕ
+labelsWidth = 32
+
+abbrev pub nodeWidth : ℕ
+nodeWidth = 12
+
+-- the count of a list, and a pair, which is two nodes
+abbrev pub countWidth : ℕ
+countWidth = 14
+
+abbrev pub pairWidth : ℕ
+pairWidth = 2 * nodeWidth
+
 -- the words that every call is lent to work in ("work words")
 abbrev pub workspace : ℕ
 workspace = 16384
+
+-- where codes wait in the workspace that are not yet among the different ones, and the most of them
+abbrev pub chunkPlace : ℕ
+chunkPlace = 8192
+
+abbrev pub chunkMost : ℕ
+chunkMost = 4096

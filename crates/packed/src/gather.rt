@@ -5,12 +5,13 @@ ghost use Prim.Native.Nat.{ℕ, _+_, _*_, _^_, _%_, _<_, _≤_};
 ghost use lib.ListN.{length, take, getD};
 ghost use Rattle.packed.specs.Contents.{sum};
 ghost use Rattle.packed.specs.ByValue.{Small};
-ghost use Rattle.packed.specs.Walks.{fieldOr, codesAt, listEnd, pairsAt, listsEnd, bookPairs, codesFrom, pairsFrom, Gathering, Gathers, Adds, Different};
-use crate::bits;
+ghost use Rattle.packed.specs.Limits.{bookMost, countWidth, pairWidth, workspace};
+ghost use Rattle.packed.specs.Walks.{codesAt, pairsAt, listBits, sheetEnd, bookPairs, codesFrom, pairsFrom, Gathering, Gathers, Adds, Different};
+use crate::cursor;
 use crate::distinct;
 use crate::limits;
 
-// How many different pairs stand at the front of the workspace, and how many more wait from word 8192 on.
+// How many different pairs stand at the front of the workspace, and how many more wait as a chunk.
 struct Gather {
     held: usize,
     fill: usize,
@@ -30,7 +31,7 @@ fn no_pairs() -> Gather
 
 // One pair more.
 fn push(work: &mut [u32], g: Gather, code: u32) -> Gather
-    requires { ⌜ Gathering g (now work) × (code < 2 ^ 24) ⌝ }
+    requires { ⌜ Gathering g (now work) × (code < 2 ^ pairWidth) ⌝ }
     ensures { λ r. ⌜ Adds (code ∷ []) g (now (work .entry)) r (now (work .exit)) ⌝ }
 {
     let held = g.held;
@@ -38,15 +39,15 @@ fn push(work: &mut [u32], g: Gather, code: u32) -> Gather
     if limits::PAIRS_MOST < held {
         return g;
     }
-    let at = 8192 + fill;
+    let at = limits::CHUNK + fill;
     work[at] = code;
-    if fill < 4095 {
+    if fill < limits::CHUNK_LAST {
         return Gather {
             held,
             fill: fill + 1,
         };
     }
-    let n = distinct::absorb(work, held, 4096);
+    let n = distinct::absorb(work, held, limits::CHUNK_MOST);
     Gather { held: n, fill: 0 }
 }
 
@@ -63,65 +64,53 @@ fn finish(work: &mut [u32], g: Gather) -> usize
     distinct::absorb(work, held, fill)
 }
 
-// The field of n bits at the bit offset at, or 0 where the bits end before it does. With 14 bits it is the count of a list, and with 24 bits
-// the code of a pair: so the pairs of a sheet are taken one after the other.
-pub fn field_or(s: &[u8], at: usize, n: u32) -> u32
-    requires { ⌜ (n ≤ 32) × (at < 2 ^ 40) × (length (now s) ≤ 65536) ⌝ }
-    ensures { λ r. ⌜ (r ≡ fieldOr (now (s .entry)) at n) × (r < 2 ^ n) ⌝ }
+// The n pairs of a list, from the bit offset first on.
+fn gather_pairs(s: &[u8], first: usize, n: usize, work: &mut [u32], g: Gather) -> Gather
+    requires { ⌜ (length (now s) ≤ bookMost) × (first < 2 ^ 32) × (n < 2 ^ countWidth) × Gathering g (now work) ⌝ }
+    ensures { λ r. ⌜ Adds (codesAt (now (s .entry)) first n) g (now (work .entry)) r (now (work .exit)) ⌝ }
 {
-    if at + n as usize <= 8 * s.len() {
-        return bits::get_bits(s, at, n);
-    }
-    0
-}
-
-// The pairs of a list of n, from the bit offset start on.
-fn gather_pairs(s: &[u8], start: usize, n: u32, work: &mut [u32], g: Gather) -> Gather
-    requires { ⌜ (length (now s) ≤ 65536) × (start < 2 ^ 32) × (n < 16384) × Gathering g (now work) ⌝ }
-    ensures { λ r. ⌜ Adds (codesAt (now (s .entry)) start n) g (now (work .entry)) r (now (work .exit)) ⌝ }
-{
-    let mut at = start;
     let mut sofar = g;
-    let mut left = n;
-    while 0 < left {
-        let code = field_or(s, at, 24);
+    let mut i: usize = 0;
+    while i < n {
+        let code = cursor::pair_at(s, first, i);
         sofar = push(work, sofar, code);
-        at += 24;
-        left -= 1;
+        i += 1;
     }
     sofar
 }
 
-// The pairs of m lists, from the bit offset start on, and where the lists end.
-fn gather_lists(s: &[u8], start: usize, m: u32, work: &mut [u32], g: Gather) -> Walk
-    requires { ⌜ (length (now s) ≤ 65536) × (start < 2 ^ 30) × (m ≤ 32) × Gathering g (now work) ⌝ }
-    ensures { λ r. ⌜ (r .at ≡ listsEnd (now (s .entry)) start m) × (r .at ≤ start + 393220 * m) × Adds (pairsAt (now (s .entry)) start m) g (now (work .entry)) (r .gather) (now (work .exit)) ⌝ }
+// The pairs of a sheet of m lists, from the bit offset start on, and where the next sheet begins.
+fn gather_sheet(s: &[u8], start: usize, m: u32, work: &mut [u32], g: Gather) -> Walk
+    requires { ⌜ (length (now s) ≤ bookMost) × (start < 2 ^ 30) × (m ≤ 32) × Gathering g (now work) ⌝ }
+    ensures { λ r. ⌜ (r .at ≡ sheetEnd (now (s .entry)) start m) × (r .at ≤ start + listBits * m + 7) × Adds (pairsAt (now (s .entry)) start m) g (now (work .entry)) (r .gather) (now (work .exit)) ⌝ }
 {
     let mut at = start;
     let mut sofar = g;
     let mut left = m;
     while 0 < left {
-        let n = field_or(s, at, 14);
-        sofar = gather_pairs(s, at + 14, n, work, sofar);
-        at += 14 + 24 * n as usize;
+        let l = cursor::list_at(s, at);
+        sofar = gather_pairs(s, l.first, l.count, work, sofar);
+        at = l.next;
         left -= 1;
     }
-    Walk { at, gather: sofar }
+    Walk {
+        at: cursor::next_sheet(at),
+        gather: sofar,
+    }
 }
 
 // The different pairs of a book whose views have so many edges, ascending at the front of the workspace, and their number.
 pub fn gather_book(s: &[u8], counts: [u32; 16], k: usize, work: &mut [u32]) -> usize
-    requires { ⌜ (length (now s) ≤ 65536) × (k ≤ 16) × Small counts × (length (now work) ≡ 16384) ⌝ }
+    requires { ⌜ (length (now s) ≤ bookMost) × (k ≤ 16) × Small counts × (length (now work) ≡ workspace) ⌝ }
     ensures { λ r. ⌜ Different (bookPairs (now (s .entry)) 0 (take k counts)) r (now (work .exit)) ⌝ }
 {
     let mut at: usize = 0;
     let mut sofar = no_pairs();
     let mut j: usize = 0;
     while j < k {
-        let w = gather_lists(s, at, counts[j], work, sofar);
-        let end = w.at;
+        let w = gather_sheet(s, at, counts[j], work, sofar);
+        at = w.at;
         sofar = w.gather;
-        at = (end + 7) / 8 * 8;
         j += 1;
     }
     finish(work, sofar)
@@ -137,15 +126,15 @@ fn low_at(words: &[u32], i: usize, n: u32) -> u32
 
 // The pairs of a list of n, from the word first on.
 fn gather_pair_fields(words: &[u32], first: usize, n: u32, work: &mut [u32], g: Gather) -> Gather
-    requires { ⌜ (first < 2 ^ 40) × (n < 16384) × Gathering g (now work) ⌝ }
+    requires { ⌜ (first < 2 ^ 40) × (n < 2 ^ countWidth) × Gathering g (now work) ⌝ }
     ensures { λ r. ⌜ Adds (codesFrom (now (words .entry)) first n) g (now (work .entry)) r (now (work .exit)) ⌝ }
 {
     let mut i = first;
     let mut sofar = g;
     let mut left = n;
     while 0 < left {
-        let a = low_at(words, i, 4096);
-        let b = low_at(words, i + 1, 4096);
+        let a = low_at(words, i, limits::NODES);
+        let b = low_at(words, i + 1, limits::NODES);
         sofar = push(work, sofar, a * limits::NODES + b);
         i += 2;
         left -= 1;
@@ -155,14 +144,14 @@ fn gather_pair_fields(words: &[u32], first: usize, n: u32, work: &mut [u32], g: 
 
 // The different pairs of m lists among fields, ascending at the front of the workspace, and their number.
 pub(crate) fn gather_fields(words: &[u32], m: u32, work: &mut [u32]) -> usize
-    requires { ⌜ (m ≤ 512) × (length (now work) ≡ 16384) ⌝ }
+    requires { ⌜ (m ≤ 512) × (length (now work) ≡ workspace) ⌝ }
     ensures { λ r. ⌜ Different (pairsFrom (now (words .entry)) 0 m) r (now (work .exit)) ⌝ }
 {
     let mut i: usize = 0;
     let mut sofar = no_pairs();
     let mut left = m;
     while 0 < left {
-        let n = low_at(words, i, 16384);
+        let n = low_at(words, i, limits::COUNT_RANGE);
         sofar = gather_pair_fields(words, i + 1, n, work, sofar);
         i += 1 + 2 * n as usize;
         left -= 1;

@@ -6,6 +6,7 @@ mod bits;
 pub mod by_value;
 mod calls;
 pub mod catalogue;
+pub mod cursor;
 mod distinct;
 mod field;
 pub mod gather;

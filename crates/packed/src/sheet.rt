@@ -1,15 +1,18 @@
-// Sheets and books.
+// Sheets and books. Judging refuses at the field that is wrong, so it takes field after field and can't go by the cursor, for which what is
+// missing is zero: it shares the widths with it, and the way to the next sheet.
 ghost use mathlib.Core.Path.{_≡_};
 ghost use mathlib.Core.List.{List, []};
 ghost use mathlib.Core.Bool.{Bool, false};
 ghost use Prim.Native.Nat.{ℕ, _+_, _*_, _^_, _<_, _≤_};
 ghost use lib.ListN.{length, take};
+ghost use Rattle.packed.specs.Limits.{bookMost, countMost, countWidth, pairWidth};
 ghost use Rattle.packed.specs.Format.{whole, decode, encode};
 ghost use Rattle.packed.specs.Formats.{pairs, sheet, book};
 ghost use Rattle.packed.specs.ByValue.{Small};
 ghost use Rattle.packed.specs.Reading.{Stands, Reads, ReadsBytes, Judges};
 ghost use Rattle.packed.specs.Writing.{Writes, WritesBytes, JudgesFields};
 use crate::bits;
+use crate::cursor;
 use crate::field;
 use crate::limits;
 use crate::reply::Field;
@@ -27,7 +30,16 @@ fn read_pairs(s: &[u8], start: usize, n: u32, words: &mut [u32], first: usize) -
     let mut least: u32 = 0;
     let mut left = n;
     while 0 < left {
-        let f = field::read_two(s, at, 12, 4096, Refusal::OutOfRange(4), 4, words, i);
+        let f = field::read_two(
+            s,
+            at,
+            limits::NODE_WIDTH,
+            limits::NODE_BOUND,
+            Refusal::OutOfRange(4),
+            4,
+            words,
+            i,
+        );
         match f {
             Two::Values(a, b) => {
                 let code = a * limits::NODES + b;
@@ -35,7 +47,7 @@ fn read_pairs(s: &[u8], start: usize, n: u32, words: &mut [u32], first: usize) -
                     return Part::Refused(Refusal::NotAscending(4));
                 }
                 least = code + 1;
-                at += 24;
+                at += limits::PAIR_BITS;
                 i += 2;
                 left -= 1;
             }
@@ -58,14 +70,24 @@ fn read_lists(s: &[u8], start: usize, m: u32, words: &mut [u32], first: usize) -
     let mut some = false;
     let mut left = m;
     while 0 < left {
-        let f = field::read_field(s, at, 14, 0, 8193, Refusal::OutOfRange(4), 4, words, i);
+        let f = field::read_field(
+            s,
+            at,
+            limits::COUNT_WIDTH,
+            0,
+            limits::COUNT_BOUND,
+            Refusal::OutOfRange(4),
+            4,
+            words,
+            i,
+        );
         let n = match f {
             Field::Value(v) => v,
             Field::Refused(x) => {
                 return Part::Refused(x);
             }
         };
-        let p = read_pairs(s, at + 14, n, words, i + 1);
+        let p = read_pairs(s, at + limits::COUNT_BITS, n, words, i + 1);
         let Part::Upto(next, word) = p else {
             return p;
         };
@@ -92,7 +114,7 @@ fn read_sheet(s: &[u8], byte: usize, m: u32, words: &mut [u32], first: usize) ->
         return p;
     };
     if bits::is_clear(s, at) {
-        Part::Upto((at + 7) / 8, i)
+        Part::Upto(cursor::byte_after(at), i)
     } else {
         Part::Refused(Refusal::Trailing(4))
     }
@@ -100,7 +122,7 @@ fn read_sheet(s: &[u8], byte: usize, m: u32, words: &mut [u32], first: usize) ->
 
 // A whole sheet, a file of its own: its content goes to the front of the words as far as they go.
 pub(crate) fn judge_sheet(s: &[u8], m: u32, words: &mut [u32]) -> Part
-    requires { ⌜ length (now s) ≤ 65536 ⌝ }
+    requires { ⌜ length (now s) ≤ bookMost ⌝ }
     ensures { λ r. ⌜ Judges (decode (sheet m) (now (s .entry))) 4 r (now (words .entry)) (now (words .exit)) ⌝ }
 {
     let p = read_sheet(s, 0, m, words, 0);
@@ -115,7 +137,7 @@ pub(crate) fn judge_sheet(s: &[u8], m: u32, words: &mut [u32]) -> Part
 
 // A sheet for each of the first k numbers of edges, each on a byte.
 fn read_sheets(s: &[u8], counts: [u32; 16], k: usize, words: &mut [u32]) -> Part
-    requires { ⌜ (length (now s) ≤ 65536) × (k ≤ 16) ⌝ }
+    requires { ⌜ (length (now s) ≤ bookMost) × (k ≤ 16) ⌝ }
     ensures { λ r. ⌜ ReadsBytes (book (take k counts)) (now (s .entry)) 0 (now (words .entry)) 0 4 r (now (words .exit)) ⌝ }
 {
     let mut byte: usize = 0;
@@ -135,7 +157,7 @@ fn read_sheets(s: &[u8], counts: [u32; 16], k: usize, words: &mut [u32]) -> Part
 
 // A whole book: its content goes to the front of the words as far as they go.
 pub fn judge_book(s: &[u8], counts: [u32; 16], k: usize, words: &mut [u32]) -> Part
-    requires { ⌜ (length (now s) ≤ 65536) × (k ≤ 16) ⌝ }
+    requires { ⌜ (length (now s) ≤ bookMost) × (k ≤ 16) ⌝ }
     ensures { λ r. ⌜ Judges (decode (book (take k counts)) (now (s .entry))) 4 r (now (words .entry)) (now (words .exit)) ⌝ }
 {
     let p = read_sheets(s, counts, k, words);
@@ -150,15 +172,24 @@ pub fn judge_book(s: &[u8], counts: [u32; 16], k: usize, words: &mut [u32]) -> P
 
 // So many pairs, ascending.
 fn write_pairs(words: &[u32], first: usize, n: u32, out: &mut [u8], start: usize) -> Part
-    requires { ⌜ (first ≤ length (now words)) × (n ≤ 8192) × (start ≤ 2 ^ 40) ⌝ }
-    ensures { λ r. ⌜ Writes (pairs n 0) (now (words .entry)) first (now (out .entry)) start (24 * n) 4 r (now (out .exit)) ⌝ }
+    requires { ⌜ (first ≤ length (now words)) × (n ≤ countMost) × (start ≤ 2 ^ 40) ⌝ }
+    ensures { λ r. ⌜ Writes (pairs n 0) (now (words .entry)) first (now (out .entry)) start (pairWidth * n) 4 r (now (out .exit)) ⌝ }
 {
     let mut i = first;
     let mut at = start;
     let mut least: u32 = 0;
     let mut left = n;
     while 0 < left {
-        let f = field::write_two(words, i, 12, 4096, Refusal::OutOfRange(4), 4, out, at);
+        let f = field::write_two(
+            words,
+            i,
+            limits::NODE_WIDTH,
+            limits::NODE_BOUND,
+            Refusal::OutOfRange(4),
+            4,
+            out,
+            at,
+        );
         match f {
             Two::Values(a, b) => {
                 let code = a * limits::NODES + b;
@@ -167,7 +198,7 @@ fn write_pairs(words: &[u32], first: usize, n: u32, out: &mut [u8], start: usize
                 }
                 least = code + 1;
                 i += 2;
-                at += 24;
+                at += limits::PAIR_BITS;
                 left -= 1;
             }
             Two::Refused(x) => {
@@ -181,7 +212,7 @@ fn write_pairs(words: &[u32], first: usize, n: u32, out: &mut [u8], start: usize
 // The lists of a sheet for a pattern with m edges.
 fn write_lists(words: &[u32], first: usize, m: u32, out: &mut [u8]) -> Part
     requires { ⌜ (first ≤ length (now words)) × (m ≤ 32) ⌝ }
-    ensures { λ r. ⌜ Writes (sheet m) (now (words .entry)) first (now (out .entry)) 0 (196622 * m) 4 r (now (out .exit)) ⌝ }
+    ensures { λ r. ⌜ Writes (sheet m) (now (words .entry)) first (now (out .entry)) 0 ((countWidth + pairWidth * countMost) * m) 4 r (now (out .exit)) ⌝ }
 {
     let mut i = first;
     let mut at: usize = 0;
@@ -189,14 +220,24 @@ fn write_lists(words: &[u32], first: usize, m: u32, out: &mut [u8]) -> Part
     let mut nonzero = false;
     let mut left = m;
     while 0 < left {
-        let f = field::write_field(words, i, 14, 0, 8193, Refusal::OutOfRange(4), 4, out, at);
+        let f = field::write_field(
+            words,
+            i,
+            limits::COUNT_WIDTH,
+            0,
+            limits::COUNT_BOUND,
+            Refusal::OutOfRange(4),
+            4,
+            out,
+            at,
+        );
         let n = match f {
             Field::Value(v) => v,
             Field::Refused(x) => {
                 return Part::Refused(x);
             }
         };
-        let p = write_pairs(words, i + 1, n, out, at + 14);
+        let p = write_pairs(words, i + 1, n, out, at + limits::COUNT_BITS);
         let Part::Upto(next, word) = p else {
             return p;
         };

@@ -34,12 +34,6 @@ take-sheet-requires : tie.Need-take-sheet-requires Inv-loop μ-loop
 take-sheet-requires c κs =
     (omega (arith, c .before .before .loop-test .taken, c .before .before .before .before .before .before .pre .1 .few), omega (arith, c .before .edges-in .ensures .0, c .before .before .before .before .before .before .pre .0), book-sheet (c .before .before .before .loop .inv) (c .before .before .before .before .before .before .pre .1) (c .before .before .loop-test .taken))
 
-add-at : tie.Need-add-at Inv-loop μ-loop
-add-at c = omega (arith, c .before .before .take-sheet .ensures .1, c .before .before .before .before .before .before .before .before .before .pre .1 .short)
-
-mul-at : tie.Need-mul-at Inv-loop μ-loop
-mul-at c = omega (arith, c .before .before .take-sheet .ensures .1, c .before .before .before .before .before .before .before .before .before .pre .1 .short)
-
 add-a : tie.Need-add-a Inv-loop μ-loop
 add-a c = omega (arith, c .before .before .before .before .before .loop-test .taken, c .before .before .before .before .before .before .before .before .before .pre .1 .few)
 
@@ -50,7 +44,7 @@ loop-again : tie.Need-loop-again Inv-loop μ-loop
 loop-again c =
     book-more (c .before .before .before .before .before .before .loop .inv) (c .before .before .before .before .before .before .before .before .before .pre .1) (c .before .before .before .before .before .loop-test .taken)
     (omega (arith, c .before .before .before .before .before .before .before .before .before .pre .1 .few, sixteen (c .before .before .before .before .before .before .before .before .before)))
-    (c .before .before .before .before .edges-in .ensures .1) (c .before .before .before .before .edges-in .ensures .2) (c .before .before .take-sheet .ensures .0) (c .before .before .take-sheet .ensures .2)
+    (c .before .before .before .before .edges-in .ensures .1) (c .before .before .before .before .edges-in .ensures .2) (c .before .before .take-sheet .ensures .0) (c .before .before .take-sheet .ensures .1)
 
 same-length : tie.Need-same-length Inv-loop μ-loop
 same-length c = c .before .loop .inv .taken .around .long
@@ -69,8 +63,6 @@ take-book-spec =
     mul-take-sheet
     array-read-take-sheet
     take-sheet-requires
-    add-at
-    mul-at
     add-a
     loop-less
     loop-again

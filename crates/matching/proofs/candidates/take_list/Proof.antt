@@ -1,25 +1,27 @@
 -- `matching::candidates::take_list` meets its contract.
 use borrow.Author.Needs.{needs}
+use Prim.Native.Nat.{_-_}
+use native.Mathlib.Omega.{arith}
 use Rattle.matching.proofs.Taking.{Taking, taking-start, taking-in, taking-more, taking-end, pool-less}
 use Rattle.matching.proofs.candidates.take_list.Statement.{statement}
 use Rattle.matching.proofs.candidates.take_list.Tie as tie
 
 abbrev Inv-loop : tie.InvT-loop
-Inv-loop s start n x work₀ d at₀ i₀ left₀ work at i left = Taking s start n x d work₀ work at i left
+Inv-loop s first n x work₀ d i₀ k₀ work i k = Taking s first n x d work₀ work i k
 
 abbrev μ-loop : tie.MeasureT-loop
-μ-loop s start n x work₀ d at₀ i₀ left₀ work at i left = left
+μ-loop s first n x work₀ d i₀ k₀ work i k = n - k
 
 loop-holds : tie.Need-loop-holds Inv-loop μ-loop
 loop-holds c =
     taking-start (c .before .before .pre)
 
-field-or-requires : tie.Need-field-or-requires Inv-loop μ-loop
-field-or-requires c κs = search needs
+pair-at-requires : tie.Need-pair-at-requires Inv-loop μ-loop
+pair-at-requires c κs = (omega (arith, c .before .loop .inv .rest .fits, c .before .loop .inv .rest .short), c .before .loop .inv .rest .short)
 
 reach-requires : tie.Need-reach-requires Inv-loop μ-loop
 reach-requires c κs =
-    (c .before .before .before .loop .inv .rest .pool, taking-in (c .before .before .before .loop .inv) (c .before .before .loop-test .taken) (c .before .field-or .ensures .0))
+    (c .before .before .before .loop .inv .rest .pool, taking-in (c .before .before .before .loop .inv) (c .before .before .loop-test .taken) (c .before .pair-at .ensures .0))
 
 find-requires : tie.Need-find-requires Inv-loop μ-loop
 find-requires c κs =
@@ -40,18 +42,15 @@ mul-work c = search needs
 slice-write-work : tie.Need-slice-write-work Inv-loop μ-loop
 slice-write-work c = search needs
 
-add-at : tie.Need-add-at Inv-loop μ-loop
-add-at c = search needs
-
-sub-left : tie.Need-sub-left Inv-loop μ-loop
-sub-left c = search needs
+add-k : tie.Need-add-k Inv-loop μ-loop
+add-k c = search needs
 
 loop-less : tie.Need-loop-less Inv-loop μ-loop
 loop-less c = search needs
 
 loop-again : tie.Need-loop-again Inv-loop μ-loop
 loop-again c =
-    taking-more (c .before .before .before .before .before .before .before .loop .inv) (c .before .before .before .before .before .before .loop-test .taken) (c .before .before .before .before .before .field-or .ensures .0) (c .before .before .before .reach .ensures) (c .before .find .ensures)
+    taking-more (c .before .before .before .before .before .before .before .loop .inv) (c .before .before .before .before .before .before .loop-test .taken) (c .before .before .before .before .before .pair-at .ensures .0) (c .before .before .before .reach .ensures) (c .before .find .ensures)
 
 same-length : tie.Need-same-length Inv-loop μ-loop
 same-length c = search needs
@@ -67,7 +66,7 @@ take-list-spec =
     Inv-loop
     μ-loop
     loop-holds
-    field-or-requires
+    pair-at-requires
     reach-requires
     find-requires
     add-mask
@@ -75,8 +74,7 @@ take-list-spec =
     slice-read-old
     mul-work
     slice-write-work
-    add-at
-    sub-left
+    add-k
     loop-less
     loop-again
     same-length

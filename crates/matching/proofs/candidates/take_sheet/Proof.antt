@@ -16,29 +16,14 @@ abbrev μ-loop : tie.MeasureT-loop
 loop-holds : tie.Need-loop-holds Inv-loop μ-loop
 loop-holds c = sheet-start _ _ _ _ _ _ _ _ (c .before .before .pre .2 .begins)
 
-field-or-requires : tie.Need-field-or-requires Inv-loop μ-loop
-field-or-requires c κs = (omega arith, omega (arith, c .before .loop .inv .fits, c .before .before .before .before .pre .2 .short), c .before .before .before .before .pre .2 .short)
+list-at-requires : tie.Need-list-at-requires Inv-loop μ-loop
+list-at-requires c κs = (omega (arith, c .before .loop .inv .fits, c .before .before .before .before .pre .2 .short), c .before .before .before .before .pre .2 .short)
 
 matched-by-requires : tie.Need-matched-by-requires Inv-loop μ-loop
 matched-by-requires c κs = (c .before .before .before .before .before .pre .0, omega (arith, c .before .loop-test .taken, c .before .before .before .before .before .pre .2 .few), c .before .before .before .before .before .pre .1)
 
-add-take-list : tie.Need-add-take-list Inv-loop μ-loop
-add-take-list c = omega (arith, c .before .before .before .before .loop .inv .fits, c .before .before .before .before .before .before .before .pre .2 .short)
-
 take-list-requires : tie.Need-take-list-requires Inv-loop μ-loop
-take-list-requires c κs = sheet-list (c .before .before .before .before .before .loop .inv) (c .before .before .before .before .before .before .before .before .pre .2) (c .before .before .before .before .loop-test .taken) (c .before .before .before .field-or .ensures .0)
-
-cast-at : tie.Need-cast-at Inv-loop μ-loop
-cast-at c = omega (arith, c .before .before .field-or .ensures .1)
-
-mul-at : tie.Need-mul-at Inv-loop μ-loop
-mul-at c = omega (arith, c .before .before .field-or .ensures .1)
-
-add-at : tie.Need-add-at Inv-loop μ-loop
-add-at c = omega (arith, c .before .before .field-or .ensures .1)
-
-add-at-2 : tie.Need-add-at-2 Inv-loop μ-loop
-add-at-2 c = omega (arith, c .before .before .field-or .ensures .1, c .before .before .before .before .loop .inv .fits, c .before .before .before .before .before .before .before .pre .2 .short)
+take-list-requires c κs = sheet-list (c .before .before .before .before .before .loop .inv) (c .before .before .before .before .before .before .before .before .pre .2) (c .before .before .before .before .loop-test .taken) (c .before .before .before .list-at .ensures)
 
 add-f : tie.Need-add-f Inv-loop μ-loop
 add-f c = search needs
@@ -48,14 +33,17 @@ loop-less c = search needs
 
 loop-again : tie.Need-loop-again Inv-loop μ-loop
 loop-again c =
-    sheet-more (c .before .before .before .before .loop .inv) (c .before .before .before .before .before .before .before .pre .2) (c .before .before .before .loop-test .taken) (c .before .before .field-or .ensures .0) (c .before .matched-by .ensures)
+    sheet-more (c .before .before .before .before .loop .inv) (c .before .before .before .before .before .before .before .pre .2) (c .before .before .before .loop-test .taken) (c .before .before .list-at .ensures) (c .before .matched-by .ensures)
     (⊎-elim (λ w. rw (w .5) (w .2 .ensures)) (λ w. rw (w .1) (taken-zero _ (w .0 .left))) (c .if1 .came))
 
+next-sheet-requires : tie.Need-next-sheet-requires Inv-loop μ-loop
+next-sheet-requires c κs = omega (arith, c .before .loop .inv .fits, c .before .before .before .before .pre .2 .short)
+
 same-length : tie.Need-same-length Inv-loop μ-loop
-same-length c = c .before .loop .inv .taken .around .long
+same-length c = c .before .before .loop .inv .taken .around .long
 
 returns : tie.Need-returns Inv-loop μ-loop
-returns c = sheet-end (c .before .loop .inv) (c .loop-test .left)
+returns c = sheet-end (c .before .before .loop .inv) (c .before .loop-test .left) (c .next-sheet .ensures .0)
 
 pub take-sheet-spec : {M : Type 1} → statement M
 take-sheet-spec =
@@ -64,16 +52,12 @@ take-sheet-spec =
     Inv-loop
     μ-loop
     loop-holds
-    field-or-requires
+    list-at-requires
     matched-by-requires
-    add-take-list
     take-list-requires
-    cast-at
-    mul-at
-    add-at
-    add-at-2
     add-f
     loop-less
     loop-again
+    next-sheet-requires
     same-length
     returns)

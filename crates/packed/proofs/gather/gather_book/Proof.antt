@@ -1,11 +1,11 @@
 -- `packed::gather::gather_book` meets its contract.
+use borrow.Author.Needs.{needs}
 use mathlib.Core.Path.{_≡_, _∙_}
 use mathlib.Core.List.{[]}
-use Prim.Native.Nat.{_-_, _*_, _≤_}
+use Prim.Native.Nat.{_+_, _-_, _*_, _≤_}
 use native.Mathlib.Omega.{arith}
 use lib.ListN.{length, take, drop}
-use borrow.Author.Needs.{needs}
-use Rattle.packed.specs.Walks.{bookPairs, Gathers}
+use Rattle.packed.specs.Walks.{bookPairs, listBits, Gathers}
 use Rattle.packed.proofs.Walks.{book-none, book-more}
 use Rattle.packed.proofs.Gathering.{gathers-none, Walked, walked-start, walked-gathering, walked-long, walked-more, walked-end}
 use Rattle.packed.proofs.gather.gather_book.Statement.{statement}
@@ -16,7 +16,7 @@ Inv-loop s k work₀ counts at₀ sofar₀ j₀ work at sofar j =
     Gathers [] sofar₀ work₀
     × Walked (bookPairs s 0 (take k counts)) sofar₀ work₀ (bookPairs s at (drop j (take k counts))) sofar work
     × (j ≤ k)
-    × (at ≤ 12583047 * j)
+    × (at ≤ (32 * listBits + 7) * j)
 
 abbrev μ-loop : tie.MeasureT-loop
 μ-loop s k work₀ counts at₀ sofar₀ j₀ work at sofar j = k - j
@@ -31,28 +31,16 @@ no-pairs-requires c κs = search needs
 loop-holds : tie.Need-loop-holds Inv-loop μ-loop
 loop-holds c = (gathers-none _ _ (c .no-pairs .ensures .0) (c .no-pairs .ensures .1) (c .before .before .before .pre .3), walked-start _ _ _, omega arith, omega arith)
 
-mul-gather-lists : tie.Need-mul-gather-lists Inv-loop μ-loop
-mul-gather-lists c = search needs
+mul-gather-sheet : tie.Need-mul-gather-sheet Inv-loop μ-loop
+mul-gather-sheet c = search needs
 
-array-read-gather-lists : tie.Need-array-read-gather-lists Inv-loop μ-loop
-array-read-gather-lists c = search needs
+array-read-gather-sheet : tie.Need-array-read-gather-sheet Inv-loop μ-loop
+array-read-gather-sheet c = search needs
 
-gather-lists-requires : tie.Need-gather-lists-requires Inv-loop μ-loop
-gather-lists-requires c κs =
+gather-sheet-requires : tie.Need-gather-sheet-requires Inv-loop μ-loop
+gather-sheet-requires c κs =
     let l = c .before .before .loop in
     (search needs, omega (arith, l .inv .3, l .inv .2), c .before .before .before .before .before .before .pre .2 (l .j), walked-gathering (l .inv .1) ([], l .inv .0))
-
--- a sheet ends far below what a word holds
-sheet-end : (c : tie.After-sofar Inv-loop μ-loop) → c .before .before .before .gather-lists .result .at ≤ 12583047 * 16
-sheet-end c =
-    let l = c .before .before .before .before .before .before .loop in
-    omega (arith, l .inv .2, l .inv .3, c .before .before .before .before .before .loop-test .taken, c .before .before .before .gather-lists .ensures .1, c .before .before .before .before .before .before .before .before .before .before .pre .1, c .before .before .before .before .before .before .before .before .before .before .pre .2 (l .j))
-
-add-at : tie.Need-add-at Inv-loop μ-loop
-add-at c = omega (arith, sheet-end c)
-
-mul-at : tie.Need-mul-at Inv-loop μ-loop
-mul-at c = omega (arith, sheet-end c)
 
 add-j : tie.Need-add-j Inv-loop μ-loop
 add-j c = search needs
@@ -63,7 +51,7 @@ loop-less c = search needs
 loop-again : tie.Need-loop-again Inv-loop μ-loop
 loop-again c =
     let l = c .before .before .before .before .before .before .loop in
-    let e = c .before .before .before .gather-lists .ensures in
+    let e = c .before .before .before .gather-sheet .ensures in
     let h = c .before .before .before .before .before .loop-test .taken in
     let q = sixteen (c .before .before .before .before .before .before .before .before .before .before) in
     (l .inv .0, walked-more _ _ _ _ (l .inv .1) (book-more _ _ _ _ _ _ h (omega arith) (e .0)) (e .2), omega arith, omega (arith, l .inv .3, e .1, c .before .before .before .before .before .before .before .before .before .before .pre .2 (l .j)))
@@ -85,11 +73,9 @@ gather-book-spec =
     μ-loop
     no-pairs-requires
     loop-holds
-    mul-gather-lists
-    array-read-gather-lists
-    gather-lists-requires
-    add-at
-    mul-at
+    mul-gather-sheet
+    array-read-gather-sheet
+    gather-sheet-requires
     add-j
     loop-less
     loop-again

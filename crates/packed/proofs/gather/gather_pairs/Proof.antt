@@ -1,49 +1,45 @@
 -- `packed::gather::gather_pairs` meets its contract.
-use mathlib.Core.Path.{_≡_, refl}
-use Prim.Native.Nat.{_+_, _*_}
-use native.Mathlib.Omega.{arith}
 use borrow.Author.Needs.{needs}
-use Rattle.packed.specs.Walks.{codesAt}
-use Rattle.packed.proofs.Walks.{codes-none, codes-more}
+use mathlib.Core.Path.{_∙_}
+use native.Mathlib.Omega.{arith}
+use Rattle.packed.specs.Walks.{codesAt, codesOn}
+use Rattle.packed.proofs.Walks.{codes-start, codes-none, codes-more}
 use Rattle.packed.proofs.Gathering.{Walked, walked-start, walked-gathering, walked-long, walked-more, walked-end}
+use Prim.Native.Nat.{_≤_, _-_}
 use Rattle.packed.proofs.gather.gather_pairs.Statement.{statement}
 use Rattle.packed.proofs.gather.gather_pairs.Tie as tie
 
 abbrev Inv-loop : tie.InvT-loop
-Inv-loop s start n work₀ at₀ sofar₀ left₀ work at sofar left =
-    Walked (codesAt s start n) sofar₀ work₀ (codesAt s at left) sofar work × (at + 24 * left ≡ start + 24 * n)
+Inv-loop s first n work₀ sofar₀ i₀ work sofar i = Walked (codesOn s first n 0) sofar₀ work₀ (codesOn s first n i) sofar work × (i ≤ n)
 
 abbrev μ-loop : tie.MeasureT-loop
-μ-loop s start n work₀ at₀ sofar₀ left₀ work at sofar left = left
+μ-loop s first n work₀ sofar₀ i₀ work sofar i = n - i
 
 loop-holds : tie.Need-loop-holds Inv-loop μ-loop
-loop-holds c = (walked-start _ _ _, refl)
+loop-holds c = (walked-start _ _ _, omega arith)
 
-field-or-requires : tie.Need-field-or-requires Inv-loop μ-loop
-field-or-requires c κs = search needs
+pair-at-requires : tie.Need-pair-at-requires Inv-loop μ-loop
+pair-at-requires c κs = search needs
 
 push-requires : tie.Need-push-requires Inv-loop μ-loop
-push-requires c κs = (walked-gathering (c .before .before .before .loop .inv .0) (c .before .before .before .before .before .before .pre .3), let e = c .before .field-or .ensures in e .1)
+push-requires c κs = (walked-gathering (c .before .before .before .loop .inv .0) (c .before .before .before .before .before .before .pre .3), c .before .pair-at .ensures .1)
 
-add-at : tie.Need-add-at Inv-loop μ-loop
-add-at c = search needs
-
-sub-left : tie.Need-sub-left Inv-loop μ-loop
-sub-left c = search needs
+add-i : tie.Need-add-i Inv-loop μ-loop
+add-i c = search needs
 
 loop-less : tie.Need-loop-less Inv-loop μ-loop
 loop-less c = search needs
 
 loop-again : tie.Need-loop-again Inv-loop μ-loop
 loop-again c =
-    let l = c .before .before .before .before .before .before .loop in
-    (walked-more _ _ _ _ (l .inv .0) (codes-more _ _ _ _ (c .before .before .before .before .before .loop-test .taken) (c .before .before .before .before .field-or .ensures .0)) (c .before .before .push .ensures), omega (arith, l .inv .1))
+    (walked-more _ _ _ _ (c .before .before .before .before .before .before .loop .inv .0) (codes-more _ _ _ _ _ (c .before .before .before .before .before .loop-test .taken) (c .before .before .before .before .pair-at .ensures .0)) (c .before .before .push .ensures), omega arith)
 
 same-length : tie.Need-same-length Inv-loop μ-loop
 same-length c = walked-long (c .before .loop .inv .0) (c .before .before .before .before .pre .3)
 
 returns : tie.Need-returns Inv-loop μ-loop
-returns c = walked-end (c .before .loop .inv .0) (codes-none _ _ _ (c .loop-test .left))
+returns c =
+    rw (← codes-start) (walked-end (c .before .loop .inv .0) (codes-none _ _ _ _ (c .loop-test .left)))
 
 pub gather-pairs-spec : {M : Type 1} → statement M
 gather-pairs-spec =
@@ -52,10 +48,9 @@ gather-pairs-spec =
     Inv-loop
     μ-loop
     loop-holds
-    field-or-requires
+    pair-at-requires
     push-requires
-    add-at
-    sub-left
+    add-i
     loop-less
     loop-again
     same-length

@@ -1,6 +1,7 @@
 -- `packed::sheet::read_sheet` meets its contract.
 use native.Mathlib.Omega.{arith}
-use mathlib.Core.Path.{refl, sym, _∙_}
+use mathlib.Core.Path.{refl, sym, ap, _∙_}
+use Prim.Native.Nat.{ℕ, _*_}
 use Rattle.packed.specs.Formats.{sheet}
 use Rattle.packed.specs.declared.reply.Refusal.the-variants.{Trailing}
 use Rattle.packed.proofs.ReadingLaws.{same-at, pads, ends-dirty}
@@ -35,8 +36,8 @@ is-clear-requires c κs =
     let q = rw (c .before .p .given .1) at (c .before .before .before .before .before .read-lists .ensures) in
     (q .inside, omega (arith, c .before .before .before .before .before .before .before .before .before .pre .small))
 
-add-t14 : tie.Need-add-t14
-add-t14 c =
+byte-after-requires : tie.Need-byte-after-requires
+byte-after-requires c κs =
     let q = rw (c .before .before .before .p .given .1) at (c .before .before .before .before .before .before .before .read-lists .ensures) in
     omega (arith, q .inside, c .before .before .before .before .before .before .before .before .before .before .before .pre .small)
 
@@ -45,8 +46,8 @@ same-length-2 c = search needs
 
 returns-2 : tie.Need-returns-2
 returns-2 c =
-    let q = rw (c .before .before .before .p .given .1) at (c .before .before .before .before .before .before .before .read-lists .ensures) in
-    same-at (sym (next-byte _)) refl (pads (sym (c .before .is-clear .ensures) ∙ c .if1 .taken) (whole-passes (sheet (c .before .before .before .before .before .before .before .before .before .before .before .args .m)) (c .before .before .before .before .before .before .before .before .before .before .before .pre .inside) q))
+    let q = rw (c .before .before .before .before .p .given .1) at (c .before .before .before .before .before .before .before .before .read-lists .ensures) in
+    same-at (sym (ap (λ (b : ℕ). 8 * b) (c .byte-after .ensures) ∙ next-byte _)) refl (pads (sym (c .before .before .is-clear .ensures) ∙ c .before .if1 .taken) (whole-passes (sheet (c .before .before .before .before .before .before .before .before .before .before .before .before .args .m)) (c .before .before .before .before .before .before .before .before .before .before .before .before .pre .inside) q))
 
 same-length-3 : tie.Need-same-length-3
 same-length-3 c = search needs
@@ -67,7 +68,7 @@ read-sheet-spec =
     same-length
     returns
     is-clear-requires
-    add-t14
+    byte-after-requires
     same-length-2
     returns-2
     same-length-3

@@ -1,4 +1,4 @@
--- `packed::gather::field_or` meets its contract.
+-- `packed::cursor::field_or` meets its contract.
 use mathlib.Core.Path.{_∙_, sym}
 use denote.Ref.{now}
 use native.Mathlib.Omega.{arith}
@@ -6,8 +6,8 @@ use lib.Pow.{pow-pos}
 use Rattle.packed.proofs.BitsLaws.{field-lt}
 use Rattle.packed.proofs.Walks.{field-or-in, field-or-out}
 use borrow.Author.Needs.{needs}
-use Rattle.packed.proofs.gather.field_or.Statement.{statement}
-use Rattle.packed.proofs.gather.field_or.Tie as tie
+use Rattle.packed.proofs.cursor.field_or.Statement.{statement}
+use Rattle.packed.proofs.cursor.field_or.Tie as tie
 
 add-if1 : tie.Need-add-if1
 add-if1 c = search needs

@@ -1,0 +1,73 @@
+-- `packed::gather::gather_sheet` meets its contract.
+use borrow.Author.Needs.{needs}
+use mathlib.Core.Path.{_≡_, refl, sym, ap, _∙_}
+use native.Mathlib.Omega.{arith}
+use Prim.Native.Nat.{ℕ, _+_, _*_, _≤_}
+use Rattle.packed.specs.Bits.{gap}
+use Rattle.packed.specs.Walks.{pairsAt, listsEnd, listBits}
+use Rattle.packed.proofs.Walks.{pairs-none, pairs-more, ends-none, ends-more}
+use Rattle.packed.proofs.Gathering.{Walked, walked-start, walked-gathering, walked-long, walked-more, walked-end}
+use Rattle.packed.proofs.gather.gather_sheet.Statement.{statement}
+use Rattle.packed.proofs.gather.gather_sheet.Tie as tie
+
+abbrev Inv-loop : tie.InvT-loop
+Inv-loop s start m work₀ at₀ sofar₀ left₀ work at sofar left =
+    Walked (pairsAt s start m) sofar₀ work₀ (pairsAt s at left) sofar work
+    × (listsEnd s start m ≡ listsEnd s at left)
+    × (at + listBits * left ≤ start + listBits * m)
+
+abbrev μ-loop : tie.MeasureT-loop
+μ-loop s start m work₀ at₀ sofar₀ left₀ work at sofar left = left
+
+loop-holds : tie.Need-loop-holds Inv-loop μ-loop
+loop-holds c = (walked-start _ _ _, refl, omega arith)
+
+list-at-requires : tie.Need-list-at-requires Inv-loop μ-loop
+list-at-requires c κs = search needs
+
+gather-pairs-requires : tie.Need-gather-pairs-requires Inv-loop μ-loop
+gather-pairs-requires c κs =
+    let p = c .before .list-at .ensures in
+    (search needs, omega (arith, p .first, c .before .before .before .loop .inv .2), p .few, walked-gathering (c .before .before .before .loop .inv .0) (c .before .before .before .before .before .before .pre .3))
+
+sub-left : tie.Need-sub-left Inv-loop μ-loop
+sub-left c = search needs
+
+loop-less : tie.Need-loop-less Inv-loop μ-loop
+loop-less c = search needs
+
+loop-again : tie.Need-loop-again Inv-loop μ-loop
+loop-again c =
+    let l = c .before .before .before .before .before .before .loop in
+    let p = c .before .before .before .before .list-at .ensures in
+    let h = c .before .before .before .before .before .loop-test .taken in
+    (walked-more _ _ _ _ (l .inv .0) (pairs-more p _ h) (c .before .before .gather-pairs .ensures), l .inv .1 ∙ ends-more p _ h, omega (arith, l .inv .2, p .near))
+
+next-sheet-requires : tie.Need-next-sheet-requires Inv-loop μ-loop
+next-sheet-requires c κs = omega (arith, c .before .loop .inv .2)
+
+same-length : tie.Need-same-length Inv-loop μ-loop
+same-length c = walked-long (c .before .before .loop .inv .0) (c .before .before .before .before .before .pre .3)
+
+returns : tie.Need-returns Inv-loop μ-loop
+returns c =
+    let l = c .before .before .loop in
+    let h = c .before .loop-test .left in
+    let e = c .next-sheet .ensures in
+    (e .0 ∙ ap (λ (x : ℕ). x + gap x) (sym (l .inv .1 ∙ ends-none _ _ _ h)), omega (arith, l .inv .2, e .1), walked-end (l .inv .0) (pairs-none _ _ _ h))
+
+pub gather-sheet-spec : {M : Type 1} → statement M
+gather-sheet-spec =
+    tie.close
+    (tie.spec
+    Inv-loop
+    μ-loop
+    loop-holds
+    list-at-requires
+    gather-pairs-requires
+    sub-left
+    loop-less
+    loop-again
+    next-sheet-requires
+    same-length
+    returns)
