@@ -84,5 +84,9 @@ pub fn labels_at(s: &[u8], v: usize) -> u32
     requires { ⌜ (length (now s) ≤ 65536) × (27 + 32 * v + 32 ≤ 8 * length (now s)) ⌝ }
     ensures { λ r. ⌜ r ≡ field (now (s .entry)) (27 + 32 * v) 32 ⌝ }
 {
-    bits::get_bits(s, limits::LABELS + 32 * v, 32)
+    bits::get_bits(
+        s,
+        limits::LABELS + limits::LABELS_BITS * v,
+        limits::LABELS_WIDTH,
+    )
 }

@@ -10,6 +10,7 @@ ghost use Rattle.packed.specs.Reading.{Stands, Room, ReadsBytesUpTo, Jud
 ghost use Rattle.packed.specs.Writing.{WritesBytes, JudgesFields};
 use crate::bits;
 use crate::field;
+use crate::limits;
 use crate::pattern;
 use crate::reply::Field;
 use crate::reply::Part;
@@ -40,14 +41,24 @@ fn read_views(s: &[u8], words: &mut [u32]) -> Part
     requires { ⌜ (length (now s) ≤ 65536) × Room (now words) 0 1313 ⌝ }
     ensures { λ r. ⌜ ReadsBytesUpTo 1313 catalogue (now (s .entry)) 0 (now (words .entry)) 0 2 r (now (words .exit)) ⌝ }
 {
-    let f = field::read_field(s, 0, 5, 0, 17, Refusal::OutOfRange(2), 2, words, 0);
+    let f = field::read_field(
+        s,
+        0,
+        limits::VIEWS_WIDTH,
+        0,
+        limits::VIEWS_BOUND,
+        Refusal::OutOfRange(2),
+        2,
+        words,
+        0,
+    );
     let number = match f {
         Field::Value(v) => v,
         Field::Refused(x) => {
             return Part::Refused(x);
         }
     };
-    if bits::is_clear(s, 5) {
+    if bits::is_clear(s, limits::VIEWS_BITS) {
         read_patterns(s, 1, number, words, 1)
     } else {
         Part::Refused(Refusal::Trailing(2))
@@ -94,14 +105,24 @@ fn write_patterns(words: &[u32], first: usize, number: u32, out: &mut [u8], star
 fn write_views(words: &[u32], out: &mut [u8]) -> Part
     ensures { λ r. ⌜ WritesBytes catalogue (now (words .entry)) 0 (now (out .entry)) 0 705 2 r (now (out .exit)) ⌝ }
 {
-    let f = field::write_field(words, 0, 5, 0, 17, Refusal::OutOfRange(2), 2, out, 0);
+    let f = field::write_field(
+        words,
+        0,
+        limits::VIEWS_WIDTH,
+        0,
+        limits::VIEWS_BOUND,
+        Refusal::OutOfRange(2),
+        2,
+        out,
+        0,
+    );
     let number = match f {
         Field::Value(v) => v,
         Field::Refused(x) => {
             return Part::Refused(x);
         }
     };
-    let byte = field::write_padding(out, 5);
+    let byte = field::write_padding(out, limits::VIEWS_BITS);
     write_patterns(words, 1, number, out, byte)
 }
 

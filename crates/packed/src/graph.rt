@@ -4,6 +4,7 @@ ghost use Prim.Native.Nat.{_≤_};
 ghost use lib.ListN.{length};
 ghost use Rattle.packed.specs.LoadedGraph.{LoadsGraph};
 use crate::bits;
+use crate::limits;
 use crate::record;
 use crate::reply::Part;
 use crate::reply::Refusal;
@@ -22,12 +23,12 @@ pub fn load_record(s: &[u8], work: &mut [u32]) -> Graph
     ensures { λ r. ⌜ LoadsGraph (now (s .entry)) r (now (work .exit)) ⌝ }
 {
     let mut none = [0u32; 1];
-    workspace::clear(work, 8192);
+    workspace::clear(work, limits::EDGES_MOST);
     let p = record::judge_record(s, &mut none[0..0], work);
     match p {
         Part::Upto(_, _) => Graph::Of(
-            bits::get_bits(s, 0, 13) as usize,
-            bits::get_bits(s, 13, 14) as usize,
+            bits::get_bits(s, 0, limits::NODES_WIDTH) as usize,
+            bits::get_bits(s, limits::NODES_BITS, limits::EDGES_WIDTH) as usize,
         ),
         Part::Refused(x) => Graph::Refused(x),
     }

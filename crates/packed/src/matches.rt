@@ -7,6 +7,7 @@ ghost use Rattle.packed.specs.Bits.{bits};
 ghost use Rattle.packed.specs.Matches.{matchesOf, Marked, Counts, Written, Added, CountsWritten, PairPut, scatters, ListsWritten, Listed, anyZero, sumOf};
 ghost use Rattle.packed.specs.Contents.{total};
 use crate::bits;
+use crate::cursor;
 use crate::field;
 use crate::limits;
 
@@ -116,7 +117,7 @@ pub fn sheet_size(work: &[u32], n: usize, m: u32) -> usize
     let l = listing_of(work, n, m);
     let c = l.counts;
     let t = sum(c, m);
-    (14 * m as usize + 24 * t as usize + 7) / 8
+    cursor::byte_after(limits::COUNT_BITS * m as usize + limits::PAIR_BITS * t as usize)
 }
 
 // The bits of x below the bit m.
@@ -143,9 +144,9 @@ fn write_counts(c: [u32; 32], m: u32, places: &mut [usize; 32], out: &mut [u8]) 
     let mut e: usize = 0;
     while e < m as usize {
         let count = c[e];
-        bits::put_bits(out, at, 14, count);
-        places[e] = at + 14;
-        at = at + (14 + 24 * count as usize);
+        bits::put_bits(out, at, limits::COUNT_WIDTH, count);
+        places[e] = at + limits::COUNT_BITS;
+        at = at + (limits::COUNT_BITS + limits::PAIR_BITS * count as usize);
         e += 1;
     }
     at
@@ -161,8 +162,8 @@ fn put_pair(x: u32, v: u32, places: &mut [usize; 32], out: &mut [u8])
     while 0 < left {
         let z = u32::trailing_zeros(left);
         let e = (k + z) as usize;
-        bits::put_bits(out, places[e], 24, v);
-        places[e] = places[e] + 24;
+        bits::put_bits(out, places[e], limits::PAIR_WIDTH, v);
+        places[e] = places[e] + limits::PAIR_BITS;
         left = (left >> z) / 2;
         k = k + z + 1;
     }

@@ -10,6 +10,7 @@ ghost use Rattle.packed.specs.Reading.{Stands, Room, ReadsUpTo, ReadsByt
 ghost use Rattle.packed.specs.Writing.{Writes, WritesBytes, JudgesFields};
 use crate::bits;
 use crate::field;
+use crate::limits;
 use crate::reply::Field;
 use crate::reply::Part;
 use crate::reply::Refusal;
@@ -24,10 +25,20 @@ fn read_labels(s: &[u8], start: usize, n: u32, file: u32, words: &mut [u32], fir
     let mut i = first;
     let mut left = n;
     while 0 < left {
-        let f = field::read_field(s, at, 5, 0, 32, Refusal::OutOfRange(file), file, words, i);
+        let f = field::read_field(
+            s,
+            at,
+            limits::LABEL_WIDTH,
+            0,
+            limits::LABEL_BOUND,
+            Refusal::OutOfRange(file),
+            file,
+            words,
+            i,
+        );
         match f {
             Field::Value(_) => {
-                at += 5;
+                at += limits::LABEL_BITS;
                 i += 1;
                 left -= 1;
             }
@@ -99,7 +110,7 @@ fn read_edges(
         let f = field::read_two(
             s,
             at,
-            4,
+            limits::END_WIDTH,
             nodes as u64,
             Refusal::NoSuchNode(file),
             file,
@@ -111,7 +122,7 @@ fn read_edges(
                 if is_linked(&words[first..i], a, b) {
                     return Part::Refused(Refusal::DuplicateEdge(file));
                 }
-                at += 8;
+                at += limits::ENDS_BITS;
                 i += 2;
                 left -= 1;
             }
@@ -135,9 +146,9 @@ fn read_fields(s: &[u8], start: usize, file: u32, words: &mut [u32], first: usiz
     let f = field::read_field(
         s,
         start,
-        5,
+        limits::PATTERN_NODES_WIDTH,
         1,
-        17,
+        limits::PATTERN_NODES_BOUND,
         Refusal::OutOfRange(file),
         file,
         words,
@@ -151,10 +162,10 @@ fn read_fields(s: &[u8], start: usize, file: u32, words: &mut [u32], first: usiz
     };
     let g = field::read_field(
         s,
-        start + 5,
-        6,
+        start + limits::PATTERN_NODES_BITS,
+        limits::PATTERN_EDGES_WIDTH,
         1,
-        33,
+        limits::PATTERN_EDGES_BOUND,
         Refusal::OutOfRange(file),
         file,
         words,
@@ -166,7 +177,14 @@ fn read_fields(s: &[u8], start: usize, file: u32, words: &mut [u32], first: usiz
             return Part::Refused(x);
         }
     };
-    let p = read_labels(s, start + 11, nodes, file, words, first + 2);
+    let p = read_labels(
+        s,
+        start + limits::PATTERN_LABELS,
+        nodes,
+        file,
+        words,
+        first + 2,
+    );
     let Part::Upto(at, i) = p else {
         return p;
     };
@@ -220,11 +238,21 @@ fn write_labels(
     let mut at = start;
     let mut left = n;
     while 0 < left {
-        let f = field::write_field(words, i, 5, 0, 32, Refusal::OutOfRange(file), file, out, at);
+        let f = field::write_field(
+            words,
+            i,
+            limits::LABEL_WIDTH,
+            0,
+            limits::LABEL_BOUND,
+            Refusal::OutOfRange(file),
+            file,
+            out,
+            at,
+        );
         match f {
             Field::Value(_) => {
                 i += 1;
-                at += 5;
+                at += limits::LABEL_BITS;
                 left -= 1;
             }
             Field::Refused(x) => {
@@ -255,7 +283,7 @@ fn write_edges(
         let f = field::write_two(
             words,
             i,
-            4,
+            limits::END_WIDTH,
             nodes as u64,
             Refusal::NoSuchNode(file),
             file,
@@ -268,7 +296,7 @@ fn write_edges(
                     return Part::Refused(Refusal::DuplicateEdge(file));
                 }
                 i += 2;
-                at += 8;
+                at += limits::ENDS_BITS;
                 left -= 1;
             }
             Two::Refused(x) => {
@@ -291,9 +319,9 @@ fn write_fields(words: &[u32], first: usize, file: u32, out: &mut [u8], start: u
     let f = field::write_field(
         words,
         first,
-        5,
+        limits::PATTERN_NODES_WIDTH,
         1,
-        17,
+        limits::PATTERN_NODES_BOUND,
         Refusal::OutOfRange(file),
         file,
         out,
@@ -308,13 +336,13 @@ fn write_fields(words: &[u32], first: usize, file: u32, out: &mut [u8], start: u
     let g = field::write_field(
         words,
         first + 1,
-        6,
+        limits::PATTERN_EDGES_WIDTH,
         1,
-        33,
+        limits::PATTERN_EDGES_BOUND,
         Refusal::OutOfRange(file),
         file,
         out,
-        start + 5,
+        start + limits::PATTERN_NODES_BITS,
     );
     let number = match g {
         Field::Value(v) => v,
@@ -322,7 +350,14 @@ fn write_fields(words: &[u32], first: usize, file: u32, out: &mut [u8], start: u
             return Part::Refused(x);
         }
     };
-    let p = write_labels(words, first + 2, nodes, file, out, start + 11);
+    let p = write_labels(
+        words,
+        first + 2,
+        nodes,
+        file,
+        out,
+        start + limits::PATTERN_LABELS,
+    );
     let Part::Upto(at, i) = p else {
         return p;
     };

@@ -31,9 +31,9 @@ fn read_labels(s: &[u8], start: usize, n: u32, words: &mut [u32], first: usize) 
         let f = field::read_field(
             s,
             at,
-            32,
+            limits::LABELS_WIDTH,
             0,
-            0x1_0000_0000,
+            limits::LABELS_BOUND,
             Refusal::OutOfRange(3),
             3,
             words,
@@ -41,7 +41,7 @@ fn read_labels(s: &[u8], start: usize, n: u32, words: &mut [u32], first: usize) 
         );
         match f {
             Field::Value(_) => {
-                at += 32;
+                at += limits::LABELS_BITS;
                 i += 1;
                 left -= 1;
             }
@@ -72,11 +72,20 @@ fn read_edges(
     let mut k: usize = 0;
     let mut left = number;
     while 0 < left {
-        let f = field::read_two(s, at, 12, nodes as u64, Refusal::NoSuchNode(3), 3, words, i);
+        let f = field::read_two(
+            s,
+            at,
+            limits::NODE_WIDTH,
+            nodes as u64,
+            Refusal::NoSuchNode(3),
+            3,
+            words,
+            i,
+        );
         match f {
             Two::Values(a, b) => {
                 work[k] = a * limits::NODES + b;
-                at += 24;
+                at += limits::EDGE_BITS;
                 i += 2;
                 k += 1;
                 left -= 1;
@@ -111,14 +120,34 @@ fn read_fields(s: &[u8], words: &mut [u32], work: &mut [u32]) -> Loaded
     ensures { λ r. ⌜ Loads record′ (now (s .entry)) 0 (now (words .entry)) 0 3 (now (work .entry)) r (now (words .exit)) (now (work .exit))
         × CodesLoaded (now (s .entry)) (27 + 32 * field (now (s .entry)) 0 13) (field (now (s .entry)) 13 14) (now (work .entry)) (r .part) (r .edges) (now (work .exit)) ⌝ }
 {
-    let f = field::read_field(s, 0, 13, 0, 4097, Refusal::OutOfRange(3), 3, words, 0);
+    let f = field::read_field(
+        s,
+        0,
+        limits::NODES_WIDTH,
+        0,
+        limits::NODES_BOUND,
+        Refusal::OutOfRange(3),
+        3,
+        words,
+        0,
+    );
     let nodes = match f {
         Field::Value(v) => v,
         Field::Refused(x) => {
             return stopped(x);
         }
     };
-    let g = field::read_field(s, 13, 14, 0, 8193, Refusal::OutOfRange(3), 3, words, 1);
+    let g = field::read_field(
+        s,
+        limits::NODES_BITS,
+        limits::EDGES_WIDTH,
+        0,
+        limits::EDGES_BOUND,
+        Refusal::OutOfRange(3),
+        3,
+        words,
+        1,
+    );
     let number = match g {
         Field::Value(v) => v,
         Field::Refused(x) => {
@@ -163,9 +192,9 @@ fn write_labels(words: &[u32], first: usize, n: u32, out: &mut [u8], start: usiz
         let f = field::write_field(
             words,
             i,
-            32,
+            limits::LABELS_WIDTH,
             0,
-            0x1_0000_0000,
+            limits::LABELS_BOUND,
             Refusal::OutOfRange(3),
             3,
             out,
@@ -174,7 +203,7 @@ fn write_labels(words: &[u32], first: usize, n: u32, out: &mut [u8], start: usiz
         match f {
             Field::Value(_) => {
                 i += 1;
-                at += 32;
+                at += limits::LABELS_BITS;
                 left -= 1;
             }
             Field::Refused(x) => {
@@ -206,7 +235,7 @@ fn write_edges(
         let f = field::write_two(
             words,
             i,
-            12,
+            limits::NODE_WIDTH,
             nodes as u64,
             Refusal::NoSuchNode(3),
             3,
@@ -217,7 +246,7 @@ fn write_edges(
             Two::Values(a, b) => {
                 work[k] = a * limits::NODES + b;
                 i += 2;
-                at += 24;
+                at += limits::EDGE_BITS;
                 k += 1;
                 left -= 1;
             }
@@ -240,14 +269,34 @@ fn write_fields(words: &[u32], out: &mut [u8], work: &mut [u32]) -> Loaded
     requires { ⌜ 8192 ≤ length (now work) ⌝ }
     ensures { λ r. ⌜ LoadsFields record′ (now (words .entry)) 0 (now (out .entry)) 0 327707 3 (now (work .entry)) r (now (out .exit)) (now (work .exit)) ⌝ }
 {
-    let f = field::write_field(words, 0, 13, 0, 4097, Refusal::OutOfRange(3), 3, out, 0);
+    let f = field::write_field(
+        words,
+        0,
+        limits::NODES_WIDTH,
+        0,
+        limits::NODES_BOUND,
+        Refusal::OutOfRange(3),
+        3,
+        out,
+        0,
+    );
     let nodes = match f {
         Field::Value(v) => v,
         Field::Refused(x) => {
             return stopped(x);
         }
     };
-    let g = field::write_field(words, 1, 14, 0, 8193, Refusal::OutOfRange(3), 3, out, 13);
+    let g = field::write_field(
+        words,
+        1,
+        limits::EDGES_WIDTH,
+        0,
+        limits::EDGES_BOUND,
+        Refusal::OutOfRange(3),
+        3,
+        out,
+        limits::NODES_BITS,
+    );
     let number = match g {
         Field::Value(v) => v,
         Field::Refused(x) => {

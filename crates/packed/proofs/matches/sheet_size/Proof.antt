@@ -16,26 +16,26 @@ sum-requires c κs =
     let h = listed-most _ _ _ _ (l .0) in
     (c .before .before .before .pre .0, counts-few _ _ _ (l .1) (omega (arith, h)))
 
-mul-result : tie.Need-mul-result
-mul-result c = search needs
+mul-byte-after : tie.Need-mul-byte-after
+mul-byte-after c = search needs
 
-cast-result : tie.Need-cast-result
-cast-result c = search needs
+cast-byte-after : tie.Need-cast-byte-after
+cast-byte-after c = search needs
 
-mul-result-2 : tie.Need-mul-result-2
-mul-result-2 c = search needs
+mul-byte-after-2 : tie.Need-mul-byte-after-2
+mul-byte-after-2 c = search needs
 
-add-result : tie.Need-add-result
-add-result c = search needs
+add-byte-after : tie.Need-add-byte-after
+add-byte-after c = search needs
 
-add-result-2 : tie.Need-add-result-2
-add-result-2 c = search needs
+byte-after-requires : tie.Need-byte-after-requires
+byte-after-requires c κs = search needs
 
 returns : tie.Need-returns
 returns c =
-    let m = c .before .before .before .before .args .m in
-    let l = c .before .before .listing-of .ensures in
-    ap (λ (t : ℕ). (14 * m + 24 * t + 7) / 8) (c .sum .ensures .0 ∙ sum-listed _ _ _ _ _ (l .0) (l .1) (c .before .before .before .before .pre .0))
+    let m = c .before .before .before .before .before .args .m in
+    let l = c .before .before .before .listing-of .ensures in
+    c .byte-after .ensures ∙ ap (λ (t : ℕ). (14 * m + 24 * t + 7) / 8) (c .before .sum .ensures .0 ∙ sum-listed _ _ _ _ _ (l .0) (l .1) (c .before .before .before .before .before .pre .0))
 
 pub sheet-size-spec : {M : Type 1} → statement M
 sheet-size-spec =
@@ -43,9 +43,9 @@ sheet-size-spec =
     (tie.spec
     listing-of-requires
     sum-requires
-    mul-result
-    cast-result
-    mul-result-2
-    add-result
-    add-result-2
+    mul-byte-after
+    cast-byte-after
+    mul-byte-after-2
+    add-byte-after
+    byte-after-requires
     returns)
