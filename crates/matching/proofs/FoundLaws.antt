@@ -15,7 +15,7 @@ use Rattle.matching.specs.Simulation.{Pattern, Graph, bit, fits, sim}
 use Rattle.matching.specs.Steps.{edgeAt, edgeOfWord, patternIn, graphIn, Fair, Ready, Edges}
 use Rattle.matching.specs.Matched.{Rises}
 use Rattle.matching.specs.Sweeps.{Has, Mask, OneOf}
-use Rattle.matching.specs.Sweeping.{fromOf, toOf, Ends, heldAt, Tabled}
+use Rattle.matching.specs.Sweeping.{Tabled}
 use Rattle.matching.specs.Choices.{Prepared, Fixed}
 use Rattle.matching.specs.Starting.{Room, Held, Allowed, Spread}
 use Rattle.matching.proofs.UpToLaws.{length-upTo, getD-upTo, in-upTo, upTo-in}
