@@ -43,40 +43,31 @@ fn place_of(work: &[u32], m: usize, code: u32) -> usize
     m
 }
 
-// The masks of one view, in column a: of each edge of the query, the mask of that edge in the workspace.
-fn note_masks(before: [u32; 512], a: usize, q: Pattern, m: usize, work: &[u32]) -> [u32; 512]
-    requires { ⌜ Fair q × (a < 16) × (m ≤ 8192) × (length before ≡ 512) × (length (now work) ≡ 16384) × Present q m (now work) ⌝ }
-    ensures { λ r. ⌜ Column a (q .edges) (λ e x. MaskOf (now (work .entry)) m (codeAt q e) x) before r ⌝ }
+// The masks of one view, in column a of the table: of each edge of the query, the mask of that edge in the workspace.
+fn note_masks(table: &mut [u32; 512], a: usize, q: Pattern, m: usize, work: &[u32])
+    requires { ⌜ Fair q × (a < 16) × (m ≤ 8192) × (length (now table) ≡ 512) × (length (now work) ≡ 16384) × Present q m (now work) ⌝ }
+    ensures { λ r. ⌜ Column a (q .edges) (λ e x. MaskOf (now (work .entry)) m (codeAt q e) x) (now (table .entry)) (now (table .exit)) ⌝ }
 {
-    let mut mapping = before;
     let n = q.edges;
     let mut e: usize = 0;
     while e < n {
         let i = place_of(work, m, q.from[e] * limits::NODES + q.to[e]);
         let mask = limits::HELD + i;
         let at = 16 * e + a;
-        mapping[at] = work[mask];
+        table[at] = work[mask];
         e += 1;
     }
-    mapping
 }
 
 // The same, from the lists that the view with so many edges has: none, where one of them would be empty.
-fn note_view(
-    before: [u32; 512],
-    a: usize,
-    q: Pattern,
-    m: usize,
-    edges: usize,
-    work: &[u32],
-) -> [u32; 512]
-    requires { ⌜ Fair q × (a < 16) × (0 < m) × (edges ≤ 32) × (length before ≡ 512) × (length (now work) ≡ 16384) × Marked m (now work) × Present q m (now work) × Within edges m (now work) × ((e : ℕ) → getD before (16 * e + a) 0 ≡ 0) ⌝ }
-    ensures { λ r. ⌜ Column a (q .edges) (λ e x. x ≡ maskIn (codeAt q e) (matchesOf m edges (now (work .entry)))) before r ⌝ }
+fn note_view(table: &mut [u32; 512], a: usize, q: Pattern, m: usize, edges: usize, work: &[u32])
+    requires { ⌜ Fair q × (a < 16) × (0 < m) × (edges ≤ 32) × (length (now table) ≡ 512) × (length (now work) ≡ 16384) × Marked m (now work) × Present q m (now work) × Within edges m (now work) × ((e : ℕ) → getD (now table) (16 * e + a) 0 ≡ 0) ⌝ }
+    ensures { λ r. ⌜ Column a (q .edges) (λ e x. x ≡ maskIn (codeAt q e) (matchesOf m edges (now (work .entry)))) (now (table .entry)) (now (table .exit)) ⌝ }
 {
-    if matches::listed(work, m, edges as u32) == m {
-        return note_masks(before, a, q, m, work);
+    if matches::listed(work, m, edges as u32) != m {
+        return;
     }
-    before
+    note_masks(table, a, q, m, work);
 }
 
 // A word for each node that a query can have.
@@ -109,8 +100,7 @@ fn note_views(
         let v = views::view_at(catalogue, byte);
         let p = v.pattern;
         matched::match_edges(s, n, m, p, work, &mut leave, &mut arrive, &mut held);
-        let more = note_view(mapping, a, q, m, p.edges, work);
-        mapping = more;
+        note_view(&mut mapping, a, q, m, p.edges, work);
         byte = v.next;
         a += 1;
     }

@@ -9,10 +9,10 @@ use Rattle.containment.proofs.mapping.note_masks.Statement.{statement}
 use Rattle.containment.proofs.mapping.note_masks.Tie as tie
 
 abbrev Inv-loop : tie.InvT-loop
-Inv-loop a m work q mapping₀ n e₀ mapping e = (e ≤ n) × Column a e (λ d x. MaskOf work m (codeAt q d) x) mapping₀ mapping
+Inv-loop table₀ a m work q n e₀ table e = (e ≤ n) × Column a e (λ d x. MaskOf work m (codeAt q d) x) table₀ table
 
 abbrev μ-loop : tie.MeasureT-loop
-μ-loop a m work q mapping₀ n e₀ mapping e = n - e
+μ-loop table₀ a m work q n e₀ table e = n - e
 
 loop-holds : tie.Need-loop-holds Inv-loop μ-loop
 loop-holds c = (omega arith, column-start)
@@ -47,18 +47,18 @@ mul-at c = search needs
 add-at : tie.Need-add-at Inv-loop μ-loop
 add-at c = search needs
 
-mul-mapping : tie.Need-mul-mapping Inv-loop μ-loop
-mul-mapping c = search needs
+mul-table : tie.Need-mul-table Inv-loop μ-loop
+mul-table c = search needs
 
-shared-slice-read-mapping : tie.Need-shared-slice-read-mapping Inv-loop μ-loop
+shared-slice-read-table : tie.Need-shared-slice-read-table Inv-loop μ-loop
 unfolding Present
-shared-slice-read-mapping c = omega (arith, place-below (c .before .before .before .before .before .before .before .pre .5 (c .before .before .before .before .before .loop .e) (omega arith)) (c .before .place-of .ensures))
+shared-slice-read-table c = omega (arith, place-below (c .before .before .before .before .before .before .before .pre .5 (c .before .before .before .before .before .loop .e) (omega arith)) (c .before .place-of .ensures))
 
-mul-mapping-2 : tie.Need-mul-mapping-2 Inv-loop μ-loop
-mul-mapping-2 c = search needs
+mul-table-2 : tie.Need-mul-table-2 Inv-loop μ-loop
+mul-table-2 c = search needs
 
-array-write-mapping : tie.Need-array-write-mapping Inv-loop μ-loop
-array-write-mapping c = omega (arith, c .before .before .before .before .before .before .before .pre .0 .edges)
+element-write-table : tie.Need-element-write-table Inv-loop μ-loop
+element-write-table c = omega (arith, c .before .before .before .before .before .before .before .pre .0 .edges)
 
 add-e : tie.Need-add-e Inv-loop μ-loop
 add-e c = search needs
@@ -95,10 +95,10 @@ note-masks-spec =
     add-mask
     mul-at
     add-at
-    mul-mapping
-    shared-slice-read-mapping
-    mul-mapping-2
-    array-write-mapping
+    mul-table
+    shared-slice-read-table
+    mul-table-2
+    element-write-table
     add-e
     loop-less
     loop-again

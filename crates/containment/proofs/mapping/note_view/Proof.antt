@@ -11,17 +11,16 @@ cast-listed c = search needs
 listed-requires : tie.Need-listed-requires
 listed-requires c κs = search needs
 
+returns : tie.Need-returns
+returns c = column-none _ (λ e l. c .before .before .before .pre .9 e ∙ sym (unlisted (c .before .listed .ensures) (c .if1 .taken) _))
+
 note-masks-requires : tie.Need-note-masks-requires
 note-masks-requires c κs = search needs
 
-returns : tie.Need-returns
-returns c =
-    column-map (λ e x l o. listed-mask (c .before .before .listed .ensures) (c .before .before .before .before .pre .6) (c .before .before .before .before .pre .8) (c .before .if1 .taken) (c .before .before .before .before .pre .2) o) (c .note-masks .ensures)
-
 returns-2 : tie.Need-returns-2
 returns-2 c =
-    column-none _ (λ e l. c .before .before .before .pre .9 e ∙ sym (unlisted (c .before .listed .ensures) (c .if1 .left) _))
+    column-map (λ e x l o. listed-mask (c .before .before .before .listed .ensures) (c .before .before .before .before .before .pre .6) (c .before .before .before .before .before .pre .8) (c .before .before .if1 .left) (c .before .before .before .before .before .pre .2) o) (c .note-masks .ensures)
 
 pub note-view-spec : {M : Type 1} → statement M
 note-view-spec =
-    tie.close (tie.spec cast-listed listed-requires note-masks-requires returns returns-2)
+    tie.close (tie.spec cast-listed listed-requires returns note-masks-requires returns-2)

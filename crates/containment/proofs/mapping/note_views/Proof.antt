@@ -67,41 +67,41 @@ match-edges-requires c κs =
 note-view-requires : tie.Need-note-view-requires Inv-loop μ-loop
 unfolding Within
 note-view-requires c κs =
-    let l = c .before .before .before .before .before .before .before .before .before .before .before .before .before .before .loop .inv in
-    let t = c .before .before .before .before .before .before .before .before .before .before .before .before .before .before .before .before .before .before .before .before .before .before .pre .0 in
-    let h = c .before .before .before .before .before .before .before .before .before .before .before .before .before .before .before .before .before .before .before .before .before .before .pre .4 in
-    let e = c .before .before .before .before .before .before .before .before .before .before .before .before .before .before .before .before .before .before .before .before .before .before .pre .5 t in
-    let v = noted-next (l .2) (omega arith) (c .before .before .before .before .before .before .before .before .before .before .before .before .view-at .ensures) (c .before .before .before .before .before .before .before .before .before .before .before .before .before .before .before .before .before .before .before .before .before .before .pre .1) in
-    let d = c .before .before .before .before .before .before .match-edges .ensures .0 in (
+    let l = c .before .before .before .before .before .before .before .before .before .before .before .before .before .before .before .loop .inv in
+    let t = c .before .before .before .before .before .before .before .before .before .before .before .before .before .before .before .before .before .before .before .before .before .before .before .pre .0 in
+    let h = c .before .before .before .before .before .before .before .before .before .before .before .before .before .before .before .before .before .before .before .before .before .before .before .pre .4 in
+    let e = c .before .before .before .before .before .before .before .before .before .before .before .before .before .before .before .before .before .before .before .before .before .before .before .pre .5 t in
+    let v = noted-next (l .2) (omega arith) (c .before .before .before .before .before .before .before .before .before .before .before .before .before .view-at .ensures) (c .before .before .before .before .before .before .before .before .before .before .before .before .before .before .before .before .before .before .before .before .before .before .before .pre .1) in
+    let d = c .before .before .before .before .before .before .before .match-edges .ensures .0 in (
       fair t,
-      omega (arith, views-few (c .before .before .before .before .before .before .before .before .before .before .before .before .before .before .before .before .before .before .before .before .before .before .pre .1)),
+      omega (arith, views-few (c .before .before .before .before .before .before .before .before .before .before .before .before .before .before .before .before .before .before .before .before .before .before .before .pre .1)),
       number-some t h e,
       fair-by (v .plain) (v .holds) .edges,
-      noted-long (l .2) (omega arith) t (c .before .before .before .before .before .before .before .before .before .before .before .before .before .before .before .before .before .before .before .before .before .before .pre .1),
+      noted-long (l .2) (omega arith) t (c .before .before .before .before .before .before .before .before .before .before .before .before .before .before .before .before .before .before .before .before .before .before .before .pre .1),
       d .edges .long ∙ l .1 .long ∙ h .long,
       d .marked,
       query-present t h e (edges-twice (l .1) (d .edges)),
       d .only,
-      noted-clear (l .2) (omega arith) t (c .before .before .before .before .before .before .before .before .before .before .before .before .before .before .before .before .before .before .before .before .before .before .pre .1),
+      noted-clear (l .2) (omega arith) t (c .before .before .before .before .before .before .before .before .before .before .before .before .before .before .before .before .before .before .before .before .before .before .before .pre .1),
     )
 
 add-a : tie.Need-add-a Inv-loop μ-loop
-add-a c = omega (arith, c .before .before .before .before .before .before .before .before .before .before .before .before .before .before .loop-test .taken, views-few (c .before .before .before .before .before .before .before .before .before .before .before .before .before .before .before .before .before .before .before .before .before .before .before .pre .1))
+add-a c = omega (arith, c .before .before .before .before .before .before .before .before .before .before .before .before .before .before .before .loop-test .taken, views-few (c .before .before .before .before .before .before .before .before .before .before .before .before .before .before .before .before .before .before .before .before .before .before .before .before .pre .1))
 
 loop-less : tie.Need-loop-less Inv-loop μ-loop
 loop-less c = search needs
 
 loop-again : tie.Need-loop-again Inv-loop μ-loop
 loop-again c =
-    let l = c .before .before .before .before .before .before .before .before .before .before .before .before .before .before .before .loop .inv in
-    let d = c .before .before .before .before .before .before .before .match-edges .ensures .0 in (
+    let l = c .before .before .before .before .before .before .before .before .before .before .before .before .before .before .before .before .loop .inv in
+    let d = c .before .before .before .before .before .before .before .before .match-edges .ensures .0 in (
       omega arith,
       edges-twice (l .1) (d .edges),
-      noted-more (c .before .before .before .before .before .before .before .before .before .before .before .before .before .before .before .before .before .before .before .before .before .before .before .pre .4) (c .before .before .before .before .before .before .before .before .before .before .before .before .before .before .before .before .before .before .before .before .before .before .before .pre .5) (l .2) (omega arith) _ (c .before .before .before .before .before .before .before .before .before .before .before .before .before .view-at .ensures) (l .1) d (c .note-view .ensures),
-      c .before .before .before .before .before .before .before .match-edges .ensures .1,
-      c .before .before .before .before .before .before .before .match-edges .kept .1 .1 .1 .1 .1 .0 ∙ l .4,
-      c .before .before .before .before .before .before .before .match-edges .kept .1 .1 .1 .1 .1 .1 .0 ∙ l .5,
-      c .before .before .before .before .before .before .before .match-edges .kept .1 .1 .1 .1 .1 .1 .1 .0 ∙ l .6,
+      noted-more (c .before .before .before .before .before .before .before .before .before .before .before .before .before .before .before .before .before .before .before .before .before .before .before .before .pre .4) (c .before .before .before .before .before .before .before .before .before .before .before .before .before .before .before .before .before .before .before .before .before .before .before .before .pre .5) (l .2) (omega arith) _ (c .before .before .before .before .before .before .before .before .before .before .before .before .before .before .view-at .ensures) (l .1) d (c .note-view .ensures),
+      c .before .before .before .before .before .before .before .before .match-edges .ensures .1,
+      c .before .before .before .before .before .before .before .before .match-edges .kept .1 .1 .1 .1 .1 .0 ∙ l .4,
+      c .before .before .before .before .before .before .before .before .match-edges .kept .1 .1 .1 .1 .1 .1 .0 ∙ l .5,
+      c .before .before .before .before .before .before .before .before .match-edges .kept .1 .1 .1 .1 .1 .1 .1 .0 ∙ l .6,
     )
 
 same-length : tie.Need-same-length Inv-loop μ-loop
