@@ -1,5 +1,5 @@
 -- inner: where the sheets of a book and their lists stand among its bits.
-use Prim.Native.Nat.{ℕ, zero, suc, _+_}
+use Prim.Native.Nat.{ℕ, zero, suc}
 use mathlib.Core.List.{List, [], _∷_}
 use Rattle.packed.specs.Walks.{codesAt, listFirst, listCount, listsEnd, sheetEnd}
 

@@ -43,7 +43,7 @@ listEnd s at = at + (countWidth + pairWidth * listCount s at)
 abbrev pub listBits : ℕ
 listBits = countWidth + pairWidth * 2 ^ countWidth
 
--- the same by value
+-- the list at the bit offset at, by value
 pub record Spans (s : List ℕ) (at : ℕ) (l : Extent) : Type 0 where
   pub first : l .first ≡ listFirst at
   pub count : l .count ≡ listCount s at

@@ -1,8 +1,7 @@
 -- `packed::gather::gather_pairs` meets its contract.
 use borrow.Author.Needs.{needs}
-use mathlib.Core.Path.{_∙_}
 use native.Mathlib.Omega.{arith}
-use Rattle.packed.specs.Walks.{codesAt, codesOn}
+use Rattle.packed.specs.Walks.{codesOn}
 use Rattle.packed.proofs.Walks.{codes-start, codes-none, codes-more}
 use Rattle.packed.proofs.Gathering.{Walked, walked-start, walked-gathering, walked-long, walked-more, walked-end}
 use Prim.Native.Nat.{_≤_, _-_}
