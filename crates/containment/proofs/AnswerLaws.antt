@@ -1,33 +1,33 @@
 -- The answers of quoting and of showing, from what their parts found.
-use Prim.Native.Nat.{ℕ, _+_, _-_, _*_, _<_, _≤_}
+use Prim.Native.Nat.{ℕ, _+_, _-_, _<_, _≤_}
 use mathlib.Core.Path.{_≡_, refl, sym, ap, subst, _∙_}
 use mathlib.Core.Bool.{Bool, true, false}
 use mathlib.Core.List.{List, [], _∷_, _++_, map}
-use lib.ListN.{length, take, drop, getD, replicate, length-take, length-drop, length-append, length-map}
+use lib.ListN.{length, take, drop, replicate, length-take, length-drop, length-append, length-map}
 use lib.Seq.{sets, drop-at}
 use lib.Dec.{ltb}
 use native.Mathlib.Omega.{arith}
 use borrow.Author.Tests.{lt-ltb, le-ltb}
 use borrow.Rule.Slice.PartMut.{putMid, postOf}
-use Rattle.packed.specs.Format.{Format, Result, ok, bad, pick, decode}
+use Rattle.packed.specs.Format.{ok, pick, decode}
 use Rattle.packed.specs.Formats.{pattern, catalogue}
-use Rattle.packed.specs.Contents.{nodesOf, edgesOf, patternSize, viewsOf}
+use Rattle.packed.specs.Contents.{edgesOf, viewsOf}
 use Rattle.packed.specs.ByValue.{HoldsPattern}
-use Rattle.packed.specs.Reading.{Content}
+use Rattle.packed.specs.Accepting.{Held, HoldsViews}
 use Rattle.packed.specs.Refusals.{Told, told, numberOf, detailOf}
-use Rattle.packed.specs.Calls.{Answer, give, refuse, toldOf, fronts, outputsOf, workOf, Settled, withWorkspace, Verdict, rejected, inFile, readFile, judged, readCatalogue}
+use Rattle.packed.specs.Calls.{Answer, give, refuse, toldOf, fronts, outputsOf, workOf, Settled, withWorkspace, Verdict, accepted, rejected, judged, readPattern, readCatalogue}
 use Rattle.packed.specs.declared.reply.Refusal.{Refusal}
 use Rattle.packed.specs.declared.by_value.Pattern.{Pattern as Given}
 use Rattle.packed.proofs.Sets.{sets-front}
-use Rattle.packed.proofs.AcceptedBounds.{pattern-bounds, catalogue-views}
-use Rattle.packed.proofs.CallLaws.{Finds, judged-accepted, front-is}
+use Rattle.packed.proofs.AcceptedBounds.{catalogue-views}
+use Rattle.packed.proofs.CallLaws.{judged-accepted, read-says}
 use Rattle.matching.specs.Simulation.{Pattern, patternOf}
 use Rattle.matching.proofs.PatternLaws.{edges-in, pattern-is}
 use Rattle.matching.proofs.EdgeLaws.{edgesIn-length}
 use Rattle.containment.specs.Choice.{everyView, coversIn, lowestUnmatched, chosen}
 use Rattle.containment.specs.Quote.{blank, flat, mapping, valuesFrom, quoteValues, quoteTold}
 use Rattle.containment.specs.Show.{graphFields, fewerFields, recordBytes, fitBoth, showFor}
-use Rattle.containment.specs.Steps.{Query, Views, Answers, shownFields}
+use Rattle.containment.specs.Steps.{Query, Views, ViewCounts, Answers, shownFields}
 use Rattle.containment.specs.declared.quote_type.Quote.{Quote}
 use Rattle.containment.specs.declared.quote_type.Coverage.the-variants as coverage-is
 use Rattle.containment.proofs.ChoiceLaws.{chosen-none, lowest-below}
@@ -35,29 +35,18 @@ use Rattle.containment.proofs.QueryLaws.{plain, few-edges, shown-whole}
 
 -- ---- a file's verdict
 
-module _ {none : List ℕ} {r : Told} (k : List ℕ → Answer) where
-  answers-rejected : {v : Verdict} {n d : ℕ} (outs : List (List ℕ)) → v ≡ rejected n d → r ≡ told n (d ∷ none) → Answers none (judged v k) r outs outs
+module _ {none : List ℕ} {r : Told} (k : List ℕ → Answer) {v : Verdict} where
+  -- it was refused, and the refusal is handed up
+  pub answers-refused : (outs : List (List ℕ)) {n d : ℕ} → v ≡ rejected n d → r ≡ told n (d ∷ none) → Answers none (judged v k) r outs outs
   unfolding judged toldOf outputsOf
-  answers-rejected outs e q = record {
+  answers-refused outs e q = record {
     result = q ∙ ap (λ (x : Verdict). toldOf none (judged x k)) (sym e);
     outputs = ap (λ (x : Verdict). outputsOf (judged x k) outs) (sym e);
   }
 
-  -- it is too long
-  pub answers-over : (most file : ℕ) (F : Format) (s : List ℕ) (outs : List (List ℕ)) → most < length s → r ≡ told 1 (file ∷ none)
-      → Answers none (judged (readFile most file F s) k) r outs outs
-  unfolding readFile
-  answers-over most file F s outs h q = answers-rejected outs (rw (lt-ltb most (length s) h)) q
-
-  module _ {v : Verdict} {file : ℕ} {x : Result ℕ} (f : Finds v file x) where
-    -- it was refused
-    pub answers-refused : (outs : List (List ℕ)) (y : Refusal) → (x ≡ bad (numberOf y)) × (detailOf y ≡ file) → r ≡ told (numberOf y) (detailOf y ∷ none)
-        → Answers none (judged v k) r outs outs
-    answers-refused outs y q s = answers-rejected outs (f .is ∙ ap (inFile file) (q .0) ∙ ap (rejected (numberOf y)) (sym (q .1))) s
-
-    -- it was accepted, and the call goes on with its content
-    pub answers-on : {ws : List ℕ} {outs outs′ : List (List ℕ)} → x ≡ ok ws → Answers none (k ws) r outs outs′ → Answers none (judged v k) r outs outs′
-    answers-on e b = rw (judged-accepted k f e) b
+  -- it was accepted, and the call goes on with its content
+  pub answers-on : {ws : List ℕ} {outs outs′ : List (List ℕ)} → v ≡ accepted ws → Answers none (k ws) r outs outs′ → Answers none (judged v k) r outs outs′
+  answers-on e b = rw (judged-accepted k e) b
 
 -- ---- the workspace
 
@@ -108,23 +97,23 @@ module _ (t : List ℕ) (set m k : ℕ) where
 -- ---- an accepted query and accepted views
 
 -- a pattern that was accepted, by value
-module _ (s : List ℕ) {n : ℕ} {w w′ : List ℕ} (c : Content (decode pattern s) n w w′) (room : n ≤ length w) where
-  abbrev front : List ℕ
-  front = take (n - 0) (drop 0 w′)
-
-  pub query-fits : (nodesOf front ≤ 16) × (edgesOf front ≤ 32) × (2 + (nodesOf front + 2 * edgesOf front) ≤ length front)
-  unfolding patternSize
-  query-fits = let b = pattern-bounds s (c .fields) (c .is) in rw (front-is c room) (b .1, b .3, omega (arith, b .4))
-
-  abbrev pub query-by : {q : Given} → HoldsPattern front q → Query q
-  query-by {q} h = record { bytes = s; content = c .fields; is = c .is; holds = subst (λ l. HoldsPattern l q) (front-is c room) h }
+abbrev pub query-by : (s : List ℕ) {q : Given} {n : ℕ} {w : List ℕ} → Held (λ ws. HoldsPattern ws q) (readPattern s) n w → Query q
+query-by s h = record { bytes = s; content = h .fields; is = read-says 44 1 pattern s (h .fields) (h .is) .0; holds = h .holds }
 
 pub query-few : {q : Given} → Query q → q .edges ≤ 32
 query-few t = let h = few-edges t in omega (arith, t .holds .edges)
 
--- a catalogue that was accepted, and its first word
-abbrev pub views-by : (s : List ℕ) {n k : ℕ} {w w′ : List ℕ} (c : Content (decode catalogue s) n w w′) → n ≤ length w → k ≡ getD (take (n - 0) (drop 0 w′)) 0 0 → Views s k
-views-by s c room e = record { content = c .fields; is = c .is; number = e ∙ ap (λ (l : List ℕ). getD l 0 0) (front-is c room) }
+-- the views of a catalogue that was accepted
+module _ (s : List ℕ) {n k : ℕ} {w counts : List ℕ} (h : Held (λ cs. HoldsViews cs k counts) (readCatalogue s) n w) where
+  pub views-read : (decode catalogue s ≡ ok (h .fields)) × (length s ≤ 705)
+  views-read = read-says 705 2 catalogue s (h .fields) (h .is)
+
+  abbrev pub views-by : Views s k
+  views-by = record { content = h .fields; is = views-read .0; number = h .holds .number }
+
+  -- with the numbers of their edges
+  abbrev pub counts-by : ViewCounts counts k
+  counts-by = record { bytes = s; views = views-by; are = h .holds .are; small = h .holds .small }
 
 abbrev pub viewPatterns : List ℕ → List Pattern
 viewPatterns cs = map patternOf (viewsOf cs)

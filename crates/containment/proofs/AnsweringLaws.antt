@@ -1,26 +1,24 @@
 -- The answers of answering a query from a book, from what their parts found.
-use Prim.Native.Nat.{ℕ, _+_, _-_, _*_, _/_, _<_, _≤_}
+use Prim.Native.Nat.{ℕ, _+_, _*_, _/_, _<_, _≤_}
 use mathlib.Core.Path.{_≡_, refl, sym, ap, subst, _∙_}
 use mathlib.Core.Bool.{Bool, true, false}
 use mathlib.Core.List.{List}
-use lib.ListN.{length, take, drop, getD}
+use lib.ListN.{length, take}
 use native.Mathlib.Omega.{arith}
-use Rattle.packed.specs.Format.{pick, decode}
-use Rattle.packed.specs.Formats.{catalogue, book}
+use Rattle.packed.specs.Format.{ok, pick, decode}
+use Rattle.packed.specs.Formats.{book}
 use Rattle.packed.specs.Contents.{edgeCounts, pairsIn, sum, sheetsIn, total}
-use Rattle.packed.specs.ByValue.{Counted}
-use Rattle.packed.specs.Reading.{Content}
+use Rattle.packed.specs.Accepting.{Taken}
 use Rattle.packed.specs.Refusals.{Told, numberOf, detailOf, replyTold}
 use Rattle.packed.specs.Matches.{matchesOf, Marked, Written}
 use Rattle.packed.specs.Walks.{bookPairs, Different}
-use Rattle.packed.specs.Calls.{Answer, refuse, judged, readCatalogue, readBook, uncrowded, fitFile, Answered}
+use Rattle.packed.specs.Calls.{Answer, refuse, readFile, judged, readCatalogue, readBook, uncrowded, fitFile, Answered}
 use Rattle.packed.specs.declared.reply.Refusal.{Refusal}
 use Rattle.packed.specs.declared.reply.Refusal.the-variants.{TooManyPairs, NotContained}
 use Rattle.packed.specs.declared.reply.Reply.the-variants as reply-is
 use Rattle.packed.specs.declared.by_value.Pattern.{Pattern as Given}
-use Rattle.packed.proofs.AcceptedBounds.{catalogue-bounds}
 use Rattle.packed.proofs.WalkLaws.{book-pairs}
-use Rattle.packed.proofs.CallLaws.{read-finds, front-is, counts-are, counts-small, gathered-many, gathered-few, body-declined, body-goes-on}
+use Rattle.packed.proofs.CallLaws.{read-says, gathered-many, gathered-few, body-declined, body-goes-on}
 use Rattle.packed.proofs.MatchLaws.{matches-encode}
 use Rattle.matching.specs.Simulation.{patternOf, ascending}
 use Rattle.matching.specs.Search.{sheetBytes}
@@ -39,7 +37,7 @@ use Rattle.containment.specs.Quote.{mapping}
 use Rattle.containment.specs.Answer.{viewsIn, answerBytes, answerIn, usedFor}
 use Rattle.containment.specs.Steps.{Query, Views, ViewCounts}
 use Rattle.containment.proofs.QueryLaws.{plain}
-use Rattle.containment.proofs.AnswerLaws.{viewPatterns, views-many, views-by}
+use Rattle.containment.proofs.AnswerLaws.{viewPatterns, views-many}
 use Rattle.containment.proofs.BookLaws.{booked-by}
 use Rattle.containment.proofs.CandidateLaws.{agrees-by}
 
@@ -86,15 +84,6 @@ bookOn qs b room cs = judged (readBook cs b) (λ bs. answerIn (usedFor qs cs) qs
 abbrev pub answerOn : List ℕ → List ℕ → ℕ → List ℕ → Answer
 answerOn c b room qs = judged (readCatalogue c) (bookOn qs b room)
 
--- a catalogue that was accepted, and the numbers of its views' edges
-abbrev pub counts-by : (s : List ℕ) {n k : ℕ} {w w′ counts : List ℕ} (c : Content (decode catalogue s) n w w′) → n ≤ length w → k ≡ getD (take (n - 0) (drop 0 w′)) 0 0
-    → Counted (take (n - 0) (drop 0 w′)) counts → ViewCounts counts k
-counts-by s {k = k} c room e m =
-    let v = views-by s c room e in
-    let b = catalogue-bounds s (c .fields) (c .is) in
-    let f = rw (front-is c room) at m in
-    record { bytes = s; views = v; are = counts-are f (b .0) k (b .1) (v .number); small = counts-small f (b .0) (b .2) }
-
 -- ---- what is answered from an accepted book
 
 -- the sheet by the views in a set
@@ -113,17 +102,20 @@ module _ {q : Given} (t : Query q) {c : List ℕ} {k : ℕ} (v : Views c k) {tab
   used-is e = e ∙ rw (is, views-many v, t .holds .edges)
 
 -- the book was judged, and its pairs were gathered
-module _ {q : Given} (t : Query q) {counts : List ℕ} {k : ℕ} (v : ViewCounts counts k) (s : List ℕ) (short : length s ≤ 65536)
-    {n : ℕ} {w₀ w₁ : List ℕ} (r : Content (decode (book (take k counts)) s) n w₀ w₁) where
+module _ {q : Given} (t : Query q) {counts : List ℕ} {k : ℕ} (v : ViewCounts counts k) (s : List ℕ)
+    {n : ℕ} {w₀ w₁ : List ℕ} (r : Taken (readFile 65536 4 (book (take k counts)) s) n w₀ w₁) where
   abbrev cs : List ℕ
   cs = v .views .content
 
-  content : Content (decode (book (edgeCounts cs)) s) n w₀ w₁
+  content : Taken (readBook cs s) n w₀ w₁
   content = rw (v .are) at r
+
+  book-read : (decode (book (edgeCounts cs)) s ≡ ok (content .fields)) × (length s ≤ 65536)
+  book-read = read-says 65536 4 (book (edgeCounts cs)) s (content .fields) (content .is)
 
   module _ {d : ℕ} {w : List ℕ} (g : Different (bookPairs s 0 (take k counts)) d w) where
     pub book-booked : d ≤ 8192 → Booked s counts k d w
-    book-booked few = booked-by (v .views) counts s (content .fields) (v .are) (content .is) g few short (v .small)
+    book-booked few = booked-by (v .views) counts s (content .fields) (v .are) (book-read .0) g few (book-read .1) (v .small)
 
     module _ {table : List ℕ} (is : table ≡ mapping (patternOf (t .content)) (viewPatterns (v .views .content))) (set : ℕ) (out : List ℕ) where
       -- what is answered from the content of the book
@@ -131,14 +123,14 @@ module _ {q : Given} (t : Query q) {counts : List ℕ} {k : ℕ} (v : ViewCounts
       answers bs = answerIn set (t .content) (v .views .content) bs (length out)
 
       pairs : bookPairs s 0 (take k counts) ≡ pairsIn (sum (edgeCounts cs)) (content .fields)
-      pairs = ap (bookPairs s 0) (v .are) ∙ book-pairs (edgeCounts cs) s (content .fields) (content .is)
+      pairs = ap (bookPairs s 0) (v .are) ∙ book-pairs (edgeCounts cs) s (content .fields) (book-read .0)
 
       answer-is : answers (content .fields)
           ≡ uncrowded cs (content .fields) (pick (coversIn table set k (q .edges)) (bySet q cs (content .fields) (length out) set) (refuse 11 (lowestUnmatched table set k (q .edges))))
       answer-is = answer-by t (v .views) is set (content .fields) (length out)
 
       declined : (x : Refusal) → answers (content .fields) ≡ refuse (numberOf x) (detailOf x) → Answered (judged (readBook cs s) answers) (replyTold (reply-is.Refused x)) out out
-      declined x e = body-declined (read-finds 65536 4 (book (edgeCounts cs)) s short) out refl content answers x e
+      declined x e = body-declined answers (content .is) out refl x e
 
       pub crowded-answered : 8192 < d → Answered (judged (readBook (v .views .content) s) answers) (replyTold (reply-is.Refused (TooManyPairs 4))) out out
       crowded-answered h = declined (TooManyPairs 4) (answer-is ∙ gathered-many (edgeCounts cs) (content .fields) g pairs _ h)
@@ -154,5 +146,5 @@ module _ {q : Given} (t : Query q) {counts : List ℕ} {k : ℕ} (v : ViewCounts
         covered-answered {x} {out′} h f =
             let a : answers (content .fields) ≡ bySet q cs (content .fields) (length out) set =
             answer-is ∙ gathered-few (edgeCounts cs) (content .fields) g pairs _ few ∙ rw (← is-cover, h) in
-            body-goes-on (read-finds 65536 4 (book (edgeCounts cs)) s short) content answers
-            (subst (λ y. Answered y x out out′) (sym a) (f _ (agrees-by t (v .views) counts s (content .fields) (v .are) (content .is) is set)))
+            body-goes-on answers (content .is)
+            (subst (λ y. Answered y x out out′) (sym a) (f _ (agrees-by t (v .views) counts s (content .fields) (v .are) (book-read .0) is set)))

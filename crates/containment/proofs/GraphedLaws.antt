@@ -2,14 +2,16 @@
 use Prim.Native.Nat.{ℕ, _-_, _≤_}
 use mathlib.Core.Path.{_≡_, sym, ap, _∙_}
 use mathlib.Core.List.{List}
-use lib.ListN.{length, take, drop}
+use lib.ListN.{length, take, drop, length-take}
 use lib.Seq.{take-at}
 use native.Mathlib.Omega.{arith}
 use native.Mathlib.Nat.{sub-zero}
-use Rattle.packed.specs.Format.{ok, bad, decode}
+use Rattle.packed.specs.Format.{ok, decode}
 use Rattle.packed.specs.Formats.{record′}
+use Rattle.packed.specs.Calls.{rejected, readRecord}
 use Rattle.packed.specs.declared.by_value.Pattern.{Pattern as Given}
 use Rattle.packed.proofs.Sets.{sets-front}
+use Rattle.packed.proofs.CallLaws.{read-finds, accepted-by}
 use Rattle.containment.specs.Show.{graphFields, recordBytes}
 use Rattle.containment.specs.Steps.{Query, Graphed, shownFields}
 use Rattle.containment.proofs.QueryLaws.{few-edges, shown-whole, shown-made}
@@ -28,5 +30,9 @@ module _ {p : Given} (t : Query p) {r : ℕ} {out out′ : List ℕ} (g : Graphe
   pub graphed-reads : length out ≡ 164 → decode record′ (take (r - 0) (drop 0 out′)) ≡ ok (graphFields (t .content))
   graphed-reads l = ap (decode record′) (graphed-bytes l) ∙ shown-made t 32 .back ∙ ap ok (shown-whole t 32 (few-edges t))
 
-  pub graphed-taken : {A : Type 0} {n : ℕ} → length out ≡ 164 → decode record′ (take (r - 0) (drop 0 out′)) ≡ bad n → A
-  graphed-taken l e = absurd (let q = graphed-reads l in let z : _≡_ {A = ℕ} 0 1 = cc in omega arith)
+  -- so it is not refused
+  pub graphed-taken : {A : Type 0} {n d : ℕ} → length out ≡ 164 → readRecord (take (r - 0) (drop 0 out′)) ≡ rejected n d → A
+  graphed-taken l e =
+      let b : List ℕ = take (r - 0) (drop 0 out′) in
+      let h : length b ≤ 40964 = simp length-take (omega (arith, graphed-size)) in
+      absurd (let q = accepted-by (read-finds 40964 3 record′ b h) (graphed-reads l) in let z : _≡_ {A = ℕ} 0 1 = cc in omega arith)

@@ -17,17 +17,14 @@ ghost use Rattle.containment.specs.Steps.{Query, ViewCounts};
 use crate::choose;
 use crate::mapping;
 use matching::join;
-use packed::by_value;
+use packed::accept;
+use packed::accept::CatalogueFile;
 use packed::by_value::Pattern;
-use packed::catalogue;
 use packed::gather;
 use packed::limits;
 use packed::matches;
-use packed::pattern;
-use packed::reply::Part;
 use packed::reply::Refusal;
 use packed::reply::Reply;
-use packed::sheet;
 
 // Answers from the pairs of a book that stand in the workspace, by the views in the set.
 fn answer_from(
@@ -68,44 +65,36 @@ fn answer_book(
     requires { ⌜ Query q × ViewCounts counts k × (length (now work) ≡ 16384) ⌝ }
     ensures { λ r. ⌜ ((t : Query q) (v : ViewCounts counts k) → now (table .entry) ≡ mapping (patternOf (t .content)) (map patternOf (viewsOf (v .views .content))) → Answered (judged (readBook (v .views .content) (now (book .entry))) (λ bs. answerIn set (t .content) (v .views .content) bs (length (now (out .entry))))) (replyTold r) (now (out .entry)) (now (out .exit))) ⌝ }
 {
-    if limits::BOOK_MOST < book.len() {
-        return Reply::Refused(Refusal::TooLong(4));
+    let verdict = accept::accept_book(book, counts, k, &mut work[0..0]);
+    let Reply::Done(_) = verdict else {
+        return verdict;
+    };
+    let d = gather::gather_book(book, counts, k, work);
+    if limits::PAIRS_MOST < d {
+        return Reply::Refused(Refusal::TooManyPairs(4));
     }
-    let p = sheet::judge_book(book, counts, k, &mut work[0..0]);
-    match p {
-        Part::Upto(_, _) => {
-            let d = gather::gather_book(book, counts, k, work);
-            if limits::PAIRS_MOST < d {
-                return Reply::Refused(Refusal::TooManyPairs(4));
-            }
-            if choose::is_cover(table, set, k, q.edges) {
-                return answer_from(q, table, set, book, counts, k, d, out, work);
-            }
-            let e = choose::lowest_unmatched(table, set, k, q.edges) as u32;
-            Reply::Refused(Refusal::NotContained(e))
-        }
-        Part::Refused(x) => Reply::Refused(x),
+    if choose::is_cover(table, set, k, q.edges) {
+        return answer_from(q, table, set, book, counts, k, d, out, work);
     }
+    let e = choose::lowest_unmatched(table, set, k, q.edges) as u32;
+    Reply::Refused(Refusal::NotContained(e))
 }
 
 fn answer_for(q: Pattern, catalogue: &[u8], book: &[u8], out: &mut [u8], work: &mut [u32]) -> Reply
     requires { ⌜ Query q × (length (now work) ≡ 16384) ⌝ }
     ensures { λ r. ⌜ ((t : Query q) → Answered (judged (readCatalogue (now (catalogue .entry))) (λ cs. judged (readBook cs (now (book .entry))) (λ bs. answerIn (usedFor (t .content) cs) (t .content) cs bs (length (now (out .entry)))))) (replyTold r) (now (out .entry)) (now (out .exit))) ⌝ }
 {
-    if limits::CATALOGUE_MOST < catalogue.len() {
-        return Reply::Refused(Refusal::TooLong(2));
-    }
-    let p = catalogue::judge_catalogue(catalogue, work);
-    match p {
-        Part::Upto(_, n) => {
-            let k = catalogue::word_at(&work[0..n], 0) as usize;
-            let counts = catalogue::edge_counts(&work[0..n]);
-            let table = mapping::map_views(q, catalogue, k, work);
-            let set = choose::use_views(&table, choose::EVERY_VIEW, k, q.edges);
-            answer_book(q, &table, set, counts, k, book, out, work)
-        }
-        Part::Refused(x) => Reply::Refused(x),
-    }
+    let CatalogueFile {
+        verdict,
+        views,
+        edges,
+    } = accept::accept_catalogue(catalogue, work);
+    let Reply::Done(_) = verdict else {
+        return verdict;
+    };
+    let table = mapping::map_views(q, catalogue, views, work);
+    let set = choose::use_views(&table, choose::EVERY_VIEW, views, q.edges);
+    answer_book(q, &table, set, edges, views, book, out, work)
 }
 
 pub fn answer(
@@ -118,15 +107,10 @@ pub fn answer(
     requires { ⌜ length (now work) ≡ 16384 ⌝ }
     ensures { λ r. ⌜ Answered (answerAnswer (now (question .entry)) (now (catalogue .entry)) (now (book .entry)) (length (now (out .entry)))) (replyTold r) (now (out .entry)) (now (out .exit)) ⌝ }
 {
-    if limits::PATTERN_MOST < question.len() {
-        return Reply::Refused(Refusal::TooLong(1));
-    }
-    let p = pattern::judge_pattern(question, work);
-    match p {
-        Part::Upto(_, n) => {
-            let q = by_value::pattern_of(&work[0..n]);
-            answer_for(q, catalogue, book, out, work)
-        }
-        Part::Refused(x) => Reply::Refused(x),
-    }
+    let f = accept::accept_pattern(question, work);
+    let verdict = f.verdict;
+    let Reply::Done(_) = verdict else {
+        return verdict;
+    };
+    answer_for(f.pattern, catalogue, book, out, work)
 }

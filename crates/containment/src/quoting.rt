@@ -14,13 +14,10 @@ use crate::choose;
 use crate::mapping;
 use crate::quote_type::Coverage;
 use crate::quote_type::Quote;
-use packed::by_value;
+use packed::accept;
 use packed::by_value::Pattern;
-use packed::catalogue;
-use packed::limits;
-use packed::pattern;
-use packed::reply::Part;
 use packed::reply::Refusal;
+use packed::reply::Reply;
 
 pub fn refused(x: Refusal) -> Quote
     ensures { λ r. ⌜ quoteTold r ≡ told (numberOf x) (detailOf x ∷ blank) ⌝ }
@@ -61,33 +58,24 @@ fn quote_for(q: Pattern, catalogue: &[u8], work: &mut [u32]) -> Quote
     requires { ⌜ Query q × (length (now work) ≡ 16384) ⌝ }
     ensures { λ r. ⌜ ((t : Query q) → Answers blank (judged (readCatalogue (now (catalogue .entry))) (λ cs. give (flat (quoteValues everyView (patternOf (t .content)) (map patternOf (viewsOf cs)))) [])) (quoteTold r) [] []) ⌝ }
 {
-    if limits::CATALOGUE_MOST < catalogue.len() {
-        return refused(Refusal::TooLong(2));
+    let f = accept::accept_catalogue(catalogue, work);
+    let verdict = f.verdict;
+    if let Reply::Refused(x) = verdict {
+        return refused(x);
     }
-    let p = catalogue::judge_catalogue(catalogue, work);
-    match p {
-        Part::Upto(_, n) => {
-            let k = catalogue::word_at(&work[0..n], 0) as usize;
-            let mapping = mapping::map_views(q, catalogue, k, work);
-            quote_of(mapping, choose::EVERY_VIEW, q.edges, k)
-        }
-        Part::Refused(x) => refused(x),
-    }
+    let k = f.views;
+    let mapping = mapping::map_views(q, catalogue, k, work);
+    quote_of(mapping, choose::EVERY_VIEW, q.edges, k)
 }
 
 pub fn quote(question: &[u8], catalogue: &[u8], work: &mut [u32]) -> Quote
     requires { ⌜ length (now work) ≡ 16384 ⌝ }
     ensures { λ r. ⌜ Answers blank (quoteAnswer (now (question .entry)) (now (catalogue .entry))) (quoteTold r) [] [] ⌝ }
 {
-    if limits::PATTERN_MOST < question.len() {
-        return refused(Refusal::TooLong(1));
+    let f = accept::accept_pattern(question, work);
+    let verdict = f.verdict;
+    if let Reply::Refused(x) = verdict {
+        return refused(x);
     }
-    let p = pattern::judge_pattern(question, work);
-    match p {
-        Part::Upto(_, n) => {
-            let q = by_value::pattern_of(&work[0..n]);
-            quote_for(q, catalogue, work)
-        }
-        Part::Refused(x) => refused(x),
-    }
+    quote_for(f.pattern, catalogue, work)
 }

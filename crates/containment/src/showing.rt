@@ -11,13 +11,10 @@ ghost use Rattle.containment.specs.Steps.{Query, Answers, shownFields};
 use crate::choose;
 use crate::mapping;
 use crate::query;
-use packed::by_value;
+use packed::accept;
 use packed::by_value::Pattern;
-use packed::catalogue;
-use packed::limits;
-use packed::pattern;
-use packed::reply::Part;
 use packed::reply::Refusal;
+use packed::reply::Reply;
 
 // The lengths of the two records that were written, or why there is no showing.
 pub enum Shown {
@@ -53,22 +50,18 @@ fn show_for(
     requires { ⌜ Query q × (length (now work) ≡ 16384) ⌝ }
     ensures { λ r. ⌜ ((t : Query q) → Answers [] (judged (readCatalogue (now (catalogue .entry))) (λ cs. showFor everyView (t .content) (map patternOf (viewsOf cs)) (length (now (first .entry))) (length (now (second .entry))))) (shownTold r) (now (first .entry) ∷ now (second .entry) ∷ []) (now (first .exit) ∷ now (second .exit) ∷ [])) ⌝ }
 {
-    if limits::CATALOGUE_MOST < catalogue.len() {
-        return Shown::Refused(Refusal::TooLong(2));
+    let f = accept::accept_catalogue(catalogue, work);
+    let verdict = f.verdict;
+    if let Reply::Refused(x) = verdict {
+        return Shown::Refused(x);
     }
-    let p = catalogue::judge_catalogue(catalogue, work);
-    match p {
-        Part::Upto(_, n) => {
-            let k = catalogue::word_at(&work[0..n], 0) as usize;
-            let mapping = mapping::map_views(q, catalogue, k, work);
-            if choose::is_cover(&mapping, choose::EVERY_VIEW, k, q.edges) {
-                return Shown::Refused(Refusal::Contained);
-            }
-            let e = choose::lowest_unmatched(&mapping, choose::EVERY_VIEW, k, q.edges);
-            show_both(q, e, first, second, work)
-        }
-        Part::Refused(x) => Shown::Refused(x),
+    let k = f.views;
+    let mapping = mapping::map_views(q, catalogue, k, work);
+    if choose::is_cover(&mapping, choose::EVERY_VIEW, k, q.edges) {
+        return Shown::Refused(Refusal::Contained);
     }
+    let e = choose::lowest_unmatched(&mapping, choose::EVERY_VIEW, k, q.edges);
+    show_both(q, e, first, second, work)
 }
 
 pub(crate) fn show(
@@ -81,15 +74,10 @@ pub(crate) fn show(
     requires { ⌜ length (now work) ≡ 16384 ⌝ }
     ensures { λ r. ⌜ Answers [] (showAnswer (now (question .entry)) (now (catalogue .entry)) (length (now (first .entry))) (length (now (second .entry)))) (shownTold r) (now (first .entry) ∷ now (second .entry) ∷ []) (now (first .exit) ∷ now (second .exit) ∷ []) ⌝ }
 {
-    if limits::PATTERN_MOST < question.len() {
-        return Shown::Refused(Refusal::TooLong(1));
+    let f = accept::accept_pattern(question, work);
+    let verdict = f.verdict;
+    if let Reply::Refused(x) = verdict {
+        return Shown::Refused(x);
     }
-    let p = pattern::judge_pattern(question, work);
-    match p {
-        Part::Upto(_, n) => {
-            let q = by_value::pattern_of(&work[0..n]);
-            show_for(q, catalogue, first, second, work)
-        }
-        Part::Refused(x) => Shown::Refused(x),
-    }
+    show_for(f.pattern, catalogue, first, second, work)
 }

@@ -12,15 +12,12 @@ ghost use Rattle.matching.specs.Matched.{Proper, Rises, Sheeted};
 ghost use Rattle.matching.specs.Books.{Catalogued, Bookable, sheetSize, Sizes, Sized, Fits, Filled, BookAnswered};
 use crate::matched;
 use crate::views;
-use packed::by_value;
+use packed::accept;
 use packed::by_value::Pattern;
-use packed::catalogue;
 use packed::graph;
 use packed::graph::Graph;
 use packed::limits;
 use packed::matches;
-use packed::pattern;
-use packed::reply::Part;
 use packed::reply::Refusal;
 use packed::reply::Reply;
 
@@ -36,9 +33,6 @@ fn search_for(p: Pattern, record: &[u8], out: &mut [u8], work: &mut [u32]) -> Re
     requires { ⌜ (length (now work) ≡ 16384) × Fair p × Proper p ⌝ }
     ensures { λ r. ⌜ Answered (searchFor (patternIn p) (now («record» .entry)) (length (now (out .entry)))) (replyTold r) (now (out .entry)) (now (out .exit)) ⌝ }
 {
-    if limits::RECORD_MOST < record.len() {
-        return Reply::Refused(Refusal::TooLong(3));
-    }
     let g = graph::load_record(record, work);
     match g {
         Graph::Of(n, m) => {
@@ -62,17 +56,12 @@ pub fn search(pattern: &[u8], record: &[u8], out: &mut [u8], work: &mut [u32]) -
     requires { ⌜ length (now work) ≡ 16384 ⌝ }
     ensures { λ r. ⌜ Answered (searchAnswer (now (pattern .entry)) (now («record» .entry)) (length (now (out .entry)))) (replyTold r) (now (out .entry)) (now (out .exit)) ⌝ }
 {
-    if limits::PATTERN_MOST < pattern.len() {
-        return Reply::Refused(Refusal::TooLong(1));
-    }
-    let p = pattern::judge_pattern(pattern, work);
-    match p {
-        Part::Upto(_, n) => {
-            let q = by_value::pattern_of(&work[0..n]);
-            search_for(q, record, out, work)
-        }
-        Part::Refused(x) => Reply::Refused(x),
-    }
+    let f = accept::accept_pattern(pattern, work);
+    let verdict = f.verdict;
+    let Reply::Done(_) = verdict else {
+        return verdict;
+    };
+    search_for(f.pattern, record, out, work)
 }
 
 fn no_sizes() -> [usize; 16]
@@ -177,9 +166,6 @@ fn make_book_of(
     requires { ⌜ (length (now work) ≡ 16384) × Catalogued (now catalogue) k ⌝ }
     ensures { λ r. ⌜ BookAnswered (now (catalogue .entry)) (now («record» .entry)) (replyTold r) (now (out .entry)) (now (out .exit)) ⌝ }
 {
-    if limits::RECORD_MOST < record.len() {
-        return Reply::Refused(Refusal::TooLong(3));
-    }
     let g = graph::load_record(record, work);
     match g {
         Graph::Of(n, m) => {
@@ -225,15 +211,10 @@ pub fn make_book(catalogue: &[u8], record: &[u8], out: &mut [u8], work: &mut [u3
     requires { ⌜ length (now work) ≡ 16384 ⌝ }
     ensures { λ r. ⌜ Answered (makeBookAnswer (now (catalogue .entry)) (now («record» .entry)) (length (now (out .entry)))) (replyTold r) (now (out .entry)) (now (out .exit)) ⌝ }
 {
-    if limits::CATALOGUE_MOST < catalogue.len() {
-        return Reply::Refused(Refusal::TooLong(2));
-    }
-    let p = catalogue::judge_catalogue(catalogue, work);
-    match p {
-        Part::Upto(_, n) => {
-            let k = catalogue::word_at(&work[0..n], 0) as usize;
-            make_book_of(catalogue, k, record, out, work)
-        }
-        Part::Refused(x) => Reply::Refused(x),
-    }
+    let f = accept::accept_catalogue(catalogue, work);
+    let verdict = f.verdict;
+    let Reply::Done(_) = verdict else {
+        return verdict;
+    };
+    make_book_of(catalogue, f.views, record, out, work)
 }

@@ -12,15 +12,17 @@ use native.Mathlib.Numerals.{add-one}
 use borrow.Author.Tests.{lt-ltb, le-ltb, ltb-false}
 use borrow.Rule.Slice.PartMut.{putMid, postOf}
 use Rattle.packed.specs.Format.{Format, Result, ok, bad, pick, decode, encode}
-use Rattle.packed.specs.Contents.{edgesOf, edgeCounts, pairsIn, sum}
+use Rattle.packed.specs.Contents.{edgeCounts, pairsIn, sum}
 use Rattle.packed.specs.ByValue.{Counted, Small}
 use Rattle.packed.specs.Refusals.{Told, numberOf, detailOf, replyTold}
 use Rattle.packed.specs.Reading.{Content, Judges}
 use Rattle.packed.specs.Writing.{JudgesFields}
 use Rattle.packed.specs.Walks.{Different}
-use Rattle.packed.specs.Calls.{Answer, give, refuse, toldOf, fronts, outputsOf, workOf, Settled, withWorkspace, Verdict, rejected, inFile, readFile, writeFile, judged, pairsOf, uncrowdedBy, fit, fitFile, Answered}
+use Rattle.packed.specs.Calls.{Answer, give, refuse, toldOf, fronts, outputsOf, workOf, Settled, withWorkspace, Verdict, accepted, rejected, inFile, readFile, writeFile, judged, pairsOf, uncrowdedBy, fit, fitFile, Answered}
+use Rattle.packed.specs.Accepting.{replyOf, Accepts}
 use Rattle.packed.specs.declared.reply.Refusal.{Refusal}
-use Rattle.packed.specs.declared.reply.Refusal.the-variants.{TooLong, NoRoom, SmallWorkspace}
+use Rattle.packed.specs.declared.reply.Refusal.the-variants.{NoRoom, SmallWorkspace}
+use Rattle.packed.specs.declared.reply.Reply.{Reply}
 use Rattle.packed.specs.declared.reply.Reply.the-variants as reply-is
 use Rattle.packed.specs.declared.reply.Part.{Part}
 use Rattle.packed.specs.declared.reply.Part.the-variants as part-is
@@ -40,13 +42,35 @@ pub write-finds : (file : ℕ) (F : Format) (ws : List ℕ) → Finds (writeFile
 unfolding writeFile
 write-finds file F ws = record { is = refl }
 
-judged-rejected : {v : Verdict} {n d : ℕ} (k : List ℕ → Answer) → v ≡ rejected n d → judged v k ≡ refuse n d
-unfolding judged
-judged-rejected k e = rw e
+pub accepted-by : {v : Verdict} {r : Result ℕ} {file : ℕ} {ws : List ℕ} → Finds v file r → r ≡ ok ws → v ≡ accepted ws
+accepted-by {file = file} f e = f .is ∙ ap (inFile file) e
 
-pub judged-accepted : {v : Verdict} {r : Result ℕ} {file : ℕ} {ws : List ℕ} (k : List ℕ → Answer) → Finds v file r → r ≡ ok ws → judged v k ≡ k ws
+pub refused-by : {v : Verdict} {r : Result ℕ} {file : ℕ} → Finds v file r → (x : Refusal) → (r ≡ bad (numberOf x)) × (detailOf x ≡ file) → v ≡ rejected (numberOf x) (detailOf x)
+refused-by {file = file} f x q = f .is ∙ ap (inFile file) (q .0) ∙ ap (rejected (numberOf x)) (sym (q .1))
+
+-- the file is too long
+pub read-long : (most file : ℕ) (F : Format) (s : List ℕ) → most < length s → readFile most file F s ≡ rejected 1 file
+unfolding readFile
+read-long most file F s h = rw (lt-ltb most (length s) h)
+
+-- what a file that was accepted is
+pub read-says : (most file : ℕ) (F : Format) (s ws : List ℕ) → readFile most file F s ≡ accepted ws → (decode F s ≡ ok ws) × (length s ≤ most)
+unfolding readFile
+read-says most file F s ws e = go (ltb most (length s)) (decode F s) refl refl e
+  where
+    go : (t : Bool) (r : Result ℕ) → ltb most (length s) ≡ t → decode F s ≡ r → pick t (rejected 1 file) (inFile file r) ≡ accepted ws → (decode F s ≡ ok ws) × (length s ≤ most)
+    go true r p d q = absurd (let z : _≡_ {A = ℕ} 0 1 = cc in omega arith)
+    go false (ok vs) p d q = (d ∙ cc, ltb-false most (length s) p)
+    go false (bad n) p d q = absurd (let z : _≡_ {A = ℕ} 0 1 = cc in omega arith)
+
+-- a pass over a file of a fair length accepts it
+pub accepts-by : {v : Verdict} {r : Result ℕ} {file : ℕ} → Finds v file r → (p : Part) (w w′ : List ℕ) → Judges r file p w w′ → Accepts v (replyOf p) w w′
+accepts-by f (part-is.Upto at n) w w′ c = record { fields = c .fields; is = accepted-by f (c .is); number = c .number; front = c .front }
+accepts-by f (part-is.Refused x) w w′ q = refused-by f x q
+
+pub judged-accepted : {v : Verdict} {ws : List ℕ} (k : List ℕ → Answer) → v ≡ accepted ws → judged v k ≡ k ws
 unfolding judged
-judged-accepted k f q = rw (f .is, q)
+judged-accepted k e = rw e
 
 -- ---- tests between a file's acceptance and the answer
 
@@ -104,50 +128,46 @@ module _ {a : Answer} (out : List ℕ) {out′ : List ℕ} where
   unfolding toldOf outputsOf fronts
   answers-given e m q = record { result = rw (e, m); output = rw (e, q) }
 
--- the file is too long
-pub body-over : (most file : ℕ) (F : Format) (s : List ℕ) (k : List ℕ → Answer) (out : List ℕ) → most < length s
-    → Answered (judged (readFile most file F s) k) (replyTold (reply-is.Refused (TooLong file))) out out
-unfolding readFile
-body-over most file F s k out h = answers-refusal out (TooLong file) (judged-rejected k (rw (lt-ltb most (length s) h))) refl
+-- an output that was found is fitted
+module _ {g : ℕ → List ℕ → Answer} {t : ℕ → ℕ → Bool} (z : Fits g t) {a : Answer} (out o : List ℕ) {lent : List ℕ} (same : lent ≡ out) (e : a ≡ g (length out) o)
+    {n : ℕ} (number : n ≡ length o) where
+  fitted : (b : Bool) → t (length lent) n ≡ b → a ≡ pick b (refuse 12 n) (give [] (o ∷ []))
+  fitted b h =
+      e
+      ∙ z .is (length out) o
+      ∙ ap (λ (m : ℕ). pick (t (length out) m) (refuse 12 m) (give [] (o ∷ []))) (sym number)
+      ∙ ap (λ (l : List ℕ). pick (t (length l) n) (refuse 12 n) (give [] (o ∷ []))) (sym same)
+      ∙ ap (λ (s : Bool). pick s (refuse 12 n) (give [] (o ∷ []))) h
 
-module _ {v : Verdict} {file : ℕ} {r : Result ℕ} (f : Finds v file r) (out : List ℕ) {lent : List ℕ} (same : lent ≡ out) where
-  -- it was refused
-  pub body-refused : (k : List ℕ → Answer) (x : Refusal) → (r ≡ bad (numberOf x)) × (detailOf x ≡ file) → Answered (judged v k) (replyTold (reply-is.Refused x)) out lent
-  body-refused k x q = answers-refusal out x (judged-rejected k (f .is ∙ ap (inFile file) (q .0)) ∙ ap (refuse (numberOf x)) (sym (q .1))) same
+  pub fitted-tight : t (length lent) n ≡ true → Answered a (replyTold (reply-is.Refused (NoRoom n))) out lent
+  fitted-tight h = answers-refusal out (NoRoom n) (fitted true h) same
 
-  module _ {n : ℕ} {w w′ : List ℕ} (c : Content r n w w′) where
-    -- it was accepted, and refused afterwards
-    pub body-declined : (k : List ℕ → Answer) (x : Refusal) → k (c .fields) ≡ refuse (numberOf x) (detailOf x) → Answered (judged v k) (replyTold (reply-is.Refused x)) out lent
-    body-declined k x q = answers-refusal out x (judged-accepted k f (c .is) ∙ q) same
+  pub fitted-given : {out′ : List ℕ} → t (length lent) n ≡ false → out′ ≡ sets lent 0 o → Answered a (replyTold (reply-is.Done n)) out out′
+  fitted-given h q =
+      let l : n ≤ length out = rw same at (z .within (length lent) n h) in
+      answers-given out (fitted false h) number (q ∙ ap (λ (l : List ℕ). sets l 0 o) same ∙ sets-front out o (omega (arith, number)))
 
-    -- it passed another test, and the output is fitted
-    module _ {g : ℕ → List ℕ → Answer} {t : ℕ → ℕ → Bool} (z : Fits g t) (test : List ℕ → Answer → Answer) (passed : (a : Answer) → test (c .fields) a ≡ a) where
-      fitted : (b : Bool) → t (length lent) n ≡ b → test (c .fields) (g (length out) (c .fields)) ≡ pick b (refuse 12 n) (give [] (c .fields ∷ []))
-      fitted b e =
-          passed (g (length out) (c .fields))
-          ∙ z .is (length out) (c .fields)
-          ∙ ap (λ (m : ℕ). pick (t (length out) m) (refuse 12 m) (give [] (c .fields ∷ []))) (sym (c .number))
-          ∙ ap (λ (l : List ℕ). pick (t (length l) n) (refuse 12 n) (give [] (c .fields ∷ []))) (sym same)
-          ∙ ap (λ (s : Bool). pick s (refuse 12 n) (give [] (c .fields ∷ []))) e
+  -- a file that was accepted is read once more, with the output lent
+  pub fitted-again : {v : Verdict} (r : Reply) (out′ : List ℕ) → t (length lent) n ≡ false → v ≡ accepted o → Accepts v r lent out′ → Answered a (replyTold r) out out′
+  fitted-again (reply-is.Done m) out′ h is c =
+      let f : c .fields ≡ o = cc (c .is) in
+      rw (c .number ∙ ap length f ∙ sym number) (fitted-given h (c .front ∙ ap (sets lent 0) f))
+  fitted-again (reply-is.Refused x) out′ h is c = absurd (let z : _≡_ {A = ℕ} 0 1 = cc in omega arith)
 
-      pub body-tight : t (length lent) n ≡ true → Answered (judged v (λ o. test o (g (length out) o))) (replyTold (reply-is.Refused (NoRoom n))) out lent
-      body-tight e = body-declined (λ o. test o (g (length out) o)) (NoRoom n) (fitted true e)
+module _ {v : Verdict} (k : List ℕ → Answer) where
+  -- a file was refused, and the refusal is handed up
+  pub body-refused : (out : List ℕ) {lent : List ℕ} → lent ≡ out → (x : Refusal) → v ≡ rejected (numberOf x) (detailOf x) → Answered (judged v k) (replyTold (reply-is.Refused x)) out lent
+  unfolding judged
+  body-refused out same x e = answers-refusal out x (rw e) same
 
-      pub body-given : {out′ : List ℕ} → t (length lent) n ≡ false → out′ ≡ sets lent 0 (c .fields)
-          → Answered (judged v (λ o. test o (g (length out) o))) (replyTold (reply-is.Done n)) out out′
-      body-given e q =
-          let h : n ≤ length out = rw same at (z .within (length lent) n e) in
-          answers-given out (judged-accepted (λ o. test o (g (length out) o)) f (c .is) ∙ fitted false e) (c .number)
-          (q ∙ ap (λ (l : List ℕ). sets l 0 (c .fields)) same ∙ sets-front out (c .fields) (omega (arith, c .number)))
+  -- it was accepted, and the call goes on with its content
+  module _ {ws : List ℕ} (e : v ≡ accepted ws) where
+    pub body-goes-on : {told : Told} {out out′ : List ℕ} → Answered (k ws) told out out′ → Answered (judged v k) told out out′
+    body-goes-on b = rw (judged-accepted k e) b
 
--- it was accepted, and the call goes on with its content
-pub body-goes-on : {v : Verdict} {file : ℕ} {r : Result ℕ} {n : ℕ} {w w′ : List ℕ} {told : Told} {out out′ : List ℕ} → Finds v file r → (c : Content r n w w′)
-    → (k : List ℕ → Answer) → Answered (k (c .fields)) told out out′ → Answered (judged v k) told out out′
-body-goes-on f c k b = rw (judged-accepted k f (c .is)) b
-
--- no other test
-abbrev pub untested : List ℕ → Answer → Answer
-untested o a = a
+    -- to a refusal
+    pub body-declined : (out : List ℕ) {lent : List ℕ} → lent ≡ out → (x : Refusal) → k ws ≡ refuse (numberOf x) (detailOf x) → Answered (judged v k) (replyTold (reply-is.Refused x)) out lent
+    body-declined out same x q = body-goes-on (answers-refusal out x q same)
 
 -- ---- how the output came about
 
@@ -158,15 +178,12 @@ front-is {n = n} {w} {w′} c h =
     ∙ ap (take n) (c .front ∙ sets-front w (c .fields) (omega (arith, c .number)))
     ∙ take-at (c .fields) (drop (length (c .fields)) w) n (sym (c .number))
 
--- the number of edges in a pattern's content
-pub edges-are : {r : Result ℕ} {n m : ℕ} {w w′ : List ℕ} (c : Content r n w w′) → n ≤ length w → m ≡ edgesOf (take (n - 0) (drop 0 w′)) → m ≡ edgesOf (c .fields)
-edges-are c h e = e ∙ ap edgesOf (front-is c h)
-
--- it was copied
-pub copied : {r : Result ℕ} {n : ℕ} {w w′ : List ℕ} (c : Content r n w w′) (out : List ℕ) {out′ part : List ℕ} → n ≤ length w → part ≡ take (n - 0) (drop 0 w′)
-    → n ≤ length out → out′ ≡ part ++ drop (length part) out → out′ ≡ sets out 0 (c .fields)
-copied c out h p l q =
-    q ∙ ap (λ (l : List ℕ). l ++ drop (length l) out) (p ∙ front-is c h) ∙ sym (sets-front out (c .fields) (omega (arith, c .number)))
+-- so many words were copied
+pub copied : (w out : List ℕ) {n : ℕ} {out′ : List ℕ} → n ≤ length w → n ≤ length out
+    → out′ ≡ take (n - 0) (drop 0 w) ++ drop (length (take (n - 0) (drop 0 w))) out → out′ ≡ sets out 0 (take n w)
+copied w out {n} h l q =
+    let e : length (take n w) ≡ n = simp length-take (omega arith) in
+    q ∙ ap (λ (m : ℕ). take m w ++ drop (length (take m w)) out) (sub-zero n) ∙ sym (sets-front out (take n w) (omega (arith, e)))
 
 -- an empty part of it was lent
 nothing-in : (ys : List ℕ) → length ys ≤ 0 → ys ≡ []
@@ -176,14 +193,10 @@ nothing-in (y ∷ ys) h = absurd (omega arith)
 pub none-lent : (out ys : List ℕ) → length ys ≡ length (take (0 - 0) (drop 0 out)) → putMid 0 (0 - 0) out ys ≡ out
 none-lent out ys e = ap (λ (l : List ℕ). l ++ out) (nothing-in ys (omega (arith, e)))
 
--- a file that was accepted is judged once more, with the output lent
-pub judges-front : (r : Result ℕ) (file : ℕ) (p : Part) (ws w w′ : List ℕ) → Judges r file p w w′ → r ≡ ok ws → w′ ≡ sets w 0 ws
-judges-front r file (part-is.Upto at n) ws w w′ c e = let q : c .fields ≡ ws = cc (c .is) in c .front ∙ ap (sets w 0) q
-judges-front r file (part-is.Refused x) ws w w′ c e = absurd (let q = c .0 in let z : _≡_ {A = ℕ} 0 1 = cc in omega arith)
-
+-- fields that were accepted are judged once more, with the output lent
 pub judges-fields-front : (r : Result ℕ) (file : ℕ) (p : Part) (ws w w′ : List ℕ) → JudgesFields r file p w w′ → r ≡ ok ws → w′ ≡ sets w 0 ws
-judges-fields-front r file (part-is.Upto n i) ws w w′ c e = judges-front r file (part-is.Upto i n) ws w w′ c e
-judges-fields-front r file (part-is.Refused x) ws w w′ c e = judges-front r file (part-is.Refused x) ws w w′ c e
+judges-fields-front r file (part-is.Upto n i) ws w w′ c e = let q : c .fields ≡ ws = cc (c .is) in c .front ∙ ap (sets w 0) q
+judges-fields-front r file (part-is.Refused x) ws w w′ c e = absurd (let q = c .0 in let z : _≡_ {A = ℕ} 0 1 = cc in omega arith)
 
 -- ---- the numbers of edges of a catalogue's views, in a table of 16
 

@@ -13,7 +13,7 @@ use Rattle.packed.specs.Contents.{edgesOf, edgeCounts}
 use Rattle.packed.specs.Calls.{Answer, give, refuse, withWorkspace, rejected, inFile, readFile, writeFile, judged, pairsOf, uncrowdedBy, fit, fitFile, patternRead, catalogueRead, recordRead, sheetRead, bookRead, patternWritten, catalogueWritten, recordWritten, sheetWritten, bookWritten}
 use Rattle.packed.proofs.RoundTrip.{Bytes, decode-encode, encode-decode}
 use Rattle.packed.proofs.Most.{pattern-bytes, catalogue-bytes, record-bytes}
-use Rattle.packed.proofs.CallLaws.{read-finds, write-finds, judged-accepted, overFile, overFile-no}
+use Rattle.packed.proofs.CallLaws.{read-finds, write-finds, accepted-by, judged-accepted, overFile, overFile-no}
 
 -- ---- what a call that gave its output went through
 
@@ -75,7 +75,7 @@ module _ (most file : ℕ) (F : Format) (s ws : List ℕ) (k k′ : List ℕ →
   file-back y e g =
       let r = read-gave most file F s k ws e in
       let q = g (r .0) (r .3) (r .1) in
-      judged-accepted k′ (write-finds file F ws) (decode-encode F s ws y (r .2 ∙ ap ok (q .0))) ∙ q .1
+      judged-accepted k′ (accepted-by (write-finds file F ws) (decode-encode F s ws y (r .2 ∙ ap ok (q .0)))) ∙ q .1
 
   -- s was written from ws, so ws is read from s
   file-again : judged (writeFile file F ws) k′ ≡ give [] (s ∷ [])
@@ -84,14 +84,14 @@ module _ (most file : ℕ) (F : Format) (s ws : List ℕ) (k k′ : List ℕ →
   file-again e g =
       let r = write-gave file F ws k′ s e in
       let q = g (r .0) (r .2) (r .1) in
-      judged-accepted k (read-finds most file F s (q .1)) (encode-decode F ws s (r .1 ∙ ap ok (q .0))) ∙ q .2
+      judged-accepted k (accepted-by (read-finds most file F s (q .1)) (encode-decode F ws s (r .1 ∙ ap ok (q .0)))) ∙ q .2
 
 -- the call on another output, beside a file that is accepted
 beside : (most file : ℕ) (F : Format) (p : List ℕ) (k k′ : List ℕ → Answer) (o o′ : List ℕ) → judged (readFile most file F p) k ≡ give [] (o ∷ [])
     → ((ps : List ℕ) → k ps ≡ give [] (o ∷ []) → k′ ps ≡ give [] (o′ ∷ [])) → judged (readFile most file F p) k′ ≡ give [] (o′ ∷ [])
 beside most file F p k k′ o o′ e g =
     let r = read-gave most file F p k o e in
-    judged-accepted k′ (read-finds most file F p (r .1)) (r .2) ∙ g (r .0) (r .3)
+    judged-accepted k′ (accepted-by (read-finds most file F p (r .1)) (r .2)) ∙ g (r .0) (r .3)
 
 -- the call, with the workspace
 at-withWorkspace : (words : ℕ) (a b : Answer) (o o′ : List ℕ) → withWorkspace words a ≡ give [] (o ∷ []) → (a ≡ give [] (o ∷ []) → b ≡ give [] (o′ ∷ [])) → withWorkspace words b ≡ give [] (o′ ∷ [])

@@ -17,6 +17,7 @@ use Rattle.packed.specs.Plain.{fieldsOf, Below, fromAt, toAt, PlainEdges
 use Rattle.packed.specs.Order.{word, Ascends, SameTo, Sorted, Repeats}
 use Rattle.packed.specs.Distinct.{BelowHead, Increasing}
 use Rattle.packed.specs.Loading.{codes}
+use Rattle.packed.specs.Accepting.{replyOf}
 use Rattle.packed.specs.LoadedGraph.{CodesAt, CodesLoaded, Ordered, Orders, Holds}
 use Rattle.packed.specs.Reading.{TwoValues, Judges}
 use Rattle.packed.specs.declared.reply.Part.{Part}
@@ -356,7 +357,7 @@ module _ (s ws : List ℕ) (is : decode record′ s ≡ ok ws) {w w₁ w₂ : Li
       }
 
 pub orders-by : (r : Part) (s words words′ : List ℕ) (file : ℕ) {k : ℕ} {w w₁ w₂ : List ℕ} → Judges (decode record′ s) file r words words′ → 8192 ≤ length w
-    → (k ≡ field s 13 14) × CodesAt s (27 + 32 * field s 0 13) (field s 13 14) w w₁ → Sorted k w₁ w₂ → Orders (decode record′ s) r w w₂
+    → (k ≡ field s 13 14) × CodesAt s (27 + 32 * field s 0 13) (field s 13 14) w w₁ → Sorted k w₁ w₂ → Orders (decode record′ s) (replyOf r) w w₂
 orders-by (part-is.Upto at i) s words words′ file j fits c o = edges-ordered s (j .fields) (j .is) fits (c .1) (rw (c .0) at o)
 orders-by (part-is.Refused x) s words words′ file j fits c o = tt
 

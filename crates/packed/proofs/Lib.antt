@@ -41,5 +41,6 @@ pub mod MatchLaws
 pub mod ScatterLaws
 pub mod ByValueLaws
 pub mod CallLaws
+pub mod AcceptLaws
 pub mod CallRoundTrips
 pub mod GraphLaws

@@ -16,4 +16,5 @@ pub mod Walks
 pub mod BookSheets
 pub mod Matches
 pub mod ByValue
+pub mod Accepting
 pub mod LoadedGraph

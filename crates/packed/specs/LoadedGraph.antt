@@ -4,11 +4,15 @@ use mathlib.Core.Path.{_≡_}
 use mathlib.Core.List.{List}
 use lib.ListN.{length, take, drop, getD}
 use Rattle.packed.specs.Bits.{field}
-use Rattle.packed.specs.Format.{Result, ok, bad, decode}
+use Rattle.packed.specs.Format.{Result, ok, decode}
 use Rattle.packed.specs.Formats.{record′, code}
 use Rattle.packed.specs.Contents.{nodesOf, edgesOf, distinct}
 use Rattle.packed.specs.Loading.{codes}
+use Rattle.packed.specs.Limits.{recordMost}
 use Rattle.packed.specs.Refusals.{numberOf, detailOf}
+use Rattle.packed.specs.Calls.{rejected, readRecord}
+use Rattle.packed.specs.declared.reply.Reply.{Reply}
+use Rattle.packed.specs.declared.reply.Reply.the-variants as reply-is
 use Rattle.packed.specs.declared.reply.Part.{Part}
 use Rattle.packed.specs.declared.reply.Part.the-variants as part-is
 use Rattle.packed.specs.declared.graph.Graph.{Graph}
@@ -40,9 +44,9 @@ pub record Ordered (r : Result ℕ) (w w′ : List ℕ) : Type 0 where
   pub small : (i : ℕ) → i < edgesOf fields → getD w′ i 0 < 2 ^ 24
   pub rest : (i : ℕ) → edgesOf fields ≤ i → i < 8192 → getD w′ i 0 ≡ getD w i 0
 
-abbrev pub Orders : Result ℕ → Part → List ℕ → List ℕ → Type 0
-Orders r (part-is.Upto at i) w w′ = Ordered r w w′
-Orders r (part-is.Refused x) w w′ = Unit {0}
+abbrev pub Orders : Result ℕ → Reply → List ℕ → List ℕ → Type 0
+Orders r (reply-is.Done n) w w′ = Ordered r w w′
+Orders r (reply-is.Refused x) w w′ = Unit {0}
 
 -- a record was accepted, with so many nodes and edges; the codes of its edges stand at the front of the workspace, ascending, each once,
 -- and each word up to 8192 has 24 bits
@@ -56,5 +60,5 @@ pub record Holds (s : List ℕ) (n m : ℕ) (w : List ℕ) : Type 0 where
   pub small : (i : ℕ) → i < 8192 → getD w i 0 < 2 ^ 24
 
 abbrev pub LoadsGraph : List ℕ → Graph → List ℕ → Type 0
-LoadsGraph s (graph-is.Of n m) w = Holds s n m w
-LoadsGraph s (graph-is.Refused x) w = (decode record′ s ≡ bad (numberOf x)) × (detailOf x ≡ 3)
+LoadsGraph s (graph-is.Of n m) w = Holds s n m w × (length s ≤ recordMost)
+LoadsGraph s (graph-is.Refused x) w = readRecord s ≡ rejected (numberOf x) (detailOf x)

@@ -30,6 +30,16 @@ fn no_ends() -> [u32; 32]
     [0u32; 32]
 }
 
+pub(crate) fn no_pattern() -> Pattern {
+    Pattern {
+        labels: no_labels(),
+        from: no_ends(),
+        to: no_ends(),
+        nodes: 0,
+        edges: 0,
+    }
+}
+
 // The n words from first on.
 fn labels_of(words: &[u32], first: usize, n: usize) -> [u32; 16]
     requires { ⌜ (n ≤ 16) × (first + n ≤ length (now words)) ⌝ }

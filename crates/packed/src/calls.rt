@@ -1,13 +1,14 @@
 // The client calls with room to work in: 16,384 words, which are left in any state.
 ghost use mathlib.Core.Path.{_≡_};
-ghost use Prim.Native.Nat.{ℕ, _+_, _*_, _≤_};
+ghost use Prim.Native.Nat.{_+_, _≤_};
 ghost use lib.ListN.{length, take};
-ghost use Rattle.packed.specs.Format.{pick};
 ghost use Rattle.packed.specs.Formats.{sheet, book};
-ghost use Rattle.packed.specs.Contents.{sum, pairsIn};
+ghost use Rattle.packed.specs.Contents.{sum};
 ghost use Rattle.packed.specs.ByValue.{Small};
 ghost use Rattle.packed.specs.Refusals.{replyTold};
-ghost use Rattle.packed.specs.Calls.{Answered, readFile, writeFile, judged, fit, fitFile, uncrowdedBy, patternRead, catalogueRead, recordRead, sheetRead, bookRead, patternWritten, catalogueWritten, recordWritten, sheetWritten, bookWritten};
+ghost use Rattle.packed.specs.Calls.{Answered, writeFile, judged, fit, fitFile, uncrowdedBy, patternRead, catalogueRead, recordRead, sheetRead, bookRead, patternWritten, catalogueWritten, recordWritten, sheetWritten, bookWritten};
+use crate::accept;
+use crate::accept::CatalogueFile;
 use crate::catalogue;
 use crate::gather;
 use crate::limits;
@@ -21,151 +22,100 @@ use crate::workspace;
 
 // ---- readers
 
+// The first n words are given as the output.
+fn give_words(words: &[u32], n: usize, out: &mut [u32]) -> Reply
+    requires { ⌜ n ≤ length (now words) ⌝ }
+    ensures { λ r. ⌜ Answered (fit (length (now (out .entry))) (take n (now (words .entry)))) (replyTold r) (now (out .entry)) (now (out .exit)) ⌝ }
+{
+    if out.len() < n {
+        return Reply::Refused(Refusal::NoRoom(n));
+    }
+    workspace::copy_words(&words[0..n], out);
+    Reply::Done(n)
+}
+
 pub fn read_pattern(bytes: &[u8], out: &mut [u32], words: &mut [u32]) -> Reply
     requires { ⌜ length (now words) ≡ 16384 ⌝ }
     ensures { λ r. ⌜ Answered (patternRead (now (bytes .entry)) (length (now (out .entry)))) (replyTold r) (now (out .entry)) (now (out .exit)) ⌝ }
 {
-    if limits::PATTERN_MOST < bytes.len() {
-        return Reply::Refused(Refusal::TooLong(1));
-    }
-    let p = pattern::judge_pattern(bytes, words);
-    match p {
-        Part::Upto(_, n) => {
-            if out.len() < n {
-                return Reply::Refused(Refusal::NoRoom(n));
-            }
-            workspace::copy_words(&words[0..n], out);
-            Reply::Done(n)
-        }
-        Part::Refused(x) => Reply::Refused(x),
-    }
+    let f = accept::accept_pattern(bytes, words);
+    let verdict = f.verdict;
+    let Reply::Done(n) = verdict else {
+        return verdict;
+    };
+    give_words(words, n, out)
 }
 
 pub fn read_catalogue(bytes: &[u8], out: &mut [u32], words: &mut [u32]) -> Reply
     requires { ⌜ length (now words) ≡ 16384 ⌝ }
     ensures { λ r. ⌜ Answered (catalogueRead (now (bytes .entry)) (length (now (out .entry)))) (replyTold r) (now (out .entry)) (now (out .exit)) ⌝ }
 {
-    if limits::CATALOGUE_MOST < bytes.len() {
-        return Reply::Refused(Refusal::TooLong(2));
-    }
-    let p = catalogue::judge_catalogue(bytes, words);
-    match p {
-        Part::Upto(_, n) => {
-            if out.len() < n {
-                return Reply::Refused(Refusal::NoRoom(n));
-            }
-            workspace::copy_words(&words[0..n], out);
-            Reply::Done(n)
-        }
-        Part::Refused(x) => Reply::Refused(x),
-    }
+    let f = accept::accept_catalogue(bytes, words);
+    let verdict = f.verdict;
+    let Reply::Done(n) = verdict else {
+        return verdict;
+    };
+    give_words(words, n, out)
 }
 
-// The file is judged with no output at first, and once it is accepted and fits it is read again into the output.
+// A record, a sheet or a book is judged with no output at first, and once it is accepted and fits it is read again into the output.
 pub fn read_record(bytes: &[u8], out: &mut [u32], words: &mut [u32]) -> Reply
     requires { ⌜ length (now words) ≡ 16384 ⌝ }
     ensures { λ r. ⌜ Answered (recordRead (now (bytes .entry)) (length (now (out .entry)))) (replyTold r) (now (out .entry)) (now (out .exit)) ⌝ }
 {
-    if limits::RECORD_MOST < bytes.len() {
-        return Reply::Refused(Refusal::TooLong(3));
+    let verdict = accept::accept_record(bytes, &mut out[0..0], words);
+    let Reply::Done(n) = verdict else {
+        return verdict;
+    };
+    if out.len() < n {
+        return Reply::Refused(Refusal::NoRoom(n));
     }
-    let p = record::judge_record(bytes, &mut out[0..0], words);
-    match p {
-        Part::Upto(_, count) => {
-            if out.len() < count {
-                return Reply::Refused(Refusal::NoRoom(count));
-            }
-            record::judge_record(bytes, out, words);
-            Reply::Done(count)
-        }
-        Part::Refused(x) => Reply::Refused(x),
-    }
-}
-
-// A sheet for a pattern with m edges.
-fn read_sheet_of(bytes: &[u8], m: u32, out: &mut [u32]) -> Reply
-    ensures { λ r. ⌜ Answered (judged (readFile 65536 4 (sheet m) (now (bytes .entry))) (fit (length (now (out .entry))))) (replyTold r) (now (out .entry)) (now (out .exit)) ⌝ }
-{
-    if limits::BOOK_MOST < bytes.len() {
-        return Reply::Refused(Refusal::TooLong(4));
-    }
-    let p = sheet::judge_sheet(bytes, m, &mut out[0..0]);
-    match p {
-        Part::Upto(_, n) => {
-            if out.len() < n {
-                return Reply::Refused(Refusal::NoRoom(n));
-            }
-            sheet::judge_sheet(bytes, m, out);
-            Reply::Done(n)
-        }
-        Part::Refused(x) => Reply::Refused(x),
-    }
+    accept::accept_record(bytes, out, words)
 }
 
 pub fn read_sheet(pattern: &[u8], bytes: &[u8], out: &mut [u32], words: &mut [u32]) -> Reply
     requires { ⌜ length (now words) ≡ 16384 ⌝ }
     ensures { λ r. ⌜ Answered (sheetRead (now (pattern .entry)) (now (bytes .entry)) (length (now (out .entry)))) (replyTold r) (now (out .entry)) (now (out .exit)) ⌝ }
 {
-    if limits::PATTERN_MOST < pattern.len() {
-        return Reply::Refused(Refusal::TooLong(1));
+    let f = accept::accept_pattern(pattern, words);
+    let first = f.verdict;
+    let Reply::Done(_) = first else {
+        return first;
+    };
+    let m = f.pattern.edges as u32;
+    let verdict = accept::accept_sheet(bytes, m, &mut out[0..0]);
+    let Reply::Done(n) = verdict else {
+        return verdict;
+    };
+    if out.len() < n {
+        return Reply::Refused(Refusal::NoRoom(n));
     }
-    let p = pattern::judge_pattern(pattern, words);
-    match p {
-        Part::Upto(_, n) => {
-            let m = catalogue::word_at(&words[0..n], 1);
-            read_sheet_of(bytes, m, out)
-        }
-        Part::Refused(x) => Reply::Refused(x),
-    }
-}
-
-// A book for views with so many edges.
-fn read_book_of(
-    bytes: &[u8],
-    counts: [u32; 16],
-    k: usize,
-    out: &mut [u32],
-    words: &mut [u32],
-) -> Reply
-    requires { ⌜ (length (now words) ≡ 16384) × (k ≤ 16) × Small counts ⌝ }
-    ensures { λ r. ⌜ Answered (judged (readFile 65536 4 (book (take k counts)) (now (bytes .entry))) (λ ws. uncrowdedBy (take k counts) ws (fit (length (now (out .entry))) ws))) (replyTold r) (now (out .entry)) (now (out .exit)) ⌝ }
-{
-    if limits::BOOK_MOST < bytes.len() {
-        return Reply::Refused(Refusal::TooLong(4));
-    }
-    let p = sheet::judge_book(bytes, counts, k, &mut out[0..0]);
-    match p {
-        Part::Upto(_, n) => {
-            let different = gather::gather_book(bytes, counts, k, words);
-            if limits::PAIRS_MOST < different {
-                return Reply::Refused(Refusal::TooManyPairs(4));
-            }
-            if out.len() < n {
-                return Reply::Refused(Refusal::NoRoom(n));
-            }
-            sheet::judge_book(bytes, counts, k, out);
-            Reply::Done(n)
-        }
-        Part::Refused(x) => Reply::Refused(x),
-    }
+    accept::accept_sheet(bytes, m, out)
 }
 
 pub fn read_book(catalogue: &[u8], bytes: &[u8], out: &mut [u32], words: &mut [u32]) -> Reply
     requires { ⌜ length (now words) ≡ 16384 ⌝ }
     ensures { λ r. ⌜ Answered (bookRead (now (catalogue .entry)) (now (bytes .entry)) (length (now (out .entry)))) (replyTold r) (now (out .entry)) (now (out .exit)) ⌝ }
 {
-    if limits::CATALOGUE_MOST < catalogue.len() {
-        return Reply::Refused(Refusal::TooLong(2));
+    let CatalogueFile {
+        verdict: first,
+        views,
+        edges,
+    } = accept::accept_catalogue(catalogue, words);
+    let Reply::Done(_) = first else {
+        return first;
+    };
+    let verdict = accept::accept_book(bytes, edges, views, &mut out[0..0]);
+    let Reply::Done(n) = verdict else {
+        return verdict;
+    };
+    if limits::PAIRS_MOST < gather::gather_book(bytes, edges, views, words) {
+        return Reply::Refused(Refusal::TooManyPairs(4));
     }
-    let p = catalogue::judge_catalogue(catalogue, words);
-    match p {
-        Part::Upto(_, n) => {
-            let k = catalogue::word_at(&words[0..n], 0);
-            let counts = catalogue::edge_counts(&words[0..n]);
-            read_book_of(bytes, counts, k as usize, out, words)
-        }
-        Part::Refused(x) => Reply::Refused(x),
+    if out.len() < n {
+        return Reply::Refused(Refusal::NoRoom(n));
     }
+    accept::accept_book(bytes, edges, views, out)
 }
 
 // ---- writers
@@ -241,17 +191,12 @@ pub fn write_sheet(pattern: &[u8], fields: &[u32], out: &mut [u8], words: &mut [
     requires { ⌜ length (now words) ≡ 16384 ⌝ }
     ensures { λ r. ⌜ Answered (sheetWritten (now (pattern .entry)) (now (fields .entry)) (length (now (out .entry)))) (replyTold r) (now (out .entry)) (now (out .exit)) ⌝ }
 {
-    if limits::PATTERN_MOST < pattern.len() {
-        return Reply::Refused(Refusal::TooLong(1));
-    }
-    let p = pattern::judge_pattern(pattern, words);
-    match p {
-        Part::Upto(_, n) => {
-            let m = catalogue::word_at(&words[0..n], 1);
-            write_sheet_of(fields, m, out)
-        }
-        Part::Refused(x) => Reply::Refused(x),
-    }
+    let f = accept::accept_pattern(pattern, words);
+    let verdict = f.verdict;
+    let Reply::Done(_) = verdict else {
+        return verdict;
+    };
+    write_sheet_of(fields, f.pattern.edges as u32, out)
 }
 
 // How many lists a book for views with so many edges has.
@@ -300,16 +245,13 @@ pub fn write_book(catalogue: &[u8], fields: &[u32], out: &mut [u8], words: &mut 
     requires { ⌜ length (now words) ≡ 16384 ⌝ }
     ensures { λ r. ⌜ Answered (bookWritten (now (catalogue .entry)) (now (fields .entry)) (length (now (out .entry)))) (replyTold r) (now (out .entry)) (now (out .exit)) ⌝ }
 {
-    if limits::CATALOGUE_MOST < catalogue.len() {
-        return Reply::Refused(Refusal::TooLong(2));
-    }
-    let p = catalogue::judge_catalogue(catalogue, words);
-    match p {
-        Part::Upto(_, n) => {
-            let k = catalogue::word_at(&words[0..n], 0);
-            let counts = catalogue::edge_counts(&words[0..n]);
-            write_book_of(fields, counts, k as usize, out, words)
-        }
-        Part::Refused(x) => Reply::Refused(x),
-    }
+    let CatalogueFile {
+        verdict,
+        views,
+        edges,
+    } = accept::accept_catalogue(catalogue, words);
+    let Reply::Done(_) = verdict else {
+        return verdict;
+    };
+    write_book_of(fields, edges, views, out, words)
 }

@@ -66,7 +66,7 @@ fn read_views(s: &[u8], words: &mut [u32]) -> Part
 }
 
 // A whole catalogue: its content stands at the front of the words.
-pub fn judge_catalogue(s: &[u8], words: &mut [u32]) -> Part
+pub(crate) fn judge_catalogue(s: &[u8], words: &mut [u32]) -> Part
     requires { ⌜ (length (now s) ≤ 65536) × Room (now words) 0 1313 ⌝ }
     ensures { λ r. ⌜ JudgesUpTo 1313 (decode catalogue (now (s .entry))) 2 r (now (words .entry)) (now (words .exit)) ⌝ }
 {
@@ -141,20 +141,20 @@ pub(crate) fn judge_catalogue_fields(words: &[u32], out: &mut [u8]) -> Part
 }
 
 // The word i, or zero where there is none.
-pub fn word_at(words: &[u32], i: usize) -> u32
+pub(crate) fn word_at(words: &[u32], i: usize) -> u32
     ensures { λ r. ⌜ r ≡ getD (now (words .entry)) i 0 ⌝ }
 {
     if i < words.len() { words[i] } else { 0 }
 }
 
-fn no_counts() -> [u32; 16]
+pub(crate) fn no_counts() -> [u32; 16]
     ensures { λ r. ⌜ r ≡ replicate 16 0 ⌝ }
 {
     [0u32; 16]
 }
 
 // How many edges each view of a catalogue has, by the content at the front of the words.
-pub fn edge_counts(words: &[u32]) -> [u32; 16]
+pub(crate) fn edge_counts(words: &[u32]) -> [u32; 16]
     ensures { λ r. ⌜ Counted (now (words .entry)) r ⌝ }
 {
     let mut counts = no_counts();

@@ -1,13 +1,12 @@
 // A record's edges in the workspace, without its content.
 ghost use mathlib.Core.Path.{_≡_};
-ghost use Prim.Native.Nat.{_≤_};
 ghost use lib.ListN.{length};
 ghost use Rattle.packed.specs.LoadedGraph.{LoadsGraph};
+use crate::accept;
 use crate::bits;
 use crate::limits;
-use crate::record;
-use crate::reply::Part;
 use crate::reply::Refusal;
+use crate::reply::Reply;
 use crate::workspace;
 
 // A record whose edges stand in the workspace: how many nodes and edges it has, or why it is refused.
@@ -16,20 +15,20 @@ pub enum Graph {
     Refused(Refusal),
 }
 
-// Judges a record. Where it is accepted, the codes of its edges stand at the front of the workspace, ascending, and each word up to 8192
+// Accepts a record or refuses it. Where it is accepted, the codes of its edges stand at the front of the workspace, ascending, and each word up to 8192
 // has 24 bits; the words from 8192 on are left in any state.
 pub fn load_record(s: &[u8], work: &mut [u32]) -> Graph
-    requires { ⌜ (length (now s) ≤ 65536) × (length (now work) ≡ 16384) ⌝ }
+    requires { ⌜ length (now work) ≡ 16384 ⌝ }
     ensures { λ r. ⌜ LoadsGraph (now (s .entry)) r (now (work .exit)) ⌝ }
 {
     let mut none = [0u32; 1];
     workspace::clear(work, limits::EDGES_MOST);
-    let p = record::judge_record(s, &mut none[0..0], work);
-    match p {
-        Part::Upto(_, _) => Graph::Of(
+    let verdict = accept::accept_record(s, &mut none[0..0], work);
+    match verdict {
+        Reply::Done(_) => Graph::Of(
             bits::get_bits(s, 0, limits::NODES_WIDTH) as usize,
             bits::get_bits(s, limits::NODES_BITS, limits::EDGES_WIDTH) as usize,
         ),
-        Part::Refused(x) => Graph::Refused(x),
+        Reply::Refused(x) => Graph::Refused(x),
     }
 }

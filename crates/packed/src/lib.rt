@@ -2,10 +2,11 @@
 //
 // Each call is lent an output and a workspace of at least 16,384 words. It answers how much of the output it wrote, or a refusal that
 // leaves the output untouched. The first 16,384 words of the workspace are zero afterwards, unless there were fewer.
+pub mod accept;
 mod bits;
 pub mod by_value;
 mod calls;
-pub mod catalogue;
+mod catalogue;
 pub mod cursor;
 mod distinct;
 mod field;

@@ -208,7 +208,7 @@ pub fn read_pattern(s: &[u8], byte: usize, file: u32, words: &mut [u32], first: 
 }
 
 // A whole pattern, a file of its own: its content stands at the front of the words.
-pub fn judge_pattern(s: &[u8], words: &mut [u32]) -> Part
+pub(crate) fn judge_pattern(s: &[u8], words: &mut [u32]) -> Part
     requires { ⌜ (length (now s) ≤ 65536) × Room (now words) 0 82 ⌝ }
     ensures { λ r. ⌜ JudgesUpTo 82 (decode pattern (now (s .entry))) 1 r (now (words .entry)) (now (words .exit)) ⌝ }
 {

@@ -9,6 +9,7 @@ ghost use Rattle.packed.specs.Formats.{labels, edges, nothing, record′
 ghost use Rattle.packed.specs.Reading.{Stands, Reads, Judges};
 ghost use Rattle.packed.specs.Writing.{Writes, JudgesFields};
 ghost use Rattle.packed.specs.Loading.{Loads, LoadsFields};
+ghost use Rattle.packed.specs.Accepting.{replyOf};
 ghost use Rattle.packed.specs.LoadedGraph.{CodesLoaded, EndsAt, Orders};
 use crate::field;
 use crate::limits;
@@ -166,7 +167,7 @@ fn read_fields(s: &[u8], words: &mut [u32], work: &mut [u32]) -> Loaded
 pub(crate) fn judge_record(s: &[u8], words: &mut [u32], work: &mut [u32]) -> Part
     requires { ⌜ (length (now s) ≤ 65536) × (length (now work) ≡ 16384) ⌝ }
     ensures { λ r. ⌜ Judges (decode record′ (now (s .entry))) 3 r (now (words .entry)) (now (words .exit))
-        × Orders (decode record′ (now (s .entry))) r (now (work .entry)) (now (work .exit)) ⌝ }
+        × Orders (decode record′ (now (s .entry))) (replyOf r) (now (work .entry)) (now (work .exit)) ⌝ }
 {
     let l = read_fields(s, words, work);
     let k = l.edges;

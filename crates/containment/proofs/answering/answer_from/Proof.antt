@@ -4,7 +4,7 @@ use lib.Seq.{sets}
 use Rattle.matching.specs.Steps.{patternIn}
 use Rattle.matching.specs.Search.{sheetBytes}
 use Rattle.matching.specs.Join.{answerSets}
-use Rattle.matching.proofs.AnswerFits.{fitted-tight, fitted-given}
+use Rattle.packed.proofs.CallLaws.{fitFile-fits, fitted-tight, fitted-given}
 use Rattle.containment.proofs.AnsweringLaws.{joined-marked, answer-size, answer-bytes}
 use borrow.Author.Needs.{needs}
 use Rattle.containment.proofs.answering.answer_from.Statement.{statement}
@@ -26,7 +26,7 @@ returns : tie.Need-returns
 returns c =
     let a = c .before .before .before .before .before .before .before .before .before .before .before .args in
     let j = c .before .before .before .before .before .before .join .ensures in
-    λ vs g. fitted-tight (a .out .now) (sheetBytes (answerSets (patternIn (a .q)) vs)) refl (c .before .sheet-size .ensures ∙ answer-size j (c .before .before .before .before .before .before .before .before .before .before .before .pre .1 .pool) vs g) (c .if1 .taken)
+    λ vs g. fitted-tight fitFile-fits (a .out .now) (sheetBytes (answerSets (patternIn (a .q)) vs)) refl refl (c .before .sheet-size .ensures ∙ answer-size j (c .before .before .before .before .before .before .before .before .before .before .before .pre .1 .pool) vs g) (c .if1 .taken)
 
 write-sheet-requires : tie.Need-write-sheet-requires
 write-sheet-requires c κs = (joined-marked (c .before .before .before .before .before .before .before .before .join .ensures) (c .before .before .before .before .before .before .before .before .before .before .before .before .before .pre .1 .pool), c .before .before .before .before .before .before .before .before .before .before .before .before .before .pre .0 .edges)
@@ -42,7 +42,7 @@ returns-2 c =
     let a = c .before .before .before .before .before .before .before .before .before .before .before .before .before .before .before .before .args in
     let j = c .before .before .before .before .before .before .before .before .before .before .before .join .ensures in
     let x = c .before .before .write-sheet .ensures in
-    λ vs g. fitted-given (a .out .now) (sheetBytes (answerSets (patternIn (a .q)) vs)) refl (c .before .before .before .before .before .before .sheet-size .ensures ∙ answer-size j (c .before .before .before .before .before .before .before .before .before .before .before .before .before .before .before .before .pre .1 .pool) vs g) (c .before .before .before .before .before .if1 .left)
+    λ vs g. fitted-given fitFile-fits (a .out .now) (sheetBytes (answerSets (patternIn (a .q)) vs)) refl refl (c .before .before .before .before .before .before .sheet-size .ensures ∙ answer-size j (c .before .before .before .before .before .before .before .before .before .before .before .before .before .before .before .before .pre .1 .pool) vs g) (c .before .before .before .before .before .if1 .left)
     (x .front ∙ ap (sets (a .out .now) 0) (answer-bytes j (c .before .before .before .before .before .before .before .before .before .before .before .before .before .before .before .before .pre .1 .pool) vs g x))
 
 pub answer-from-spec : {M : Type 1} → statement M

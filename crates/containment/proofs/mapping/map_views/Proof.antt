@@ -1,6 +1,6 @@
 -- `containment::mapping::map_views` meets its contract.
 use native.Mathlib.Omega.{arith}
-use mathlib.Core.Path.{_≡_, refl, sym, ap, _∙_}
+use mathlib.Core.Path.{ap}
 use lib.ListN.{length, length-take}
 use Rattle.containment.proofs.GraphedLaws.{graphed-size, graphed-reads, graphed-taken}
 use borrow.Author.Needs.{needs}
@@ -26,9 +26,7 @@ part-load-record-end : tie.Need-part-load-record-end
 part-load-record-end c = omega (arith, graphed-size (c .before .before .before .before .before .before .before .before .before .before .pre .0) (c .before .before .before .before .write-graph .ensures (c .before .before .before .before .before .before .before .before .before .before .pre .0)))
 
 load-record-requires : tie.Need-load-record-requires
-load-record-requires c κs =
-    let s = graphed-size (c .before .before .before .before .before .before .before .before .before .before .before .before .pre .0) (c .before .before .before .before .before .before .write-graph .ensures (c .before .before .before .before .before .before .before .before .before .before .before .before .pre .0)) in
-    (simp length-take (omega arith), search needs)
+load-record-requires c κs = search needs
 
 enum-known-g : tie.Need-enum-known-g
 enum-known-g c = search needs
@@ -50,7 +48,7 @@ note-views-requires c κs =
       c .before .before .before .before .before .before .before .before .before .before .before .before .before .before .before .before .before .before .before .before .before .pre .1,
       simp length-take (omega arith),
       c .before .before .before .before .before .before .before .before .before .before .before .before .before .before .before .before .before .before .before .before .before .pre .2,
-      rw (c .before .before .before .before .g .given .1) at (c .before .before .before .before .before .before .before .before .load-record .ensures),
+      (rw (c .before .before .before .before .g .given .1) at (c .before .before .before .before .before .before .before .before .load-record .ensures)) .0,
       λ t. graphed-reads t (w .ensures t) (ap length (c .before .before .before .before .before .before .before .before .before .before .before .before .before .before .before .before .before .before .no-bytes .ensures)),
     )
 
@@ -72,7 +70,7 @@ same-length-2 c = search needs
 returns-2 : tie.Need-returns-2
 returns-2 c =
     let q = rw (c .before .enum-told .given .1) at (c .before .before .before .before .before .load-record .ensures) in
-    λ t v. graphed-taken t (c .before .before .before .before .before .before .before .before .before .before .before .before .write-graph .ensures t) (ap length (c .before .before .before .before .before .before .before .before .before .before .before .before .before .before .before .no-bytes .ensures)) (q .0)
+    λ t v. graphed-taken t (c .before .before .before .before .before .before .before .before .before .before .before .before .write-graph .ensures t) (ap length (c .before .before .before .before .before .before .before .before .before .before .before .before .before .before .before .no-bytes .ensures)) q
 
 pub map-views-spec : {M : Type 1} → statement M
 map-views-spec =

@@ -2,23 +2,17 @@
 use mathlib.Core.Path.{refl, _∙_}
 use native.Mathlib.Omega.{arith}
 use lib.ListN.{length}
-use Rattle.packed.specs.Formats.{record′}
 use Rattle.packed.specs.Calls.{fitFile}
-use Rattle.packed.proofs.CallLaws.{read-finds, overFile-no, body-over, body-refused}
+use Rattle.packed.proofs.CallLaws.{overFile-no, fitFile-fits, fitted-tight, fitted-given, body-refused}
 use Rattle.matching.specs.Simulation.{graphOf}
 use Rattle.matching.specs.Search.{bookBytes, viewSheets}
 use Rattle.matching.proofs.BookLaws.{bookable-by, sized-filled, sized-again, sized-fits, sized-sizes}
-use Rattle.matching.proofs.AnswerFits.{fitted-tight, fitted-given, book-found}
+use Rattle.matching.proofs.AnswerFits.{book-found}
 use borrow.Author.Needs.{needs}
 use Rattle.matching.proofs.StartLaws.{room-blank}
 use Rattle.matching.proofs.RowLaws.{blank-long}
 use Rattle.matching.proofs.calls.make_book_of.Statement.{statement}
 use Rattle.matching.proofs.calls.make_book_of.Tie as tie
-
-returns : tie.Need-returns
-returns c =
-    let a = c .before .before .before .before .before .args in
-    λ cs e. body-over 40964 3 record′ (a .«record» .now) (λ rs. fitFile (length (a .out .now)) (bookBytes (viewSheets cs (graphOf rs)))) (a .out .now) (c .if1 .taken)
 
 load-record-requires : tie.Need-load-record-requires
 load-record-requires c κs = search needs
@@ -50,17 +44,17 @@ slice-aggregate-book-size-3 c = search needs
 book-size-requires : tie.Need-book-size-requires
 book-size-requires c κs =
     let h = rw (c .before .before .before .before .before .before .before .before .before .before .g .given .1) at (c .before .before .before .before .before .before .before .before .before .before .before .before .before .before .load-record .ensures) in
-    let b = bookable-by (c .before .before .before .before .before .before .before .before .before .before .before .before .before .before .before .before .before .before .before .before .before .pre .1) h (omega (arith, c .before .before .before .before .before .before .before .before .before .before .before .before .before .before .before .before .if1 .left)) in
+    let b = bookable-by (c .before .before .before .before .before .before .before .before .before .before .before .before .before .before .before .before .before .before .before .before .pre .1) (h .0) (omega (arith, h .1)) in
     (b, blank-long 16 (c .before .before .before .before .before .no-sizes .ensures), room-blank 4096 _ (b .ready .nodes) (c .before .before .before .before .before .before .before .before .no-words .ensures) (c .before .before .before .before .before .before .before .no-words2 .ensures) (c .before .before .before .before .before .before .no-words3 .ensures))
 
 same-length : tie.Need-same-length
 same-length c = search needs
 
-returns-2 : tie.Need-returns-2
-returns-2 c =
-    let a = c .before .before .before .before .before .before .before .before .before .before .before .before .before .before .before .before .before .before .before .before .before .before .before .before .before .before .before .before .args in
+returns : tie.Need-returns
+returns c =
+    let a = c .before .before .before .before .before .before .before .before .before .before .before .before .before .before .before .before .before .before .before .before .before .before .before .before .before .before .before .args in
     let h = rw (c .before .before .before .before .before .before .before .before .before .before .before .before .before .before .before .before .before .g .given .1) at (c .before .before .before .before .before .before .before .before .before .before .before .before .before .before .before .before .before .before .before .before .before .load-record .ensures) in
-    λ cs e. fitted-tight (a .out .now) _ (book-found cs (length (a .out .now)) (c .before .before .before .before .before .before .before .before .before .before .before .before .before .before .before .before .before .before .before .before .before .before .before .if1 .left) h) (c .before .before .before .before .before .before .book-size .ensures .0 .is cs e) (c .if2 .taken)
+    λ cs e. fitted-tight fitFile-fits (a .out .now) _ refl (book-found cs (length (a .out .now)) (h .1) (h .0)) (c .before .before .before .before .before .before .book-size .ensures .0 .is cs e) (c .if1 .taken)
 
 slice-aggregate-write-book : tie.Need-slice-aggregate-write-book
 slice-aggregate-write-book c = search needs
@@ -75,8 +69,8 @@ write-book-requires : tie.Need-write-book-requires
 write-book-requires c κs =
     let h = rw (c .before .before .before .before .before .before .before .before .before .before .before .before .before .before .before .before .before .before .before .before .before .before .g .given .1) at (c .before .before .before .before .before .before .before .before .before .before .before .before .before .before .before .before .before .before .before .before .before .before .before .before .before .before .load-record .ensures) in
     let z = c .before .before .before .before .before .before .before .before .before .before .before .book-size .ensures .0 in
-    let b = bookable-by (c .before .before .before .before .before .before .before .before .before .before .before .before .before .before .before .before .before .before .before .before .before .before .before .before .before .before .before .before .before .before .before .before .before .pre .1) h (omega (arith, c .before .before .before .before .before .before .before .before .before .before .before .before .before .before .before .before .before .before .before .before .before .before .before .before .before .before .before .before .if1 .left)) in
-    (sized-again z b, sized-sizes z (b .ready .edges), sized-fits z (b .ready .edges) (c .before .before .before .before .before .before .before .before .before .before .before .before .before .before .before .before .before .before .before .before .before .before .before .before .before .before .before .before .before .before .before .before .before .args .out .now) (overFile-no (length (c .before .before .before .before .before .before .before .before .before .before .before .before .before .before .before .before .before .before .before .before .before .before .before .before .before .before .before .before .before .before .before .before .before .args .out .now)) _ (c .before .before .before .before .before .if2 .left) .0), c .before .before .before .before .before .before .before .before .before .before .before .book-size .ensures .1)
+    let b = bookable-by (c .before .before .before .before .before .before .before .before .before .before .before .before .before .before .before .before .before .before .before .before .before .before .before .before .before .before .before .before .before .before .before .before .pre .1) (h .0) (omega (arith, h .1)) in
+    (sized-again z b, sized-sizes z (b .ready .edges), sized-fits z (b .ready .edges) (c .before .before .before .before .before .before .before .before .before .before .before .before .before .before .before .before .before .before .before .before .before .before .before .before .before .before .before .before .before .before .before .before .args .out .now) (overFile-no (length (c .before .before .before .before .before .before .before .before .before .before .before .before .before .before .before .before .before .before .before .before .before .before .before .before .before .before .before .before .before .before .before .before .args .out .now)) _ (c .before .before .before .before .before .if1 .left) .0), c .before .before .before .before .before .before .before .before .before .before .before .book-size .ensures .1)
 
 enum-known-g-2 : tie.Need-enum-known-g-2
 enum-known-g-2 c = search needs
@@ -87,22 +81,22 @@ same-length-2 c = search needs
 same-length-3 : tie.Need-same-length-3
 same-length-3 c = c .before .before .before .before .before .before .before .write-book .kept .1 .1 .1 .1 .1 .1 .1 .0 ∙ c .before .before .before .before .before .before .before .before .before .before .before .before .before .before .before .before .before .before .before .book-size .kept .1 .1 .1 .1 .1 .1 .0 ∙ c .before .before .before .before .before .before .before .before .before .before .before .before .before .before .before .before .before .before .before .before .before .before .before .before .before .before .before .before .before .before .before .before .before .before .load-record .kept .1 .0
 
-returns-3 : tie.Need-returns-3
-returns-3 c =
-    let a = c .before .before .before .before .before .before .before .before .before .before .before .before .before .before .before .before .before .before .before .before .before .before .before .before .before .before .before .before .before .before .before .before .before .before .before .before .before .before .before .before .before .args in
+returns-2 : tie.Need-returns-2
+returns-2 c =
+    let a = c .before .before .before .before .before .before .before .before .before .before .before .before .before .before .before .before .before .before .before .before .before .before .before .before .before .before .before .before .before .before .before .before .before .before .before .before .before .before .before .before .args in
     let h = rw (c .before .before .before .before .before .before .before .before .before .before .before .before .before .before .before .before .before .before .before .before .before .before .before .before .before .before .before .before .before .before .g .given .1) at (c .before .before .before .before .before .before .before .before .before .before .before .before .before .before .before .before .before .before .before .before .before .before .before .before .before .before .before .before .before .before .before .before .before .before .load-record .ensures) in
     let z = c .before .before .before .before .before .before .before .before .before .before .before .before .before .before .before .before .before .before .before .book-size .ensures .0 in
-    let b = bookable-by (c .before .before .before .before .before .before .before .before .before .before .before .before .before .before .before .before .before .before .before .before .before .before .before .before .before .before .before .before .before .before .before .before .before .before .before .before .before .before .before .before .before .pre .1) h (omega (arith, c .before .before .before .before .before .before .before .before .before .before .before .before .before .before .before .before .before .before .before .before .before .before .before .before .before .before .before .before .before .before .before .before .before .before .before .before .if1 .left)) in
-    λ cs e. fitted-given (a .out .now) _ (book-found cs (length (a .out .now)) (c .before .before .before .before .before .before .before .before .before .before .before .before .before .before .before .before .before .before .before .before .before .before .before .before .before .before .before .before .before .before .before .before .before .before .before .before .if1 .left) h) (z .is cs e) (c .before .before .before .before .before .before .before .before .before .before .before .before .before .if2 .left) (sized-filled z (b .ready .edges) (a .out .now) (c .before .before .before .before .before .before .before .write-book .ensures) cs e)
+    let b = bookable-by (c .before .before .before .before .before .before .before .before .before .before .before .before .before .before .before .before .before .before .before .before .before .before .before .before .before .before .before .before .before .before .before .before .before .before .before .before .before .before .before .before .pre .1) (h .0) (omega (arith, h .1)) in
+    λ cs e. fitted-given fitFile-fits (a .out .now) _ refl (book-found cs (length (a .out .now)) (h .1) (h .0)) (z .is cs e) (c .before .before .before .before .before .before .before .before .before .before .before .before .before .if1 .left) (sized-filled z (b .ready .edges) (a .out .now) (c .before .before .before .before .before .before .before .write-book .ensures) cs e)
 
 same-length-4 : tie.Need-same-length-4
 same-length-4 c = search needs
 
-returns-4 : tie.Need-returns-4
-returns-4 c =
-    let a = c .before .before .before .before .before .before .before .before .before .before .before .before .args in
+returns-3 : tie.Need-returns-3
+returns-3 c =
+    let a = c .before .before .before .before .before .before .before .before .before .before .before .args in
     let q = rw (c .before .g2 .given .1) at (c .before .before .before .before .before .load-record .ensures) in
-    λ cs e. body-refused (read-finds 40964 3 record′ (a .«record» .now) (c .before .before .before .before .before .before .before .if1 .left)) (a .out .now) refl (λ rs. fitFile (length (a .out .now)) (bookBytes (viewSheets cs (graphOf rs)))) (c .before .g2 .given .0 .0) q
+    λ cs e. body-refused (λ rs. fitFile (length (a .out .now)) (bookBytes (viewSheets cs (graphOf rs)))) (a .out .now) refl (c .before .g2 .given .0 .0) q
 
 pub make-book-of-spec : {M : Type 1} → statement M
-make-book-of-spec = tie.close (tie.spec returns load-record-requires enum-known-g no-words-requires no-words-requires-2 no-words-requires-3 no-sizes-requires slice-aggregate-book-size slice-aggregate-book-size-2 slice-aggregate-book-size-3 book-size-requires same-length returns-2 slice-aggregate-write-book slice-aggregate-write-book-2 slice-aggregate-write-book-3 write-book-requires enum-known-g-2 same-length-2 same-length-3 returns-3 same-length-4 returns-4)
+make-book-of-spec = tie.close (tie.spec load-record-requires enum-known-g no-words-requires no-words-requires-2 no-words-requires-3 no-sizes-requires slice-aggregate-book-size slice-aggregate-book-size-2 slice-aggregate-book-size-3 book-size-requires same-length returns slice-aggregate-write-book slice-aggregate-write-book-2 slice-aggregate-write-book-3 write-book-requires enum-known-g-2 same-length-2 same-length-3 returns-2 same-length-4 returns-3)

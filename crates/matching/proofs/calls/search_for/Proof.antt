@@ -3,24 +3,18 @@ use mathlib.Core.Path.{refl, ap, _∙_}
 use native.Mathlib.Omega.{arith}
 use lib.ListN.{length}
 use lib.Seq.{sets}
-use Rattle.packed.specs.Formats.{record′}
 use Rattle.packed.specs.Calls.{fitFile}
-use Rattle.packed.proofs.CallLaws.{read-finds, body-over, body-refused}
+use Rattle.packed.proofs.CallLaws.{fitFile-fits, fitted-tight, fitted-given, body-refused}
 use Rattle.matching.specs.Simulation.{graphOf, matchSets}
 use Rattle.matching.specs.Search.{sheetBytes}
 use Rattle.matching.specs.Steps.{patternIn}
 use Rattle.matching.proofs.RecordLaws.{ready-by, rises-by}
 use Rattle.matching.proofs.BookLaws.{sheeted-by, size-is, bytes-are}
-use Rattle.matching.proofs.AnswerFits.{fitted-tight, fitted-given, search-found}
+use Rattle.matching.proofs.AnswerFits.{search-found}
 use borrow.Author.Needs.{needs}
 use Rattle.matching.proofs.StartLaws.{room-blank}
 use Rattle.matching.proofs.calls.search_for.Statement.{statement}
 use Rattle.matching.proofs.calls.search_for.Tie as tie
-
-returns : tie.Need-returns
-returns c =
-    let a = c .before .before .before .before .args in
-    body-over 40964 3 record′ (a .«record» .now) (λ rs. fitFile (length (a .out .now)) (sheetBytes (matchSets (patternIn (a .p)) (graphOf rs)))) (a .out .now) (c .if1 .taken)
 
 load-record-requires : tie.Need-load-record-requires
 load-record-requires c κs = search needs
@@ -49,8 +43,8 @@ slice-aggregate-match-edges-3 c = search needs
 match-edges-requires : tie.Need-match-edges-requires
 match-edges-requires c κs =
     let h = rw (c .before .before .before .before .before .before .before .before .g .given .1) at (c .before .before .before .before .before .before .before .before .before .before .before .before .load-record .ensures) in
-    let r = ready-by h (omega (arith, c .before .before .before .before .before .before .before .before .before .before .before .before .before .before .if1 .left)) in
-    (c .before .before .before .before .before .before .before .before .before .before .before .before .before .before .before .before .before .before .pre .1, c .before .before .before .before .before .before .before .before .before .before .before .before .before .before .before .before .before .before .pre .2, r, rises-by h, room-blank 4096 _ (r .nodes) (c .before .before .before .before .before .before .no-words .ensures) (c .before .before .before .before .before .no-words2 .ensures) (c .before .before .before .before .no-words3 .ensures))
+    let r = ready-by (h .0) (omega (arith, h .1)) in
+    (c .before .before .before .before .before .before .before .before .before .before .before .before .before .before .before .before .before .pre .1, c .before .before .before .before .before .before .before .before .before .before .before .before .before .before .before .before .before .pre .2, r, rises-by (h .0), room-blank 4096 _ (r .nodes) (c .before .before .before .before .before .before .no-words .ensures) (c .before .before .before .before .before .no-words2 .ensures) (c .before .before .before .before .no-words3 .ensures))
 
 cast-edges : tie.Need-cast-edges
 cast-edges c = search needs
@@ -61,14 +55,14 @@ sheet-size-requires c κs = search needs
 same-length : tie.Need-same-length
 same-length c = search needs
 
-returns-2 : tie.Need-returns-2
-returns-2 c =
-    let a = c .before .before .before .before .before .before .before .before .before .before .before .before .before .before .before .before .before .before .before .before .before .before .before .before .before .before .before .before .args in
+returns : tie.Need-returns
+returns c =
+    let a = c .before .before .before .before .before .before .before .before .before .before .before .before .before .before .before .before .before .before .before .before .before .before .before .before .before .before .before .args in
     let h = rw (c .before .before .before .before .before .before .before .before .before .before .before .before .before .before .before .before .before .before .g .given .1) at (c .before .before .before .before .before .before .before .before .before .before .before .before .before .before .before .before .before .before .before .before .before .before .load-record .ensures) in
-    fitted-tight (a .out .now) _ (search-found (patternIn (a .p)) (length (a .out .now)) (c .before .before .before .before .before .before .before .before .before .before .before .before .before .before .before .before .before .before .before .before .before .before .before .before .if1 .left) h) (c .before .sheet-size .ensures ∙ size-is (sheeted-by (c .before .before .before .before .before .before .before .before .before .match-edges .ensures .0))) (c .if2 .taken)
+    fitted-tight fitFile-fits (a .out .now) _ refl (search-found (patternIn (a .p)) (length (a .out .now)) (h .1) (h .0)) (c .before .sheet-size .ensures ∙ size-is (sheeted-by (c .before .before .before .before .before .before .before .before .before .match-edges .ensures .0))) (c .if1 .taken)
 
 write-sheet-requires : tie.Need-write-sheet-requires
-write-sheet-requires c κs = (c .before .before .before .before .before .before .before .before .before .before .before .match-edges .ensures .0 .marked, c .before .before .before .before .before .before .before .before .before .before .before .before .before .before .before .before .before .before .before .before .before .before .before .before .before .before .before .before .before .before .pre .1 .edges)
+write-sheet-requires c κs = (c .before .before .before .before .before .before .before .before .before .before .before .match-edges .ensures .0 .marked, c .before .before .before .before .before .before .before .before .before .before .before .before .before .before .before .before .before .before .before .before .before .before .before .before .before .before .before .before .before .pre .1 .edges)
 
 enum-known-g-2 : tie.Need-enum-known-g-2
 enum-known-g-2 c = search needs
@@ -79,22 +73,22 @@ same-length-2 c = search needs
 same-length-3 : tie.Need-same-length-3
 same-length-3 c = search needs
 
-returns-3 : tie.Need-returns-3
-returns-3 c =
-    let a = c .before .before .before .before .before .before .before .before .before .before .before .before .before .before .before .before .before .before .before .before .before .before .before .before .before .before .before .before .before .before .before .before .before .args in
+returns-2 : tie.Need-returns-2
+returns-2 c =
+    let a = c .before .before .before .before .before .before .before .before .before .before .before .before .before .before .before .before .before .before .before .before .before .before .before .before .before .before .before .before .before .before .before .before .args in
     let h = rw (c .before .before .before .before .before .before .before .before .before .before .before .before .before .before .before .before .before .before .before .before .before .before .before .g .given .1) at (c .before .before .before .before .before .before .before .before .before .before .before .before .before .before .before .before .before .before .before .before .before .before .before .before .before .before .before .load-record .ensures) in
     let q = sheeted-by (c .before .before .before .before .before .before .before .before .before .before .before .before .before .before .match-edges .ensures .0) in
     let x = c .before .before .write-sheet .ensures in
-    fitted-given (a .out .now) _ (search-found (patternIn (a .p)) (length (a .out .now)) (c .before .before .before .before .before .before .before .before .before .before .before .before .before .before .before .before .before .before .before .before .before .before .before .before .before .before .before .before .before .if1 .left) h) (c .before .before .before .before .before .before .sheet-size .ensures ∙ size-is q) (c .before .before .before .before .before .if2 .left) (x .front ∙ ap (sets (a .out .now) 0) (bytes-are q x))
+    fitted-given fitFile-fits (a .out .now) _ refl (search-found (patternIn (a .p)) (length (a .out .now)) (h .1) (h .0)) (c .before .before .before .before .before .before .sheet-size .ensures ∙ size-is q) (c .before .before .before .before .before .if1 .left) (x .front ∙ ap (sets (a .out .now) 0) (bytes-are q x))
 
 same-length-4 : tie.Need-same-length-4
 same-length-4 c = search needs
 
-returns-4 : tie.Need-returns-4
-returns-4 c =
-    let a = c .before .before .before .before .before .before .before .before .before .before .before .args in
+returns-3 : tie.Need-returns-3
+returns-3 c =
+    let a = c .before .before .before .before .before .before .before .before .before .before .args in
     let q = rw (c .before .g2 .given .1) at (c .before .before .before .before .before .load-record .ensures) in
-    body-refused (read-finds 40964 3 record′ (a .«record» .now) (c .before .before .before .before .before .before .before .if1 .left)) (a .out .now) refl (λ rs. fitFile (length (a .out .now)) (sheetBytes (matchSets (patternIn (a .p)) (graphOf rs)))) (c .before .g2 .given .0 .0) q
+    body-refused (λ rs. fitFile (length (a .out .now)) (sheetBytes (matchSets (patternIn (a .p)) (graphOf rs)))) (a .out .now) refl (c .before .g2 .given .0 .0) q
 
 pub search-for-spec : {M : Type 1} → statement M
-search-for-spec = tie.close (tie.spec returns load-record-requires enum-known-g no-words-requires no-words-requires-2 no-words-requires-3 slice-aggregate-match-edges slice-aggregate-match-edges-2 slice-aggregate-match-edges-3 match-edges-requires cast-edges sheet-size-requires same-length returns-2 write-sheet-requires enum-known-g-2 same-length-2 same-length-3 returns-3 same-length-4 returns-4)
+search-for-spec = tie.close (tie.spec load-record-requires enum-known-g no-words-requires no-words-requires-2 no-words-requires-3 slice-aggregate-match-edges slice-aggregate-match-edges-2 slice-aggregate-match-edges-3 match-edges-requires cast-edges sheet-size-requires same-length returns write-sheet-requires enum-known-g-2 same-length-2 same-length-3 returns-2 same-length-4 returns-3)

@@ -1,121 +1,172 @@
 -- `packed::calls::read_book` meets its contract.
 use mathlib.Core.Path.{refl, _∙_}
-use native.Mathlib.Omega.{arith}
+use borrow.Author.Tests.{lt-ltb, le-ltb}
 use lib.ListN.{length}
-use Rattle.packed.specs.Formats.{catalogue}
-use Rattle.packed.specs.Calls.{fit, readBook, judged, uncrowded, bookRead}
-use Rattle.packed.proofs.AcceptedBounds.{catalogue-bounds}
-use Rattle.packed.proofs.CallLaws.{read-finds, body-over, body-refused, body-goes-on, front-is, counts-are, counts-small}
+use Rattle.packed.specs.Formats.{book}
+use Rattle.packed.specs.Contents.{edgeCounts}
+use Rattle.packed.specs.Calls.{fit, readBook, uncrowded, judged, bookRead}
+use Rattle.packed.specs.declared.reply.Refusal.the-variants.{TooManyPairs}
+use Rattle.packed.proofs.WalkLaws.{book-pairs}
+use Rattle.packed.proofs.CallLaws.{read-says, fit-fits, fitted-tight, fitted-again, body-refused, body-declined, body-goes-on, gathered-many, gathered-few, none-lent}
 use borrow.Author.Needs.{needs}
 use Rattle.packed.proofs.calls.read_book.Statement.{statement}
 use Rattle.packed.proofs.calls.read_book.Tie as tie
 
-returns : tie.Need-returns
-unfolding bookRead
-returns c =
-    let a = c .before .before .before .before .before .args in
-    body-over 705 2 catalogue (a .catalogue .now) (λ cs. judged (readBook cs (a .bytes .now)) (λ o. uncrowded cs o (fit (length (a .out .now)) o))) (a .out .now) (c .if1 .taken)
+accept-catalogue-requires : tie.Need-accept-catalogue-requires
+accept-catalogue-requires c κs = search needs
 
-judge-catalogue-requires : tie.Need-judge-catalogue-requires
-judge-catalogue-requires c κs = search needs
+enum-told : tie.Need-enum-told
+enum-told c = search needs
 
-enum-known-p : tie.Need-enum-known-p
-enum-known-p c = search needs
-
-sub-word-at : tie.Need-sub-word-at
-sub-word-at c = search needs
-
-part-word-at-start : tie.Need-part-word-at-start
-part-word-at-start c = search needs
-
-part-word-at-end : tie.Need-part-word-at-end
-part-word-at-end c =
-    let j = c .before .before .before .before .before .before .judge-catalogue in
-    let q = rw (c .before .before .p .given .1) at (j .ensures) in
-    omega (arith, q .1, c .before .before .before .before .before .before .before .before .before .before .before .before .before .pre, j .kept .1 .0)
-
-word-at-requires : tie.Need-word-at-requires
-word-at-requires c κs = search needs
-
-sub-edge-counts : tie.Need-sub-edge-counts
-sub-edge-counts c = search needs
-
-part-edge-counts-start : tie.Need-part-edge-counts-start
-part-edge-counts-start c = search needs
-
-part-edge-counts-end : tie.Need-part-edge-counts-end
-part-edge-counts-end c =
-    let j = c .before .before .before .before .before .before .before .before .before .judge-catalogue in
-    let q = rw (c .before .before .before .before .before .p .given .1) at (j .ensures) in
-    omega (arith, q .1, c .before .before .before .before .before .before .before .before .before .before .before .before .before .before .before .before .pre, j .kept .1 .0)
-
-edge-counts-requires : tie.Need-edge-counts-requires
-edge-counts-requires c κs = search needs
-
-cast-read-book-of : tie.Need-cast-read-book-of
-cast-read-book-of c = search needs
-
-read-book-of-requires : tie.Need-read-book-of-requires
-read-book-of-requires c κs =
-    let j = c .before .before .before .before .before .before .before .before .before .before .before .before .before .judge-catalogue in
-    let q = rw (c .before .before .before .before .before .before .before .before .before .p .given .1) at (j .ensures) in
-    let l = front-is (q .0) (omega (arith, q .1, c .before .before .before .before .before .before .before .before .before .before .before .before .before .before .before .before .before .before .before .before .pre)) in
-    let b = catalogue-bounds (c .before .before .before .before .before .before .before .before .before .before .before .before .before .before .before .before .before .before .before .before .args .catalogue .now) (q .0 .fields) (q .0 .is) in
-    let e = rw l at (c .before .before .before .before .before .word-at .ensures) in
-    let s = rw l at (c .before .before .edge-counts .ensures) in
-    (j .kept .1 .0 ∙ c .before .before .before .before .before .before .before .before .before .before .before .before .before .before .before .before .before .before .before .before .pre, omega (arith, e, b .0), counts-small s (b .0) (b .2))
-
-enum-known-p-2 : tie.Need-enum-known-p-2
-enum-known-p-2 c = search needs
+enum-told-2 : tie.Need-enum-told-2
+enum-told-2 c = search needs
 
 same-length : tie.Need-same-length
 same-length c = search needs
 
+returns : tie.Need-returns
+unfolding bookRead
+returns c =
+    let a = c .before .before .before .before .before .before .before .before .before .before .before .args in
+    let e = c .enum-told2 .given .1 in
+    rw e (body-refused (λ cs. judged (readBook cs (a .bytes .now)) (λ o. uncrowded cs o (fit (length (a .out .now)) o))) (a .out .now) refl (c .enum-told2 .given .0 .0) (rw e at (c .before .before .before .before .before .accept-catalogue .ensures)))
+
+sub-accept-book : tie.Need-sub-accept-book
+sub-accept-book c = search needs
+
+part-accept-book-start : tie.Need-part-accept-book-start
+part-accept-book-start c = search needs
+
+part-accept-book-end : tie.Need-part-accept-book-end
+part-accept-book-end c = search needs
+
+accept-book-requires : tie.Need-accept-book-requires
+accept-book-requires c κs =
+    let q = rw (c .before .enum-told .given .1) at (c .before .before .before .before .before .before .accept-catalogue .ensures) in
+    q .holds .few
+
+enum-known-verdict : tie.Need-enum-known-verdict
+enum-known-verdict c = search needs
+
+enum-told-3 : tie.Need-enum-told-3
+enum-told-3 c = search needs
+
 same-length-2 : tie.Need-same-length-2
 same-length-2 c = search needs
-
-returns-2 : tie.Need-returns-2
-unfolding bookRead
-returns-2 c =
-    let a = c .before .before .before .before .before .before .before .before .before .before .before .before .before .before .before .before .before .before .before .before .before .before .before .before .before .args in
-    let k = c .before .before .before .before .before .before .before .before .before .before .word-at in
-    let q = rw (c .before .before .before .before .before .before .before .before .before .before .before .before .before .before .p .given .1) at (c .before .before .before .before .before .before .before .before .before .before .before .before .before .before .before .before .before .before .judge-catalogue .ensures) in
-    let l = front-is (q .0) (omega (arith, q .1, c .before .before .before .before .before .before .before .before .before .before .before .before .before .before .before .before .before .before .before .before .before .before .before .before .before .pre)) in
-    let b = catalogue-bounds (a .catalogue .now) (q .0 .fields) (q .0 .is) in
-    let e = rw l at (k .ensures) in
-    let s = rw l at (c .before .before .before .before .before .before .before .edge-counts .ensures) in
-    body-goes-on (read-finds 705 2 catalogue (a .catalogue .now) (c .before .before .before .before .before .before .before .before .before .before .before .before .before .before .before .before .before .before .before .before .if1 .left)) (q .0) (λ cs. judged (readBook cs (a .bytes .now)) (λ o. uncrowded cs o (fit (length (a .out .now)) o))) (rw (counts-are s (b .0) (k .result) (b .1) e) at (c .before .before .before .before .read-book-of .ensures))
 
 same-length-3 : tie.Need-same-length-3
 same-length-3 c = search needs
 
+returns-2 : tie.Need-returns-2
+unfolding bookRead
+returns-2 c =
+    let a = c .before .before .before .before .before .before .before .before .before .before .before .before .before .before .before .before .before .args in
+    let j = c .before .before .before .before .accept-book in
+    let q = rw (c .before .before .before .before .before .before .enum-told .given .1) at (c .before .before .before .before .before .before .before .before .before .before .before .accept-catalogue .ensures) in
+    let e = c .enum-told3 .given .1 in
+    rw e (body-goes-on (λ cs. judged (readBook cs (a .bytes .now)) (λ o. uncrowded cs o (fit (length (a .out .now)) o))) (q .is)
+    (body-refused (λ o. uncrowded (q .fields) o (fit (length (a .out .now)) o)) (a .out .now) (none-lent (a .out .now) (j .last .1 .1 .1 .0) (j .kept .1 .1 .1 .0)) (c .enum-told3 .given .0 .0) (rw (q .holds .are) at (rw e at (j .ensures)))))
+
+gather-book-requires : tie.Need-gather-book-requires
+gather-book-requires c κs =
+    let a = c .before .before .before .before .before .before .before .before .before .before .before .before .before .before .before .before .before .before .before .args in
+    let j = c .before .before .before .before .before .before .accept-book in
+    let q = rw (c .before .before .before .before .before .before .before .before .enum-told .given .1) at (c .before .before .before .before .before .before .before .before .before .before .before .before .before .accept-catalogue .ensures) in
+    let t = rw (q .holds .are) at (rw (c .before .before .verdict .given .1) at (j .ensures)) in
+    let ms = edgeCounts (q .fields) in
+    let d = read-says 65536 4 (book ms) (a .bytes .now) (t .fields) (t .is) in
+    (d .1, q .holds .few, q .holds .small, c .before .before .before .before .before .before .before .before .before .before .before .before .before .accept-catalogue .kept .1 .0 ∙ c .before .before .before .before .before .before .before .before .before .before .before .before .before .before .before .before .before .before .before .pre)
+
+same-length-4 : tie.Need-same-length-4
+same-length-4 c = search needs
+
+same-length-5 : tie.Need-same-length-5
+same-length-5 c = search needs
+
 returns-3 : tie.Need-returns-3
 unfolding bookRead
 returns-3 c =
-    let a = c .before .before .before .before .before .before .before .before .before .before .before .before .args in
-    let q = rw (c .before .p2 .given .1) at (c .before .before .before .before .before .judge-catalogue .ensures) in
-    body-refused (read-finds 705 2 catalogue (a .catalogue .now) (c .before .before .before .before .before .before .before .if1 .left)) (a .out .now) refl (λ cs. judged (readBook cs (a .bytes .now)) (λ o. uncrowded cs o (fit (length (a .out .now)) o))) (c .before .p2 .given .0 .0) q
+    let a = c .before .before .before .before .before .before .before .before .before .before .before .before .before .before .before .before .before .before .before .before .before .before .before .args in
+    let j = c .before .before .before .before .before .before .before .before .before .before .accept-book in
+    let q = rw (c .before .before .before .before .before .before .before .before .before .before .before .before .enum-told .given .1) at (c .before .before .before .before .before .before .before .before .before .before .before .before .before .before .before .before .before .accept-catalogue .ensures) in
+    let t = rw (q .holds .are) at (rw (c .before .before .before .before .before .before .verdict .given .1) at (j .ensures)) in
+    let ms = edgeCounts (q .fields) in
+    let d = read-says 65536 4 (book ms) (a .bytes .now) (t .fields) (t .is) in
+    body-goes-on (λ cs. judged (readBook cs (a .bytes .now)) (λ o. uncrowded cs o (fit (length (a .out .now)) o))) (q .is)
+    (body-declined (λ o. uncrowded (q .fields) o (fit (length (a .out .now)) o)) (t .is) (a .out .now) (none-lent (a .out .now) (j .last .1 .1 .1 .0) (j .kept .1 .1 .1 .0)) (TooManyPairs 4)
+    (gathered-many ms (t .fields) (rw (q .holds .are) at (c .before .before .before .gather-book .ensures)) (book-pairs ms (a .bytes .now) (t .fields) (d .0)) (fit (length (a .out .now)) (t .fields)) (c .if1 .taken)))
+
+same-length-6 : tie.Need-same-length-6
+same-length-6 c = search needs
+
+same-length-7 : tie.Need-same-length-7
+same-length-7 c = search needs
+
+returns-4 : tie.Need-returns-4
+unfolding bookRead
+returns-4 c =
+    let a = c .before .before .before .before .before .before .before .before .before .before .before .before .before .before .before .before .before .before .before .before .before .before .before .before .args in
+    let j = c .before .before .before .before .before .before .before .before .before .before .before .accept-book in
+    let q = rw (c .before .before .before .before .before .before .before .before .before .before .before .before .before .enum-told .given .1) at (c .before .before .before .before .before .before .before .before .before .before .before .before .before .before .before .before .before .before .accept-catalogue .ensures) in
+    let t = rw (q .holds .are) at (rw (c .before .before .before .before .before .before .before .verdict .given .1) at (j .ensures)) in
+    let ms = edgeCounts (q .fields) in
+    let d = read-says 65536 4 (book ms) (a .bytes .now) (t .fields) (t .is) in
+    body-goes-on (λ cs. judged (readBook cs (a .bytes .now)) (λ o. uncrowded cs o (fit (length (a .out .now)) o))) (q .is)
+    (body-goes-on (λ o. uncrowded (q .fields) o (fit (length (a .out .now)) o)) (t .is)
+    (fitted-tight fit-fits (a .out .now) (t .fields) (none-lent (a .out .now) (j .last .1 .1 .1 .0) (j .kept .1 .1 .1 .0))
+    (gathered-few ms (t .fields) (rw (q .holds .are) at (c .before .before .before .before .gather-book .ensures)) (book-pairs ms (a .bytes .now) (t .fields) (d .0)) (fit (length (a .out .now)) (t .fields)) (c .before .if1 .left)) (t .number) (lt-ltb _ _ (c .if2 .taken))))
+
+accept-book-requires-2 : tie.Need-accept-book-requires-2
+accept-book-requires-2 c κs =
+    let q = rw (c .before .before .before .before .before .before .before .before .before .before .before .before .before .before .enum-told .given .1) at (c .before .before .before .before .before .before .before .before .before .before .before .before .before .before .before .before .before .before .before .accept-catalogue .ensures) in
+    q .holds .few
+
+same-length-8 : tie.Need-same-length-8
+same-length-8 c = search needs
+
+same-length-9 : tie.Need-same-length-9
+same-length-9 c = search needs
+
+returns-5 : tie.Need-returns-5
+unfolding bookRead
+returns-5 c =
+    let a = c .before .before .before .before .before .before .before .before .before .before .before .before .before .before .before .before .before .before .before .before .before .before .before .before .before .before .before .before .args in
+    let j = c .before .before .before .before .before .before .before .before .before .before .before .before .before .before .before .accept-book in
+    let q = rw (c .before .before .before .before .before .before .before .before .before .before .before .before .before .before .before .before .before .enum-told .given .1) at (c .before .before .before .before .before .before .before .before .before .before .before .before .before .before .before .before .before .before .before .before .before .before .accept-catalogue .ensures) in
+    let t = rw (q .holds .are) at (rw (c .before .before .before .before .before .before .before .before .before .before .before .verdict .given .1) at (j .ensures)) in
+    let ms = edgeCounts (q .fields) in
+    let d = read-says 65536 4 (book ms) (a .bytes .now) (t .fields) (t .is) in
+    body-goes-on (λ cs. judged (readBook cs (a .bytes .now)) (λ o. uncrowded cs o (fit (length (a .out .now)) o))) (q .is)
+    (body-goes-on (λ o. uncrowded (q .fields) o (fit (length (a .out .now)) o)) (t .is)
+    (fitted-again fit-fits (a .out .now) (t .fields) (none-lent (a .out .now) (j .last .1 .1 .1 .0) (j .kept .1 .1 .1 .0))
+    (gathered-few ms (t .fields) (rw (q .holds .are) at (c .before .before .before .before .before .before .before .before .gather-book .ensures)) (book-pairs ms (a .bytes .now) (t .fields) (d .0)) (fit (length (a .out .now)) (t .fields)) (c .before .before .before .before .before .if1 .left)) (t .number) (c .before .before .accept-book2 .result) _ (le-ltb _ _ (c .before .before .before .before .if2 .left)) (t .is) (rw (q .holds .are) at (c .before .before .accept-book2 .ensures))))
 
 pub read-book-spec : {M : Type 1} → statement M
 read-book-spec =
     tie.close
     (tie.spec
-    returns
-    judge-catalogue-requires
-    enum-known-p
-    sub-word-at
-    part-word-at-start
-    part-word-at-end
-    word-at-requires
-    sub-edge-counts
-    part-edge-counts-start
-    part-edge-counts-end
-    edge-counts-requires
-    cast-read-book-of
-    read-book-of-requires
-    enum-known-p-2
+    accept-catalogue-requires
+    enum-told
+    enum-told-2
     same-length
+    returns
+    sub-accept-book
+    part-accept-book-start
+    part-accept-book-end
+    accept-book-requires
+    enum-known-verdict
+    enum-told-3
     same-length-2
-    returns-2
     same-length-3
-    returns-3)
+    returns-2
+    gather-book-requires
+    same-length-4
+    same-length-5
+    returns-3
+    same-length-6
+    same-length-7
+    returns-4
+    accept-book-requires-2
+    same-length-8
+    same-length-9
+    returns-5)

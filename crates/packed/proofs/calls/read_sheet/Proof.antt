@@ -1,86 +1,133 @@
 -- `packed::calls::read_sheet` meets its contract.
 use mathlib.Core.Path.{refl}
 use native.Mathlib.Omega.{arith}
+use borrow.Author.Tests.{lt-ltb, le-ltb}
 use lib.ListN.{length}
-use Rattle.packed.specs.Formats.{pattern}
 use Rattle.packed.specs.Calls.{fit, readSheet, judged, sheetRead}
-use Rattle.packed.proofs.CallLaws.{read-finds, body-over, body-refused, body-goes-on, edges-are}
+use Rattle.packed.proofs.CallLaws.{fit-fits, fitted-tight, fitted-again, body-refused, body-goes-on, none-lent}
+use Rattle.packed.proofs.AcceptLaws.{pattern-few}
 use borrow.Author.Needs.{needs}
 use Rattle.packed.proofs.calls.read_sheet.Statement.{statement}
 use Rattle.packed.proofs.calls.read_sheet.Tie as tie
 
-returns : tie.Need-returns
-unfolding sheetRead
-returns c =
-    let a = c .before .before .before .before .before .args in
-    body-over 44 1 pattern (a .pattern .now) (λ ps. judged (readSheet ps (a .bytes .now)) (fit (length (a .out .now)))) (a .out .now) (c .if1 .taken)
+accept-pattern-requires : tie.Need-accept-pattern-requires
+accept-pattern-requires c κs = search needs
 
-judge-pattern-requires : tie.Need-judge-pattern-requires
-judge-pattern-requires c κs = search needs
+enum-told : tie.Need-enum-told
+enum-told c = search needs
 
-enum-known-p : tie.Need-enum-known-p
-enum-known-p c = search needs
-
-sub-word-at : tie.Need-sub-word-at
-sub-word-at c = search needs
-
-part-word-at-start : tie.Need-part-word-at-start
-part-word-at-start c = search needs
-
-part-word-at-end : tie.Need-part-word-at-end
-part-word-at-end c =
-    let j = c .before .before .before .before .before .before .judge-pattern in
-    let q = rw (c .before .before .p .given .1) at (j .ensures) in
-    omega (arith, q .1, c .before .before .before .before .before .before .before .before .before .before .before .before .before .pre, j .kept .1 .0)
-
-word-at-requires : tie.Need-word-at-requires
-word-at-requires c κs = search needs
-
-read-sheet-of-requires : tie.Need-read-sheet-of-requires
-read-sheet-of-requires c κs = search needs
-
-enum-known-p-2 : tie.Need-enum-known-p-2
-enum-known-p-2 c = search needs
+enum-told-2 : tie.Need-enum-told-2
+enum-told-2 c = search needs
 
 same-length : tie.Need-same-length
 same-length c = search needs
 
+returns : tie.Need-returns
+unfolding sheetRead
+returns c =
+    let a = c .before .before .before .before .before .before .before .before .before .before .args in
+    let e = c .enum-told2 .given .1 in
+    rw e (body-refused (λ ps. judged (readSheet ps (a .bytes .now)) (fit (length (a .out .now)))) (a .out .now) refl (c .enum-told2 .given .0 .0) (rw e at (c .before .before .before .before .accept-pattern .ensures)))
+
+cast-m : tie.Need-cast-m
+cast-m c =
+    let q = rw (c .before .enum-told .given .1) at (c .before .before .before .before .before .accept-pattern .ensures) in
+    omega (arith, pattern-few (c .before .before .before .before .before .before .before .before .before .before .before .args .pattern .now) q)
+
+sub-accept-sheet : tie.Need-sub-accept-sheet
+sub-accept-sheet c = search needs
+
+part-accept-sheet-start : tie.Need-part-accept-sheet-start
+part-accept-sheet-start c = search needs
+
+part-accept-sheet-end : tie.Need-part-accept-sheet-end
+part-accept-sheet-end c = search needs
+
+accept-sheet-requires : tie.Need-accept-sheet-requires
+accept-sheet-requires c κs = search needs
+
+enum-known-verdict : tie.Need-enum-known-verdict
+enum-known-verdict c = search needs
+
+enum-told-3 : tie.Need-enum-told-3
+enum-told-3 c = search needs
+
 same-length-2 : tie.Need-same-length-2
 same-length-2 c = search needs
-
-returns-2 : tie.Need-returns-2
-unfolding sheetRead
-returns-2 c =
-    let a = c .before .before .before .before .before .before .before .before .before .before .before .before .before .before .before .before .before .before .before .args in
-    let q = rw (c .before .before .before .before .before .before .before .before .p .given .1) at (c .before .before .before .before .before .before .before .before .before .before .before .before .judge-pattern .ensures) in
-    let e = edges-are (q .0) (omega (arith, q .1, c .before .before .before .before .before .before .before .before .before .before .before .before .before .before .before .before .before .before .before .pre)) (c .before .before .before .before .word-at .ensures) in
-    body-goes-on (read-finds 44 1 pattern (a .pattern .now) (c .before .before .before .before .before .before .before .before .before .before .before .before .before .before .if1 .left)) (q .0) (λ ps. judged (readSheet ps (a .bytes .now)) (fit (length (a .out .now)))) (rw e at (c .before .before .read-sheet-of .ensures))
 
 same-length-3 : tie.Need-same-length-3
 same-length-3 c = search needs
 
+returns-2 : tie.Need-returns-2
+unfolding sheetRead
+returns-2 c =
+    let a = c .before .before .before .before .before .before .before .before .before .before .before .before .before .before .before .before .before .args in
+    let j = c .before .before .before .before .accept-sheet in
+    let q = rw (c .before .before .before .before .before .before .before .enum-told .given .1) at (c .before .before .before .before .before .before .before .before .before .before .before .accept-pattern .ensures) in
+    let e = c .enum-told3 .given .1 in
+    rw e (body-goes-on (λ ps. judged (readSheet ps (a .bytes .now)) (fit (length (a .out .now)))) (q .is)
+    (body-refused (fit (length (a .out .now))) (a .out .now) (none-lent (a .out .now) (j .last .1 .1 .0) (j .kept .1 .1 .0)) (c .enum-told3 .given .0 .0) (rw (q .holds .edges) at (rw e at (j .ensures)))))
+
+same-length-4 : tie.Need-same-length-4
+same-length-4 c = search needs
+
+same-length-5 : tie.Need-same-length-5
+same-length-5 c = search needs
+
 returns-3 : tie.Need-returns-3
 unfolding sheetRead
 returns-3 c =
-    let a = c .before .before .before .before .before .before .before .before .before .before .before .before .args in
-    let q = rw (c .before .p2 .given .1) at (c .before .before .before .before .before .judge-pattern .ensures) in
-    body-refused (read-finds 44 1 pattern (a .pattern .now) (c .before .before .before .before .before .before .before .if1 .left)) (a .out .now) refl (λ ps. judged (readSheet ps (a .bytes .now)) (fit (length (a .out .now)))) (c .before .p2 .given .0 .0) q
+    let a = c .before .before .before .before .before .before .before .before .before .before .before .before .before .before .before .before .before .before .before .args in
+    let j = c .before .before .before .before .before .before .accept-sheet in
+    let q = rw (c .before .before .before .before .before .before .before .before .before .enum-told .given .1) at (c .before .before .before .before .before .before .before .before .before .before .before .before .before .accept-pattern .ensures) in
+    let t = rw (q .holds .edges) at (rw (c .before .before .verdict .given .1) at (j .ensures)) in
+    body-goes-on (λ ps. judged (readSheet ps (a .bytes .now)) (fit (length (a .out .now)))) (q .is)
+    (body-goes-on (fit (length (a .out .now))) (t .is)
+    (fitted-tight fit-fits (a .out .now) (t .fields) (none-lent (a .out .now) (j .last .1 .1 .0) (j .kept .1 .1 .0)) refl (t .number) (lt-ltb _ _ (c .if1 .taken))))
+
+accept-sheet-requires-2 : tie.Need-accept-sheet-requires-2
+accept-sheet-requires-2 c κs = search needs
+
+same-length-6 : tie.Need-same-length-6
+same-length-6 c = search needs
+
+same-length-7 : tie.Need-same-length-7
+same-length-7 c = search needs
+
+returns-4 : tie.Need-returns-4
+unfolding sheetRead
+returns-4 c =
+    let a = c .before .before .before .before .before .before .before .before .before .before .before .before .before .before .before .before .before .before .before .before .before .before .before .args in
+    let j = c .before .before .before .before .before .before .before .before .before .before .accept-sheet in
+    let q = rw (c .before .before .before .before .before .before .before .before .before .before .before .before .before .enum-told .given .1) at (c .before .before .before .before .before .before .before .before .before .before .before .before .before .before .before .before .before .accept-pattern .ensures) in
+    let t = rw (q .holds .edges) at (rw (c .before .before .before .before .before .before .verdict .given .1) at (j .ensures)) in
+    body-goes-on (λ ps. judged (readSheet ps (a .bytes .now)) (fit (length (a .out .now)))) (q .is)
+    (body-goes-on (fit (length (a .out .now))) (t .is)
+    (fitted-again fit-fits (a .out .now) (t .fields) (none-lent (a .out .now) (j .last .1 .1 .0) (j .kept .1 .1 .0)) refl (t .number) (c .before .before .accept-sheet2 .result) _ (le-ltb _ _ (c .before .before .before .before .if1 .left)) (t .is) (rw (q .holds .edges) at (c .before .before .accept-sheet2 .ensures))))
 
 pub read-sheet-spec : {M : Type 1} → statement M
 read-sheet-spec =
     tie.close
     (tie.spec
-    returns
-    judge-pattern-requires
-    enum-known-p
-    sub-word-at
-    part-word-at-start
-    part-word-at-end
-    word-at-requires
-    read-sheet-of-requires
-    enum-known-p-2
+    accept-pattern-requires
+    enum-told
+    enum-told-2
     same-length
+    returns
+    cast-m
+    sub-accept-sheet
+    part-accept-sheet-start
+    part-accept-sheet-end
+    accept-sheet-requires
+    enum-known-verdict
+    enum-told-3
     same-length-2
-    returns-2
     same-length-3
-    returns-3)
+    returns-2
+    same-length-4
+    same-length-5
+    returns-3
+    accept-sheet-requires-2
+    same-length-6
+    same-length-7
+    returns-4)

@@ -7,7 +7,7 @@ use Rattle.packed.specs.Walks.{pairsFrom}
 use Rattle.packed.specs.Calls.{uncrowdedBy, fitFile}
 use Rattle.packed.specs.declared.reply.Refusal.the-variants.{TooManyPairs}
 use Rattle.packed.proofs.WalkLaws.{field-pairs}
-use Rattle.packed.proofs.CallLaws.{write-finds, fitFile-fits, body-refused, body-declined, body-tight, body-given, gathered-many, gathered-few, none-lent, judges-fields-front}
+use Rattle.packed.proofs.CallLaws.{write-finds, accepted-by, refused-by, fitFile-fits, body-refused, body-declined, body-goes-on, fitted-tight, fitted-given, gathered-many, gathered-few, none-lent, judges-fields-front}
 use borrow.Author.Needs.{needs}
 use Rattle.packed.proofs.calls.write_book_of.Statement.{statement}
 use Rattle.packed.proofs.calls.write_book_of.Tie as tie
@@ -45,7 +45,7 @@ returns c =
     let j = c .before .before .before .before .before .before .before .before .before .before .before .judge-book-fields in
     let ms = take (a .k) (a .counts) in
     let q = rw (c .before .before .before .before .before .before .before .p .given .1) at (j .ensures) in
-    body-declined (write-finds 4 (book ms) (a .fields .now)) (a .out .now) (none-lent (a .out .now) (j .last .1 .1 .1 .0) (j .kept .1 .1 .1 .0)) q (λ o. uncrowdedBy ms (a .fields .now) (fitFile (length (a .out .now)) o)) (TooManyPairs 4) (gathered-many ms (a .fields .now) (c .before .before .before .gather-fields .ensures) (ap (pairsFrom (a .fields .now) 0) (c .before .before .before .before .before .list-count .ensures .0) ∙ field-pairs ms (a .fields .now) (q .fields) (q .is)) (fitFile (length (a .out .now)) (q .fields)) (c .if1 .taken))
+    body-declined (λ o. uncrowdedBy ms (a .fields .now) (fitFile (length (a .out .now)) o)) (accepted-by (write-finds 4 (book ms) (a .fields .now)) (q .is)) (a .out .now) (none-lent (a .out .now) (j .last .1 .1 .1 .0) (j .kept .1 .1 .1 .0)) (TooManyPairs 4) (gathered-many ms (a .fields .now) (c .before .before .before .gather-fields .ensures) (ap (pairsFrom (a .fields .now) 0) (c .before .before .before .before .before .list-count .ensures .0) ∙ field-pairs ms (a .fields .now) (q .fields) (q .is)) (fitFile (length (a .out .now)) (q .fields)) (c .if1 .taken))
 
 same-length-3 : tie.Need-same-length-3
 same-length-3 c = search needs
@@ -59,8 +59,8 @@ returns-2 c =
     let j = c .before .before .before .before .before .before .before .before .before .before .before .before .judge-book-fields in
     let ms = take (a .k) (a .counts) in
     let q = rw (c .before .before .before .before .before .before .before .before .p .given .1) at (j .ensures) in
-    body-tight (write-finds 4 (book ms) (a .fields .now)) (a .out .now) (none-lent (a .out .now) (j .last .1 .1 .1 .0) (j .kept .1 .1 .1 .0)) q fitFile-fits (λ o. uncrowdedBy ms (a .fields .now))
-    (λ b. gathered-few ms (a .fields .now) (c .before .before .before .before .gather-fields .ensures) (ap (pairsFrom (a .fields .now) 0) (c .before .before .before .before .before .before .list-count .ensures .0) ∙ field-pairs ms (a .fields .now) (q .fields) (q .is)) b (c .before .if1 .left)) (c .if2 .taken)
+    body-goes-on (λ o. uncrowdedBy ms (a .fields .now) (fitFile (length (a .out .now)) o)) (accepted-by (write-finds 4 (book ms) (a .fields .now)) (q .is))
+    (fitted-tight fitFile-fits (a .out .now) (q .fields) (none-lent (a .out .now) (j .last .1 .1 .1 .0) (j .kept .1 .1 .1 .0)) (gathered-few ms (a .fields .now) (c .before .before .before .before .gather-fields .ensures) (ap (pairsFrom (a .fields .now) 0) (c .before .before .before .before .before .before .list-count .ensures .0) ∙ field-pairs ms (a .fields .now) (q .fields) (q .is)) (fitFile (length (a .out .now)) (q .fields)) (c .before .if1 .left)) (q .number) (c .if2 .taken))
 
 judge-book-fields-requires-2 : tie.Need-judge-book-fields-requires-2
 judge-book-fields-requires-2 c κs = search needs
@@ -80,9 +80,9 @@ returns-3 c =
     let j = c .before .before .before .before .before .before .before .before .before .before .before .before .before .before .before .before .judge-book-fields in
     let ms = take (a .k) (a .counts) in
     let q = rw (c .before .before .before .before .before .before .before .before .before .before .before .before .p .given .1) at (j .ensures) in
-    body-given (write-finds 4 (book ms) (a .fields .now)) (a .out .now) (none-lent (a .out .now) (j .last .1 .1 .1 .0) (j .kept .1 .1 .1 .0)) q fitFile-fits (λ o. uncrowdedBy ms (a .fields .now))
-    (λ b. gathered-few ms (a .fields .now) (c .before .before .before .before .before .before .before .before .gather-fields .ensures) (ap (pairsFrom (a .fields .now) 0) (c .before .before .before .before .before .before .before .before .before .before .list-count .ensures .0) ∙ field-pairs ms (a .fields .now) (q .fields) (q .is)) b (c .before .before .before .before .before .if1 .left)) (c .before .before .before .before .if2 .left)
-    (judges-fields-front (encode (book ms) (a .fields .now)) 4 (c .before .before .judge-book-fields2 .result) (q .fields) _ _ (c .before .before .judge-book-fields2 .ensures) (q .is))
+    body-goes-on (λ o. uncrowdedBy ms (a .fields .now) (fitFile (length (a .out .now)) o)) (accepted-by (write-finds 4 (book ms) (a .fields .now)) (q .is))
+    (fitted-given fitFile-fits (a .out .now) (q .fields) (none-lent (a .out .now) (j .last .1 .1 .1 .0) (j .kept .1 .1 .1 .0)) (gathered-few ms (a .fields .now) (c .before .before .before .before .before .before .before .before .gather-fields .ensures) (ap (pairsFrom (a .fields .now) 0) (c .before .before .before .before .before .before .before .before .before .before .list-count .ensures .0) ∙ field-pairs ms (a .fields .now) (q .fields) (q .is)) (fitFile (length (a .out .now)) (q .fields)) (c .before .before .before .before .before .if1 .left)) (q .number) (c .before .before .before .before .if2 .left)
+    (judges-fields-front (encode (book ms) (a .fields .now)) 4 (c .before .before .judge-book-fields2 .result) (q .fields) _ _ (c .before .before .judge-book-fields2 .ensures) (q .is)))
 
 same-length-7 : tie.Need-same-length-7
 same-length-7 c = search needs
@@ -93,7 +93,7 @@ returns-4 c =
     let j = c .before .before .before .before .before .judge-book-fields in
     let ms = take (a .k) (a .counts) in
     let q = rw (c .before .p2 .given .1) at (j .ensures) in
-    body-refused (write-finds 4 (book ms) (a .fields .now)) (a .out .now) (none-lent (a .out .now) (j .last .1 .1 .1 .0) (j .kept .1 .1 .1 .0)) (λ o. uncrowdedBy ms (a .fields .now) (fitFile (length (a .out .now)) o)) (c .before .p2 .given .0 .0) q
+    body-refused (λ o. uncrowdedBy ms (a .fields .now) (fitFile (length (a .out .now)) o)) (a .out .now) (none-lent (a .out .now) (j .last .1 .1 .1 .0) (j .kept .1 .1 .1 .0)) (c .before .p2 .given .0 .0) (refused-by (write-finds 4 (book ms) (a .fields .now)) (c .before .p2 .given .0 .0) q)
 
 pub write-book-of-spec : {M : Type 1} → statement M
 write-book-of-spec =

@@ -2,89 +2,66 @@
 use mathlib.Core.Path.{refl}
 use native.Mathlib.Omega.{arith}
 use lib.ListN.{length}
-use Rattle.packed.specs.Formats.{pattern}
 use Rattle.packed.specs.Calls.{fitFile, writeSheet, judged, sheetWritten}
-use Rattle.packed.proofs.AcceptedBounds.{pattern-bounds}
-use Rattle.packed.proofs.CallLaws.{read-finds, body-over, body-refused, body-goes-on, edges-are}
+use Rattle.packed.proofs.CallLaws.{body-refused, body-goes-on}
+use Rattle.packed.proofs.AcceptLaws.{pattern-few}
 use borrow.Author.Needs.{needs}
 use Rattle.packed.proofs.calls.write_sheet.Statement.{statement}
 use Rattle.packed.proofs.calls.write_sheet.Tie as tie
 
-returns : tie.Need-returns
-unfolding sheetWritten
-returns c =
-    let a = c .before .before .before .before .before .args in
-    body-over 44 1 pattern (a .pattern .now) (λ ps. judged (writeSheet ps (a .fields .now)) (fitFile (length (a .out .now)))) (a .out .now) (c .if1 .taken)
+accept-pattern-requires : tie.Need-accept-pattern-requires
+accept-pattern-requires c κs = search needs
 
-judge-pattern-requires : tie.Need-judge-pattern-requires
-judge-pattern-requires c κs = search needs
+enum-told : tie.Need-enum-told
+enum-told c = search needs
 
-enum-known-p : tie.Need-enum-known-p
-enum-known-p c = search needs
-
-sub-word-at : tie.Need-sub-word-at
-sub-word-at c = search needs
-
-part-word-at-start : tie.Need-part-word-at-start
-part-word-at-start c = search needs
-
-part-word-at-end : tie.Need-part-word-at-end
-part-word-at-end c =
-    let j = c .before .before .before .before .before .before .judge-pattern in
-    let q = rw (c .before .before .p .given .1) at (j .ensures) in
-    omega (arith, q .1, c .before .before .before .before .before .before .before .before .before .before .before .before .before .pre, j .kept .1 .0)
-
-word-at-requires : tie.Need-word-at-requires
-word-at-requires c κs = search needs
-
-write-sheet-of-requires : tie.Need-write-sheet-of-requires
-write-sheet-of-requires c κs =
-    let q = rw (c .before .before .before .before .before .p .given .1) at (c .before .before .before .before .before .before .before .before .before .judge-pattern .ensures) in
-    let e = edges-are (q .0) (omega (arith, q .1, c .before .before .before .before .before .before .before .before .before .before .before .before .before .before .before .before .pre)) (c .before .word-at .ensures) in
-    omega (arith, pattern-bounds (c .before .before .before .before .before .before .before .before .before .before .before .before .before .before .before .before .args .pattern .now) (q .0 .fields) (q .0 .is) .3)
-
-enum-known-p-2 : tie.Need-enum-known-p-2
-enum-known-p-2 c = search needs
+enum-told-2 : tie.Need-enum-told-2
+enum-told-2 c = search needs
 
 same-length : tie.Need-same-length
 same-length c = search needs
 
+returns : tie.Need-returns
+unfolding sheetWritten
+returns c =
+    let a = c .before .before .before .before .before .before .before .before .before .before .args in
+    let e = c .enum-told2 .given .1 in
+    rw e (body-refused (λ ps. judged (writeSheet ps (a .fields .now)) (fitFile (length (a .out .now)))) (a .out .now) refl (c .enum-told2 .given .0 .0) (rw e at (c .before .before .before .before .accept-pattern .ensures)))
+
+cast-write-sheet-of : tie.Need-cast-write-sheet-of
+cast-write-sheet-of c =
+    let q = rw (c .before .enum-told .given .1) at (c .before .before .before .before .before .accept-pattern .ensures) in
+    omega (arith, pattern-few (c .before .before .before .before .before .before .before .before .before .before .before .args .pattern .now) q)
+
+write-sheet-of-requires : tie.Need-write-sheet-of-requires
+write-sheet-of-requires c κs =
+    let q = rw (c .before .before .enum-told .given .1) at (c .before .before .before .before .before .before .accept-pattern .ensures) in
+    pattern-few (c .before .before .before .before .before .before .before .before .before .before .before .before .args .pattern .now) q
+
 same-length-2 : tie.Need-same-length-2
 same-length-2 c = search needs
-
-returns-2 : tie.Need-returns-2
-unfolding sheetWritten
-returns-2 c =
-    let a = c .before .before .before .before .before .before .before .before .before .before .before .before .before .before .before .before .before .before .before .args in
-    let q = rw (c .before .before .before .before .before .before .before .before .p .given .1) at (c .before .before .before .before .before .before .before .before .before .before .before .before .judge-pattern .ensures) in
-    let e = edges-are (q .0) (omega (arith, q .1, c .before .before .before .before .before .before .before .before .before .before .before .before .before .before .before .before .before .before .before .pre)) (c .before .before .before .before .word-at .ensures) in
-    body-goes-on (read-finds 44 1 pattern (a .pattern .now) (c .before .before .before .before .before .before .before .before .before .before .before .before .before .before .if1 .left)) (q .0) (λ ps. judged (writeSheet ps (a .fields .now)) (fitFile (length (a .out .now)))) (rw e at (c .before .before .write-sheet-of .ensures))
 
 same-length-3 : tie.Need-same-length-3
 same-length-3 c = search needs
 
-returns-3 : tie.Need-returns-3
+returns-2 : tie.Need-returns-2
 unfolding sheetWritten
-returns-3 c =
-    let a = c .before .before .before .before .before .before .before .before .before .before .before .before .args in
-    let q = rw (c .before .p2 .given .1) at (c .before .before .before .before .before .judge-pattern .ensures) in
-    body-refused (read-finds 44 1 pattern (a .pattern .now) (c .before .before .before .before .before .before .before .if1 .left)) (a .out .now) refl (λ ps. judged (writeSheet ps (a .fields .now)) (fitFile (length (a .out .now)))) (c .before .p2 .given .0 .0) q
+returns-2 c =
+    let a = c .before .before .before .before .before .before .before .before .before .before .before .before .before .before .before .args in
+    let q = rw (c .before .before .before .before .before .enum-told .given .1) at (c .before .before .before .before .before .before .before .before .before .accept-pattern .ensures) in
+    body-goes-on (λ ps. judged (writeSheet ps (a .fields .now)) (fitFile (length (a .out .now)))) (q .is) (rw (q .holds .edges) at (c .before .before .write-sheet-of .ensures))
 
 pub write-sheet-spec : {M : Type 1} → statement M
 write-sheet-spec =
     tie.close
     (tie.spec
-    returns
-    judge-pattern-requires
-    enum-known-p
-    sub-word-at
-    part-word-at-start
-    part-word-at-end
-    word-at-requires
-    write-sheet-of-requires
-    enum-known-p-2
+    accept-pattern-requires
+    enum-told
+    enum-told-2
     same-length
+    returns
+    cast-write-sheet-of
+    write-sheet-of-requires
     same-length-2
-    returns-2
     same-length-3
-    returns-3)
+    returns-2)

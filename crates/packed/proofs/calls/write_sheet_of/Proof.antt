@@ -4,7 +4,7 @@ use lib.ListN.{length}
 use Rattle.packed.specs.Format.{encode}
 use Rattle.packed.specs.Formats.{sheet}
 use Rattle.packed.specs.Calls.{fitFile}
-use Rattle.packed.proofs.CallLaws.{write-finds, fitFile-fits, body-refused, body-tight, body-given, untested, none-lent, judges-fields-front}
+use Rattle.packed.proofs.CallLaws.{write-finds, accepted-by, refused-by, fitFile-fits, body-refused, body-goes-on, fitted-tight, fitted-given, none-lent, judges-fields-front}
 use borrow.Author.Needs.{needs}
 use Rattle.packed.proofs.calls.write_sheet_of.Statement.{statement}
 use Rattle.packed.proofs.calls.write_sheet_of.Tie as tie
@@ -32,7 +32,8 @@ returns c =
     let j = c .before .before .before .before .before .before .judge-sheet-fields in
     let a = c .before .before .before .before .before .before .before .before .before .before .args in
     let q = rw (c .before .before .p .given .1) at (j .ensures) in
-    body-tight (write-finds 4 (sheet (a .m)) (a .fields .now)) (a .out .now) (none-lent (a .out .now) (j .last .1 .1 .0) (j .kept .1 .1 .0)) q fitFile-fits untested (λ b. refl) (c .if1 .taken)
+    body-goes-on (fitFile (length (a .out .now))) (accepted-by (write-finds 4 (sheet (a .m)) (a .fields .now)) (q .is))
+    (fitted-tight fitFile-fits (a .out .now) (q .fields) (none-lent (a .out .now) (j .last .1 .1 .0) (j .kept .1 .1 .0)) refl (q .number) (c .if1 .taken))
 
 judge-sheet-fields-requires-2 : tie.Need-judge-sheet-fields-requires-2
 judge-sheet-fields-requires-2 c κs = search needs
@@ -48,8 +49,9 @@ returns-2 c =
     let j = c .before .before .before .before .before .before .before .before .before .before .judge-sheet-fields in
     let a = c .before .before .before .before .before .before .before .before .before .before .before .before .before .before .args in
     let q = rw (c .before .before .before .before .before .before .p .given .1) at (j .ensures) in
-    body-given (write-finds 4 (sheet (a .m)) (a .fields .now)) (a .out .now) (none-lent (a .out .now) (j .last .1 .1 .0) (j .kept .1 .1 .0)) q fitFile-fits untested (λ b. refl) (c .before .before .before .before .if1 .left)
-    (judges-fields-front (encode (sheet (a .m)) (a .fields .now)) 4 (c .before .before .judge-sheet-fields2 .result) (q .fields) _ _ (c .before .before .judge-sheet-fields2 .ensures) (q .is))
+    body-goes-on (fitFile (length (a .out .now))) (accepted-by (write-finds 4 (sheet (a .m)) (a .fields .now)) (q .is))
+    (fitted-given fitFile-fits (a .out .now) (q .fields) (none-lent (a .out .now) (j .last .1 .1 .0) (j .kept .1 .1 .0)) refl (q .number) (c .before .before .before .before .if1 .left)
+    (judges-fields-front (encode (sheet (a .m)) (a .fields .now)) 4 (c .before .before .judge-sheet-fields2 .result) (q .fields) _ _ (c .before .before .judge-sheet-fields2 .ensures) (q .is)))
 
 same-length-3 : tie.Need-same-length-3
 same-length-3 c = search needs
@@ -59,7 +61,7 @@ returns-3 c =
     let j = c .before .before .before .before .before .judge-sheet-fields in
     let a = c .before .before .before .before .before .before .before .before .before .args in
     let q = rw (c .before .p2 .given .1) at (j .ensures) in
-    body-refused (write-finds 4 (sheet (a .m)) (a .fields .now)) (a .out .now) (none-lent (a .out .now) (j .last .1 .1 .0) (j .kept .1 .1 .0)) (fitFile (length (a .out .now))) (c .before .p2 .given .0 .0) q
+    body-refused (fitFile (length (a .out .now))) (a .out .now) (none-lent (a .out .now) (j .last .1 .1 .0) (j .kept .1 .1 .0)) (c .before .p2 .given .0 .0) (refused-by (write-finds 4 (sheet (a .m)) (a .fields .now)) (c .before .p2 .given .0 .0) q)
 
 pub write-sheet-of-spec : {M : Type 1} → statement M
 write-sheet-of-spec =

@@ -1,0 +1,56 @@
+-- A pattern and a catalogue that were accepted, by value.
+use Prim.Native.Nat.{ℕ, _+_, _-_, _*_, _≤_}
+use mathlib.Core.Path.{_≡_, sym, ap, subst, _∙_}
+use mathlib.Core.List.{List}
+use lib.ListN.{length, take, drop, getD}
+use native.Mathlib.Omega.{arith}
+use native.Mathlib.Nat.{sub-zero}
+use Rattle.packed.specs.Format.{Result, decode}
+use Rattle.packed.specs.Formats.{pattern, catalogue}
+use Rattle.packed.specs.Contents.{nodesOf, edgesOf, patternSize}
+use Rattle.packed.specs.ByValue.{HoldsPattern, Counted}
+use Rattle.packed.specs.Reading.{Content}
+use Rattle.packed.specs.Calls.{Verdict, readPattern}
+use Rattle.packed.specs.Accepting.{Held, HoldsViews}
+use Rattle.packed.specs.declared.by_value.Pattern.{Pattern}
+use Rattle.packed.proofs.AcceptedBounds.{pattern-bounds, catalogue-bounds}
+use Rattle.packed.proofs.CallLaws.{Finds, accepted-by, read-says, front-is, counts-are, counts-small}
+
+-- the content stands in the words that it was read into
+held-by : {H : List ℕ → Type 0} {v : Verdict} {r : Result ℕ} {file n : ℕ} {w w′ : List ℕ} (c : Content r n w w′) → n ≤ length w → Finds v file r → length w′ ≡ length w
+    → H (c .fields) → Held H v n w′
+held-by {n = n} {w′ = w′} c room f l h = record {
+  fields = c .fields;
+  is = accepted-by f (c .is);
+  fits = omega (arith, l);
+  front = sym (ap (λ (m : ℕ). take m w′) (sub-zero n)) ∙ front-is c room;
+  holds = h;
+}
+
+-- what a pattern by value needs of it
+pub pattern-fits : (s : List ℕ) {n : ℕ} {w w′ : List ℕ} (c : Content (decode pattern s) n w w′) → n ≤ length w
+    → (nodesOf (take (n - 0) (drop 0 w′)) ≤ 16) × (edgesOf (take (n - 0) (drop 0 w′)) ≤ 32)
+    × (2 + (nodesOf (take (n - 0) (drop 0 w′)) + 2 * edgesOf (take (n - 0) (drop 0 w′))) ≤ length (take (n - 0) (drop 0 w′)))
+unfolding patternSize
+pattern-fits s c room = let b = pattern-bounds s (c .fields) (c .is) in rw (front-is c room) (b .1, b .3, omega (arith, b .4))
+
+pub pattern-held : (s : List ℕ) {p : Pattern} {v : Verdict} {file n : ℕ} {w w′ : List ℕ} (c : Content (decode pattern s) n w w′) → n ≤ length w → Finds v file (decode pattern s)
+    → length w′ ≡ length w → HoldsPattern (take (n - 0) (drop 0 w′)) p → Held (λ ws. HoldsPattern ws p) v n w′
+pattern-held s {p = p} c room f l h = held-by c room f l (subst (λ ws. HoldsPattern ws p) (front-is c room) h)
+
+pub pattern-few : (s : List ℕ) {p : Pattern} {n : ℕ} {w : List ℕ} (q : Held (λ ws. HoldsPattern ws p) (readPattern s) n w) → p .edges ≤ 32
+pattern-few s q = omega (arith, pattern-bounds s (q .fields) (read-says 44 1 pattern s (q .fields) (q .is) .0) .3, q .holds .edges)
+
+-- the same of a catalogue's views
+views-held : (s : List ℕ) {n k : ℕ} {w w′ counts : List ℕ} (c : Content (decode catalogue s) n w w′) → n ≤ length w → k ≡ getD (take (n - 0) (drop 0 w′)) 0 0
+    → Counted (take (n - 0) (drop 0 w′)) counts → HoldsViews (c .fields) k counts
+views-held s {k = k} c room e m =
+    let b = catalogue-bounds s (c .fields) (c .is) in
+    let f = rw (front-is c room) at m in
+    let g = rw (front-is c room) at e in
+    record { number = g; few = omega (arith, g, b .0); are = counts-are f (b .0) k (b .1) g; small = counts-small f (b .0) (b .2) }
+
+pub catalogue-held : (s : List ℕ) {v : Verdict} {file n k : ℕ} {w w′ counts : List ℕ} (c : Content (decode catalogue s) n w w′) → n ≤ length w
+    → Finds v file (decode catalogue s) → length w′ ≡ length w → k ≡ getD (take (n - 0) (drop 0 w′)) 0 0 → Counted (take (n - 0) (drop 0 w′)) counts
+    → Held (λ cs. HoldsViews cs k counts) v n w′
+catalogue-held s c room f l e m = held-by c room f l (views-held s c room e m)
