@@ -11,7 +11,7 @@ use borrow.Author.Tests.{leb-true, ltb-true}
 use Rattle.packed.specs.Bits.{bitsOf, bits, gap}
 use Rattle.packed.specs.Format.{Format, done, ask, test, pad, then, whole, Got, got, fault, push, within, scan, lay, ok, ended, decode}
 use Rattle.packed.specs.Plain.{Laid, Whole}
-use Rattle.packed.proofs.BitsLaws.{length-bits}
+use Rattle.packed.proofs.BitsLaws.{gap-none, gap-fills, length-bits}
 use Rattle.packed.proofs.RoundTrip.{push-got, pick-got, ended-ok, pick-yes, and-yes, whole-is, lay-done, lay-ask, lay-test, lay-pad, lay-then, onward, scan-lay, lay-scan}
 use Rattle.packed.proofs.ReadingLaws.{in-range}
 
@@ -185,14 +185,6 @@ gap-from : (at n : ℕ) → at % 8 ≡ 0 → gap (at + n) ≡ gap n
 unfolding gap
 gap-from at n h = omega arith
 
-gap-sum : (n : ℕ) → (n + gap n) % 8 ≡ 0
-unfolding gap
-gap-sum n = omega arith
-
-gap-none : (n : ℕ) → n % 8 ≡ 0 → gap n ≡ 0
-unfolding gap
-gap-none n h = omega arith
-
 pub accepts-whole : (F : Format) (at : ℕ) {R : Laid} → at % 8 ≡ 0 → Accepts F at R → Accepts (whole F) at (Whole R)
 accepts-whole F at {R} h a =
     subst (λ (G : Format). Accepts G at (Whole R)) (sym (whole-is F))
@@ -233,7 +225,7 @@ pub whole-length : {R : Laid} {ws : List ℕ} {bs : List Bool} → Whole R ws bs
 whole-length q =
     let n : ℕ = length (q .body) in
     let e = ap length (q .fills) ∙ length-append (q .body) (replicate (gap n) false) ∙ ap (λ (k : ℕ). n + k) (length-replicate (gap n) false) in
-    ap (λ (k : ℕ). k % 8) e ∙ gap-sum n
+    ap (λ (k : ℕ). k % 8) e ∙ gap-fills n
 
 -- and whole bytes are whole
 pub whole-same : {R : Laid} → ((ws : List ℕ) (bs : List Bool) → R ws bs → length bs % 8 ≡ 0) → (ws : List ℕ) (bs : List Bool) → Whole R ws bs ↔ R ws bs

@@ -11,25 +11,39 @@ use native.Mathlib.Omega.{arith}
 use native.Mathlib.Numerals.{one-add, add-one}
 use native.Mathlib.Nat.{pow-suc, add-mul, mul-assoc, mul-comm, mod-eq-of-lt, div-one, div-lt-iff-lt-mul, one-mul, add-assoc, zero-add, suc-add, add-comm, lt-of-lt-of-le}
 use borrow.Author.Tests.{eq-eqb, ne-eqb}
-use Rattle.packed.specs.Bits.{bit, odd, bitsOf, numFrom, num, bits, field, zeros}
+use Rattle.packed.specs.Bits.{one, odd, bitsOf, numFrom, num, bits, field, zeros, gap}
 
 -- ---- one bit
 
-bit-odd : (n : ℕ) → bit (odd n) ≡ n % 2
-bit-odd n = go (n % 2) (omega arith)
+one-odd : (n : ℕ) → one (odd n) ≡ n % 2
+one-odd n = go (n % 2) (omega arith)
   where
-    go : (r : ℕ) → r < 2 → bit (eqb r 1) ≡ r
+    go : (r : ℕ) → r < 2 → one (eqb r 1) ≡ r
     go zero h = refl
     go (suc zero) h = refl
     go (suc (suc r)) h = absurd (omega arith)
 
-odd-digit : (a : ℕ) (b : Bool) → odd (a * 2 + bit b) ≡ b
+odd-digit : (a : ℕ) (b : Bool) → odd (a * 2 + one b) ≡ b
 odd-digit a true = eq-eqb ((a * 2 + 1) % 2) 1 (omega arith)
 odd-digit a false = ne-eqb ((a * 2 + 0) % 2) 1 (omega arith)
 
-bit-lt : (b : Bool) → bit b < 2
-bit-lt true = omega arith
-bit-lt false = omega arith
+one-small : (b : Bool) → one b < 2
+one-small true = omega arith
+one-small false = omega arith
+
+-- ---- padding
+
+pub gap-small : (at : ℕ) → gap at ≤ 7
+unfolding gap
+gap-small at = omega arith
+
+pub gap-none : (at : ℕ) → at % 8 ≡ 0 → gap at ≡ 0
+unfolding gap
+gap-none at h = omega arith
+
+pub gap-fills : (at : ℕ) → (at + gap at) % 8 ≡ 0
+unfolding gap
+gap-fills at = omega arith
 
 -- ---- lengths
 
@@ -52,8 +66,8 @@ numFrom-bitsOf : (acc w n : ℕ) → numFrom acc (bitsOf w n) ≡ acc * 2 ^ w + 
 unfolding numFrom bitsOf
 numFrom-bitsOf acc zero n = omega arith
 numFrom-bitsOf acc (suc w) n =
-    numFrom-bitsOf (acc * 2 + bit (odd (n / 2 ^ w))) w n
-    ∙ rw mod-suc (simp (bit-odd, pow-suc, add-mul, mul-assoc, mul-comm 2 (2 ^ w), add-assoc))
+    numFrom-bitsOf (acc * 2 + one (odd (n / 2 ^ w))) w n
+    ∙ rw mod-suc (simp (one-odd, pow-suc, add-mul, mul-assoc, mul-comm 2 (2 ^ w), add-assoc))
 
 pub num-bitsOf : (w n : ℕ) → num (bitsOf w n) ≡ n % 2 ^ w
 unfolding num
@@ -66,11 +80,11 @@ numFrom-div : (acc : ℕ) (bs : List Bool) → numFrom acc bs / 2 ^ length bs �
 unfolding numFrom
 numFrom-div acc [] = div-one acc
 numFrom-div acc (b ∷ bs) =
-    let e : numFrom (acc * 2 + bit b) bs / 2 ^ length bs ≡ acc * 2 + bit b = numFrom-div (acc * 2 + bit b) bs in
-    ap (λ (k : ℕ). numFrom (acc * 2 + bit b) bs / 2 ^ k) (sym (add-one (length bs)))
-    ∙ sym (shr-shr (numFrom (acc * 2 + bit b) bs) (length bs) 1)
+    let e : numFrom (acc * 2 + one b) bs / 2 ^ length bs ≡ acc * 2 + one b = numFrom-div (acc * 2 + one b) bs in
+    ap (λ (k : ℕ). numFrom (acc * 2 + one b) bs / 2 ^ k) (sym (add-one (length bs)))
+    ∙ sym (shr-shr (numFrom (acc * 2 + one b) bs) (length bs) 1)
     ∙ ap (λ (k : ℕ). k / 2) e
-    ∙ omega (arith, bit-lt b)
+    ∙ omega (arith, one-small b)
 
 pub num-lt : (bs : List Bool) → num bs < 2 ^ length bs
 unfolding num
@@ -80,8 +94,8 @@ bitsOf-numFrom : (acc : ℕ) (bs : List Bool) → bitsOf (length bs) (numFrom ac
 unfolding bitsOf numFrom
 bitsOf-numFrom acc [] = refl
 bitsOf-numFrom acc (b ∷ bs) =
-    let e : numFrom (acc * 2 + bit b) bs / 2 ^ length bs ≡ acc * 2 + bit b = numFrom-div (acc * 2 + bit b) bs in
-    rw (e, odd-digit, bitsOf-numFrom (acc * 2 + bit b) bs)
+    let e : numFrom (acc * 2 + one b) bs / 2 ^ length bs ≡ acc * 2 + one b = numFrom-div (acc * 2 + one b) bs in
+    rw (e, odd-digit, bitsOf-numFrom (acc * 2 + one b) bs)
 
 pub bitsOf-num : (w : ℕ) (bs : List Bool) → length bs ≡ w → bitsOf w (num bs) ≡ bs
 unfolding num
@@ -93,7 +107,7 @@ num-take-lt w bs = lt-of-lt-of-le (num-lt (take w bs)) (pow-mono (omega (arith, 
 numFrom-append : (acc : ℕ) (xs ys : List Bool) → numFrom acc (xs ++ ys) ≡ numFrom (numFrom acc xs) ys
 unfolding numFrom
 numFrom-append acc [] ys = refl
-numFrom-append acc (x ∷ xs) ys = numFrom-append (acc * 2 + bit x) xs ys
+numFrom-append acc (x ∷ xs) ys = numFrom-append (acc * 2 + one x) xs ys
 
 -- bits after other bits
 pub num-append : (xs ys : List Bool) → num (xs ++ ys) ≡ num xs * 2 ^ length ys + num ys
@@ -188,7 +202,7 @@ replicate-zeros (false ∷ bs) h = ap (λ (l : List Bool). false ∷ l) (replica
 numFrom-le : (acc : ℕ) (bs : List Bool) → acc ≤ numFrom acc bs
 unfolding numFrom
 numFrom-le acc [] = omega arith
-numFrom-le acc (b ∷ bs) = omega (arith, numFrom-le (acc * 2 + bit b) bs)
+numFrom-le acc (b ∷ bs) = omega (arith, numFrom-le (acc * 2 + one b) bs)
 
 pub zeros-num : (bs : List Bool) → zeros bs ≡ eqb (num bs) 0
 unfolding zeros num numFrom

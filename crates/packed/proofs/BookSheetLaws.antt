@@ -24,11 +24,6 @@ unfolding listsIn
 lists-many zero ws = refl
 lists-many (suc m) ws = ap suc (lists-many m _)
 
-sheets-many : (ms ws : List ℕ) → length (sheetsIn ms ws) ≡ length ms
-unfolding sheetsIn
-sheets-many [] ws = refl
-sheets-many (m ∷ ms) ws = ap suc (sheets-many ms _)
-
 lists-in-sheet : (ms ws : List ℕ) (a : ℕ) → a < length ms → length (getD (sheetsIn ms ws) a []) ≡ getD ms a 0
 unfolding sheetsIn
 lists-in-sheet [] ws a h = absurd (omega arith)
@@ -107,9 +102,6 @@ sheets-back (ls ∷ sheets) =
 
 -- ---- the lists of an accepted book
 module _ (ms s ws : List ℕ) (e : decode (book ms) s ≡ ok ws) where
-  pub book-many : length (sheetsIn ms ws) ≡ length ms
-  book-many = sheets-many ms ws
-
   pub sheet-many : (a : ℕ) → a < length ms → length (getD (sheetsIn ms ws) a []) ≡ getD ms a 0
   sheet-many = lists-in-sheet ms ws
 

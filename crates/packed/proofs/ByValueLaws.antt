@@ -1,6 +1,6 @@
 -- A table filled from words, one a turn.
 use mathlib.Core.Path.{_≡_, refl, ap, sym, subst, _∙_}
-use mathlib.Core.Logic.{_⊎_, ⊎-elim}
+use mathlib.Core.Logic.{⊎-elim}
 use mathlib.Core.List.{List}
 use Prim.Native.Nat.{ℕ, zero, suc, _+_, _*_, _<_, _≤_}
 use native.Mathlib.Omega.{arith}
@@ -9,7 +9,7 @@ use lib.Seq.{getD-set-same, getD-set-other}
 use Rattle.packed.specs.ByValue.{Spread}
 use Rattle.packed.proofs.OrderCases.{lt-or-ge, eq-or-ne}
 
-nothing-at : (n j : ℕ) → _≡_ {A = ℕ} (getD (replicate n 0) j 0) 0
+pub nothing-at : (n j : ℕ) → _≡_ {A = ℕ} (getD (replicate n 0) j 0) 0
 nothing-at zero j = refl
 nothing-at (suc n) zero = refl
 nothing-at (suc n) (suc j) = nothing-at n j

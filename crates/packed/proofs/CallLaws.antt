@@ -97,11 +97,11 @@ pub fitFile-fits : Fits fitFile overFile
 unfolding fitFile
 fitFile-fits = record { is = λ room o. refl; within = λ room n e. overFile-no room n e .0 }
 
-crowded : (ms ws : List ℕ) (a : Answer) → 8192 < length (pairsOf ms ws) → uncrowdedBy ms ws a ≡ refuse 10 4
+pub crowded : (ms ws : List ℕ) (a : Answer) → 8192 < length (pairsOf ms ws) → uncrowdedBy ms ws a ≡ refuse 10 4
 unfolding uncrowdedBy
 crowded ms ws a h = rw (lt-ltb 8192 (length (pairsOf ms ws)) h)
 
-uncrowded-is : (ms ws : List ℕ) (a : Answer) → length (pairsOf ms ws) ≤ 8192 → uncrowdedBy ms ws a ≡ a
+pub uncrowded-is : (ms ws : List ℕ) (a : Answer) → length (pairsOf ms ws) ≤ 8192 → uncrowdedBy ms ws a ≡ a
 unfolding uncrowdedBy
 uncrowded-is ms ws a h = rw (le-ltb 8192 (length (pairsOf ms ws)) h)
 

@@ -97,11 +97,11 @@ beside most file F p k k′ o o′ e g =
 at-withWorkspace : (words : ℕ) (a b : Answer) (o o′ : List ℕ) → withWorkspace words a ≡ give [] (o ∷ []) → (a ≡ give [] (o ∷ []) → b ≡ give [] (o′ ∷ [])) → withWorkspace words b ≡ give [] (o′ ∷ [])
 at-withWorkspace words a b o o′ e g = let p = withWorkspace-given words a o e in p .1 b ∙ g (p .0)
 
-fit-given : (room : ℕ) (o : List ℕ) → length o ≤ room → fit room o ≡ give [] (o ∷ [])
+pub fit-given : (room : ℕ) (o : List ℕ) → length o ≤ room → fit room o ≡ give [] (o ∷ [])
 unfolding fit
 fit-given room o h = rw (le-ltb room (length o) h)
 
-fitFile-given : (room : ℕ) (o : List ℕ) → length o ≤ room → length o ≤ 65536 → fitFile room o ≡ give [] (o ∷ [])
+pub fitFile-given : (room : ℕ) (o : List ℕ) → length o ≤ room → length o ≤ 65536 → fitFile room o ≡ give [] (o ∷ [])
 unfolding fitFile
 fitFile-given room o h l = rw (le-ltb room (length o) h, le-ltb 65536 (length o) l)
 

@@ -1,16 +1,14 @@
 -- The end of a file: padding, and nothing after.
 use Prim.Native.Nat.{ℕ, _+_, _-_, _*_, _/_, _%_, _<_, _≤_}
-use mathlib.Core.Path.{_≡_, refl, ap, sym, _∙_}
-use mathlib.Core.List.{List, []}
+use mathlib.Core.Path.{_≡_, refl, sym}
+use mathlib.Core.List.{List}
 use mathlib.Core.Bool.{Bool, true, false}
 use lib.ListN.{length, take, drop}
 use native.Mathlib.Omega.{arith}
 use lib.Seq.{sets}
 use Rattle.packed.specs.Bits.{bits, bitsOf, zeros, gap}
-use Rattle.packed.specs.Format.{Format, done, pad, then, whole, decode, bad}
-use Rattle.packed.specs.Refusals.{numberOf, detailOf}
-use Rattle.packed.specs.Reading.{Reading, Refuses, Content, Judges}
-use Rattle.packed.specs.declared.reply.Refusal.{Refusal}
+use Rattle.packed.specs.Format.{Format, done, pad, whole, decode, bad}
+use Rattle.packed.specs.Reading.{Reading, Content}
 use Rattle.packed.specs.declared.reply.Refusal.the-variants.{Trailing}
 use Rattle.packed.proofs.RoundTrip.{whole-is}
 use Rattle.packed.proofs.ReadingLaws.{starts, left-is, same-at, calls, pads, ends-dirty}

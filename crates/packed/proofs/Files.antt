@@ -1,10 +1,10 @@
 -- Whole files: from a reading, or a writing, to its end to the verdict.
 use Prim.Native.Nat.{ℕ, zero, suc, _+_, _-_, _*_, _/_, _<_, _≤_}
 use mathlib.Core.Path.{_≡_, refl, ap, sym, _∙_}
-use mathlib.Core.List.{List, [], _∷_, _++_, append-nil}
+use mathlib.Core.List.{List, [], _∷_, append-nil}
 use mathlib.Core.Bool.{Bool, true}
-use lib.ListN.{length, take, drop, set, length-append, length-drop}
-use lib.Seq.{sets, take-at, drop-at}
+use lib.ListN.{length, take, drop, set, length-drop}
+use lib.Seq.{sets}
 use lib.Dec.{lit<}
 use native.Mathlib.Omega.{arith}
 use Rattle.packed.specs.Bits.{bits, bitsOf, zeros, gap}
@@ -14,7 +14,8 @@ use Rattle.packed.specs.Reading.{from, Reading, Refuses, Content}
 use Rattle.packed.specs.Writing.{Writing, Rejects}
 use Rattle.packed.specs.declared.reply.Refusal.{Refusal}
 use Rattle.packed.proofs.BitsLaws.{length-bitsOf, length-bits, num-take-lt, bits-injective, zeros-replicate, bitsOf-zero}
-use Rattle.packed.proofs.Sets.{sets-append, sets-beyond, sets-drop, sets-at}
+use Rattle.packed.proofs.Sets.{sets-append}
+use Rattle.packed.proofs.BitFields.{put-whole}
 use Rattle.packed.proofs.RoundTrip.{Bytes, bits-bytesOf, whole-is, scan-done, lay-done}
 use Rattle.packed.proofs.ReadingLaws.{starts, same-at, left-is, calls, calls-refused, pads}
 use Rattle.packed.proofs.WritingLaws.{begins, same-to, left-to, parts, parts-rejected, fills}
@@ -84,28 +85,13 @@ judged-bad {F} {s} q =
 
 -- ---- bytes
 
-byte-set : (l : List ℕ) (i v : ℕ) → bits (set l i v) ≡ sets (bits l) (8 * i) (bitsOf 8 v)
-unfolding bits
-byte-set [] i v = sym (sets-beyond [] (8 * i) (bitsOf 8 v) (omega arith))
-byte-set (x ∷ l) zero v = sym (sets-at [] (bitsOf 8 x) (bits l) (bitsOf 8 v) 0 refl (length-bitsOf 8 v ∙ sym (length-bitsOf 8 x)))
-byte-set (x ∷ l) (suc i) v =
-    let e : 8 * suc i ≡ 8 + 8 * i = omega arith in
-    let n : length (bitsOf 8 x) ≡ 8 = length-bitsOf 8 x in
-    rw (
-      e,
-      sets-drop (bitsOf 8 x ++ bits l) 8 (8 * i) (bitsOf 8 v) (omega (arith, length-append (bitsOf 8 x) (bits l))),
-      take-at (bitsOf 8 x) (bits l) 8 n,
-      drop-at (bitsOf 8 x) (bits l) 8 n,
-      byte-set l i v,
-    )
-
 pub bits-sets : (l : List ℕ) (i : ℕ) (vs : List ℕ) → bits (sets l i vs) ≡ sets (bits l) (8 * i) (bits vs)
 unfolding bits
 bits-sets l i [] = refl
 bits-sets l i (v ∷ vs) =
     let e : 8 * suc i ≡ 8 * i + length (bitsOf 8 v) = omega (arith, length-bitsOf 8 v) in
     bits-sets (set l i v) (suc i) vs
-    ∙ ap (λ (t : List Bool). sets t (8 * suc i) (bits vs)) (byte-set l i v)
+    ∙ ap (λ (t : List Bool). sets t (8 * suc i) (bits vs)) (put-whole l i v)
     ∙ ap (λ (k : ℕ). sets (sets (bits l) (8 * i) (bitsOf 8 v)) k (bits vs)) e
     ∙ sets-append (bits l) (8 * i) (bitsOf 8 v) (bits vs)
 

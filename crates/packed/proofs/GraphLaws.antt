@@ -1,18 +1,17 @@
 -- Accepted records by the places of their fields, and the codes of their edges in the workspace.
-use Prim.Native.Nat.{ℕ, zero, suc, _+_, _*_, _/_, _%_, _^_, _<_, _≤_}
+use Prim.Native.Nat.{ℕ, zero, suc, _+_, _*_, _^_, _<_, _≤_}
 use mathlib.Core.Path.{_≡_, refl, ap, ap₂, sym, _∙_}
 use mathlib.Core.List.{List, [], _∷_, _++_, append-assoc}
-use mathlib.Core.Bool.{Bool, true, false}
+use mathlib.Core.Bool.{Bool, false}
 use mathlib.Core.Logic.{⊎-elim}
 use lib.ListN.{length, take, drop, getD, set, replicate, length-append, length-drop, length-set, length-replicate, getD-replicate, List·getD-append}
 use lib.Seq.{take-at, drop-at, getD-append-add, getD-take, getD-set-same, getD-set-other, length-take-le, ext-getD}
 use native.Mathlib.Omega.{arith}
 use native.Mathlib.Nat.{mul-zero, mul-suc}
-use borrow.Author.Tests.{eqb-true}
 use Rattle.packed.specs.Bits.{bitsOf, bits, field, gap}
 use Rattle.packed.specs.Format.{ok, decode}
 use Rattle.packed.specs.Formats.{record′, code}
-use Rattle.packed.specs.Contents.{nodesOf, edgesOf, member, distinct}
+use Rattle.packed.specs.Contents.{nodesOf, edgesOf, distinct}
 use Rattle.packed.specs.Plain.{fieldsOf, Below, fromAt, toAt, PlainEdges}
 use Rattle.packed.specs.Order.{word, Ascends, SameTo, Sorted, Repeats}
 use Rattle.packed.specs.Distinct.{BelowHead, Increasing}
@@ -23,10 +22,10 @@ use Rattle.packed.specs.Reading.{TwoValues, Judges}
 use Rattle.packed.specs.declared.reply.Part.{Part}
 use Rattle.packed.specs.declared.reply.Part.the-variants as part-is
 use Rattle.packed.proofs.BitsLaws.{length-bitsOf, length-bits, num-bitsOf-lt, field-lt}
-use Rattle.packed.proofs.OrderCases.{lt-or-ge, eq-or-ne, or-cases}
+use Rattle.packed.proofs.OrderCases.{lt-or-ge, eq-or-ne}
 use Rattle.packed.proofs.Places.{times-find, times-le}
 use Rattle.packed.proofs.Sorts.{word-front, repeats-yes, repeats-same, same-in}
-use Rattle.packed.proofs.DistinctLaws.{distinct-own, member-distinct, member-at}
+use Rattle.packed.proofs.DistinctLaws.{distinct-own}
 use Rattle.packed.proofs.DistinctAbsorb.{distinct-sorted}
 use Rattle.packed.proofs.AcceptedEdges.{from-cons, to-cons}
 use Rattle.packed.proofs.Accepted.{record-accepted}
@@ -37,7 +36,7 @@ unfolding field
 field-here s at w v p q e l h =
     rw (e, drop-at p (bitsOf w v ++ q) at l, take-at (bitsOf w v) q w (length-bitsOf w v)) (num-bitsOf-lt w v h)
 
-fields-length : (w : ℕ) (vs : List ℕ) → length (fieldsOf w vs) ≡ w * length vs
+pub fields-length : (w : ℕ) (vs : List ℕ) → length (fieldsOf w vs) ≡ w * length vs
 unfolding fieldsOf
 fields-length w [] = sym (mul-zero w)
 fields-length w (v ∷ vs) =
@@ -210,9 +209,6 @@ codes-at (a ∷ b ∷ ends) (suc j) h = codes-at ends j (omega arith) ∙ sym (a
 
 -- edges that differ have codes that differ
 module _ {nodes number : ℕ} {ends : List ℕ} (few : nodes ≤ 4096) (p : PlainEdges nodes number ends) where
-  from-below : (j : ℕ) → j < number → fromAt ends j < nodes
-  from-below j h = p .are-nodes (2 * j) (let e = p .two-each in omega arith)
-
   to-below : (j : ℕ) → j < number → toAt ends j < nodes
   to-below j h = p .are-nodes (2 * j + 1) (let e = p .two-each in omega arith)
 
@@ -385,46 +381,3 @@ holds-by s w {n} {m} {w′} long o en em =
           omega arith)
           (lt-or-ge i (edgesOf (o .fields)));
     }
-
--- ---- the ends of the edges held
--- where a member of a list stands
-member-place : (x : ℕ) (l : List ℕ) → member x l ≡ true → (j : ℕ) × (j < length l) × (getD l j 0 ≡ x)
-unfolding member
-member-place x [] e = absurd (let z : _≡_ {A = ℕ} 0 1 = cc in omega arith)
-member-place x (y ∷ l) e =
-    ⊎-elim
-    (λ h. (0, omega arith, eqb-true y x h))
-    (λ h. let r = member-place x l h in let n = r .1 in (suc (r .0), omega arith, r .2))
-    (or-cases _ _ e)
-
-code-parts : (a b c : ℕ) → b < 4096 → c ≡ code a b → (c / 4096 ≡ a) × (c % 4096 ≡ b)
-code-parts a b c h e = (omega arith, omega arith)
-
--- each of the first m words is the code of an edge between nodes
-pub held-ends : {s : List ℕ} {n m : ℕ} {w : List ℕ} → Holds s n m w → (j : ℕ) → j < m → (getD w j 0 / 4096 < n) × (getD w j 0 % 4096 < n)
-held-ends {s} {n} {m} {w} h j l =
-    let g = sited s (h .fields) (h .is) in
-    let x = nodes-is g in
-    let y = number-is g in
-    let u = h .nodes in
-    let v = h .edges in
-    let few = g .most-edges in
-    let long = length-take-le m w (let z = h .long in omega arith) in
-    let front : take m w ≡ distinct (codes (g .ends)) = h .front ∙ ap (λ (t : List ℕ). distinct (codes t)) (sited-ends g) in
-    let c : ℕ = getD w j 0 in
-    let is : member c (codes (g .ends)) ≡ true =
-    sym (member-distinct c (codes (g .ends)))
-    ∙ ap (member c) (sym front)
-    ∙ ap (λ (z : ℕ). member z (take m w)) (sym (getD-take m w j 0 l))
-    ∙ member-at (take m w) j (omega arith) in
-    let r = member-place c (codes (g .ends)) is in
-    let k : ℕ = r .0 in
-    let many = codes-length (g .number) (g .ends) (g .edges .two-each) in
-    let below : k < g .number = let q = r .1 in omega arith in
-    let from = from-below (g .most-nodes) (g .edges) k below in
-    let to = to-below (g .most-nodes) (g .edges) k below in
-    let most = g .most-nodes in
-    let p = code-parts (fromAt (g .ends) k) (toAt (g .ends) k) c (omega arith) (sym (r .2) ∙ codes-at (g .ends) k (r .1)) in
-    let p₀ = p .0 in
-    let p₁ = p .1 in
-    (omega arith, omega arith)

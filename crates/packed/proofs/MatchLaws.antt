@@ -34,24 +34,24 @@ listsOf m n w = markedFrom 0 m (codesOf n w) (masksOf n w)
 -- ---- one more pair
 
 -- a code, where its mask names the edge
-abbrev pub one : Bool → ℕ → List ℕ
-one b p = pick b (p ∷ []) []
+abbrev pub pickOne : Bool → ℕ → List ℕ
+pickOne b p = pick b (p ∷ []) []
 
 pick-append : (b : Bool) (p : ℕ) (xs ys : List ℕ) → pick b (p ∷ (xs ++ ys)) (xs ++ ys) ≡ pick b (p ∷ xs) xs ++ ys
 pick-append true p xs ys = refl
 pick-append false p xs ys = refl
 
 marked-more : (e : ℕ) (ps qs : List ℕ) (p q : ℕ) → length ps ≡ length qs
-    → marked e (ps ++ (p ∷ [])) (qs ++ (q ∷ [])) ≡ marked e ps qs ++ one (marks e q) p
+    → marked e (ps ++ (p ∷ [])) (qs ++ (q ∷ [])) ≡ marked e ps qs ++ pickOne (marks e q) p
 unfolding marked
 marked-more e [] [] p q h = refl
 marked-more e [] (y ∷ qs) p q h = absurd (omega arith)
 marked-more e (x ∷ ps) [] p q h = absurd (omega arith)
 marked-more e (x ∷ ps) (y ∷ qs) p q h =
     ap (λ (l : List ℕ). pick (marks e y) (x ∷ l) l) (marked-more e ps qs p q (omega arith))
-    ∙ pick-append (marks e y) x (marked e ps qs) (one (marks e q) p)
+    ∙ pick-append (marks e y) x (marked e ps qs) (pickOne (marks e q) p)
 
-pub under-more : (e i : ℕ) (w : List ℕ) → 8192 + i < length w → under e (i + 1) w ≡ under e i w ++ one (marks e (getD w (8192 + i) 0)) (getD w i 0)
+pub under-more : (e i : ℕ) (w : List ℕ) → 8192 + i < length w → under e (i + 1) w ≡ under e i w ++ pickOne (marks e (getD w (8192 + i) 0)) (getD w i 0)
 under-more e i w h =
     let d : List ℕ = drop 8192 w in
     let n : length d ≡ length w - 8192 = length-drop 8192 w in
@@ -60,13 +60,13 @@ under-more e i w h =
     let b : take (i + 1) d ≡ take i d ++ (getD d i 0 ∷ []) = ap (λ (k : ℕ). take k d) (add-one i) ∙ take-suc d i 0 (omega arith) in
     ap₂ (marked e) a b
     ∙ marked-more e (take i w) (take i d) (getD w i 0) (getD d i 0) l
-    ∙ ap (λ (q : ℕ). under e i w ++ one (marks e q) (getD w i 0)) (getD-drop 8192 w i 0)
+    ∙ ap (λ (q : ℕ). under e i w ++ pickOne (marks e q) (getD w i 0)) (getD-drop 8192 w i 0)
 
-length-one : (e p q : ℕ) → length (one (marks e q) p) ≡ q / 2 ^ e % 2
+length-pickOne : (e p q : ℕ) → length (pickOne (marks e q) p) ≡ q / 2 ^ e % 2
 unfolding marks
-length-one e p q = go (q / 2 ^ e % 2) (omega arith)
+length-pickOne e p q = go (q / 2 ^ e % 2) (omega arith)
   where
-    go : (r : ℕ) → r < 2 → length (one (eqb r 1) p) ≡ r
+    go : (r : ℕ) → r < 2 → length (pickOne (eqb r 1) p) ≡ r
     go zero h = refl
     go (suc zero) h = refl
     go (suc (suc r)) h = absurd (omega arith)
@@ -75,7 +75,7 @@ pub length-more : (e i : ℕ) (w : List ℕ) → 8192 + i < length w → length 
 length-more e i w h =
     let q : ℕ = getD w (8192 + i) 0 in
     let p : ℕ = getD w i 0 in
-    ap length (under-more e i w h) ∙ length-append (under e i w) (one (marks e q) p) ∙ ap (λ (k : ℕ). length (under e i w) + k) (length-one e p q)
+    ap length (under-more e i w h) ∙ length-append (under e i w) (pickOne (marks e q) p) ∙ ap (λ (k : ℕ). length (under e i w) + k) (length-pickOne e p q)
 
 marked-least : (e : ℕ) (ps qs : List ℕ) → length (marked e ps qs) ≤ length ps
 unfolding marked
@@ -189,10 +189,6 @@ counts-most n w c t e l = omega (arith, t .each e l, under-most e n w)
 pub counts-few : (n : ℕ) (w c : List ℕ) → Counts n w c → n ≤ 8192 → (e : ℕ) → getD c e 0 ≤ 8192
 counts-few n w c t h e =
     ⊎-elim (λ (l : e < 32). omega (arith, counts-most n w c t e l)) (λ (l : 32 ≤ e). omega (arith, List·getD-eq-default c 0 {n = e} (omega (arith, t .long)))) (lt-or-ge e 32)
-
--- each count has room in its field
-pub counts-fit : (n : ℕ) (w c : List ℕ) → Counts n w c → n ≤ 8192 → (e : ℕ) → getD c e 0 < 2 ^ 14
-counts-fit n w c t h e = omega (arith, counts-few n w c t h e)
 
 -- ---- one more list
 

@@ -2,17 +2,16 @@
 use Prim.Native.Nat.{ℕ, zero, suc, _+_, _*_, _/_, _%_, _^_, _<_, _≤_}
 use mathlib.Core.Path.{_≡_, refl, ap, sym, _∙_}
 use mathlib.Core.List.{List, [], _∷_, _++_}
-use mathlib.Core.Bool.{Bool, true, false, _&&_}
+use mathlib.Core.Bool.{Bool, false, _&&_}
 use lib.ListN.{length, replicate, length-append, length-replicate}
-use lib.Dec.{leb, ltb}
+use lib.Dec.{ltb}
 use native.Mathlib.Omega.{arith}
 use native.Mathlib.Nat.{suc-mul}
-use borrow.Author.Tests.{ltb-true}
 use Rattle.packed.specs.Bits.{bitsOf, gap}
 use Rattle.packed.specs.Format.{Format, done, ask, test, pad, then, times, whole, Got, got, fault, push, within, lay, ok, ended, encode}
 use Rattle.packed.specs.Formats.{edges, label, joined, pattern, catalogue, labels, nothing, record′}
-use Rattle.packed.proofs.BitsLaws.{length-bitsOf}
-use Rattle.packed.proofs.RoundTrip.{push-got, pick-got, and-yes, ended-ok, inBytes-ok, aligned, onward, lay-test, lay-pad, lay-then, whole-is, times-zero, times-suc}
+use Rattle.packed.proofs.BitsLaws.{gap-small, gap-none, length-bitsOf}
+use Rattle.packed.proofs.RoundTrip.{push-got, pick-got, and-yes, below-bound, ended-ok, inBytes-ok, aligned, onward, lay-test, lay-pad, lay-then, whole-is, times-zero, times-suc}
 use Rattle.packed.proofs.Files.{length-bytesOf}
 
 -- ---- what a step was laid from
@@ -26,10 +25,6 @@ record Field (w bound : ℕ) (f : ℕ → Format) (at : ℕ) (rest : List ℕ) (
   after : lay (f v) (at + w) ws ≡ got tail rest
   long : length bs ≡ w + length tail
 
-below : (low bound v : ℕ) → within low bound v ≡ true → v < bound
-unfolding within
-below low bound v e = ltb-true v bound (and-yes (leb low v) (ltb v bound) e .1)
-
 field-laid : (w low bound e : ℕ) (f : ℕ → Format) (at : ℕ) (ws rest : List ℕ) (bs : List Bool) → lay (ask w low bound e f) at ws ≡ got bs rest → Field w bound f at rest bs
 unfolding lay
 field-laid w low bound e f at [] rest bs q = absurd (let z : _≡_ {A = ℕ} 0 1 = cc in omega arith)
@@ -40,7 +35,7 @@ field-laid w low bound e f at (v ∷ ws) rest bs q =
       v = v;
       ws = ws;
       tail = r .0;
-      most = below low bound v (and-yes (within low bound v) (ltb v (2 ^ w)) (p .0) .0);
+      most = below-bound low bound v (and-yes (within low bound v) (ltb v (2 ^ w)) (p .0) .0);
       after = r .1;
       long = ap length (r .2) ∙ length-append (bitsOf w v) (r .0) ∙ ap (λ (n : ℕ). n + length (r .0)) (length-bitsOf w v);
     }
@@ -107,16 +102,12 @@ pub most-test : {b : Bool} {e k : ℕ} {F : Format} → Most k F → Most k (tes
 most-test {b} {e} {k} {F} m =
     record { takes = λ at ws rest bs q. m .takes at ws rest bs (pick-got b (lay F at ws) e bs rest (sym (lay-test b e F at ws) ∙ q) .1) }
 
-gap-most : (at : ℕ) → gap at ≤ 7
-unfolding gap
-gap-most at = omega arith
-
 pub most-pad : {k : ℕ} {F : Format} → Most k F → Most (7 + k) (pad F)
 most-pad {k} {F} m =
     record {
       takes = λ at ws rest bs q.
           let r = pad-laid F at ws rest bs q in
-          omega (arith, r .long, gap-most at, m .takes (at + gap at) ws rest (r .tail) (r .after));
+          omega (arith, r .long, gap-small at, m .takes (at + gap at) ws rest (r .tail) (r .after));
     }
 
 pub most-then : (f g : Format) {j k : ℕ} → Most j f → Most k g → Most (j + k) (then f g)
@@ -179,10 +170,6 @@ bytes-then f g {j} {k} m n =
 pub bytes-times : (n : ℕ) (f : Format) {k : ℕ} → MostBytes k f → MostBytes (n * k) (times n f)
 bytes-times zero f {k} m = rw (times-zero f) (bytes-more (0 * k) (omega arith) bytes-done)
 bytes-times (suc n) f {k} m = rw (times-suc n f) (bytes-more (suc n * k) (omega (arith, suc-mul n k)) (bytes-then f (times n f) m (bytes-times n f m)))
-
-gap-none : (at : ℕ) → at % 8 ≡ 0 → gap at ≡ 0
-unfolding gap
-gap-none at h = omega arith
 
 pub bytes-pad : {k : ℕ} {F : Format} → MostBytes k F → MostBytes k (pad F)
 bytes-pad {k} {F} m =

@@ -11,7 +11,7 @@ use borrow.Author.Tests.{le-leb, lt-leb, lt-ltb, le-ltb}
 use Rattle.packed.specs.Bits.{bits, field, zeros, gap}
 use Rattle.packed.specs.Format.{Format, done, ask, test, pad, then, Got, got, fault, push, within, scan}
 use Rattle.packed.specs.Refusals.{numberOf, detailOf}
-use Rattle.packed.specs.Reading.{from, Reading, Refuses, Reads, ReadsBytes, Value}
+use Rattle.packed.specs.Reading.{from, Reading, Refuses, Value}
 use Rattle.packed.specs.declared.reply.Refusal.{Refusal}
 use Rattle.packed.specs.declared.reply.Part.{Part}
 use Rattle.packed.specs.declared.reply.Part.the-variants as part-is
@@ -128,17 +128,6 @@ module _ {F : Format} {s : List ℕ} {at₀ : ℕ} {w₀ : List ℕ} {i₀ : ℕ
   pub refused : {G : Format} {at : ℕ} {w : List ℕ} {i file : ℕ} {x : Refusal}
       → Reading F s at₀ w₀ i₀ G at w i → Refuses G s at file x → Refuses F s at₀ file x
   refused r p = record { number = r .comes ∙ ap (push (r .read)) (p .number); detail = p .detail }
-
-  -- the last part of F was read, or refused, by its own reader
-  pub tails : {f : Format} {at : ℕ} {w : List ℕ} {i : ℕ} (file : ℕ) (p : Part) (w′ : List ℕ)
-      → Reading F s at₀ w₀ i₀ f at w i → Reads f s at w i file p w′ → Reads F s at₀ w₀ i₀ file p w′
-  tails file (part-is.Upto at i) w′ r q = goes-on r q
-  tails file (part-is.Refused x) w′ r q = refused r q
-
-  pub tails-bytes : {f : Format} (byte₀ byte : ℕ) {w : List ℕ} {i : ℕ} (file : ℕ) (p : Part) (w′ : List ℕ) → at₀ ≡ 8 * byte₀
-      → Reading F s at₀ w₀ i₀ f (8 * byte) w i → ReadsBytes f s byte w i file p w′ → ReadsBytes F s byte₀ w₀ i₀ file p w′
-  tails-bytes byte₀ byte file (part-is.Upto at i) w′ e r q = rw (← e) (goes-on r q)
-  tails-bytes byte₀ byte file (part-is.Refused x) w′ e r q = rw (← e) (refused r q)
 
   -- a field was read
   pub reads : {wide low bound e : ℕ} {f : ℕ → Format} {at : ℕ} {w : List ℕ} {i v : ℕ} {w′ : List ℕ}

@@ -11,7 +11,7 @@ use native.Mathlib.Nat.{add-zero}
 use borrow.Author.Tests.{leb-true, ltb-true, le-leb, lt-leb, lt-ltb}
 use Rattle.packed.specs.Bits.{bitsOf, num, bits, zeros, gap}
 use Rattle.packed.specs.Format.{Format, done, ask, test, pad, then, times, whole, Got, got, fault, pick, push, within, scan, lay, Result, ok, bad, ended, bytesOf, inBytes, decode, encode}
-use Rattle.packed.proofs.BitsLaws.{length-bitsOf, length-bits, bitsOf-num, num-bitsOf-lt, num-take-lt, zeros-replicate, replicate-zeros, first-byte, drop-bits}
+use Rattle.packed.proofs.BitsLaws.{gap-fills, length-bitsOf, length-bits, bitsOf-num, num-bitsOf-lt, num-take-lt, zeros-replicate, replicate-zeros, first-byte, drop-bits}
 
 -- ---- results
 
@@ -38,6 +38,10 @@ pub and-yes : (a b : Bool) → a && b ≡ true → (a ≡ true) × (b ≡ true)
 and-yes true b e = (refl, e)
 and-yes false b e = absurd (let z : _≡_ {A = ℕ} 0 1 = cc in omega arith)
 
+pub below-bound : (low bound v : ℕ) → within low bound v ≡ true → v < bound
+unfolding within
+below-bound low bound v e = ltb-true v bound (and-yes (leb low v) (ltb v bound) e .1)
+
 pub and-no : (b : Bool) → b && false ≡ false
 and-no true = refl
 and-no false = refl
@@ -55,22 +59,6 @@ unfolding gap
 gap-ahead at n h = omega arith
 
 -- ---- the parts of a format
-
-pub then-done : (g : Format) → then done g ≡ g
-unfolding then
-then-done g = refl
-
-pub then-ask : (w low bound n : ℕ) (f : ℕ → Format) (g : Format) → then (ask w low bound n f) g ≡ ask w low bound n (λ v. then (f v) g)
-unfolding then
-then-ask w low bound n f g = refl
-
-pub then-test : (b : Bool) (n : ℕ) (f g : Format) → then (test b n f) g ≡ test b n (then f g)
-unfolding then
-then-test b n f g = refl
-
-pub then-pad : (f g : Format) → then (pad f) g ≡ pad (then f g)
-unfolding then
-then-pad f g = refl
 
 pub times-zero : (f : Format) → times 0 f ≡ done
 unfolding times
@@ -343,10 +331,6 @@ inBytes-ok (ok bs) s e = (bs, refl, cc)
 inBytes-ok (bad n) s e = absurd (let z : _≡_ {A = ℕ} 0 1 = cc in omega arith)
 
 -- what is written whole is whole bytes
-gap-fills : (at : ℕ) → (at + gap at) % 8 ≡ 0
-unfolding gap
-gap-fills at = omega arith
-
 aligned-after : (r : Got Bool ℕ) (at : ℕ) (bs : List Bool) (tail : List ℕ) → onward r (λ xs t. lay (pad done) (at + length xs) t) ≡ got bs tail → (at + length bs) % 8 ≡ 0
 unfolding lay
 aligned-after (got xs t) at bs tail e =

@@ -18,7 +18,7 @@ use Rattle.packed.proofs.SetBits.{Next, no-bits, bit-low, bit-high}
 use Rattle.packed.proofs.OrderCases.{lt-or-ge, eq-or-ne}
 use Rattle.packed.proofs.Sets.{sets-append, sets-swap}
 use Rattle.packed.proofs.SheetLaws.{length-pairBits}
-use Rattle.packed.proofs.MatchLaws.{under as listed, listsOf, one, under-more, length-more, lists-next, bits-next, pairs-next, names, names-not, counts-few}
+use Rattle.packed.proofs.MatchLaws.{under as listed, listsOf, pickOne, under-more, length-more, lists-next, bits-next, pairs-next, names, names-not, counts-few}
 
 -- ---- one pair
 
@@ -227,7 +227,7 @@ length-put e x v =
     (λ (y : x / 2 ^ e % 2 ≡ 1 → ⊥). rw (names-not e x y) (omega arith))
     (eq-or-ne (x / 2 ^ e % 2) 1)
 
-pairs-one : (u : List ℕ) (b : Bool) (p : ℕ) → pairBits (u ++ one b p) ≡ pairBits u ++ pick b (bitsOf 24 p) []
+pairs-one : (u : List ℕ) (b : Bool) (p : ℕ) → pairBits (u ++ pickOne b p) ≡ pairBits u ++ pick b (bitsOf 24 p) []
 pairs-one u true p = pairs-next u p
 pairs-one u false p = ap pairBits (append-nil u) ∙ sym (append-nil (pairBits u))
 

@@ -22,9 +22,6 @@ module _ {ℓ} {A : Type ℓ} where
   pub sets-front : (l vs : List A) → length vs ≤ length l → sets l 0 vs ≡ vs ++ drop (length vs) l
   sets-front l vs h = sets-eq vs l 0 (omega arith) ∙ ap (λ (k : ℕ). vs ++ drop k l) (zero-add (length vs))
 
-  pub sets-one : (l : List A) (i : ℕ) (v : A) → sets l i (v ∷ []) ≡ set l i v
-  sets-one l i v = refl
-
   -- a run that starts behind the first k leaves these alone
   pub sets-drop : (l : List A) (k i : ℕ) (vs : List A) → k ≤ length l → sets l (k + i) vs ≡ take k l ++ sets (drop k l) i vs
   sets-drop l k i [] h = sym (take-append-drop k l)

@@ -9,7 +9,6 @@ use lib.Dec.{eqb, leb}
 use native.Mathlib.Omega.{arith}
 use native.Mathlib.Numerals.{add-one}
 use borrow.Author.Tests.{le-leb, lt-leb}
-use Rattle.packed.specs.Bits.{gap}
 use Rattle.packed.specs.Format.{Format, done, ask, test, pad, then, whole}
 use Rattle.packed.specs.Formats.{code, pairs, lists, sheet, book}
 use Rattle.packed.specs.Reading.{Reading, Refuses, Value, TwoValues}
@@ -19,11 +18,6 @@ use Rattle.packed.specs.declared.reply.Refusal.the-variants.{NotAscendin
 use Rattle.packed.proofs.RoundTrip.{whole-is}
 use Rattle.packed.proofs.ReadingLaws.{starts, same-at, left-is, reads, passes, fails, refused, calls, calls-refused}
 use Rattle.packed.proofs.WritingLaws.{begins, same-to, left-to, writes, accepts, denies, rejected, parts, parts-rejected}
-
--- padding is less than a byte
-pub gap-small : (at : ℕ) → gap at ≤ 7
-unfolding gap
-gap-small at = omega arith
 
 -- ---- what is left of a format, one step on
 

@@ -1,15 +1,15 @@
 -- For an accepted book, the walks over its bits and over its fields find the pairs of its content, list by list.
 use mathlib.Core.Path.{_≡_, refl, ap, ap₂, _∙_, sym, subst}
-use mathlib.Core.Bool.{Bool, true, false, not, _&&_, _||_}
+use mathlib.Core.Bool.{Bool, false, not, _&&_, _||_}
 use mathlib.Core.List.{List, [], _∷_, _++_, append-nil, append-assoc}
 use Prim.Native.Nat.{ℕ, zero, suc, _+_, _-_, _*_, _%_, _<_, _≤_}
 use native.Mathlib.Omega.{arith}
 use native.Mathlib.Numerals.{one-add}
 use native.Mathlib.Nat.{add-zero, zero-add, suc-add, add-assoc, mod-eq-of-lt}
-use lib.Dec.{leb, ltb, eqb}
+use lib.Dec.{leb, eqb}
 use lib.ListN.{length, take, drop, getD, length-append, length-drop}
 use lib.Seq.{drop-at, drop-drop, getD-drop}
-use borrow.Author.Tests.{leb-true, ltb-true}
+use borrow.Author.Tests.{leb-true}
 use Rattle.packed.specs.Bits.{bits, num, field, zeros, gap}
 use Rattle.packed.specs.Format.{Format, done, ask, pad, then, whole, Got, got, fault, within, scan, ok, decode, encode}
 use Rattle.packed.specs.Formats.{code, pairs, lists, sheet, book}
@@ -18,7 +18,7 @@ use Rattle.packed.specs.Distinct.{BelowHead, Increasing}
 use Rattle.packed.specs.Walks.{fieldOr, codesAt, listEnd, pairsAt, listsEnd, sheetEnd, bookPairs, codesFrom, pairsFrom}
 use Rattle.packed.specs.BookSheets.{sheetAt}
 use Rattle.packed.proofs.BitsLaws.{length-bits, field-add}
-use Rattle.packed.proofs.RoundTrip.{push-got, pick-got, and-yes, ended-ok, onward, scan-done, scan-test, scan-then, encode-decode}
+use Rattle.packed.proofs.RoundTrip.{push-got, pick-got, below-bound, ended-ok, onward, scan-done, scan-test, scan-then, encode-decode}
 use Rattle.packed.proofs.ReadingLaws.{gap-of, gap-in}
 use Rattle.packed.proofs.Walks.{field-or-in}
 
@@ -57,10 +57,6 @@ record Took (s : List ℕ) (at w bound : ℕ) (f : ℕ → Format) (ws : List �
   small : fieldOr s at w < bound
   fits : at + w ≤ 8 * length s
   goes : scan (f (fieldOr s at w)) (drop (at + w) (bits s)) ≡ got next rest
-
-below-bound : (low bound v : ℕ) → within low bound v ≡ true → v < bound
-unfolding within
-below-bound low bound v e = ltb-true v bound (and-yes (leb low v) (ltb v bound) e .1)
 
 took : (s : List ℕ) (at w low bound e : ℕ) (f : ℕ → Format) (ws : List ℕ) (rest : List Bool) → at ≤ 8 * length s
     → scan (ask w low bound e f) (drop at (bits s)) ≡ got ws rest → Took s at w bound f ws rest

@@ -8,7 +8,6 @@ use lib.Seq.{sets, drop-cons}
 use lib.Dec.{ltb}
 use native.Mathlib.Omega.{arith}
 use native.Mathlib.Numerals.{add-one}
-use borrow.Author.Tests.{le-ltb}
 use Rattle.packed.specs.Bits.{bits, bitsOf, gap}
 use Rattle.packed.specs.Format.{Format, done, ask, test, pad, then, Got, got, fault, push, within, lay}
 use Rattle.packed.specs.Refusals.{numberOf, detailOf}
@@ -18,7 +17,7 @@ use Rattle.packed.specs.declared.reply.Part.{Part}
 use Rattle.packed.specs.declared.reply.Part.the-variants as part-is
 use Rattle.packed.proofs.BitsLaws.{length-bitsOf, bitsOf-zero}
 use Rattle.packed.proofs.Sets.{sets-append}
-use Rattle.packed.proofs.RoundTrip.{and-no, lay-done, lay-ask, lay-none, lay-wrong, lay-test, lay-pad, lay-then, push-push, push-nil, pick-yes, pick-no, onward}
+use Rattle.packed.proofs.RoundTrip.{lay-done, lay-ask, lay-none, lay-wrong, lay-test, lay-pad, lay-then, push-push, push-nil, pick-yes, pick-no, onward}
 use Rattle.packed.proofs.ReadingLaws.{in-range}
 
 -- ---- one field
@@ -34,11 +33,6 @@ module _ (ws : List ℕ) (i at : ℕ) where
   pub field-bad : (wide low bound e : ℕ) (f : ℕ → Format) → i < length ws → within low bound (getD ws i 0) ≡ false
       → lay (ask wide low bound e f) at (drop i ws) ≡ fault e
   field-bad wide low bound e f h g = refuses wide low bound e f h (rw g)
-
-  -- a value that the bits can't hold
-  pub field-wide : (wide low bound e : ℕ) (f : ℕ → Format) → i < length ws → 2 ^ wide ≤ getD ws i 0
-      → lay (ask wide low bound e f) at (drop i ws) ≡ fault e
-  field-wide wide low bound e f h g = refuses wide low bound e f h (rw (le-ltb (getD ws i 0) (2 ^ wide) g) (and-no (within low bound (getD ws i 0))))
 
 -- ---- the moves
 module _ {F : Format} {ws : List ℕ} {i₀ : ℕ} {b₀ : List ℕ} {at₀ : ℕ} where

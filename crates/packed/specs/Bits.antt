@@ -5,10 +5,10 @@ use mathlib.Core.Bool.{Bool, true, false}
 use lib.ListN.{take, drop}
 use lib.Dec.{eqb}
 
--- the number of a bit
-abbrev pub bit : Bool → ℕ
-bit true = 1
-bit false = 0
+-- a test as a number, and the number of a bit
+abbrev pub one : Bool → ℕ
+one true = 1
+one false = 0
 
 -- whether a number is odd
 abbrev pub odd : ℕ → Bool
@@ -22,7 +22,7 @@ bitsOf (suc w) n = odd (n / 2 ^ w) ∷ bitsOf w n
 -- the number that bits spell, after acc
 unfoldable pub numFrom : ℕ → List Bool → ℕ
 numFrom acc [] = acc
-numFrom acc (b ∷ bs) = numFrom (acc * 2 + bit b) bs
+numFrom acc (b ∷ bs) = numFrom (acc * 2 + one b) bs
 
 unfoldable pub num : List Bool → ℕ
 num bs = numFrom 0 bs

@@ -1,7 +1,7 @@
 -- inner: edges that are read or written first and judged for repeats afterwards, all at once, from their codes in the workspace.
 use Prim.Native.Nat.{ℕ, _+_, _*_, _^_, _<_, _≤_}
 use mathlib.Core.Path.{_≡_}
-use mathlib.Core.List.{List, [], _∷_, _++_}
+use mathlib.Core.List.{List, [], _∷_}
 use mathlib.Core.Bool.{Bool, true, false}
 use lib.ListN.{length, getD}
 use lib.Seq.{sets}
@@ -10,7 +10,6 @@ use Rattle.packed.specs.Formats.{code, edges, nothing}
 use Rattle.packed.specs.Order.{allDifferent}
 use Rattle.packed.specs.Reading.{Reading, Refuses}
 use Rattle.packed.specs.Writing.{Writing, Rejects}
-use Rattle.packed.specs.declared.reply.Refusal.{Refusal}
 use Rattle.packed.specs.declared.reply.Refusal.the-variants.{DuplicateEdge}
 use Rattle.packed.specs.declared.reply.Part.{Part}
 use Rattle.packed.specs.declared.reply.Part.the-variants as part-is

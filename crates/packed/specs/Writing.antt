@@ -6,7 +6,7 @@ use mathlib.Core.Bool.{Bool}
 use lib.ListN.{length, drop, getD}
 use lib.Seq.{sets}
 use Rattle.packed.specs.Bits.{bits, bitsOf}
-use Rattle.packed.specs.Format.{Format, done, ask, Got, push, fault, lay, Result, ok, bad}
+use Rattle.packed.specs.Format.{Format, done, ask, push, fault, lay, Result, bad}
 use Rattle.packed.specs.Refusals.{numberOf, detailOf}
 use Rattle.packed.specs.Reading.{Content}
 use Rattle.packed.specs.declared.reply.Refusal.{Refusal}

@@ -3,7 +3,6 @@ ghost use mathlib.Core.Path.{_≡_};
 ghost use mathlib.Core.List.{List, [], _∷_};
 ghost use Prim.Native.Nat.{ℕ, _+_, _*_, _^_, _%_, _<_, _≤_};
 ghost use lib.ListN.{length, take, getD};
-ghost use Rattle.packed.specs.Contents.{sum};
 ghost use Rattle.packed.specs.ByValue.{Small};
 ghost use Rattle.packed.specs.Limits.{bookMost, countWidth, pairWidth, workspace};
 ghost use Rattle.packed.specs.Walks.{codesAt, pairsAt, listBits, sheetEnd, bookPairs, codesFrom, pairsFrom, Gathering, Gathers, Adds, Different};

@@ -1,5 +1,5 @@
 -- `packed::field::close_file` meets its contract.
-use mathlib.Core.Path.{_≡_, refl, sym, _∙_}
+use mathlib.Core.Path.{sym, _∙_}
 use native.Mathlib.Omega.{arith}
 use Rattle.packed.proofs.Closing.{closes-ok, closes-tail, closes-dirty}
 use borrow.Author.Needs.{needs}

@@ -1,7 +1,7 @@
 -- `packed::field::read_field` meets its contract.
-use mathlib.Core.Path.{_≡_, refl}
+use mathlib.Core.Path.{refl}
 use native.Mathlib.Omega.{arith}
-use Rattle.packed.specs.Refusals.{numberOf, detailOf}
+use Rattle.packed.specs.Refusals.{numberOf}
 use Rattle.packed.proofs.ReadingLaws.{field-short, field-wrong, too-low, too-high}
 use borrow.Author.Needs.{needs}
 use Rattle.packed.proofs.field.read_field.Statement.{statement}

@@ -1,5 +1,4 @@
 -- `packed::field::read_two` meets its contract.
-use mathlib.Core.Path.{_≡_, refl}
 use native.Mathlib.Omega.{arith}
 use Rattle.packed.proofs.ReadingLaws.{starts, reads, refused}
 use borrow.Author.Needs.{needs}

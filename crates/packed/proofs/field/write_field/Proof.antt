@@ -1,7 +1,7 @@
 -- `packed::field::write_field` meets its contract.
-use mathlib.Core.Path.{_≡_, refl}
+use mathlib.Core.Path.{refl}
 use native.Mathlib.Omega.{arith}
-use Rattle.packed.specs.Refusals.{numberOf, detailOf}
+use Rattle.packed.specs.Refusals.{numberOf}
 use Rattle.packed.proofs.ReadingLaws.{too-low, too-high}
 use Rattle.packed.proofs.WritingLaws.{field-none, field-bad}
 use borrow.Author.Needs.{needs}

@@ -1,7 +1,6 @@
 -- `packed::field::write_padding` meets its contract.
-use mathlib.Core.Path.{_≡_, refl, sym, _∙_}
+use mathlib.Core.Path.{_∙_}
 use native.Mathlib.Omega.{arith}
-use Rattle.packed.specs.Bits.{gap}
 use lib.Pow.{pow-pos}
 use Rattle.packed.proofs.Closing.{next-byte, gap-bits}
 use borrow.Author.Needs.{needs}

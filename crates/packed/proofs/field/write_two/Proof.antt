@@ -1,6 +1,4 @@
 -- `packed::field::write_two` meets its contract.
-use mathlib.Core.Path.{_≡_, refl}
-use native.Mathlib.Omega.{arith}
 use Rattle.packed.proofs.WritingLaws.{begins, writes, rejected}
 use borrow.Author.Needs.{needs}
 use Rattle.packed.proofs.field.write_two.Statement.{statement}

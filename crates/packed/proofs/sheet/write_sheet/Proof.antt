@@ -2,8 +2,9 @@
 use native.Mathlib.Omega.{arith}
 use mathlib.Core.Path.{refl, sym}
 use Rattle.packed.specs.Formats.{sheet}
+use Rattle.packed.proofs.BitsLaws.{gap-small}
 use Rattle.packed.proofs.WritingLaws.{same-to, fills}
-use Rattle.packed.proofs.Sheets.{gap-small, whole-accepted, whole-rejected}
+use Rattle.packed.proofs.Sheets.{whole-accepted, whole-rejected}
 use borrow.Author.Needs.{needs}
 use Rattle.packed.proofs.sheet.write_sheet.Statement.{statement}
 use Rattle.packed.proofs.sheet.write_sheet.Tie as tie
