@@ -13,6 +13,7 @@ use Rattle.packed.specs.ByValue.{Small}
 use Rattle.packed.specs.Walks.{fieldOr, codesAt, listEnd, pairsAt, listsEnd, sheetEnd, bookPairs, Different}
 use Rattle.packed.specs.BookSheets.{listAt, sheetAt}
 use Rattle.packed.proofs.DistinctLaws.{member-distinct, distinct-increasing}
+use Rattle.packed.proofs.DistinctMerge.{increasing-at}
 use Rattle.packed.proofs.Walks.{ends-none}
 use Rattle.packed.proofs.AcceptedBounds.{catalogue-views, catalogue-bounds}
 use Rattle.packed.proofs.BookSheetLaws.{sheet-many, list-is, list-increasing, list-small, list-in-book, list-fits}
@@ -20,7 +21,7 @@ use Rattle.matching.specs.Lists.{In}
 use Rattle.matching.specs.Sweeps.{OneOf}
 use Rattle.matching.specs.Candidates.{Pool, Sheeted, Booked}
 use Rattle.matching.proofs.ListLaws.{not-in-none, in-at, append-in}
-use Rattle.matching.proofs.CodeLaws.{in-member, member-in, increasing-at}
+use Rattle.matching.proofs.CodeLaws.{in-member, member-in}
 use Rattle.containment.specs.Steps.{Views}
 use Rattle.containment.proofs.AnswerLaws.{views-few}
 use Rattle.containment.proofs.QuoteLaws.{place-of}

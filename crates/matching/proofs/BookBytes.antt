@@ -1,5 +1,5 @@
 -- The book of sheets in bytes: it is read back as their fields, one after the other, and has no more different pairs than the record has edges.
-use Prim.Native.Nat.{ℕ, suc, _+_, _*_, _/_, _%_, _≤_}
+use Prim.Native.Nat.{ℕ, suc, _+_, _*_, _≤_}
 use mathlib.Core.Path.{_≡_, refl, sym, ap, ap₂, subst, _∙_}
 use mathlib.Core.Logic.{⊎-elim}
 use mathlib.Core.Bool.{Bool}
@@ -10,7 +10,7 @@ use native.Mathlib.Omega.{arith}
 use native.Mathlib.Nat.{suc-add, zero-add}
 use Rattle.packed.specs.Bits.{bits}
 use Rattle.packed.specs.Format.{ok, decode}
-use Rattle.packed.specs.Formats.{code, catalogue, record′, book}
+use Rattle.packed.specs.Formats.{catalogue, record′, book}
 use Rattle.packed.specs.Contents.{edgesOf, viewsOf, edgeCounts, codesIn, pairsIn, sum, ends, fieldsOf}
 use Rattle.packed.specs.Calls.{accepted, readBook, pairsOf}
 use Rattle.packed.specs.Plain.{PlainPattern, PlainSheet, Whole, InTurn}

@@ -20,7 +20,7 @@ use Rattle.packed.proofs.SheetLaws.{Fit, fit-none, fit-next, fit-all}
 use Rattle.packed.proofs.MatchLaws.{fit-lists, matches-encode}
 use Rattle.packed.proofs.AcceptedBounds.{catalogue-views}
 use Rattle.packed.specs.declared.by_value.Pattern.{Pattern as Given}
-use Rattle.matching.specs.Simulation.{Pattern, Graph, patternOf, matchSets, viewSheet}
+use Rattle.matching.specs.Simulation.{Graph, patternOf, matchSets, viewSheet}
 use Rattle.matching.specs.Search.{sheetBytes, bookBytes, viewSheets}
 use Rattle.matching.specs.Steps.{patternIn, graphIn, Fair, Ready, Edges}
 use Rattle.matching.specs.Matched.{Proper, Rises, Matched, Sheeted, ViewAt}

@@ -1,16 +1,13 @@
 -- Match sets, coverage and answers edge by edge, as the laws take them.
 use mathlib.Core.Bool.{Bool, cond}
 use mathlib.Core.List.{List, []}
-use Rattle.matching.specs.Lists.{every, some, each}
+use Rattle.matching.specs.Lists.{every, some}
 use Rattle.matching.specs.Simulation.{Pair, Edge, Pattern, Graph, asGraph, sim, total, row, viewSheet}
 use Rattle.matching.specs.Join.{View, lists, join, complete, keptFor}
 
 -- the edges of G that are listed under the edge e of P: none where some node of P has no partner
 unfoldable pub rowOf : Pattern → Graph → Edge → List Pair
 rowOf P G e = cond (total P (sim P G)) (row G (sim P G) e) []
-
-unfoldable pub rows : Pattern → Graph → List (List Pair)
-rows P G = each (rowOf P G) (P .edges)
 
 -- the edge e of the query Q is matched by an edge of the view P: that edge's list, on Q read as a graph, has e
 unfoldable pub matchedBy : Pattern → Edge → Pattern → Bool

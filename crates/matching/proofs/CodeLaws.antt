@@ -3,17 +3,16 @@ use mathlib.Core.Path.{_≡_, refl, sym, ap, subst, _∙_}
 use mathlib.Core.Logic.{_⊎_, inl, inr, ⊎-elim}
 use mathlib.Core.Bool.{Bool, true, false, _||_, or-true}
 use mathlib.Core.List.{List, [], _∷_}
-use Prim.Native.Nat.{ℕ, zero, suc, _≤_, _<_}
-use native.Mathlib.Nat.{not-suc-le-zero, le-of-suc-le-suc}
+use Prim.Native.Nat.{ℕ, suc, _≤_, _<_}
 use native.Mathlib.Omega.{arith}
-use lib.ListN.{length, getD}
+use lib.ListN.{length}
 use lib.Dec.{eqb}
 use borrow.Author.Tests.{eqb-true, eq-eqb}
 use Rattle.packed.specs.Formats.{code}
 use Rattle.packed.specs.Contents.{member, insert, distinct}
 use Rattle.packed.specs.Distinct.{BelowHead, Increasing}
 use Rattle.packed.proofs.OrderCases.{trichotomy, or-cases}
-use Rattle.packed.proofs.DistinctLaws.{insert-lt, insert-eq, insert-gt, member-distinct, distinct-increasing, distinct-same}
+use Rattle.packed.proofs.DistinctLaws.{insert-lt, insert-eq, insert-gt, member-distinct, distinct-increasing, distinct-same, increasing-tail}
 use Rattle.matching.specs.Lists.{In, here, there, each}
 use Rattle.matching.specs.Simulation.{Pair, ascending}
 use Rattle.matching.proofs.ListLaws.{not-in-none, in-cases, each-in, in-each, length-each}
@@ -85,18 +84,6 @@ pub ascending-length : (l : List Pair) → length (ascending l) ≤ length l
 unfolding ascending
 ascending-length l = omega (arith, length-distinct (each (λ f. code (f .0) (f .1)) l), length-each (λ f. code (f .0) (f .1)) l)
 
--- by places
-pub increasing-at : (l : List ℕ) → Increasing l → (i j : ℕ) → i < j → j < length l → getD l i 0 < getD l j 0
-unfolding Increasing
-increasing-at [] n i j h k = absurd (not-suc-le-zero k)
-increasing-at (x ∷ l) n i zero h k = absurd (not-suc-le-zero h)
-increasing-at (x ∷ l) n (suc i) (suc j) h k = increasing-at l (n .1) i j (le-of-suc-le-suc h) (le-of-suc-le-suc k)
-increasing-at (x ∷ []) n zero (suc j) h k = absurd (not-suc-le-zero (le-of-suc-le-suc k))
-increasing-at (x ∷ y ∷ l) n zero (suc zero) h k = unfold BelowHead in n .0
-increasing-at (x ∷ y ∷ l) n zero (suc (suc j)) h k =
-    let b : x < y = (unfold BelowHead in n .0) in
-    let r : y < getD l j 0 = increasing-at (y ∷ l) (n .1) 0 (suc j) (omega arith) (le-of-suc-le-suc k) in omega arith
-
 -- ---- a list that rises has at most as many numbers as a list that has each of them
 above : (x : ℕ) (l : List ℕ) → Increasing (x ∷ l) → {z : ℕ} → In z l → x < z
 unfolding Increasing
@@ -105,17 +92,13 @@ above x (y ∷ l) n {z} i =
     let b : x < y = (unfold BelowHead in n .0) in
     ⊎-elim (λ e. omega arith) (λ j. omega (arith, above y l (n .1) j)) (in-cases i)
 
-increasing-rest : (x : ℕ) (l : List ℕ) → Increasing (x ∷ l) → Increasing l
-unfolding Increasing
-increasing-rest x l n = n .1
-
 increasing-fewer : (a b : List ℕ) → Increasing a → Increasing b → ((z : ℕ) → In z a → In z b) → length a ≤ length b
 increasing-fewer [] b n m f = omega arith
 increasing-fewer (x ∷ a) [] n m f = absurd (not-in-none (f x (here refl)))
 increasing-fewer (x ∷ a) (y ∷ b) n m f =
     ⊎-elim
-    (λ e. omega (arith, increasing-fewer a b (increasing-rest x a n) (increasing-rest y b m) (λ z i. later z (omega (arith, above x a n i)) (f z (there i)))))
-    (λ j. omega (arith, increasing-fewer (x ∷ a) b n (increasing-rest y b m) (λ z i. later z (over (above y b m j) z (in-cases i)) (f z i))))
+    (λ e. omega (arith, increasing-fewer a b (increasing-tail x a n) (increasing-tail y b m) (λ z i. later z (omega (arith, above x a n i)) (f z (there i)))))
+    (λ j. omega (arith, increasing-fewer (x ∷ a) b n (increasing-tail y b m) (λ z i. later z (over (above y b m j) z (in-cases i)) (f z i))))
     (in-cases (f x (here refl)))
   where
     later : (z : ℕ) → y < z → In z (y ∷ b) → In z b

@@ -1,6 +1,6 @@
 -- A loop that writes the n words from b on, one a turn.
 use mathlib.Core.Path.{_≡_, refl, _∙_, sym, subst}
-use mathlib.Core.Logic.{_⊎_, ⊎-elim}
+use mathlib.Core.Logic.{⊎-elim}
 use mathlib.Core.List.{List}
 use Prim.Native.Nat.{ℕ, _≤_, _<_, _+_, zero-le}
 use native.Mathlib.Nat.{zero-add}

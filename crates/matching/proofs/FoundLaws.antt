@@ -1,6 +1,6 @@
 -- From the start of a search to what is found: the engine's rest are the match sets.
 use mathlib.Core.Path.{_≡_, refl, ap, ap₂, _∙_, sym, subst}
-use mathlib.Core.Logic.{_⊎_, inl, inr, ⊎-elim}
+use mathlib.Core.Logic.{⊎-elim}
 use mathlib.Core.List.{List}
 use Prim.Native.Nat.{ℕ, _≤_, _<_, _+_, _*_, _/_, _%_}
 use native.Mathlib.Omega.{arith}
@@ -12,14 +12,14 @@ use Rattle.packed.specs.declared.by_value.Pattern.{Pattern as Given}
 use Rattle.packed.proofs.OrderCases.{lt-or-ge}
 use Rattle.matching.specs.Lists.{In}
 use Rattle.matching.specs.Simulation.{Pattern, Graph, bit, fits, sim}
-use Rattle.matching.specs.Steps.{edgeAt, edgeOfWord, patternIn, graphIn, Fair, Ready, Edges}
+use Rattle.matching.specs.Steps.{edgeAt, edgeOfWord, patternIn, graphIn, Fair, Ready}
 use Rattle.matching.specs.Matched.{Rises}
-use Rattle.matching.specs.Sweeps.{Has, Mask, OneOf}
+use Rattle.matching.specs.Sweeps.{Has, Mask}
 use Rattle.matching.specs.Sweeping.{Tabled}
 use Rattle.matching.specs.Choices.{Prepared, Fixed}
-use Rattle.matching.specs.Starting.{Room, Held, Allowed, Spread}
+use Rattle.matching.specs.Starting.{Room, Held, Spread}
 use Rattle.matching.proofs.UpToLaws.{length-upTo, getD-upTo, in-upTo, upTo-in}
-use Rattle.matching.proofs.SimLaws.{Fits, fits-say, fits-by}
+use Rattle.matching.proofs.SimLaws.{fits-say, fits-by}
 use Rattle.matching.proofs.MaskBits.{none-has, part-le}
 use Rattle.matching.proofs.SearchingLaws.{Numbered, Begun, held-say, held-by}
 use Rattle.matching.proofs.MatchedLaws.{Lists}

@@ -1,21 +1,20 @@
 -- Where the pairs that begin at a node stand, and what they offer.
-use mathlib.Core.Path.{_≡_, refl, ap, _∙_, sym, subst}
-use mathlib.Core.Logic.{_⊎_, inl, inr, ⊎-elim}
+use mathlib.Core.Path.{_≡_, refl, _∙_, sym, subst}
+use mathlib.Core.Logic.{_⊎_, ⊎-elim}
 use mathlib.Core.List.{List}
-use Prim.Native.Nat.{ℕ, zero, suc, _≤_, _<_, _+_, _-_, _*_, _^_, zero-le}
+use Prim.Native.Nat.{ℕ, _≤_, _<_, _+_, zero-le}
 use native.Mathlib.Nat.{eq-or-lt-of-le}
-use native.Mathlib.Numerals.{add-one}
 use native.Mathlib.Omega.{arith}
 use lib.ListN.{length, getD, set, length-set}
 use lib.Seq.{getD-set-same, getD-set-other}
 use lib.Bits.{bitAnd, bitXor}
 use Rattle.packed.proofs.OrderCases.{lt-or-ge, eq-or-ne}
 use Rattle.matching.specs.Simulation.{bit}
-use Rattle.matching.specs.Sweeps.{Has, Mask, OneOf}
+use Rattle.matching.specs.Sweeps.{Has}
 use Rattle.matching.specs.Sweeping.{fromOf, toOf, Ends}
 use Rattle.matching.proofs.ListLaws.{decide}
 use Rattle.matching.proofs.MaskBits.{none-has, and-say, and-by, minus-say, minus-by, one-last, one-more, one-cases}
-use Rattle.matching.specs.Late.{Ordered, Before, Cut, Firsts, FirstsMade, Offered, Looked}
+use Rattle.matching.specs.Late.{Ordered, Before, Cut, Firsts, FirstsMade, Looked}
 
 has-or : (x k : ℕ) → Has x k ⊎ (Has x k → ⊥)
 has-or x k = decide (bit x k)

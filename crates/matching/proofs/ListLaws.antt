@@ -106,16 +106,6 @@ module _ {A : Type 0} where
   in-every p [] f = tt
   in-every p (y ∷ l) f = both _ _ (f y (here refl)) (in-every p l (λ x i. f x (there i)))
 
-  every-fails-step : (p : A → Bool) (y : A) (l : List A) → T (p y) ⊎ (T (p y) → ⊥) → (T (p y and every p l) → ⊥) → ((T (every p l) → ⊥) → (x : A) × In x l × (T (p x) → ⊥)) → (x : A) × In x (y ∷ l) × (T (p x) → ⊥)
-  every-fails-step p y l (inl t) n f = let r = f (λ h. n (both _ _ t h)) in (r .0, there (r .1), r .2)
-  every-fails-step p y l (inr m) n f = (y, here refl, m)
-
-  -- a test that not every pass fails at a member
-  pub every-fails : (p : A → Bool) (l : List A) → (T (every p l) → ⊥) → (x : A) × In x l × (T (p x) → ⊥)
-  unfolding every
-  every-fails p [] n = absurd (n tt)
-  every-fails p (y ∷ l) n = every-fails-step p y l (decide (p y)) n (every-fails p l)
-
   any-step : (p : A → Bool) (y : A) (l : List A) (b : Bool) → (T b → T (p y)) → (T (some p l) → (x : A) × In x l × T (p x)) → T (b or some p l) → (x : A) × In x (y ∷ l) × T (p x)
   unfolding _or_
   any-step p y l true e f h = (y, here refl, e tt)

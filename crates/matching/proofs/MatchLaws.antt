@@ -6,9 +6,9 @@ use Prim.Native.Nat.{ℕ, _^_, _<_}
 use native.Mathlib.Omega.{arith}
 use lib.ListN.{length, getD}
 use lib.Dec.{T, eqb, eqb→eq, eqb-refl, ltb→lt, lt→ltb}
-use Rattle.matching.specs.Lists.{_or_, In, each, below}
+use Rattle.matching.specs.Lists.{_or_, In, below}
 use Rattle.matching.specs.Simulation.{Pair, Edge, asPair, bit, Pattern, Graph, asGraph, sim, total, row, IsSim, sound}
-use Rattle.matching.proofs.ByEdge.{rowOf, rows}
+use Rattle.matching.proofs.ByEdge.{rowOf}
 use Rattle.matching.proofs.ListLaws.{and-left, and-right, both, or-left, or-right, or-cases, cond-case, not-in-none, in-cast, every-in, in-every, some-in, in-some, keep-in, in-keep, each-in, in-each, length-each, getD-each, below-in, in-below}
 use Rattle.matching.proofs.Masks.{bit-one}
 use Rattle.matching.proofs.SimLaws.{has-in, in-has, Fits, fits-say, fits-by, sim-is, sim-most}
@@ -71,10 +71,6 @@ module _ (P : Pattern) (G : Graph) where
       (λ t. in-cast (sym (h .ends))
       (in-row e (h .link) (h .edge) (subst (λ z. Sim P G (e .from) (z .0)) (h .ends) (h .tail)) (subst (λ z. Sim P G (e .to) (z .1)) (h .ends) (h .head))))
       (λ t. absurd (t (total-by P (sim P G) (h .whole))))
-
-  pub rows-are : rows P G ≡ each (rowOf P G) (P .edges)
-  unfolding rows rowOf
-  rows-are = refl
 
 -- G is a subgraph of H: the same nodes, perhaps fewer edges
 pub record Subgraph (G H : Graph) : Type 0 where

@@ -94,7 +94,7 @@ module _ {ws : List ℕ} {bs : List Bool} (q : PlainPattern ws bs) where
     nodes-are : p .nodes ≡ q .nodes
     nodes-are = h .nodes ∙ nodes-in
 
-    edges-are : p .edges ≡ q .number
+    pub edges-are : p .edges ≡ q .number
     edges-are = h .edges ∙ edges-in
 
     label-at : (u : ℕ) → u < q .nodes → getD (p .labels) u 0 ≡ getD (q .labels) u 0
@@ -128,12 +128,12 @@ module _ {ws : List ℕ} {bs : List Bool} (q : PlainPattern ws bs) where
     front-long : length labels-front ≡ p .nodes
     front-long = length-take-le (p .nodes) (p .labels) (omega (arith, fair-by .nodes, h .labels .long))
 
-    labels-same : labels-front ≡ q .labels
+    pub labels-same : take (p .nodes) (p .labels) ≡ q .labels
     labels-same =
         ext-getD 0 labels-front (q .labels) (front-long ∙ nodes-are ∙ sym (q .label-each))
         (λ i l. getD-take (p .nodes) (p .labels) i 0 (omega (arith, front-long)) ∙ label-at i (omega (arith, front-long, nodes-are)))
 
-    edges-same : upTo (givenAt p) (p .edges) ≡ edgesIn (q .ends)
+    pub edges-same : upTo (givenAt p) (p .edges) ≡ edgesIn (q .ends)
     edges-same =
         ap (upTo (givenAt p)) edges-are
         ∙ upTo-same (givenAt p) (edgeAt (q .ends)) (q .number) (λ i l. λ z. between (from-at i l z) (to-at i l z))

@@ -13,6 +13,7 @@ use Rattle.packed.specs.Loading.{codes}
 use Rattle.packed.specs.LoadedGraph.{Holds}
 use Rattle.packed.specs.Distinct.{Increasing}
 use Rattle.packed.proofs.DistinctLaws.{member-distinct, distinct-increasing}
+use Rattle.packed.proofs.DistinctMerge.{increasing-at}
 use Rattle.packed.proofs.GraphLaws.{labels-field, record-bounds, ends-below}
 use Rattle.matching.specs.Lists.{In, here, there, upTo}
 use Rattle.matching.specs.Simulation.{Edge, between, Pattern, Graph, edgesIn, graphOf, matchSets}
@@ -21,7 +22,7 @@ use Rattle.matching.specs.Sweeps.{OneOf}
 use Rattle.matching.specs.Matched.{Rises}
 use Rattle.matching.proofs.ListLaws.{in-at, each-in, in-each}
 use Rattle.matching.proofs.UpToLaws.{length-upTo, getD-upTo, in-upTo, upTo-in, upTo-same}
-use Rattle.matching.proofs.CodeLaws.{in-member, member-in, increasing-at}
+use Rattle.matching.proofs.CodeLaws.{in-member, member-in}
 use Rattle.matching.proofs.MatchLaws.{Subgraph}
 use Rattle.matching.proofs.MatchSetLaws.{Narrow, order-free}
 use Rattle.matching.proofs.EdgeLaws.{edgesIn-at, edgesIn-length, codes-each}

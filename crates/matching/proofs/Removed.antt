@@ -7,11 +7,11 @@ use lib.Dec.{T, not-T}
 use Rattle.packed.specs.Formats.{code}
 use Rattle.matching.specs.Lists.{_and_, In, keep, each}
 use Rattle.matching.specs.Simulation.{has, Edge, sameEdge, asPair, Pattern, Graph, sim, total, row, ascending, matchSets, IsSim}
-use Rattle.matching.proofs.ByEdge.{rowOf, rows}
+use Rattle.matching.proofs.ByEdge.{rowOf}
 use Rattle.matching.specs.Join.{without}
 use Rattle.matching.proofs.ListLaws.{and-left, and-right, both, cond-same, same-test, keep-in, in-keep, keep-same, keep-keep, each-same}
 use Rattle.matching.proofs.SimLaws.{same-edge, has-in, in-has, fits-say, fits-by, sim-is, sim-most}
-use Rattle.matching.proofs.MatchLaws.{Sim, Total, total-say, total-by, Matches, matches-edge, row-by, rows-are, Subgraph, subgraph-fewer}
+use Rattle.matching.proofs.MatchLaws.{Sim, Total, total-say, total-by, Matches, matches-edge, row-by, Subgraph, subgraph-fewer}
 use Rattle.matching.proofs.CodeLaws.{ascending-by}
 use Rattle.matching.proofs.MatchSetLaws.{sets-each, in-sets}
 
@@ -68,10 +68,7 @@ module _ (P : Pattern) (G : Graph) (e : Edge) (never : (g : Edge) → In g (P .e
           apart f j t =
               other g f i (matches-edge P G g f a j (up (g .from) (f .from) (has-in _ (and-left _ _ t))) (up (g .to) (f .to) (has-in _ (and-right _ _ t))))
 
-  -- it can be removed, and no row changes, nor a match set
-  pub edge-removed : rows P G ≡ rows P (without e G)
-  edge-removed = rows-are P G ∙ each-same (rowOf P G) (rowOf P H) (P .edges) row-same ∙ sym (rows-are P H)
-
+  -- it can be removed, and no match set changes
   pub edge-removed-sets : matchSets P G ≡ matchSets P (without e G)
   edge-removed-sets = sets-each P G ∙ each-same _ _ (P .edges) (λ g i. ap ascending (row-same g i)) ∙ sym (sets-each P H)
 

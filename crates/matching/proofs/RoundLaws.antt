@@ -2,15 +2,12 @@
 use mathlib.Core.Path.{_≡_, refl, ap, _∙_, sym, subst}
 use mathlib.Core.Logic.{_⊎_, inl, inr, ⊎-elim}
 use mathlib.Core.List.{List}
-use mathlib.Core.Bool.{Bool}
-use Prim.Native.Nat.{ℕ, _≤_, _<_, _+_, _-_, _/_, _%_, _^_}
+use Prim.Native.Nat.{ℕ, _≤_, _<_, _/_, _%_, _^_}
 use native.Mathlib.Omega.{arith}
 use lib.ListN.{length, getD}
-use lib.Dec.{T}
-use lib.Bits.{bitAnd}
 use Rattle.packed.proofs.OrderCases.{lt-or-ge}
 use Rattle.matching.specs.Simulation.{bit}
-use Rattle.matching.specs.Sweeps.{Has, Mask, OneOf}
+use Rattle.matching.specs.Sweeps.{Has, OneOf}
 use Rattle.matching.proofs.ListLaws.{decide}
 use Rattle.matching.proofs.MaskBits.{none-has, and-say, and-by, not-say, not-by}
 use Rattle.matching.proofs.SoundLaws.{sound-none, sound-then, swept-same, from-same, to-same, held-say, held-by, swept-sound, left-lost, Loses, loses-none, losing-sound}

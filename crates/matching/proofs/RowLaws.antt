@@ -8,15 +8,11 @@ use lib.ListN.{length, getD, replicate, length-replicate}
 use Rattle.matching.proofs.Filling.{Filling, filling-front}
 use lib.Bits.{bitOr}
 use Rattle.packed.proofs.OrderCases.{lt-or-ge, eq-or-ne}
+use Rattle.packed.proofs.ByValueLaws.{nothing-at}
 use Rattle.matching.specs.Sweeps.{Has, Mask, OneOf, Names}
 use Rattle.matching.proofs.MaskBits.{has-lt, has-say, has-by, none-has, not-by, above-say, above-by, mask-or, mask-cast, mask-none}
-use Rattle.matching.specs.Sweeping.{Meets, Tabled}
+use Rattle.matching.specs.Sweeping.{Tabled}
 use Rattle.matching.specs.Rows.{RowOf, RowsOf, PickedBy, WordOf}
-
-pub zeros : (n i : ℕ) → _≡_ {A = ℕ} (getD (replicate n 0) i 0) 0
-zeros zero i = refl
-zeros (suc n) zero = refl
-zeros (suc n) (suc i) = zeros n i
 
 pub blank-long : (n : ℕ) {t : List ℕ} → t ≡ replicate n 0 → length t ≡ n
 blank-long n e = ap length e ∙ length-replicate n 0
@@ -25,7 +21,7 @@ pub rows-of : (a b : List ℕ) (m : ℕ) {t₀ t : List ℕ} {e : ℕ} → t₀ 
 rows-of a b m z f l =
     record {
       each = filling-front m _ f l;
-      rest = λ e p. f .later e (let u = f .upto in omega arith) ∙ ap (λ (y : List ℕ). getD y e 0) z ∙ zeros 32 e;
+      rest = λ e p. f .later e (let u = f .upto in omega arith) ∙ ap (λ (y : List ℕ). getD y e 0) z ∙ nothing-at 32 e;
     }
 
 -- one row, where its bit is set
@@ -84,7 +80,7 @@ pub words-of : (a b : List ℕ) (m most : ℕ) {t u₀ u : List ℕ} {i : ℕ} �
 words-of a b m most {t} {u₀} {u} {i} e R z f l j =
     ⊎-elim
     (λ (p : j < most). filling-front most _ f l j p)
-    (λ (p : most ≤ j). subst (WordOf t j) (sym (f .later j (let y = f .upto in omega arith) ∙ ap (λ (y : List ℕ). getD y j 0) z ∙ zeros 128 j))
+    (λ (p : most ≤ j). subst (WordOf t j) (sym (f .later j (let y = f .upto in omega arith) ∙ ap (λ (y : List ℕ). getD y j 0) z ∙ nothing-at 128 j))
     (mask-none (λ k o. let g = o .holds .0 .group in none-has k (subst (λ (y : ℕ). Has y k) (R .rest (o .at) (omega arith)) (o .holds .1)))))
     (lt-or-ge j most)
 

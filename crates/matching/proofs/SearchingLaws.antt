@@ -2,19 +2,18 @@
 use mathlib.Core.Path.{_≡_, refl, ap, _∙_, sym, subst, subst₂}
 use mathlib.Core.Logic.{_⊎_, inl, inr, ⊎-elim}
 use mathlib.Core.List.{List}
-use Prim.Native.Nat.{ℕ, _≤_, _<_, _/_, _%_}
-use native.Mathlib.Omega.{arith}
+use Prim.Native.Nat.{ℕ, _<_, _/_, _%_}
 use lib.ListN.{length, getD}
 use lib.Dec.{T}
 use Rattle.matching.specs.Lists.{In}
 use Rattle.matching.specs.Simulation.{Edge, between, Pattern, Graph, has, fits, sim, IsSim}
 use Rattle.matching.specs.Sweeps.{Has, OneOf}
 use Rattle.matching.proofs.MaskBits.{none-has}
-use Rattle.matching.proofs.SimLaws.{fits-say, has-in, in-has, sim-is, sim-most}
-use Rattle.matching.specs.Sweeping.{fromOf, toOf, Ends, heldAt, Tabled}
-use Rattle.matching.specs.Choices.{Safe, Shape, May, Prepared, Fixed}
+use Rattle.matching.proofs.SimLaws.{has-in, in-has, sim-is, sim-most}
+use Rattle.matching.specs.Sweeping.{fromOf, toOf, heldAt, Tabled}
+use Rattle.matching.specs.Choices.{Safe, Shape, Prepared, Fixed}
 use Rattle.matching.proofs.RoundLaws.{fixed-prepared}
-use Rattle.matching.proofs.RestingLaws.{Stands, safe-may, rests-supports}
+use Rattle.matching.proofs.RestingLaws.{Stands, rests-supports}
 
 -- the edges are those numbered below m
 pub record Numbered (edges : List Edge) (m : ℕ) (numbered : ℕ → Edge) : Type 0 where
@@ -69,14 +68,6 @@ module _ (P : Pattern) (G : Graph) (from to : List ℕ) (m n d : ℕ) (w leave a
       (all : (e : ℕ) → e < m → Has due e) (E : Prepared n d w leave arrive out) (F : Fixed n 0 due d leaving arriving w leave arrive out r w′ leave′ arrive′ out′) where
     apart : (e : ℕ) → Has due e → Has 0 e → ⊥
     apart e y h = none-has e h
-
-    -- the simulation is kept, after any number of rounds
-    pub search-keeps : (u v : ℕ) → In (u, v) (sim P G) → Stands from to m n leave′ arrive′ u v
-    search-keeps u v i =
-        let f = fits-say P G {u = u} {v = v} (sim-is P G .fit u v i) in
-        let l = f .right in
-        let g = B .nodes in
-        (safe-may from to m (F .sound from to m T₁ T₂ apart .safe (λ a b. has (a, b) (sim P G)) (begun-safe 0)) u v (in-has i), omega arith)
 
     -- where nothing was lost, what may stand is a simulation
     stands-sim : r ≡ 0 → IsSim P G (λ u v. Stands from to m n leave′ arrive′ u v × EndOf from to m u)

@@ -4,20 +4,18 @@ use mathlib.Core.Logic.{_⊎_, inl, inr, ⊎-elim}
 use mathlib.Core.List.{List}
 use Prim.Native.Nat.{ℕ, zero, suc, _≤_, _<_, _+_, _-_, _*_, _/_, _%_, _^_, zero-le}
 use native.Mathlib.Nat.{eq-or-lt-of-le}
-use native.Mathlib.Numerals.{add-one}
 use native.Mathlib.Omega.{arith}
 use lib.ListN.{length, getD, set, replicate, length-set}
 use lib.Seq.{getD-set-same, getD-set-other}
 use lib.Bits.{bitAnd, bitOr, bitXor}
 use Rattle.packed.proofs.OrderCases.{lt-or-ge, eq-or-ne}
-use Rattle.matching.specs.Simulation.{bit}
-use Rattle.matching.specs.Sweeps.{Has, Mask, OneOf}
-use Rattle.matching.specs.Sweeping.{fromOf, toOf, sumTo, heldAt}
+use Rattle.packed.proofs.ByValueLaws.{nothing-at}
+use Rattle.matching.specs.Sweeps.{Has, OneOf}
+use Rattle.matching.specs.Sweeping.{fromOf, sumTo, heldAt}
 use Rattle.matching.proofs.Masks.{bit-self, bit-one}
-use Rattle.matching.proofs.MaskBits.{none-has, or-left, or-right, or-cases, and-by, minus-say, minus-by, part-le, one-last, one-more, one-cases}
+use Rattle.matching.proofs.MaskBits.{none-has, or-left, or-right, or-cases, and-by, minus-say, minus-by, part-le, one-last, one-more}
 use Rattle.matching.specs.Late.{Member, Added, FirstWord, Drawn, Marked, Marks, Full, Taken, MarkedStart, MarkedBefore, Backs}
 use Rattle.matching.proofs.EndLaws.{ends-at, ends-of}
-use Rattle.matching.proofs.RowLaws.{zeros}
 
 -- ---- one word of a list is set
 module _ (s : List ℕ) (at y x : ℕ) where
@@ -168,7 +166,7 @@ module _ {s : List ℕ} {x : ℕ} {s′ : List ℕ} (L : Drawn s x s′) where
 
 pub blank-unmarked : (v : ℕ) → Marked (replicate 256 0) v → ⊥
 blank-unmarked v h =
-    ⊎-elim (λ m. none-has (v % 32) (cast (v % 32) (zeros 256 (v / 32)) m)) (λ m. none-has ((4096 + v) % 32) (cast ((4096 + v) % 32) (zeros 256 ((4096 + v) / 32)) m)) h
+    ⊎-elim (λ m. none-has (v % 32) (cast (v % 32) (nothing-at 256 (v / 32)) m)) (λ m. none-has ((4096 + v) % 32) (cast ((4096 + v) % 32) (nothing-at 256 ((4096 + v) / 32)) m)) h
 
 -- the nodes below v are marked, and no other
 pub full-start : (s : List ℕ) → length s ≡ 256 → ((v : ℕ) → v < 4096 → Marked s v → ⊥) → Full 0 s

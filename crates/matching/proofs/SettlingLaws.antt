@@ -1,12 +1,12 @@
 -- The loop that settles the nodes.
 use mathlib.Core.Path.{_≡_, refl, ap, _∙_, sym, subst}
-use mathlib.Core.Logic.{_⊎_, ⊎-elim}
+use mathlib.Core.Logic.{⊎-elim}
 use mathlib.Core.List.{List}
-use Prim.Native.Nat.{ℕ, _≤_, _<_, _+_, _-_, _^_}
+use Prim.Native.Nat.{ℕ, _≤_, _<_, _+_, _^_}
 use native.Mathlib.Nat.{zero-add}
 use native.Mathlib.Omega.{arith}
 use lib.ListN.{length, getD, set}
-use lib.Bits.{bitAnd, bitOr}
+use lib.Bits.{bitOr}
 use Rattle.packed.proofs.OrderCases.{lt-or-ge}
 use Rattle.matching.proofs.MaskBits.{part-le, or-left, or-right}
 use Rattle.matching.proofs.Filling.{Filling, filling-start, filling-more, filling-around, filling-front}

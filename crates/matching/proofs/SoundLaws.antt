@@ -2,16 +2,15 @@
 use mathlib.Core.Path.{_≡_, refl, ap, _∙_, sym, subst}
 use mathlib.Core.Logic.{_⊎_, inl, inr, ⊎-elim}
 use mathlib.Core.List.{List}
-use mathlib.Core.Bool.{Bool}
-use Prim.Native.Nat.{ℕ, _≤_, _<_, _+_, _/_, _%_}
+use Prim.Native.Nat.{ℕ, _≤_, _<_, _/_, _%_}
 use native.Mathlib.Omega.{arith}
-use lib.ListN.{length, getD}
+use lib.ListN.{getD}
 use lib.Dec.{T}
 use lib.Bits.{bitAnd}
-use Rattle.matching.specs.Sweeps.{Has, Mask, OneOf}
+use Rattle.matching.specs.Sweeps.{Has, OneOf}
 use Rattle.matching.specs.Sweeping.{fromOf, toOf, heldAt, kept, Swept, Meets, Tabled, Left}
 use Rattle.matching.proofs.MaskBits.{none-has, and-say, and-by, or-left, or-right, or-cases}
-use Rattle.matching.specs.Choices.{Supports, Safe, Shape, Stays, Aside, Sound}
+use Rattle.matching.specs.Choices.{Supports, Safe, Sound}
 
 -- ---- one step after the other
 module _ (from to : List ℕ) (m : ℕ) {free due d : ℕ} {w leave arrive : List ℕ} where

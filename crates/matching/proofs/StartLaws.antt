@@ -2,7 +2,7 @@
 use mathlib.Core.Path.{_≡_, refl, ap, _∙_, sym, subst}
 use mathlib.Core.Logic.{_⊎_, inl, inr, ⊎-elim}
 use mathlib.Core.List.{List}
-use Prim.Native.Nat.{ℕ, _≤_, _<_, _+_, _-_, _*_, _/_, _^_}
+use Prim.Native.Nat.{ℕ, _≤_, _<_, _+_, _*_, _^_}
 use native.Mathlib.Omega.{arith}
 use lib.ListN.{length, getD, set, replicate, length-set}
 use lib.Seq.{getD-set-same, getD-set-other}
@@ -11,19 +11,20 @@ use lib.Count.{trailingZeros}
 use Rattle.packed.specs.Bits.{field}
 use Rattle.packed.specs.declared.by_value.Pattern.{Pattern as Given}
 use Rattle.packed.proofs.OrderCases.{lt-or-ge, eq-or-ne}
+use Rattle.packed.proofs.ByValueLaws.{nothing-at}
 use Rattle.matching.specs.Steps.{Fair}
 use Rattle.matching.specs.Sweeps.{Has, Mask, OneOf}
 use Rattle.matching.specs.Starting.{Room, ByLabel, OfLabels, Allowed, Spread}
 use Rattle.matching.proofs.Masks.{bit-self, bit-one}
 use Rattle.matching.proofs.MaskBits.{none-has, or-left, or-right, and-say, and-by, minus-say, minus-by, lowest-has, mask-cast, mask-or, mask-one, mask-self, mask-none}
 use Rattle.matching.proofs.Filling.{Filling, filling-start, filling-more, filling-around, filling-front}
-use Rattle.matching.proofs.RowLaws.{zeros, blank-long}
+use Rattle.matching.proofs.RowLaws.{blank-long}
 
 -- a member of x
 pub lowest-of : (x : ℕ) → (x ≡ 0 → ⊥) → x < 2 ^ 32 → (trailingZeros 32 x < 32) × Has x (trailingZeros 32 x)
 lowest-of x n l = lowest-has 32 x (⊎-elim (λ (z : 0 < x). z) (λ (z : x ≤ 0). absurd (n (omega arith))) (lt-or-ge 0 x)) l
 
--- arrays of zeros
+-- arrays of nothing-at
 pub room-blank : (k n : ℕ) {leave arrive out : List ℕ} → n ≤ k → leave ≡ replicate k 0 → arrive ≡ replicate k 0 → out ≡ replicate k 0 → Room n leave arrive out
 room-blank k n l a b c =
     let z = blank-long k c in
@@ -31,8 +32,8 @@ room-blank k n l a b c =
       nodes = omega arith;
       leave-long = blank-long k a ∙ sym z;
       arrive-long = blank-long k b ∙ sym z;
-      leave-clear = λ v h. ap (λ (x : List ℕ). getD x v 0) a ∙ zeros k v;
-      arrive-clear = λ v h. ap (λ (x : List ℕ). getD x v 0) b ∙ zeros k v;
+      leave-clear = λ v h. ap (λ (x : List ℕ). getD x v 0) a ∙ nothing-at k v;
+      arrive-clear = λ v h. ap (λ (x : List ℕ). getD x v 0) b ∙ nothing-at k v;
     }
 
 -- ---- the links of each label
@@ -44,7 +45,7 @@ module _ (labels ends : List ℕ) where
   label-start {t} z =
       record {
         long = blank-long 32 z;
-        each = λ l h. subst (Mask (λ e. (e < 0) × (at e ≡ l))) (sym (ap (λ (x : List ℕ). getD x l 0) z ∙ zeros 32 l)) (mask-none (λ e p. absurd (let q = p .0 in omega arith)));
+        each = λ l h. subst (Mask (λ e. (e < 0) × (at e ≡ l))) (sym (ap (λ (x : List ℕ). getD x l 0) z ∙ nothing-at 32 l)) (mask-none (λ e p. absurd (let q = p .0 in omega arith)));
       }
 
   -- one of the links below e that has the label l

@@ -1,12 +1,12 @@
 -- The loop that sweeps over the pairs.
-use mathlib.Core.Path.{_≡_, refl, ap, ap₂, _∙_, sym, subst}
+use mathlib.Core.Path.{_≡_, refl, ap, _∙_, sym, subst}
 use mathlib.Core.Logic.{_⊎_, inl, inr, ⊎-elim}
 use mathlib.Core.List.{List}
 use Prim.Native.Nat.{ℕ, _≤_, _<_, _+_, _/_, _%_, zero-le}
 use native.Mathlib.Omega.{arith}
 use lib.ListN.{length, getD, set, length-set}
 use lib.Seq.{getD-set-same, getD-set-other}
-use lib.Bits.{bitAnd, bitOr}
+use lib.Bits.{bitOr}
 use Rattle.packed.proofs.OrderCases.{eq-or-ne}
 use Rattle.matching.specs.Sweeps.{Has, Mask, OneOf}
 use Rattle.matching.proofs.MaskBits.{mask-cast, mask-or, mask-self, one-none, one-last, one-more, one-cases}

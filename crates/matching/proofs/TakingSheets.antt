@@ -14,7 +14,7 @@ use Rattle.packed.specs.BookSheets.{listAt, sheetAt}
 use Rattle.packed.specs.declared.cursor.Extent.{Extent}
 use Rattle.matching.specs.Lists.{In}
 use Rattle.matching.specs.Sweeps.{Has, Mask, OneOf}
-use Rattle.matching.specs.Candidates.{Pool, Walkable, Sheeted, Booked, Taken, Listing, SheetListing, BookListing}
+use Rattle.matching.specs.Candidates.{Walkable, Sheeted, Booked, Taken, Listing, SheetListing, BookListing}
 use Rattle.matching.proofs.Taking.{pool-keep, walkable-keep}
 use Rattle.matching.proofs.MaskBits.{mask-cast, mask-self, none-has, one-none, one-last, one-more, one-cases}
 

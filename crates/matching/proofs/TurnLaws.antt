@@ -1,6 +1,6 @@
 -- What a node loses when it is looked at, and that at the end every node is fine.
 use mathlib.Core.Path.{_≡_, refl, ap, _∙_, sym, subst}
-use mathlib.Core.Logic.{_⊎_, inl, inr, ⊎-elim}
+use mathlib.Core.Logic.{inl, inr, ⊎-elim}
 use mathlib.Core.List.{List, _++_}
 use Prim.Native.Nat.{ℕ, _≤_, _<_, _+_, _*_, _^_}
 use native.Mathlib.Nat.{eq-or-lt-of-le}
@@ -9,6 +9,7 @@ use lib.ListN.{length, getD, set, drop, replicate, length-append, length-drop, l
 use lib.Seq.{getD-set-same, getD-set-other}
 use lib.Bits.{bitAnd, bitOr, bitXor}
 use Rattle.packed.proofs.OrderCases.{eq-or-ne}
+use Rattle.packed.proofs.ByValueLaws.{nothing-at}
 use Rattle.matching.specs.Sweeps.{Has, OneOf}
 use Rattle.matching.specs.Sweeping.{fromOf, toOf, sumTo, Ends, heldAt, Swept, LookedUp}
 use Rattle.matching.proofs.MaskBits.{none-has, or-left, or-right, or-cases, and-say, and-by, minus-say, minus-by, part-le}
@@ -16,7 +17,6 @@ use Rattle.matching.specs.Choices.{Prepared, Fixed}
 use Rattle.matching.specs.Late.{Firsts, Looked, Marked, Taken, Full, MarkedBefore, Fine, Rest, Keeps, Turned, Late}
 use Rattle.matching.proofs.SoundLaws.{sound-none, sound-then, from-same, held-by, swept-sound, Loses, loses-none, losing-sound}
 use Rattle.matching.proofs.RoundLaws.{swept-falls, swept-within}
-use Rattle.matching.proofs.RowLaws.{zeros}
 use Rattle.matching.proofs.IndexLaws.{in-range, of-range}
 use Rattle.matching.proofs.SetLaws.{cast, sum-set, sum-bound}
 
@@ -209,7 +209,7 @@ module _ {n due d : ℕ} {leaving arriving w leave arrive leave′ arrive′ out
         arrive-long = L .arrive-long;
         out-long =
             ap length e ∙ length-append (replicate n 0) (drop n out₁) ∙ (let a = length-replicate {A = ℕ} n 0 in let b = length-drop n out₁ in let z = W .long in let y = P .nodes in omega arith);
-        clear = λ v l. ap (λ (x : List ℕ). getD x v 0) e ∙ List·getD-append (replicate n 0) (drop n out₁) 0 v (let a = length-replicate {A = ℕ} n 0 in omega arith) ∙ zeros n v;
+        clear = λ v l. ap (λ (x : List ℕ). getD x v 0) e ∙ List·getD-append (replicate n 0) (drop n out₁) 0 v (let a = length-replicate {A = ℕ} n 0 in omega arith) ∙ nothing-at n v;
         sound = λ from to m T₁ T₂ apart. sound-then from to m (λ i l. refl) (L .keeps free from to m T₁ T₂ apart) (swept-sound most W from to m due);
         rests = λ z. record {
           within = swept-within late-prepared W;

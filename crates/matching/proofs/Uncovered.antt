@@ -8,9 +8,9 @@ use lib.Dec.{T, T-not}
 use Rattle.packed.specs.Formats.{code}
 use Rattle.matching.specs.Lists.{In}
 use Rattle.matching.specs.Simulation.{Pair, Edge, sameEdge, asPair, bit, Pattern, Graph, asGraph, fits, ascending, matchSets, viewSheet, IsSim, sound}
-use Rattle.matching.proofs.ByEdge.{rowOf, matchedBy, matched, covered}
+use Rattle.matching.proofs.ByEdge.{rowOf, matchedBy, matched}
 use Rattle.matching.specs.Join.{lists, without}
-use Rattle.matching.proofs.ListLaws.{keep-in, in-some, every-fails, length-each, getD-each}
+use Rattle.matching.proofs.ListLaws.{keep-in, in-some, length-each, getD-each}
 use Rattle.matching.proofs.Masks.{bit-self}
 use Rattle.matching.proofs.SimLaws.{same-edge-refl, pair-edge, Fits, fits-by, sim-most}
 use Rattle.matching.proofs.MatchLaws.{Matches, matches-edge, row-say, row-by, Sound, sound-say}
@@ -77,8 +77,3 @@ uncovered-query Q s h e i q =
     removed-unlisted Q (asGraph Q) (narrow-query Q ok h) e (omega (arith, ok .ends e i .1)) {l = l}
     (subst (λ ls. In l ls) q (in-sets Q (asGraph Q) i))
     (ascending-by (row-by Q (asGraph Q) (matches-self Q ok i)))
-
--- where the query is not covered there is such an edge
-pub uncovered-edge : (Q : Pattern) (Ps : List Pattern) → (T (covered Q Ps) → ⊥) → (e : Edge) × In e (Q .edges) × (T (matched Q Ps e) → ⊥)
-unfolding covered
-uncovered-edge Q Ps n = every-fails (matched Q Ps) (Q .edges) n

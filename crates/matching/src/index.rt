@@ -1,7 +1,7 @@
 // Where the pairs that begin at a node stand, and what they offer.
 ghost use mathlib.Core.Path.{_≡_};
-ghost use Prim.Native.Nat.{ℕ, _+_, _<_, _≤_};
-ghost use lib.ListN.{length, getD};
+ghost use Prim.Native.Nat.{_+_, _<_, _≤_};
+ghost use lib.ListN.{length};
 ghost use Rattle.matching.specs.Sweeping.{Ends};
 ghost use Rattle.matching.specs.Late.{Ordered, Cut, Before, FirstsMade, Looked};
 use packed::limits;

@@ -1,7 +1,7 @@
 // The tables by groups of four links: word 16 g + s has the links that meet those of the group g that the four bits s name.
 ghost use mathlib.Core.Path.{_≡_};
-ghost use Prim.Native.Nat.{ℕ, _+_, _*_, _/_, _%_, _<_, _≤_};
-ghost use lib.ListN.{length, getD, replicate};
+ghost use Prim.Native.Nat.{_+_, _*_, _/_, _%_, _<_, _≤_};
+ghost use lib.ListN.{replicate};
 ghost use Rattle.matching.specs.Sweeps.{Mask};
 ghost use Rattle.matching.specs.Sweeping.{Tabled};
 ghost use Rattle.matching.specs.Rows.{RowOf, RowsOf, PickedBy, WordOf};

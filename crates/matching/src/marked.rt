@@ -1,8 +1,7 @@
 // Marked nodes: 256 words, one bit each. A node has two places, one in the second half for when it is to wait until none of the first half is marked.
 ghost use mathlib.Core.Path.{_≡_};
 ghost use Prim.Native.Nat.{ℕ, _+_, _<_, _≤_};
-ghost use lib.ListN.{length, getD};
-ghost use Rattle.matching.specs.Sweeps.{Has};
+ghost use lib.ListN.{length};
 ghost use Rattle.matching.specs.Late.{Added, Marks, Full, FirstWord, Drawn, Taken, Marked};
 use crate::index;
 use crate::start;

@@ -1,8 +1,8 @@
 // Sweeps over the pairs and settling of the nodes: the codes of the d pairs stand from word 0 on, from 8192 on for each the links that it is held for.
 // `due` are the links whose items are being settled, `free` those that are not settled yet.
 ghost use mathlib.Core.Path.{_≡_};
-ghost use Prim.Native.Nat.{ℕ, _+_, _*_, _<_, _≤_};
-ghost use lib.ListN.{length, getD};
+ghost use Prim.Native.Nat.{_+_, _<_, _≤_};
+ghost use lib.ListN.{length};
 ghost use Rattle.matching.specs.Sweeping.{Ends, Starts, Carried, Swept, LookedUp, Left, Settled};
 ghost use Rattle.matching.specs.Choices.{Prepared, Fixed};
 use packed::limits;

@@ -1,7 +1,7 @@
 // The late part: nodes are taken and looked at until none is marked. What the pairs are held for stays.
 ghost use mathlib.Core.Path.{_≡_};
-ghost use Prim.Native.Nat.{ℕ, _+_, _<_, _≤_};
-ghost use lib.ListN.{length, getD};
+ghost use Prim.Native.Nat.{_+_, _<_, _≤_};
+ghost use lib.ListN.{length};
 ghost use Rattle.matching.specs.Sweeping.{fromOf, Ends};
 ghost use Rattle.matching.specs.Late.{Ordered, Firsts, Backs, Full, MarkedStart, MarkedBefore, Turned, Late};
 use crate::ends;

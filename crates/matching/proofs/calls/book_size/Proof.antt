@@ -1,9 +1,8 @@
 -- `matching::calls::book_size` meets its contract.
 use native.Mathlib.Omega.{arith}
 use Prim.Native.Nat.{_-_}
-use borrow.Author.Needs.{needs}
 use Rattle.matching.proofs.BookLaws.{Keeping, turned-stands, turned-most, turn-fair, turn-ready, keeping-start, keeping-room, keeping-next, keeping-end}
-use mathlib.Core.Path.{_≡_, refl, sym, _∙_}
+use mathlib.Core.Path.{_≡_, refl, _∙_}
 use lib.ListN.{length}
 use Rattle.matching.specs.Starting.{Room}
 use Rattle.matching.proofs.calls.book_size.Statement.{statement}

@@ -1,5 +1,4 @@
 -- `matching::calls::match_again` meets its contract.
-use native.Mathlib.Omega.{arith}
 use borrow.Author.Needs.{needs}
 use mathlib.Core.Path.{sym, _∙_}
 use Rattle.matching.proofs.BookLaws.{sheeted-by, sheeted-none}

@@ -1,8 +1,5 @@
 -- `matching::engine::rest` meets its contract.
 use native.Mathlib.Omega.{arith}
-use borrow.Author.Needs.{needs}
-use mathlib.Core.Path.{_≡_}
-use Prim.Native.Nat.{ℕ, _≤_}
 use Rattle.matching.proofs.RoundLaws.{fixed-prepared, fixed-then, fixed-told, prepared-ends, prepared-starts}
 use Rattle.matching.proofs.TurnLaws.{late-prepared, late-fixed}
 use Rattle.matching.proofs.engine.rest.Statement.{statement}

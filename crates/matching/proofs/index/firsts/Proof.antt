@@ -1,7 +1,7 @@
 -- `matching::index::firsts` meets its contract.
 use borrow.Author.Needs.{needs}
 use native.Mathlib.Omega.{arith}
-use Prim.Native.Nat.{_-_, _≤_, _+_}
+use Prim.Native.Nat.{_-_, _+_}
 use Rattle.matching.proofs.IndexLaws.{Indexing, indexing-start, indexing-more, indexing-end}
 use Rattle.matching.proofs.index.firsts.Statement.{statement}
 use Rattle.matching.proofs.index.firsts.Tie as tie

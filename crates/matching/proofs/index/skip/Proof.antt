@@ -1,8 +1,8 @@
 -- `matching::index::skip` meets its contract.
 use borrow.Author.Needs.{needs}
 use native.Mathlib.Omega.{arith}
-use Prim.Native.Nat.{_-_, _≤_}
-use Rattle.matching.specs.Late.{Before, Cut}
+use Prim.Native.Nat.{_-_}
+use Rattle.matching.specs.Late.{Before}
 use Rattle.matching.proofs.IndexLaws.{before-more, before-cut, before-end}
 use Rattle.matching.proofs.index.skip.Statement.{statement}
 use Rattle.matching.proofs.index.skip.Tie as tie

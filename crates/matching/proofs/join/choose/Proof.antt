@@ -1,7 +1,6 @@
 -- `matching::join::choose` meets its contract.
 use mathlib.Core.Path.{refl}
 use borrow.Author.Needs.{needs}
-use native.Mathlib.Omega.{arith}
 use Rattle.matching.proofs.JoiningLaws.{every-prepared, chosen-by}
 use Rattle.matching.proofs.join.choose.Statement.{statement}
 use Rattle.matching.proofs.join.choose.Tie as tie

@@ -1,5 +1,4 @@
 -- `matching::marked::take` meets its contract.
-use native.Mathlib.Omega.{arith}
 use borrow.Author.Needs.{needs}
 use Rattle.matching.proofs.SetLaws.{drawn-first, drawn-second}
 use Rattle.matching.proofs.marked.take.Statement.{statement}

@@ -1,5 +1,4 @@
 -- `matching::matched::match_edges` meets its contract.
-use borrow.Author.Needs.{needs}
 use mathlib.Core.Path.{_∙_}
 use Rattle.matching.proofs.FoundLaws.{started, found, room-again}
 use Rattle.matching.proofs.MatchedLaws.{matches}

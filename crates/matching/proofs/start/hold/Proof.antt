@@ -2,7 +2,7 @@
 use borrow.Author.Needs.{needs}
 use native.Mathlib.Omega.{arith}
 use mathlib.Core.Path.{_≡_, refl}
-use Prim.Native.Nat.{ℕ, _-_}
+use Prim.Native.Nat.{_-_}
 use Rattle.matching.proofs.Filling.{Filling, filling-start, filling-more, filling-around, filling-each}
 use Rattle.matching.proofs.start.hold.Statement.{statement}
 use Rattle.matching.proofs.start.hold.Tie as tie

@@ -1,5 +1,4 @@
 -- `matching::start::links_of` meets its contract.
-use borrow.Author.Needs.{needs}
 use native.Mathlib.Omega.{arith}
 use mathlib.Core.Path.{subst, sym}
 use denote.Ref.{now}

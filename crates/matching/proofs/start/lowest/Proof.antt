@@ -1,8 +1,5 @@
 -- `matching::start::lowest` meets its contract.
-use borrow.Author.Needs.{needs}
 use native.Mathlib.Omega.{arith}
-use mathlib.Core.Logic.{⊎-elim}
-use Prim.Native.Nat.{_<_}
 use lib.Count.{trailing-le}
 use Rattle.matching.proofs.StartLaws.{lowest-of}
 use Rattle.matching.proofs.start.lowest.Statement.{statement}

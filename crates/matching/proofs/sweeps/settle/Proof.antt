@@ -2,7 +2,6 @@ use borrow.Author.Needs.{needs}
 use borrow.Author.Needs.{needs}
 use Prim.Native.Nat.{_-_}
 use native.Mathlib.Omega.{arith}
-use lib.ListN.{length-set}
 use Rattle.matching.specs.Sweeping.{missing}
 use Rattle.matching.proofs.SettlingLaws.{Settling, settling-start, settling-more, settling-end}
 use Rattle.matching.proofs.sweeps.settle.Statement.{statement}

@@ -2,7 +2,6 @@ use borrow.Author.Needs.{needs}
 use borrow.Author.Needs.{needs}
 use Prim.Native.Nat.{_-_}
 use native.Mathlib.Omega.{arith}
-use lib.ListN.{length-set}
 use Rattle.matching.specs.Sweeping.{kept}
 use Rattle.matching.proofs.SweepingLaws.{Running, running-start, sweeping-from, sweeping-to, running-more, sweeping-end}
 use Rattle.matching.proofs.sweeps.sweep.Statement.{statement}

@@ -1,8 +1,7 @@
 -- `matching::turns::late` meets its contract.
 use native.Mathlib.Omega.{arith}
-use borrow.Author.Needs.{needs}
-use mathlib.Core.Path.{_≡_, sym}
-use Prim.Native.Nat.{ℕ, _≤_, _<_}
+use mathlib.Core.Path.{sym}
+use Prim.Native.Nat.{ℕ}
 use lib.ListN.{length-replicate}
 use Rattle.matching.proofs.EndLaws.{zeroed}
 use Rattle.matching.proofs.SetLaws.{blank-unmarked}

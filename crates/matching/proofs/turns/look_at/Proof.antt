@@ -1,10 +1,7 @@
 -- `matching::turns::look_at` meets its contract.
 use native.Mathlib.Omega.{arith}
 use borrow.Author.Needs.{needs}
-use mathlib.Core.Path.{_≡_, sym, subst}
-use Prim.Native.Nat.{ℕ, _+_, _≤_, _<_}
-use lib.ListN.{length, getD, length-set}
-use Rattle.matching.specs.Sweeping.{Ends}
+use lib.ListN.{length-set}
 use Rattle.matching.proofs.IndexLaws.{range-rises, ends-part, looked-cast}
 use Rattle.matching.proofs.TurnLaws.{turned-none, turned-some}
 use Rattle.matching.proofs.turns.look_at.Statement.{statement}

@@ -1,10 +1,9 @@
 -- `matching::turns::mark_before` meets its contract.
 use native.Mathlib.Omega.{arith}
 use borrow.Author.Needs.{needs}
-use mathlib.Core.Path.{_∙_, subst, sym}
-use Prim.Native.Nat.{ℕ, _-_, _+_, _≤_, _<_}
-use lib.ListN.{length, getD}
-use Rattle.matching.specs.Sweeping.{fromOf}
+use mathlib.Core.Path.{_∙_}
+use Prim.Native.Nat.{_-_, _+_, _≤_, _<_}
+use lib.ListN.{getD}
 use Rattle.matching.proofs.EndLaws.{ends-rise, ends-of}
 use Rattle.matching.proofs.SetLaws.{MarkedRange, range-start, range-next, range-end}
 use Rattle.matching.proofs.turns.mark_before.Statement.{statement}

@@ -1,8 +1,6 @@
 -- `matching::turns::settle` meets its contract.
 use native.Mathlib.Omega.{arith}
-use borrow.Author.Needs.{needs}
-use mathlib.Core.Path.{_≡_, _∙_, sym}
-use Prim.Native.Nat.{ℕ, _≤_, _<_}
+use mathlib.Core.Path.{_∙_, sym}
 use Rattle.matching.proofs.TurnLaws.{Turning, measure, turning-start, turning-node, turning-more, turning-less, turning-end}
 use Rattle.matching.proofs.turns.settle.Statement.{statement}
 use Rattle.matching.proofs.turns.settle.Tie as tie
