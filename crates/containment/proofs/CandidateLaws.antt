@@ -12,7 +12,6 @@ use Rattle.packed.specs.Formats.{code, book}
 use Rattle.packed.specs.Contents.{viewsOf, edgeCounts, member, sheetsIn}
 use Rattle.packed.specs.BookSheets.{sheetAt}
 use Rattle.packed.specs.declared.by_value.Pattern.{Pattern as Given}
-use Rattle.packed.proofs.AcceptedBounds.{catalogue-views}
 use Rattle.matching.specs.Lists.{In, here, there, gather}
 use Rattle.matching.specs.Simulation.{Pair, Edge, Pattern, bit, edgesIn, patternOf, asGraph, viewSheet}
 use Rattle.matching.specs.Join.{lists, View, pairOf, under, candidates}
@@ -31,6 +30,7 @@ use Rattle.containment.specs.Answer.{viewsIn}
 use Rattle.containment.specs.Steps.{Query, Views, codeAt}
 use Rattle.containment.proofs.SetBits.{bit-half}
 use Rattle.containment.proofs.QueryLaws.{plain, few-edges, query-number, query-edge}
+use Rattle.containment.proofs.NotingLaws.{views-many as contents-many}
 use Rattle.containment.proofs.AnswerLaws.{viewPatterns, views-few, views-many}
 use Rattle.containment.proofs.QuoteLaws.{test-is, mapping-exactly}
 use Rattle.containment.proofs.BookLaws.{count-is, sheet-long, list-same}
@@ -156,13 +156,10 @@ module _ {q : Given} (t : Query q) {c : List ℕ} {k : ℕ} (v : Views c k) (cou
   abbrev sheets : List (List (List ℕ))
   sheets = sheetsIn (edgeCounts (v .content)) bs
 
-  contents-many : length (viewsOf (v .content)) ≡ k
-  contents-many = catalogue-views c (v .content) (v .is) .many ∙ sym (v .number)
-
   view-edges : (a : ℕ) → a < k → length (getD Ps a noPattern .edges) ≡ getD counts a 0
   unfolding patternOf edgesIn
   view-edges a h =
-      let p = in-follow (all-ahead c (v .content) (v .is) .follow) (in-at (viewsOf (v .content)) a [] (omega (arith, contents-many))) in
+      let p = in-follow (all-ahead c (v .content) (v .is) .follow) (in-at (viewsOf (v .content)) a [] (omega (arith, contents-many v))) in
       ap (λ (P : Pattern). length (P .edges)) (List·getD-map patternOf (viewsOf (v .content)) a [])
       ∙ edges-many (p .1)
       ∙ sym (count-is v counts s bs same e a h)

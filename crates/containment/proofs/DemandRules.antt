@@ -14,6 +14,8 @@ use Rattle.packed.specs.Plain.{Below, PatternFile, CatalogueFile, RecordFile, S
 use Rattle.packed.specs.Formats.{code, pattern, catalogue, record′, sheet, book}
 use Rattle.packed.specs.Calls.{Answer, give, refuse, withWorkspace, Verdict, accepted, rejected, inFile, writeFile, judged, readPattern, readCatalogue, readRecord, readBook, pairsOf, uncrowdedBy, fit, fitFile, patternRead, catalogueRead, recordRead, sheetRead, bookRead, patternWritten, catalogueWritten, recordWritten, sheetWritten, bookWritten}
 use Rattle.packed.proofs.OrderCases.{lt-or-ge}
+use Rattle.packed.proofs.CallLaws.{crowded, uncrowded-is}
+use Rattle.packed.proofs.CallRoundTrips.{fit-given, fitFile-given}
 use Rattle.packed.proofs.RoundTrip.{Bytes}
 use Rattle.packed.proofs.Accepted.{pattern-accepted, catalogue-accepted, record-accepted, sheet-accepted, book-accepted, written-accepted}
 use Rattle.matching.specs.Lists.{In}
@@ -50,10 +52,6 @@ not-refused h = let z : _≡_ {A = ℕ} 0 1 = cc in omega arith
 pub goes-on : {v : Verdict} {ws : List ℕ} (k : List ℕ → Answer) → v ≡ accepted ws → judged v k ≡ k ws
 unfolding judged
 goes-on k e = rw e
-
-pub not-crowded : (ms ws : List ℕ) (a : Answer) → length (pairsOf ms ws) ≤ 8192 → uncrowdedBy ms ws a ≡ a
-unfolding uncrowdedBy
-not-crowded ms ws a h = rw (le-ltb 8192 (length (pairsOf ms ws)) h)
 
 -- beyond its end a list counts as zeros
 pub bytes-by : (s : List ℕ) → Below 256 s → Bytes s
@@ -167,10 +165,6 @@ fit-tight : (room : ℕ) (o : List ℕ) → room < length o → fit room o ≡ r
 unfolding fit
 fit-tight room o h = rw (lt-ltb room (length o) h)
 
-fit-given : (room : ℕ) (o : List ℕ) → length o ≤ room → fit room o ≡ give [] (o ∷ [])
-unfolding fit
-fit-given room o h = rw (le-ltb room (length o) h)
-
 -- an output of bytes or words
 pub fitted : (a : Answer) (words room : ℕ) (o : List ℕ) → a ≡ fit room o → Fitted words (Over room o) (o ∷ []) (withWorkspace words a)
 fitted a words room o e =
@@ -190,10 +184,6 @@ unfolding fitFile
 file-tight room o (inl h) = rw (lt-ltb room (length o) h)
 file-tight room o (inr h) = rw (lt-ltb 65536 (length o) h, or-true (ltb room (length o)))
 
-file-given : (room : ℕ) (o : List ℕ) → length o ≤ room → length o ≤ 65536 → fitFile room o ≡ give [] (o ∷ [])
-unfolding fitFile
-file-given room o h l = rw (le-ltb room (length o) h, le-ltb 65536 (length o) l)
-
 -- a sheet, a book or an answer
 pub fitted-file : (a : Answer) (words room : ℕ) (o : List ℕ) → a ≡ fitFile room o → Fitted words (OverFile room o) (o ∷ []) (withWorkspace words a)
 fitted-file a words room o e =
@@ -202,7 +192,7 @@ fitted-file a words room o e =
     (λ (h : room < length o). inl (e ∙ file-tight room o (inl h), (inl h, refl)))
     (λ (h : length o ≤ room). ⊎-elim
     (λ (l : 65536 < length o). inl (e ∙ file-tight room o (inr l), (inr l, refl)))
-    (λ (l : length o ≤ 65536). inr (e ∙ file-given room o h l, λ x. ⊎-elim (λ (k : room < length o). omega arith) (λ (k : 65536 < length o). omega arith) (x .0)))
+    (λ (l : length o ≤ 65536). inr (e ∙ fitFile-given room o h l, λ x. ⊎-elim (λ (k : room < length o). omega arith) (λ (k : 65536 < length o). omega arith) (x .0)))
     (lt-or-ge 65536 (length o)))
     (lt-or-ge room (length o)))
     (λ d x. x .1)
@@ -266,7 +256,7 @@ pub book-reads : (c : List ℕ) → Reads (bookRead c) (λ s ws. (cs : List ℕ)
 unfolding bookRead
 book-reads c = record {
   gives = λ s ws e room words.
-      fitted _ words room ws (goes-on _ (e .1) ∙ goes-on _ (e .2 .read) ∙ not-crowded (edgeCounts (e .0)) ws _ (e .2 .few));
+      fitted _ words room ws (goes-on _ (e .1) ∙ goes-on _ (e .2 .read) ∙ uncrowded-is (edgeCounts (e .0)) ws _ (e .2 .few));
   only = λ s room words f.
       let r = full-twice _ _ _ (full-words words _ f) in
       (r .1, (r .0, r .2, record { read = r .3; few = full-uncrowded _ _ _ (r .4) }));
@@ -310,7 +300,7 @@ unfolding bookWritten
 book-writes c = record {
   gives = λ s ws y e room words.
       fitted-file _ words room s
-      (goes-on _ (e .1) ∙ goes-on _ (written 4 (book (edgeCounts (e .0))) s ws y (book-accepted (edgeCounts (e .0)) s ws .1 (e .2))) ∙ not-crowded (edgeCounts (e .0)) ws _ (e .3));
+      (goes-on _ (e .1) ∙ goes-on _ (written 4 (book (edgeCounts (e .0))) s ws y (book-accepted (edgeCounts (e .0)) s ws .1 (e .2))) ∙ uncrowded-is (edgeCounts (e .0)) ws _ (e .3));
   only = λ ws room words f.
       let r = full-twice _ _ _ (full-words words _ f) in
       let w = wrote 4 (book (edgeCounts (r .0))) (r .1) ws (r .3) in
@@ -319,10 +309,6 @@ book-writes c = record {
 
 -- ---- 10
 
-crowded-is : (ms ws : List ℕ) (a : Answer) → 8192 < length (pairsOf ms ws) → uncrowdedBy ms ws a ≡ refuse 10 4
-unfolding uncrowdedBy
-crowded-is ms ws a h = rw (lt-ltb 8192 (length (pairsOf ms ws)) h)
-
 -- 10 falls exactly to a crowded book, where what would be answered else is not 10
 pub crowded-exactly : (words : ℕ) (a : Answer) (ms ws : List ℕ) (b : Answer) → a ≡ uncrowdedBy ms ws b → ((d : ℕ) → b ≡ refuse 10 d → ⊥) → (d : ℕ)
     → (withWorkspace words a ≡ refuse 10 d) ↔ ((16384 ≤ words) × (8192 < length (pairsOf ms ws)) × (d ≡ 4))
@@ -330,10 +316,10 @@ crowded-exactly words a ms ws b e n d = (
   λ x.
       let w = enough-for words a (λ z. let y = number-same z in omega arith) x in
       ⊎-elim
-      (λ (h : 8192 < length (pairsOf ms ws)). (w .0, h, sym (detail-same (sym (e ∙ crowded-is ms ws b h) ∙ w .1))))
-      (λ (h : length (pairsOf ms ws) ≤ 8192). absurd (n d (sym (e ∙ not-crowded ms ws b h) ∙ w .1)))
+      (λ (h : 8192 < length (pairsOf ms ws)). (w .0, h, sym (detail-same (sym (e ∙ crowded ms ws b h) ∙ w .1))))
+      (λ (h : length (pairsOf ms ws) ≤ 8192). absurd (n d (sym (e ∙ uncrowded-is ms ws b h) ∙ w .1)))
       (lt-or-ge 8192 (length (pairsOf ms ws))),
-  λ x. enough-words words a (x .0) ∙ e ∙ crowded-is ms ws b (x .1) ∙ ap (refuse 10) (sym (x .2)),
+  λ x. enough-words words a (x .0) ∙ e ∙ crowded ms ws b (x .1) ∙ ap (refuse 10) (sym (x .2)),
 )
 
 fit-number : (room : ℕ) (o : List ℕ) (n d : ℕ) → fit room o ≡ refuse n d → n ≡ 12
@@ -345,7 +331,7 @@ file-number room o n d e =
     ⊎-elim (λ h. number-same (sym e ∙ file-tight room o (inl h)))
     (λ h. ⊎-elim
     (λ l. number-same (sym e ∙ file-tight room o (inr l)))
-    (λ l. absurd (not-refused (sym (file-given room o h l) ∙ e)))
+    (λ l. absurd (not-refused (sym (fitFile-given room o h l) ∙ e)))
     (lt-or-ge 65536 (length o)))
     (lt-or-ge room (length o))
 

@@ -1,30 +1,23 @@
 -- The content of a query read as a record, made word by word.
 use Prim.Native.Nat.{ℕ, zero, suc, _+_, _-_, _*_, _^_, _<_, _≤_}
 use mathlib.Core.Path.{_≡_, refl, sym, ap, ap₂, subst, _∙_}
-use mathlib.Core.Bool.{Bool, true, false}
+use mathlib.Core.Bool.{Bool}
 use mathlib.Core.Logic.{⊎-elim}
 use mathlib.Core.List.{List, [], _∷_, _++_, map, append-nil, append-assoc}
-use lib.ListN.{length, take, drop, getD, set, replicate, length-append, length-drop, length-set, length-replicate}
+use lib.ListN.{length, take, drop, getD, set, replicate, length-append, length-drop, length-set}
 use lib.Seq.{take-suc, take-suc-set, take-all, getD-drop}
-use lib.Dec.{eqb, ltb}
 use native.Mathlib.Omega.{arith}
 use native.Mathlib.Numerals.{add-one}
 use borrow.Author.Tests.{eq-eqb, ne-eqb, lt-ltb, le-ltb}
-use Rattle.packed.specs.Format.{pick}
-use Rattle.packed.specs.Contents.{nodesOf, edgesOf}
 use Rattle.packed.specs.Plain.{PlainPattern, fromAt, toAt}
 use Rattle.packed.specs.ByValue.{HoldsPattern}
 use Rattle.packed.specs.declared.by_value.Pattern.{Pattern as Given}
 use Rattle.packed.proofs.OrderCases.{lt-or-ge}
-use Rattle.packed.proofs.RoundTrip.{pick-yes, pick-no}
-use Rattle.matching.specs.Simulation.{Edge, noEdge, Pattern, edgesIn, patternOf}
-use Rattle.matching.specs.Steps.{patternIn}
+use Rattle.matching.specs.Simulation.{Edge, noEdge}
 use Rattle.matching.specs.Steps.{edgeAt as givenAt}
-use Rattle.matching.specs.Lists.{upTo}
 use Rattle.matching.proofs.UpToLaws.{getD-upTo}
-use Rattle.matching.proofs.PatternLaws.{nodes-in, edges-in, pattern-is, pattern-same}
+use Rattle.matching.proofs.PatternLaws.{nodes-in, edges-in, edges-are, labels-same, edges-same}
 use Rattle.matching.proofs.EdgeLaws.{edgeAt}
-use Rattle.containment.specs.Show.{graphFields, fewerFields}
 use Rattle.containment.specs.Steps.{powers, edgesBut, endsBut, labelFields, fieldsBut, Front, Extends, shownFields}
 use Rattle.containment.proofs.QueryGraph.{graph-fields, fewer-fields, edge-at}
 
@@ -161,21 +154,10 @@ module _ (from to : List ℕ) (skip : ℕ) where
 
 -- ---- the whole content
 module _ {ws : List ℕ} {bs : List Bool} (q : PlainPattern ws bs) {p : Given} (h : HoldsPattern ws p) where
-  labels-are : take (p .nodes) (p .labels) ≡ q .labels
-  unfolding patternIn
-  labels-are = ap (λ (P : Pattern). P .labels) (pattern-same q h ∙ pattern-is q)
-
-  edges-are : upTo (givenAt p) (p .edges) ≡ edgesIn (q .ends)
-  unfolding patternIn
-  edges-are = ap (λ (P : Pattern). P .edges) (pattern-same q h ∙ pattern-is q)
-
-  pub number-is : p .edges ≡ q .number
-  number-is = h .edges ∙ edges-in q
-
   pub edge-is : (e : ℕ) → e < q .number → givenAt p e ≡ edgeAt (q .ends) e
   edge-is e l =
-      sym (getD-upTo (givenAt p) (p .edges) e noEdge (omega (arith, number-is)))
-      ∙ ap (λ (es : List Edge). getD es e noEdge) edges-are
+      sym (getD-upTo (givenAt p) (p .edges) e noEdge (omega (arith, edges-are q h)))
+      ∙ ap (λ (es : List Edge). getD es e noEdge) (edges-same q h)
       ∙ edge-at (q .ends) (q .number) e (q .edges .two-each) l
 
   abbrev kept : ℕ → List ℕ
@@ -183,7 +165,7 @@ module _ {ws : List ℕ} {bs : List Bool} (q : PlainPattern ws bs) {p : Given} (
 
   but-are : (skip : ℕ) → fieldsBut p skip ≡ q .nodes ∷ edgesBut (q .number) skip ∷ (powers (q .labels) ++ kept skip)
   unfolding fieldsBut labelFields
-  but-are skip = rw (labels-are, number-is, h .nodes, nodes-in q)
+  but-are skip = rw (labels-same q h, edges-are q h, h .nodes, nodes-in q)
 
   pub fields-are : (skip : ℕ) → fieldsBut p skip ≡ shownFields ws skip
   unfolding shownFields edgesBut

@@ -1,32 +1,29 @@
 -- The table of a quote: the masks of each view, column by column.
-use Prim.Native.Nat.{ℕ, zero, suc, _+_, _-_, _*_, _/_, _%_, _^_, _<_, _≤_}
-use mathlib.Core.Path.{_≡_, refl, sym, ap, ap₂, subst, _∙_}
-use mathlib.Core.Bool.{Bool, true, false, _&&_}
-use mathlib.Core.Logic.{⊎-elim, _≢_}
-use mathlib.Core.List.{List, [], _∷_, _++_, map}
-use lib.ListN.{length, take, drop, getD, set, replicate, length-append, length-set, length-drop, length-replicate, getD-replicate, List·getD-append, List·getD-eq-default}
+use Prim.Native.Nat.{ℕ, zero, suc, _+_, _*_, _/_, _%_, _^_, _<_, _≤_}
+use mathlib.Core.Path.{_≡_, refl, sym, ap, subst, _∙_}
+use mathlib.Core.Bool.{Bool, true, false}
+use mathlib.Core.Logic.{⊎-elim}
+use mathlib.Core.List.{List, [], _∷_, _++_}
+use lib.ListN.{length, drop, getD, set, replicate, length-append, length-set, length-replicate, getD-replicate, List·getD-append, List·getD-eq-default}
 use lib.Seq.{getD-set-same, getD-set-other, getD-take, getD-drop, getD-at, length-take-le, ext-getD}
-use lib.Dec.{ltb, eqb, T}
+use lib.Dec.{ltb, eqb}
 use native.Mathlib.Omega.{arith}
-use native.Mathlib.Numerals.{add-one}
-use native.Mathlib.Nat.{div-one, div-eq-of-lt, pow-suc}
-use lib.Pow.{pow-mono, shr-shr}
-use borrow.Author.Tests.{lt-ltb, le-ltb, eqb-true, eq-eqb, ne-eqb}
-use Rattle.packed.specs.Bits.{odd}
+use native.Mathlib.Nat.{div-one, div-eq-of-lt}
+use lib.Pow.{shr-shr}
+use borrow.Author.Tests.{lt-ltb, le-ltb, eq-eqb, ne-eqb}
 use Rattle.packed.specs.Format.{pick}
 use Rattle.packed.specs.Formats.{code}
 use Rattle.packed.specs.Contents.{member}
 use Rattle.packed.specs.Matches.{marks, marked, markedFrom, anyEmpty, emptied, allOrNone, codesOf, masksOf, matchesOf, Marked, Listed}
 use Rattle.packed.proofs.OrderCases.{lt-or-ge, trichotomy}
 use Rattle.packed.proofs.RoundTrip.{and-no}
-use Rattle.matching.specs.Simulation.{Edge, noEdge, Pattern, bit}
-use Rattle.matching.specs.Lists.{upTo}
+use Rattle.matching.specs.Simulation.{Edge, noEdge, Pattern}
 use Rattle.matching.specs.Sweeps.{OneOf, Has}
 use Rattle.matching.proofs.UpToLaws.{length-upTo, getD-upTo}
 use Rattle.matching.proofs.MaskBits.{few-lt, has-say}
 use Rattle.containment.specs.Quote.{one, maskIn, matchMask, noPattern, maskAt, mapping}
 use Rattle.containment.specs.Steps.{PlaceOf, Within, Column, MaskOf}
-use Rattle.containment.proofs.SetBits.{test-cases, never, bit-by, bit-lt}
+use Rattle.containment.proofs.SetBits.{test-cases, bit-by, bit-lt}
 
 -- ---- a column of the table
 module _ {a : ℕ} {g : ℕ → ℕ → Type 0} {t : List ℕ} where

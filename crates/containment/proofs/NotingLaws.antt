@@ -16,15 +16,15 @@ use Rattle.packed.specs.declared.by_value.Pattern.{Pattern as Given}
 use Rattle.packed.proofs.DistinctLaws.{member-distinct}
 use Rattle.packed.proofs.AcceptedBounds.{catalogue-views}
 use Rattle.matching.specs.Lists.{In, here, there}
-use Rattle.matching.specs.Simulation.{Edge, noEdge, Pattern, Graph, edgesIn, patternOf, graphOf, asGraph, matchSets, viewSheet}
-use Rattle.matching.specs.Steps.{patternIn, graphIn, Fair, Ready, Edges}
+use Rattle.matching.specs.Simulation.{Edge, noEdge, Pattern, patternOf, graphOf, asGraph, matchSets, viewSheet}
+use Rattle.matching.specs.Steps.{graphIn, Edges}
 use Rattle.matching.specs.Sweeps.{OneOf}
-use Rattle.matching.specs.Matched.{Proper, Rises, Matched, ViewAt}
+use Rattle.matching.specs.Matched.{Matched, ViewAt}
 use Rattle.matching.specs.declared.views.View.{View}
 use Rattle.matching.proofs.ListLaws.{in-each}
 use Rattle.matching.proofs.CodeLaws.{in-member, member-in}
 use Rattle.matching.proofs.EdgeLaws.{edgeAt, at-edgesIn, codes-each}
-use Rattle.matching.proofs.PatternLaws.{edges-in, pattern-same}
+use Rattle.matching.proofs.PatternLaws.{edges-are, pattern-same}
 use Rattle.matching.proofs.MatchSetLaws.{view-sheet}
 use Rattle.matching.proofs.RecordLaws.{sets-same, graph-again}
 use Rattle.matching.proofs.ViewLaws.{Ahead, Advanced, advance, all-ahead}
@@ -32,7 +32,7 @@ use Rattle.containment.specs.Quote.{maskIn, matchMask, mapping}
 use Rattle.containment.specs.Show.{graphFields}
 use Rattle.containment.specs.Steps.{Query, Views, Present, Column, codeAt, powers}
 use Rattle.containment.proofs.QueryGraph.{graph-fields, graph-means, powers-length}
-use Rattle.containment.proofs.FieldLaws.{edge-is, number-is}
+use Rattle.containment.proofs.FieldLaws.{edge-is}
 use Rattle.containment.proofs.QueryLaws.{plain, fair, some-edges, few-edges, query-number, query-edge}
 use Rattle.containment.proofs.MappingLaws.{column-map, mapping-none, mapping-more, mapping-length, column-clear}
 
@@ -120,7 +120,7 @@ module _ {q : Given} {s : List ℕ} {n m : ℕ} {w : List ℕ} (t : Query q) (h 
   code-in : (e : ℕ) → e < q .edges → In (codeAt q e) (codes (plain t .ends))
   code-in e l =
       let p = plain t in
-      let j : e < p .number = omega (arith, number-is p (t .holds)) in
+      let j : e < p .number = omega (arith, edges-are p (t .holds)) in
       subst (λ (x : ℕ). In x (codes (p .ends))) (ap (λ (f : Edge). code (f .from) (f .to)) (sym (edge-is p (t .holds) e j)))
       (subst (In (code (edgeAt (p .ends) e .from) (edgeAt (p .ends) e .to))) (sym (codes-each (p .ends)))
       (in-each (λ f. code (f .from) (f .to)) (at-edgesIn (p .ends) (p .number) (p .edges .two-each) e j)))

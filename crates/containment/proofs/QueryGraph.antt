@@ -3,26 +3,26 @@ use Prim.Native.Nat.{ℕ, zero, suc, _+_, _-_, _*_, _/_, _^_, _<_, _≤_}
 use mathlib.Core.Path.{_≡_, refl, sym, ap, ap₂, subst, _∙_}
 use mathlib.Core.Bool.{Bool, true, false, not}
 use mathlib.Core.Logic.{⊎-elim}
-use mathlib.Core.List.{List, [], _∷_, _++_, map, append-nil, append-assoc}
+use mathlib.Core.List.{List, [], _∷_, _++_, map, append-nil}
 use lib.ListN.{length, take, drop, getD, replicate, length-append, length-drop, length-map, length-replicate, List·getD-append}
 use lib.Seq.{take-at, drop-at, drop-drop, getD-take, getD-drop, getD-append-add, length-take-le}
 use lib.Pow.{pow-lt}
 use lib.Dec.{T}
 use native.Mathlib.Omega.{arith}
-use native.Mathlib.Nat.{mul-suc}
 use Rattle.packed.specs.Bits.{bitsOf, gap}
-use Rattle.packed.specs.Format.{Result, ok, ended, whole, lay, got, bytesOf, inBytes, decode, encode}
-use Rattle.packed.specs.Formats.{pattern, record′}
-use Rattle.packed.specs.Contents.{nodesOf, edgesOf}
-use Rattle.packed.specs.Plain.{Below, fieldsOf, Whole, fromAt, toAt, PlainEdges, PlainPattern, PlainRecord}
+use Rattle.packed.specs.Format.{ok, whole, lay, got, bytesOf, decode, encode}
+use Rattle.packed.specs.Formats.{record′}
+use Rattle.packed.specs.Contents.{nodesOf}
+use Rattle.packed.specs.Plain.{Below, fieldsOf, fromAt, toAt, PlainEdges, PlainPattern, PlainRecord}
 use Rattle.packed.proofs.OrderCases.{lt-or-ge, trichotomy}
-use Rattle.packed.proofs.BitsLaws.{length-bitsOf}
+use Rattle.packed.proofs.BitsLaws.{gap-small, length-bitsOf}
+use Rattle.packed.proofs.GraphLaws.{fields-length}
 use Rattle.packed.proofs.Files.{length-bytesOf}
-use Rattle.packed.proofs.RoundTrip.{Bytes, inBytes-ok, encode-decode}
+use Rattle.packed.proofs.RoundTrip.{Bytes}
 use Rattle.packed.proofs.AcceptedLaws.{accepts-whole}
 use Rattle.packed.proofs.AcceptedGraphs.{accepts-record}
-use Rattle.packed.proofs.Accepted.{pattern-accepted, written-accepted}
-use Rattle.matching.specs.Lists.{In, each, keep, put}
+use Rattle.packed.proofs.Accepted.{written-accepted}
+use Rattle.matching.specs.Lists.{each, keep, put}
 use Rattle.matching.specs.Simulation.{Edge, sameEdge, between, noEdge, edgesIn, patternOf, Graph, graphOf, asGraph}
 use Rattle.matching.specs.Join.{without}
 use Rattle.matching.specs.Search.{bytesIn}
@@ -33,7 +33,6 @@ use Rattle.matching.proofs.UpToLaws.{getD-upTo}
 use Rattle.matching.proofs.EdgeLaws.{edgeAt, edgesIn-upTo, edgesIn-length}
 use Rattle.containment.specs.Show.{graphFields, fewerFields, recordBytes}
 use Rattle.containment.specs.Steps.{powers}
-use Rattle.containment.proofs.SetBits.{test-cases, never}
 
 -- ---- a record with given parts
 
@@ -47,16 +46,6 @@ pub record Made (most : ℕ) (fs : List ℕ) : Type 0 where
 bytes-are : (fs bytes : List ℕ) → encode record′ fs ≡ ok bytes → recordBytes fs ≡ bytes
 unfolding recordBytes
 bytes-are fs bytes e = ap bytesIn e
-
-fields-length : (w : ℕ) (vs : List ℕ) → length (fieldsOf w vs) ≡ w * length vs
-unfolding fieldsOf
-fields-length w [] = omega arith
-fields-length w (v ∷ vs) =
-    length-append (bitsOf w v) (fieldsOf w vs) ∙ omega (arith, length-bitsOf w v, fields-length w vs, mul-suc w (length vs))
-
-gap-small : (n : ℕ) → gap n ≤ 7
-unfolding gap
-gap-small n = omega arith
 
 module _ (nodes number : ℕ) (labels ends : List ℕ) (few : nodes ≤ 16) (few-edges : number ≤ 32) (each : length labels ≡ nodes) (are : Below (2 ^ 32) labels)
     (edges : PlainEdges nodes number ends) where

@@ -1,6 +1,6 @@
 -- An accepted query by value: what its functions need of it, and the bytes of the record that it is written as.
-use Prim.Native.Nat.{ℕ, _+_, _-_, _<_, _≤_}
-use mathlib.Core.Path.{_≡_, refl, sym, ap, _∙_}
+use Prim.Native.Nat.{ℕ, _-_, _<_, _≤_}
+use mathlib.Core.Path.{_≡_, sym, ap, _∙_}
 use mathlib.Core.Bool.{Bool}
 use mathlib.Core.Logic.{⊎-elim}
 use mathlib.Core.List.{List}
@@ -19,7 +19,6 @@ use Rattle.packed.proofs.OrderCases.{lt-or-ge}
 use Rattle.packed.proofs.Accepted.{pattern-accepted}
 use Rattle.matching.specs.Simulation.{noEdge, Pattern, patternOf}
 use Rattle.matching.specs.Steps.{edgeAt, patternIn, Fair}
-use Rattle.matching.specs.Lists.{upTo}
 use Rattle.matching.proofs.UpToLaws.{length-upTo, getD-upTo}
 use Rattle.matching.proofs.PatternLaws.{edges-in, fair-by, pattern-same}
 use Rattle.containment.specs.Show.{graphFields, recordBytes}

@@ -8,7 +8,7 @@ use lib.ListN.{length, getD}
 use lib.Dec.{T, eqb}
 use lib.Pow.{shr-shr}
 use borrow.Author.Tests.{ne-eqb, lt-ltb}
-use native.Mathlib.Nat.{div-one, pow-suc}
+use native.Mathlib.Nat.{div-one}
 use native.Mathlib.Omega.{arith}
 use Rattle.packed.specs.Format.{pick}
 use Rattle.packed.specs.Formats.{code}
@@ -123,35 +123,6 @@ module _ (c : ℕ) where
   pub mask-exactly : (ls : List (List ℕ)) (f : ℕ) → f < length ls → (bit (maskIn c ls) f ≡ true) ↔ (member c (getD ls f []) ≡ true)
   mask-exactly ls f h = let e = mask-at ls f h in (λ p. sym e ∙ p, λ p. e ∙ p)
 
-  one-small : (b : Bool) → one b ≤ 1
-  one-small true = omega arith
-  one-small false = omega arith
-
-  pub mask-small : (ls : List (List ℕ)) → maskIn c ls < 2 ^ length ls
-  unfolding maskIn
-  mask-small [] = omega arith
-  mask-small (l ∷ ls) = omega (arith, one-small (member c l), mask-small ls, pow-suc 2 (length ls))
-
-  one-or-more : (b : Bool) (x : ℕ) → one b + 2 * x ≡ 0 → (b ≡ false) × (x ≡ 0)
-  one-or-more true x h = absurd (omega arith)
-  one-or-more false x h = (refl, omega arith)
-
-  none-say : (ls : List (List ℕ)) → maskIn c ls ≡ 0 → (l : List ℕ) → In l ls → member c l ≡ false
-  unfolding maskIn
-  none-say [] h l i = absurd (not-in-none i)
-  none-say (m ∷ ls) h l i =
-      let r = one-or-more (member c m) (maskIn c ls) h in
-      ⊎-elim (λ e. ap (member c) e ∙ r .0) (λ j. none-say ls (r .1) l j) (in-cases i)
-
-  none-by : (ls : List (List ℕ)) → ((l : List ℕ) → In l ls → member c l ≡ false) → maskIn c ls ≡ 0
-  unfolding maskIn
-  none-by [] h = refl
-  none-by (l ∷ ls) h = let e = h l (here refl) in let i = none-by ls (λ m j. h m (there j)) in rw (e, i)
-
-  -- it is 0 exactly if none has it
-  pub mask-none : (ls : List (List ℕ)) → (maskIn c ls ≡ 0) ↔ ((l : List ℕ) → In l ls → member c l ≡ false)
-  mask-none ls = (none-say ls, none-by ls)
-
 -- ---- the table
 module _ (e : Edge) where
   -- the mask of an edge is not 0 exactly if some list has the edge
@@ -191,11 +162,6 @@ module _ (Q : Pattern) (Ps : List Pattern) (few-edges : length (Q .edges) ≤ 32
       let e = mapping-at i a h l few in
       let m = mask-exactly (code (edge i .from) (edge i .to)) (viewSheet (view a) (asGraph Q)) f (omega (arith, view-length (view a) (asGraph Q))) in
       (λ p. member-in _ (m .0 (rw e at p)), λ p. rw e (m .1 (in-member p)))
-
-  -- and no others
-  pub mapping-small : (i a : ℕ) → i < length (Q .edges) → a < length Ps → a < 16 → getD (mapping Q Ps) (16 * i + a) 0 < 2 ^ length (getD Ps a noPattern .edges)
-  mapping-small i a h l few =
-      rw (mapping-at i a h l few, ← view-length (view a) (asGraph Q)) (mask-small (code (edge i .from) (edge i .to)) (viewSheet (view a) (asGraph Q)))
 
   matches-is : (i a : ℕ) → i < length (Q .edges) → a < length Ps → a < 16 → matches (mapping Q Ps) i a ≡ matchedBy Q (edge i) (view a)
   unfolding matches matchedBy

@@ -1,32 +1,30 @@
 -- The two records shown for a query that is not covered: both are accepted, every view has the same sheet on both, and the query has not.
-use Prim.Native.Nat.{ℕ, _*_, _/_, _%_, _<_, _≤_}
+use Prim.Native.Nat.{ℕ, _/_, _%_, _<_, _≤_}
 use mathlib.Core.Path.{_≡_, refl, sym, ap, ap₂, subst, _∙_}
 use mathlib.Core.Bool.{Bool, not}
 use mathlib.Core.List.{List, [], _∷_, _++_, map}
-use lib.ListN.{length, getD, length-map, length-append}
+use lib.ListN.{length, getD, length-map}
 use lib.Dec.{T, T-not}
 use native.Mathlib.Omega.{arith}
 use Rattle.packed.specs.Format.{ok, decode}
 use Rattle.packed.specs.Formats.{pattern, catalogue}
-use Rattle.packed.specs.Contents.{viewsOf, ends, fieldsOf, total}
+use Rattle.packed.specs.Contents.{viewsOf, ends, fieldsOf}
 use Rattle.packed.specs.Calls.{accepted, readRecord}
 use Rattle.packed.specs.Plain.{PlainPattern}
 use Rattle.packed.proofs.Accepted.{pattern-accepted, record-accepted, record-read}
 use Rattle.packed.proofs.AcceptedBounds.{catalogue-views}
 use Rattle.matching.specs.Lists.{In, here, there}
 use Rattle.matching.specs.Simulation.{Edge, sameEdge, noEdge, Pattern, Graph, patternOf, graphOf, asGraph, matchSets, viewSheet}
-use Rattle.matching.proofs.ByEdge.{rowOf, matched}
+use Rattle.matching.proofs.ByEdge.{matched}
 use Rattle.matching.specs.Join.{without}
 use Rattle.matching.specs.Search.{sheetBytes, bookBytes, viewSheets}
-use Rattle.matching.proofs.ListLaws.{in-at, keep-in, keep-length}
+use Rattle.matching.proofs.ListLaws.{in-at, keep-in}
 use Rattle.matching.proofs.SimLaws.{same-edge-refl}
-use Rattle.matching.proofs.CodeLaws.{ascending-length}
-use Rattle.matching.proofs.MatchSetLaws.{sets-length, sets-in, row-length, view-sheet}
+use Rattle.matching.proofs.MatchSetLaws.{sets-length}
 use Rattle.matching.proofs.EdgeLaws.{edgeAt}
 use Rattle.matching.proofs.PatternLaws.{pattern-is, edges-in, edges-many, sound-of}
 use Rattle.matching.proofs.RecordLaws.{graph-narrow, graph-few}
 use Rattle.matching.proofs.SheetBytes.{Sheet, sets-sheet}
-use Rattle.matching.proofs.ViewLaws.{all-ahead, in-follow}
 use Rattle.matching.proofs.Uncovered.{uncovered-views, uncovered-query}
 use Rattle.containment.specs.Choice.{everyView, lowestUnmatched}
 use Rattle.containment.specs.Quote.{mapping}
@@ -189,66 +187,8 @@ unfolding bookBytes
 book-same f g [] h = refl
 book-same f g (v ∷ vs) h = ap₂ (λ (x y : List ℕ). x ++ y) (h v (here refl)) (book-same f g vs (λ w i. h w (there i)))
 
-set-most : (P : Pattern) (G : Graph) (l : List ℕ) → In l (matchSets P G) → length l ≤ length (G .edges)
-set-most P G l i = let r = sets-in P G i in omega (arith, ap length (r .2), ascending-length (rowOf P G (r .0)), row-length P G (r .0))
-
-total-most : (ls : List (List ℕ)) → ((l : List ℕ) → In l ls → length l ≤ 32) → total ls ≤ 32 * length ls
-unfolding total
-total-most [] h = omega arith
-total-most (l ∷ ls) h = omega (arith, h l (here refl), total-most ls (λ m i. h m (there i)))
-
-book-most : (f : List ℕ → List (List ℕ)) (vs : List (List ℕ)) → ((v : List ℕ) → In v vs → length (sheetBytes (f v)) ≤ 3128) → length (bookBytes (map f vs)) ≤ 3128 * length vs
-unfolding bookBytes
-book-most f [] h = omega arith
-book-most f (v ∷ vs) h =
-    omega (arith, length-append (sheetBytes (f v)) (bookBytes (map f vs)), h v (here refl), book-most f vs (λ w i. h w (there i)))
-
--- the sheet of a pattern on a record of at most 32 edges
-sheet-most : {ws : List ℕ} {bs : List Bool} → PlainPattern ws bs → {most : ℕ} {fs : List ℕ} → Made most fs → length (graphOf fs .edges) ≤ 32
-    → length (sheetBytes (matchSets (patternOf ws) (graphOf fs))) ≤ 3128
-sheet-most {ws = ws} q {fs = fs} m few =
-    let ls = matchSets (patternOf ws) (graphOf fs) in
-    let t = total-most ls (λ l i. omega (arith, set-most (patternOf ws) (graphOf fs) l i)) in
-    omega (arith, made-sheet q m .size, sets-length (patternOf ws) (graphOf fs), number-is q, q .most-edges)
-
--- the sheets of the query with content qs and of the views of the catalogue with content cs, on the record with content fs, are short, and so is the book
-pub record Short (qs cs fs : List ℕ) : Type 0 where
-  pub query : length (sheetBytes (matchSets (patternOf qs) (graphOf fs))) ≤ 3128
-  pub view : (v : List ℕ) → In v (viewsOf cs) → length (sheetBytes (viewSheet (patternOf v) (graphOf fs))) ≤ 3128
-  pub book : length (bookBytes (viewSheets cs (graphOf fs))) ≤ 50048
-
 module _ (s c qs cs : List ℕ) (p : decode pattern s ≡ ok qs) (d : decode catalogue c ≡ ok cs) where
-  short-by : {most : ℕ} {fs : List ℕ} → Made most fs → length (graphOf fs .edges) ≤ 32 → Short qs cs fs
-  unfolding viewSheets
-  short-by {fs = fs} m few =
-      let each : (v : List ℕ) → In v (viewsOf cs) → length (sheetBytes (viewSheet (patternOf v) (graphOf fs))) ≤ 3128 =
-      λ v i. rw (view-sheet (patternOf v) (graphOf fs)) (sheet-most (in-follow (all-ahead c cs d .follow) i .1) m few) in
-      let v = catalogue-views c cs d in
-      record {
-        query = sheet-most (pattern-accepted s qs .0 p .laid) m few;
-        view = each;
-        book = omega (arith, book-most (λ v. viewSheet (patternOf v) (graphOf fs)) (viewsOf cs) each, v .many, v .most);
-      }
-
-  few-first : length (graphOf (graphFields qs) .edges) ≤ 32
-  unfolding asGraph
-  few-first =
-      let q = pattern-accepted s qs .0 p .laid in
-      omega (arith, ap (λ (G : Graph). length (G .edges)) (graph-means q), number-is q, q .most-edges)
-
-  pub short-first : Short qs cs (graphFields qs)
-  short-first = short-by (graph-made (pattern-accepted s qs .0 p .laid)) few-first
-
   module _ (n : Leaves everyView qs cs) where
-    pub short-second : Short qs cs (fewerFields qs (lackingIn everyView qs cs))
-    unfolding without
-    short-second =
-        let q = pattern-accepted s qs .0 p .laid in
-        let e = lackingIn everyView qs cs in
-        let first = graphOf (graphFields qs) in
-        short-by (fewer-made q e (omega (arith, lowest-of s c qs cs p d n .below, number-is q)))
-        (omega (arith, ap (λ (G : Graph). length (G .edges)) (shows s c qs cs p d n .lacks), keep-length (λ f. not (sameEdge (queryEdge qs e) f)) (first .edges), few-first))
-
     -- the two records have the same book
     pub shows-book : bookBytes (viewSheets cs (graphOf (graphFields qs))) ≡ bookBytes (viewSheets cs (graphOf (fewerFields qs (lackingIn everyView qs cs))))
     unfolding viewSheets

@@ -1,9 +1,10 @@
 -- What a quote answers: which edges of each view match each edge of the query, whether the query is covered, and the chosen views.
 use Prim.Native.Nat.{ℕ, _+_, _*_, _/_, _%_}
 use mathlib.Core.List.{List, [], _∷_, _++_, map}
-use mathlib.Core.Bool.{Bool, true, false, _&&_}
+use mathlib.Core.Bool.{_&&_}
 use lib.ListN.{length, getD, replicate}
 use lib.Dec.{ltb}
+pub use Rattle.packed.specs.Bits.{one}
 use Rattle.packed.specs.Format.{pick}
 use Rattle.packed.specs.Formats.{code}
 use Rattle.packed.specs.Contents.{viewsOf, member}
@@ -15,10 +16,6 @@ use Rattle.containment.specs.Choice.{everyView, coversIn, lowestUnmatche
 use Rattle.containment.specs.declared.quote_type.Coverage.{Coverage}
 use Rattle.containment.specs.declared.quote_type.Coverage.the-variants as coverage-is
 use Rattle.containment.specs.declared.quote_type.Quote.{Quote}
-
-abbrev pub one : Bool → ℕ
-one true = 1
-one false = 0
 
 -- the lists that have the code c, as a mask
 unfoldable pub maskIn : ℕ → List (List ℕ) → ℕ

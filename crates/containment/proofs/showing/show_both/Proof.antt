@@ -1,10 +1,5 @@
 -- `containment::showing::show_both` meets its contract.
-use mathlib.Core.Path.{refl, ap, _∙_}
-use mathlib.Core.List.{List}
-use Prim.Native.Nat.{ℕ}
-use native.Mathlib.Omega.{arith}
-use lib.Seq.{sets}
-use lib.ListN.{length}
+use mathlib.Core.Path.{refl}
 use Rattle.packed.proofs.CallLaws.{none-lent}
 use Rattle.containment.proofs.AnswerLaws.{first-tight, second-tight, both-given}
 use borrow.Author.Needs.{needs}
