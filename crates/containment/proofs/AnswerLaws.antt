@@ -15,7 +15,7 @@ use Rattle.packed.specs.Contents.{edgesOf, viewsOf}
 use Rattle.packed.specs.ByValue.{HoldsPattern}
 use Rattle.packed.specs.Accepting.{Held, HoldsViews}
 use Rattle.packed.specs.Refusals.{Told, told, numberOf, detailOf}
-use Rattle.packed.specs.Calls.{Answer, give, refuse, toldOf, fronts, outputsOf, workOf, Settled, withWorkspace, Verdict, accepted, rejected, judged, readPattern, readCatalogue}
+use Rattle.packed.specs.Calls.{Outcome, give, refuse, toldOf, fronts, outputsOf, workOf, Settled, withWorkspace, Verdict, accepted, rejected, judged, readPattern, readCatalogue}
 use Rattle.packed.specs.declared.reply.Refusal.{Refusal}
 use Rattle.packed.specs.declared.by_value.Pattern.{Pattern as Given}
 use Rattle.packed.proofs.Sets.{sets-front}
@@ -27,7 +27,7 @@ use Rattle.matching.proofs.EdgeLaws.{edgesIn-length}
 use Rattle.containment.specs.Choice.{everyView, coversIn, lowestUnmatched, chosen}
 use Rattle.containment.specs.Quote.{blank, flat, mapping, valuesFrom, quoteValues, quoteTold}
 use Rattle.containment.specs.Show.{graphFields, fewerFields, recordBytes, fitBoth, showFor}
-use Rattle.containment.specs.Steps.{Query, Views, ViewCounts, Answers, shownFields}
+use Rattle.containment.specs.Steps.{Query, Views, ViewCounts, FulfilsAll, shownFields}
 use Rattle.containment.specs.declared.quote_type.Quote.{Quote}
 use Rattle.containment.specs.declared.quote_type.Coverage.the-variants as coverage-is
 use Rattle.containment.proofs.ChoiceLaws.{chosen-none, lowest-below}
@@ -35,9 +35,9 @@ use Rattle.containment.proofs.QueryLaws.{plain, few-edges, shown-whole}
 
 -- ---- a file's verdict
 
-module _ {none : List ℕ} {r : Told} (k : List ℕ → Answer) {v : Verdict} where
+module _ {none : List ℕ} {r : Told} (k : List ℕ → Outcome) {v : Verdict} where
   -- it was refused, and the refusal is handed up
-  pub answers-refused : (outs : List (List ℕ)) {n d : ℕ} → v ≡ rejected n d → r ≡ told n (d ∷ none) → Answers none (judged v k) r outs outs
+  pub answers-refused : (outs : List (List ℕ)) {n d : ℕ} → v ≡ rejected n d → r ≡ told n (d ∷ none) → FulfilsAll none (judged v k) r outs outs
   unfolding judged toldOf outputsOf
   answers-refused outs e q = record {
     result = q ∙ ap (λ (x : Verdict). toldOf none (judged x k)) (sym e);
@@ -45,7 +45,7 @@ module _ {none : List ℕ} {r : Told} (k : List ℕ → Answer) {v : Verdict} wh
   }
 
   -- it was accepted, and the call goes on with its content
-  pub answers-on : {ws : List ℕ} {outs outs′ : List (List ℕ)} → v ≡ accepted ws → Answers none (k ws) r outs outs′ → Answers none (judged v k) r outs outs′
+  pub answers-on : {ws : List ℕ} {outs outs′ : List (List ℕ)} → v ≡ accepted ws → FulfilsAll none (k ws) r outs outs′ → FulfilsAll none (judged v k) r outs outs′
   answers-on e b = rw (judged-accepted k e) b
 
 -- ---- the workspace
@@ -60,14 +60,14 @@ module _ (work ys : List ℕ) (h : 16384 ≤ length work) (n : length ys ≡ len
       let d : length (postOf 0 (16384 - 0) work) ≡ length work - 16384 = length-drop 16384 work in
       omega (arith, length-append ys (postOf 0 (16384 - 0) work), lent-number)
 
-module _ (none : List ℕ) (a : Answer) (work : List ℕ) {r : Told} where
+module _ (none : List ℕ) (a : Outcome) (work : List ℕ) {r : Told} where
   -- too small
   pub settles-small : (outs : List (List ℕ)) → length work < 16384 → r ≡ told 14 (0 ∷ none) → Settled none (withWorkspace (length work) a) r outs outs work work
   unfolding withWorkspace workOf toldOf outputsOf
   settles-small outs h q = let e = lt-ltb (length work) 16384 h in record { result = rw e q; outputs = rw e; workspace = rw e }
 
   -- cleared, once its first words were lent
-  pub settles-lent : {outs outs′ : List (List ℕ)} {work′ : List ℕ} (ys : List ℕ) → 16384 ≤ length work → Answers none a r outs outs′
+  pub settles-lent : {outs outs′ : List (List ℕ)} {work′ : List ℕ} (ys : List ℕ) → 16384 ≤ length work → FulfilsAll none a r outs outs′
       → length ys ≡ length (take (16384 - 0) (drop 0 work)) → work′ ≡ replicate 16384 0 ++ drop 16384 (putMid 0 (16384 - 0) work ys)
       → Settled none (withWorkspace (length work) a) r outs outs′ work work′
   unfolding withWorkspace workOf
@@ -119,10 +119,10 @@ abbrev pub viewPatterns : List ℕ → List Pattern
 viewPatterns cs = map patternOf (viewsOf cs)
 
 -- how the calls go on with an accepted query
-abbrev pub quoteOn : List ℕ → List ℕ → Answer
+abbrev pub quoteOn : List ℕ → List ℕ → Outcome
 quoteOn c qs = judged (readCatalogue c) (λ cs. give (flat (quoteValues everyView (patternOf qs) (viewPatterns cs))) [])
 
-abbrev pub showOn : List ℕ → ℕ → ℕ → List ℕ → Answer
+abbrev pub showOn : List ℕ → ℕ → ℕ → List ℕ → Outcome
 showOn c room room′ qs = judged (readCatalogue c) (λ cs. showFor everyView qs (viewPatterns cs) room room′)
 
 module _ {s : List ℕ} {k : ℕ} (v : Views s k) where
@@ -142,7 +142,7 @@ module _ {s : List ℕ} {k : ℕ} (v : Views s k) where
 
     module _ {table : List ℕ} (e : table ≡ mapping (patternOf (t .content)) (viewPatterns (v .content))) (set : ℕ) where
       pub quote-given : {r : Told} → r ≡ told 0 (flat (valuesFrom table set (q .edges) k))
-          → Answers blank (give (flat (quoteValues set (patternOf (t .content)) (viewPatterns (v .content)))) []) r [] []
+          → FulfilsAll blank (give (flat (quoteValues set (patternOf (t .content)) (viewPatterns (v .content)))) []) r [] []
       unfolding quoteValues toldOf outputsOf fronts
       quote-given h = record { result = rw (edges-many, views-many) (rw e at h); outputs = refl }
 
@@ -154,7 +154,7 @@ module _ {s : List ℕ} {k : ℕ} (v : Views s k) where
       show-by room room′ = rw (e, views-many, t .holds .edges)
 
       pub show-covered : {r : Told} (room room′ : ℕ) (outs : List (List ℕ)) → coversIn table set k (q .edges) ≡ true → r ≡ told 13 (0 ∷ [])
-          → Answers [] (showFor set (t .content) (viewPatterns (v .content)) room room′) r outs outs
+          → FulfilsAll [] (showFor set (t .content) (viewPatterns (v .content)) room room′) r outs outs
       unfolding toldOf outputsOf
       show-covered room room′ outs h g =
           let a : showFor set (t .content) (viewPatterns (v .content)) room room′ ≡ refuse 13 0 = show-by room room′ ∙ rw h in
@@ -162,8 +162,8 @@ module _ {s : List ℕ} {k : ℕ} (v : Views s k) where
 
       pub show-uncovered : {r : Told} (room room′ n : ℕ) {outs outs′ : List (List ℕ)} → coversIn table set k (q .edges) ≡ false
           → n ≡ lowestUnmatched table set k (q .edges)
-          → Answers [] (fitBoth room room′ (recordBytes (shownFields (t .content) 32)) (recordBytes (shownFields (t .content) n))) r outs outs′
-          → Answers [] (showFor set (t .content) (viewPatterns (v .content)) room room′) r outs outs′
+          → FulfilsAll [] (fitBoth room room′ (recordBytes (shownFields (t .content) 32)) (recordBytes (shownFields (t .content) n))) r outs outs′
+          → FulfilsAll [] (showFor set (t .content) (viewPatterns (v .content)) room room′) r outs outs′
       unfolding shownFields
       show-uncovered {r} room room′ n {outs} {outs′} h g b =
           let l = lowest-below table set k (q .edges) .1 h in
@@ -171,14 +171,14 @@ module _ {s : List ℕ} {k : ℕ} (v : Views s k) where
           let y = lt-ltb n (edgesOf (t .content)) (omega (arith, t .holds .edges)) in
           let d : showFor set (t .content) (viewPatterns (v .content)) room room′ ≡ fitBoth room room′ (recordBytes (graphFields (t .content))) (recordBytes (fewerFields (t .content) n)) =
           show-by room room′ ∙ rw (h, g) in
-          subst (λ a. Answers [] a r outs outs′) (sym d) (rw (x, y) at b)
+          subst (λ a. FulfilsAll [] a r outs outs′) (sym d) (rw (x, y) at b)
 
 -- ---- two outputs
 
 module _ (first second A B : List ℕ) {a : ℕ} (na : a ≡ length A) where
   -- the first doesn't fit
   pub first-tight : {first′ second′ : List ℕ} → length first < a → first′ ≡ first → second′ ≡ second
-      → Answers [] (fitBoth (length first) (length second) A B) (told 12 (a ∷ [])) (first ∷ second ∷ []) (first′ ∷ second′ ∷ [])
+      → FulfilsAll [] (fitBoth (length first) (length second) A B) (told 12 (a ∷ [])) (first ∷ second ∷ []) (first′ ∷ second′ ∷ [])
   unfolding fitBoth toldOf outputsOf
   first-tight h p q = let e = lt-ltb (length first) (length A) (omega (arith, na)) in record { result = rw (e, na); outputs = rw (e, p, q) }
 
@@ -188,7 +188,7 @@ module _ (first second A B : List ℕ) {a : ℕ} (na : a ≡ length A) where
   module _ {b : ℕ} (nb : b ≡ length B) (fits : a ≤ length first) where
     -- the second doesn't fit
     pub second-tight : {first′ second′ : List ℕ} → length second < b → first′ ≡ first → second′ ≡ second
-        → Answers [] (fitBoth (length first) (length second) A B) (told 12 (b ∷ [])) (first ∷ second ∷ []) (first′ ∷ second′ ∷ [])
+        → FulfilsAll [] (fitBoth (length first) (length second) A B) (told 12 (b ∷ [])) (first ∷ second ∷ []) (first′ ∷ second′ ∷ [])
     unfolding fitBoth toldOf outputsOf
     second-tight h p q =
         let d = fits-first fits in
@@ -197,7 +197,7 @@ module _ (first second A B : List ℕ) {a : ℕ} (na : a ≡ length A) where
 
     -- both are given
     pub both-given : {first′ second′ : List ℕ} → b ≤ length second → first′ ≡ sets first 0 A → second′ ≡ sets second 0 B
-        → Answers [] (fitBoth (length first) (length second) A B) (told 0 (a ∷ b ∷ [])) (first ∷ second ∷ []) (first′ ∷ second′ ∷ [])
+        → FulfilsAll [] (fitBoth (length first) (length second) A B) (told 0 (a ∷ b ∷ [])) (first ∷ second ∷ []) (first′ ∷ second′ ∷ [])
     unfolding fitBoth toldOf outputsOf fronts
     both-given h p q =
         let d = fits-first fits in

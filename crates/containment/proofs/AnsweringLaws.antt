@@ -7,12 +7,12 @@ use lib.ListN.{length, take}
 use native.Mathlib.Omega.{arith}
 use Rattle.packed.specs.Format.{ok, pick, decode}
 use Rattle.packed.specs.Formats.{book}
-use Rattle.packed.specs.Contents.{edgeCounts, pairsIn, sum, sheetsIn, total}
-use Rattle.packed.specs.Accepting.{Taken}
+use Rattle.packed.specs.Contents.{edgeCounts, pairsIn, sum, sheetsIn, pairCount}
+use Rattle.packed.specs.Accepting.{ContentTaken}
 use Rattle.packed.specs.Refusals.{Told, numberOf, detailOf, replyTold}
-use Rattle.packed.specs.Matches.{matchesOf, Marked, Written}
+use Rattle.packed.specs.Matches.{matchesOf, Marked, SheetWritten}
 use Rattle.packed.specs.Walks.{bookPairs, Different}
-use Rattle.packed.specs.Calls.{Answer, refuse, readFile, judged, readCatalogue, readBook, uncrowded, fitFile, Answered}
+use Rattle.packed.specs.Calls.{Outcome, refuse, readFile, judged, readCatalogue, readBook, uncrowded, fitFile, Fulfils}
 use Rattle.packed.specs.declared.reply.Refusal.{Refusal}
 use Rattle.packed.specs.declared.reply.Refusal.the-variants.{TooManyPairs, NotContained}
 use Rattle.packed.specs.declared.reply.Reply.the-variants as reply-is
@@ -67,27 +67,27 @@ module _ {q : Given} {table : List ℕ} {set : ℕ} {s counts : List ℕ} {k d :
         ∙ length-upTo _ (q .edges)
 
     -- the bytes that are counted
-    pub answer-size : (14 * q .edges + 24 * total kept + 7) / 8 ≡ length (sheetBytes (answerSets (patternIn q) vs))
+    pub answer-size : (14 * q .edges + 24 * pairCount kept + 7) / 8 ≡ length (sheetBytes (answerSets (patternIn q) vs))
     answer-size =
         let x = sheet-by (q .edges) kept kept-long (matches-encode d (q .edges) w′ joined-marked) in
         let y = rw kept-long at (x .size) in
         sym y ∙ ap (λ (ls : List (List ℕ)). length (sheetBytes ls)) (j .sets vs g)
 
     -- the bytes that are written
-    pub answer-bytes : {out out′ : List ℕ} {r : ℕ} (x : Written d (q .edges) w′ out r out′) → x .bytes ≡ sheetBytes (answerSets (patternIn q) vs)
+    pub answer-bytes : {out out′ : List ℕ} {r : ℕ} (x : SheetWritten d (q .edges) w′ out r out′) → x .bytes ≡ sheetBytes (answerSets (patternIn q) vs)
     answer-bytes x = sym (sheet-is (q .edges) kept (x .bytes) kept-long (x .is)) ∙ ap sheetBytes (j .sets vs g)
 
 -- ---- how the call goes on, once the files before were accepted
-abbrev pub bookOn : List ℕ → List ℕ → ℕ → List ℕ → Answer
-bookOn qs b room cs = judged (readBook cs b) (λ bs. answerIn (usedFor qs cs) qs cs bs room)
+abbrev pub bookMade : List ℕ → List ℕ → ℕ → List ℕ → Outcome
+bookMade qs b room cs = judged (readBook cs b) (λ bs. answerIn (usedFor qs cs) qs cs bs room)
 
-abbrev pub answerOn : List ℕ → List ℕ → ℕ → List ℕ → Answer
-answerOn c b room qs = judged (readCatalogue c) (bookOn qs b room)
+abbrev pub answerOn : List ℕ → List ℕ → ℕ → List ℕ → Outcome
+answerOn c b room qs = judged (readCatalogue c) (bookMade qs b room)
 
 -- ---- what is answered from an accepted book
 
 -- the sheet by the views in a set
-abbrev bySet : Given → List ℕ → List ℕ → ℕ → ℕ → Answer
+abbrev bySet : Given → List ℕ → List ℕ → ℕ → ℕ → Outcome
 bySet q cs bs room set = fitFile room (sheetBytes (answerSets (patternIn q) (viewsIn set (viewPatterns cs) (sheetsIn (edgeCounts cs) bs))))
 
 module _ {q : Given} (t : Query q) {c : List ℕ} {k : ℕ} (v : Views c k) {table : List ℕ} (is : table ≡ mapping (patternOf (t .content)) (viewPatterns (v .content))) where
@@ -103,11 +103,11 @@ module _ {q : Given} (t : Query q) {c : List ℕ} {k : ℕ} (v : Views c k) {tab
 
 -- the book was judged, and its pairs were gathered
 module _ {q : Given} (t : Query q) {counts : List ℕ} {k : ℕ} (v : ViewCounts counts k) (s : List ℕ)
-    {n : ℕ} {w₀ w₁ : List ℕ} (r : Taken (readFile 65536 4 (book (take k counts)) s) n w₀ w₁) where
+    {n : ℕ} {w₀ w₁ : List ℕ} (r : ContentTaken (readFile 65536 4 (book (take k counts)) s) n w₀ w₁) where
   abbrev cs : List ℕ
   cs = v .views .content
 
-  content : Taken (readBook cs s) n w₀ w₁
+  content : ContentTaken (readBook cs s) n w₀ w₁
   content = rw (v .are) at r
 
   book-read : (decode (book (edgeCounts cs)) s ≡ ok (content .fields)) × (length s ≤ 65536)
@@ -119,7 +119,7 @@ module _ {q : Given} (t : Query q) {counts : List ℕ} {k : ℕ} (v : ViewCounts
 
     module _ {table : List ℕ} (is : table ≡ mapping (patternOf (t .content)) (viewPatterns (v .views .content))) (set : ℕ) (out : List ℕ) where
       -- what is answered from the content of the book
-      abbrev answers : List ℕ → Answer
+      abbrev answers : List ℕ → Outcome
       answers bs = answerIn set (t .content) (v .views .content) bs (length out)
 
       pairs : bookPairs s 0 (take k counts) ≡ pairsIn (sum (edgeCounts cs)) (content .fields)
@@ -129,22 +129,22 @@ module _ {q : Given} (t : Query q) {counts : List ℕ} {k : ℕ} (v : ViewCounts
           ≡ uncrowded cs (content .fields) (pick (coversIn table set k (q .edges)) (bySet q cs (content .fields) (length out) set) (refuse 11 (lowestUnmatched table set k (q .edges))))
       answer-is = answer-by t (v .views) is set (content .fields) (length out)
 
-      declined : (x : Refusal) → answers (content .fields) ≡ refuse (numberOf x) (detailOf x) → Answered (judged (readBook cs s) answers) (replyTold (reply-is.Refused x)) out out
+      declined : (x : Refusal) → answers (content .fields) ≡ refuse (numberOf x) (detailOf x) → Fulfils (judged (readBook cs s) answers) (replyTold (reply-is.Refused x)) out out
       declined x e = body-declined answers (content .is) out refl x e
 
-      pub crowded-answered : 8192 < d → Answered (judged (readBook (v .views .content) s) answers) (replyTold (reply-is.Refused (TooManyPairs 4))) out out
+      pub crowded-answered : 8192 < d → Fulfils (judged (readBook (v .views .content) s) answers) (replyTold (reply-is.Refused (TooManyPairs 4))) out out
       crowded-answered h = declined (TooManyPairs 4) (answer-is ∙ gathered-many (edgeCounts cs) (content .fields) g pairs _ h)
 
       module _ (few : d ≤ 8192) {b : Bool} (is-cover : b ≡ coversIn table set k (q .edges)) where
         pub uncovered-answered : {e : ℕ} → b ≡ false → e ≡ lowestUnmatched table set k (q .edges)
-            → Answered (judged (readBook (v .views .content) s) answers) (replyTold (reply-is.Refused (NotContained e))) out out
+            → Fulfils (judged (readBook (v .views .content) s) answers) (replyTold (reply-is.Refused (NotContained e))) out out
         uncovered-answered {e = e} h l = declined (NotContained e) (answer-is ∙ gathered-few (edgeCounts cs) (content .fields) g pairs _ few ∙ rw (← is-cover, h, l))
 
         pub covered-answered : {x : Told} {out′ : List ℕ} → b ≡ true
-            → ((vs : List View) → Agrees q table set s counts k vs → Answered (fitFile (length out) (sheetBytes (answerSets (patternIn q) vs))) x out out′)
-            → Answered (judged (readBook (v .views .content) s) answers) x out out′
+            → ((vs : List View) → Agrees q table set s counts k vs → Fulfils (fitFile (length out) (sheetBytes (answerSets (patternIn q) vs))) x out out′)
+            → Fulfils (judged (readBook (v .views .content) s) answers) x out out′
         covered-answered {x} {out′} h f =
             let a : answers (content .fields) ≡ bySet q cs (content .fields) (length out) set =
             answer-is ∙ gathered-few (edgeCounts cs) (content .fields) g pairs _ few ∙ rw (← is-cover, h) in
             body-goes-on answers (content .is)
-            (subst (λ y. Answered y x out out′) (sym a) (f _ (agrees-by t (v .views) counts s (content .fields) (v .are) (book-read .0) is set)))
+            (subst (λ y. Fulfils y x out out′) (sym a) (f _ (agrees-by t (v .views) counts s (content .fields) (v .are) (book-read .0) is set)))

@@ -14,11 +14,11 @@ use Rattle.packed.specs.BookSheets.{sheetAt}
 use Rattle.packed.specs.declared.by_value.Pattern.{Pattern as Given}
 use Rattle.matching.specs.Lists.{In, here, there, gather}
 use Rattle.matching.specs.Simulation.{Pair, Edge, Pattern, bit, edgesIn, patternOf, asGraph, viewSheet}
-use Rattle.matching.specs.Join.{lists, View, pairOf, under, candidates}
+use Rattle.matching.specs.Join.{listsEdge, View, pairOf, under, candidates}
 use Rattle.matching.specs.Sweeps.{Has, OneOf}
 use Rattle.matching.specs.Candidates.{SheetListing, BookListing}
 use Rattle.matching.specs.Joining.{Agrees}
-use Rattle.matching.specs.Steps.{edgeAt}
+use Rattle.matching.specs.Steps.{givenEdge}
 use Rattle.matching.proofs.ListLaws.{cond-case, not-in-none, in-cast, in-at, append-in, in-append-left, in-append-right, gather-in, in-gather, each-in, in-each}
 use Rattle.matching.proofs.CodeLaws.{member-in}
 use Rattle.matching.proofs.JoinLaws.{lists-by}
@@ -81,8 +81,8 @@ views-by set (P ∷ Ps) sheets (suc a) h b =
     pick-rest (bit set 0) _ _ (in-cast (view-after P Ps sheets a) (views-by (set / 2) Ps (drop 1 sheets) a (omega arith) (subst T (bit-half set a) b)))
 
 -- ---- what a sheet lists under the edges that match an edge, by their numbers
-lists-say : (e : Edge) (l : List ℕ) → T (lists e l) → In (code (e .from) (e .to)) l
-unfolding lists
+lists-say : (e : Edge) (l : List ℕ) → T (listsEdge e l) → In (code (e .from) (e .to)) l
+unfolding listsEdge
 lists-say e l t = member-in l (test-is (member (code (e .from) (e .to)) l) .1 t)
 
 module _ (e : Edge) where
@@ -95,19 +95,19 @@ module _ (e : Edge) where
   under-say (m ∷ ms) [] i = absurd (not-in-none i)
   under-say (m ∷ ms) (l ∷ ls) {c} i =
       ⊎-elim
-      (cond-case (λ k. In c k → Under (m ∷ ms) (l ∷ ls) c) (lists e m) l []
+      (cond-case (λ k. In c k → Under (m ∷ ms) (l ∷ ls) c) (listsEdge e m) l []
       (λ t j. record { at = 0; below = omega arith; holds = (lists-say e m t, j) })
       (λ t j. absurd (not-in-none j)))
       (λ j. let r = under-say ms ls {c = c} j in record { at = suc (r .at); below = omega (arith, r .below); holds = r .holds })
-      (append-in (cond (lists e m) l []) i)
+      (append-in (cond (listsEdge e m) l []) i)
 
   pub under-by : (ms ls : List (List ℕ)) (f : ℕ) {c : ℕ} → f < length ms → f < length ls → In (code (e .from) (e .to)) (getD ms f []) → In c (getD ls f []) → In c (under e ms ls)
   unfolding under
   under-by [] ls f h k i j = absurd (omega arith)
   under-by (m ∷ ms) [] f h k i j = absurd (omega arith)
   under-by (m ∷ ms) (l ∷ ls) zero {c} h k i j =
-      in-append-left (under e ms ls) (cond-case (λ x. In c x) (lists e m) l [] (λ t. j) (λ n. absurd (n (lists-by e i))))
-  under-by (m ∷ ms) (l ∷ ls) (suc f) h k i j = in-append-right (cond (lists e m) l []) (under-by ms ls f (omega arith) (omega arith) i j)
+      in-append-left (under e ms ls) (cond-case (λ x. In c x) (listsEdge e m) l [] (λ t. j) (λ n. absurd (n (lists-by e i))))
+  under-by (m ∷ ms) (l ∷ ls) (suc f) h k i j = in-append-right (cond (listsEdge e m) l []) (under-by ms ls f (omega arith) (omega arith) i j)
 
 -- ---- candidates by the numbers of a view in the set and of its edge
 module _ (Q : Pattern) (set : ℕ) (Ps : List Pattern) (sheets : List (List (List ℕ))) (e : Edge) where
@@ -177,14 +177,14 @@ module _ {q : Given} (t : Query q) {c : List ℕ} {k : ℕ} (v : Views c k) (cou
     abbrev Listing : ℕ → ℕ → Type 0
     Listing x i = BookListing s counts k table set (q .edges) x i
 
-    offered : (i x : ℕ) → i < q .edges → Listing x i → In (pairOf x) (candidates Q (viewsIn set Ps sheets) (edgeAt q i))
+    offered : (i x : ℕ) → i < q .edges → Listing x i → In (pairOf x) (candidates Q (viewsIn set Ps sheets) (givenEdge q i))
     offered i x h o =
         let a : ℕ = o .at in
         let l = o .below in
         let u = o .holds .1 .under in
         let f : ℕ = u .at in
         let j = u .below in
-        offered-by Q set Ps sheets (edgeAt q i)
+        offered-by Q set Ps sheets (givenEdge q i)
         (record {
           view = a;
           given = omega (arith, views-many v);
@@ -196,7 +196,7 @@ module _ {q : Given} (t : Query q) {c : List ℕ} {k : ℕ} (v : Views c k) (cou
         })
         (omega (arith, view-edges a l))
 
-    listing : (i x : ℕ) → i < q .edges → Offered Q set Ps sheets (edgeAt q i) x → Listing x i
+    listing : (i x : ℕ) → i < q .edges → Offered Q set Ps sheets (givenEdge q i) x → Listing x i
     listing i x h o =
         let a : ℕ = o .view in
         let f : ℕ = o .edge in
@@ -211,5 +211,5 @@ module _ {q : Given} (t : Query q) {c : List ℕ} {k : ℕ} (v : Views c k) (cou
         let p = pattern-same (plain t) (t .holds) in
         record {
           to = λ i x h o. rw p (offered i x h o);
-          from = λ i f h j. let r = offered-say Q set Ps sheets (edgeAt q i) (rw p at j) in (r .0, r .1, listing i (r .0) h (r .2));
+          from = λ i f h j. let r = offered-say Q set Ps sheets (givenEdge q i) (rw p at j) in (r .0, r .1, listing i (r .0) h (r .2));
         }

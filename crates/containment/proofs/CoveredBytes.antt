@@ -27,15 +27,15 @@ use Rattle.matching.specs.Lists.{In, keep, each}
 use Rattle.matching.specs.Simulation.{Pattern, Graph, bit, patternOf, graphOf, sound, matchSets, viewSheet}
 use Rattle.matching.specs.Join.{View, answerSets}
 use Rattle.matching.proofs.ByEdge.{covered, viewOf}
-use Rattle.matching.specs.Search.{sheetBytes, viewSheets, searchAnswer}
+use Rattle.matching.specs.Search.{sheetBytes, viewSheets, searchOutcome}
 use Rattle.matching.proofs.ListLaws.{keep-in, in-keep, keep-length, length-each}
 use Rattle.matching.proofs.CodeLaws.{in-member, member-in}
 use Rattle.matching.proofs.PatternLaws.{pattern-is, edges-in, edges-many, sound-of}
 use Rattle.matching.proofs.RecordLaws.{graph-narrow}
-use Rattle.matching.proofs.SheetBytes.{Sheet, sheet-by, fit-by}
+use Rattle.matching.proofs.SheetBytes.{SheetFields, sheet-by, fit-by}
 use Rattle.matching.proofs.BookBytes.{bookFields, counts-are, made-back, made-few}
 use Rattle.matching.proofs.JoinLaws.{answer-each}
-use Rattle.matching.proofs.AnswerLaws.{Stands, answer-all-or-none, answer-listable}
+use Rattle.matching.proofs.AnswerLaws.{AnswerStands, answer-all-or-none, answer-listable}
 use Rattle.matching.proofs.Covered.{covered-answer}
 use Rattle.containment.specs.Choice.{everyView, coversIn}
 use Rattle.containment.specs.Quote.{mapping}
@@ -153,8 +153,8 @@ module _ (q c qs cs : List ℕ) (p : Question q qs) (d : Catalogue c cs) where
 
   -- ---- from the book of a record
   module _ (r rs : List ℕ) (f : Record r rs) where
-    pub search-found : (room : ℕ) → searchAnswer q r room ≡ fitFile room (sheetBytes (matchSets (patternOf qs) (graphOf rs)))
-    unfolding searchAnswer judged
+    pub search-found : (room : ℕ) → searchOutcome q r room ≡ fitFile room (sheetBytes (matchSets (patternOf qs) (graphOf rs)))
+    unfolding searchOutcome judged
     search-found room = rw (p, f)
 
     -- by the views in a set that covers the query: the sheet that a search gives
@@ -169,7 +169,7 @@ module _ (q c qs cs : List ℕ) (p : Question q qs) (d : Catalogue c cs) where
         ∙ covered-answer Q (chosenFrom set (extracts cs)) (z .sound) (z .few-nodes) k (graphOf rs) (graph-narrow r rs (record-is r rs f)))
 
     pub answer-search : (choose : Choose) → Covers (choose qs cs) qs cs → length (bookOf cs rs) ≤ 65536 → (room : ℕ)
-        → answerBy choose q c (bookOf cs rs) room ≡ searchAnswer q r room
+        → answerBy choose q c (bookOf cs rs) room ≡ searchOutcome q r room
     answer-search choose h l room =
         answer-covered (bookOf cs rs) (bookFields (viewSheets cs (graphOf rs))) (made-book c r cs rs d f l) choose room h
         ∙ ap (λ (sheets : List (List (List ℕ))). fitFile room (answerBytes qs (choose qs cs) (extracts cs) sheets)) (made-sheets c r cs rs d f)
@@ -201,7 +201,7 @@ module _ (cs b bs : List ℕ) (k : Book cs b bs) where
       (member-in _ (member-distinct x _ ∙ ap (member x) (sym (book-pairs counts b bs decoded)) ∙ list-in-book counts b bs decoded a f h l x m))
       (lt→ltb x (2 ^ 24) (list-small counts b bs decoded a f h l x m))
 
-  stands-pool : (set : ℕ) (x : ℕ) → Stands (viewsIn set (extracts cs) sheets) x → In x pool
+  stands-pool : (set : ℕ) (x : ℕ) → AnswerStands (viewsIn set (extracts cs) sheets) x → In x pool
   unfolding edgeCounts
   stands-pool set x s =
       let v = views-say set (extracts cs) sheets (s .given) in
@@ -212,7 +212,7 @@ module _ (cs b bs : List ℕ) (k : Book cs b bs) where
       list-pool (v .at) (o .at) x h (omega (arith, o .below))
       (subst (λ l. In x l) (o .holds ∙ ap (λ (ls : List (List ℕ)). getD ls (o .at) []) sheet) (s .here))
 
-  pub answer-sheet : (Q : Pattern) (set : ℕ) → Sheet (answerSets Q (viewsIn set (extracts cs) sheets))
+  pub answer-sheet : (Q : Pattern) (set : ℕ) → SheetFields (answerSets Q (viewsIn set (extracts cs) sheets))
   unfolding pool
   answer-sheet Q set =
       let vs = viewsIn set (extracts cs) sheets in

@@ -14,7 +14,7 @@ use Rattle.matching.proofs.ByEdge.{answerTo}
 use Rattle.matching.proofs.ListLaws.{in-cast, getD-each}
 use Rattle.matching.proofs.CodeLaws.{code-same, ascending-say, ascending-by}
 use Rattle.matching.proofs.MatchSetLaws.{view-length}
-use Rattle.matching.proofs.JoinLaws.{Supported, Joined, join-candidate, join-supported, join-most, complete-say, complete-by, answer-say, answer-by, answer-each, code-pair, pair-code}
+use Rattle.matching.proofs.JoinLaws.{Supported, JoinedPair, join-candidate, join-supported, join-most, complete-say, complete-by, answer-say, answer-by, answer-each, code-pair, pair-code}
 use Rattle.containment.specs.Quote.{noPattern}
 use Rattle.containment.specs.Answer.{viewsIn}
 use Rattle.containment.specs.Demands.{extracts, Candidate, SupportsItself, GreatestChoice, Joins}
@@ -60,7 +60,7 @@ module _ (Q : Pattern) (Ps : List Pattern) (sheets : List (List (List ℕ))) (se
 
   -- ---- the greatest choice
   abbrev Keeps : Edge → Pair → Type 0
-  Keeps e f = Joined Q views e f
+  Keeps e f = JoinedPair Q views e f
 
   supports : SupportsItself Q Keeps
   supports = record {

@@ -12,7 +12,7 @@ use Rattle.packed.specs.Format.{Format, Result, ok, bad, pick, decode, encode}
 use Rattle.packed.specs.Contents.{edgesOf, edgeCounts, sheetsIn}
 use Rattle.packed.specs.Plain.{Below, PatternFile, CatalogueFile, RecordFile, SheetFile, BookFile}
 use Rattle.packed.specs.Formats.{code, pattern, catalogue, record′, sheet, book}
-use Rattle.packed.specs.Calls.{Answer, give, refuse, withWorkspace, Verdict, accepted, rejected, inFile, writeFile, judged, readPattern, readCatalogue, readRecord, readBook, pairsOf, uncrowdedBy, fit, fitFile, patternRead, catalogueRead, recordRead, sheetRead, bookRead, patternWritten, catalogueWritten, recordWritten, sheetWritten, bookWritten}
+use Rattle.packed.specs.Calls.{Outcome, give, refuse, withWorkspace, Verdict, accepted, rejected, inFile, writeFile, judged, readPattern, readCatalogue, readRecord, readBook, pairsOf, uncrowdedBy, fit, fitFile, patternRead, catalogueRead, recordRead, sheetRead, bookRead, patternWritten, catalogueWritten, recordWritten, sheetWritten, bookWritten}
 use Rattle.packed.proofs.OrderCases.{lt-or-ge}
 use Rattle.packed.proofs.CallLaws.{crowded, uncrowded-is}
 use Rattle.packed.proofs.CallRoundTrips.{fit-given, fitFile-given}
@@ -20,7 +20,7 @@ use Rattle.packed.proofs.RoundTrip.{Bytes}
 use Rattle.packed.proofs.Accepted.{pattern-accepted, catalogue-accepted, record-accepted, sheet-accepted, book-accepted, written-accepted}
 use Rattle.matching.specs.Lists.{In}
 use Rattle.matching.specs.Simulation.{Edge, Pattern, patternOf, asGraph, viewSheet}
-use Rattle.matching.specs.Join.{lists}
+use Rattle.matching.specs.Join.{listsEdge}
 use Rattle.matching.proofs.ByEdge.{matchedBy, matched}
 use Rattle.matching.specs.Search.{sheetBytes}
 use Rattle.matching.proofs.ListLaws.{not-in-none, in-at, some-in, in-some}
@@ -28,12 +28,12 @@ use Rattle.matching.proofs.CodeLaws.{member-in}
 use Rattle.matching.proofs.JoinLaws.{lists-by}
 use Rattle.containment.specs.Choice.{everyView}
 use Rattle.containment.specs.Quote.{mapping}
-use Rattle.containment.specs.Answer.{answerBytes, answerIn, answerBy, usedFor, answerAnswer}
-use Rattle.containment.specs.Show.{recordBytes, fitBoth, showFor, showAnswer}
+use Rattle.containment.specs.Answer.{answerBytes, answerIn, answerBy, usedFor, answerOutcome}
+use Rattle.containment.specs.Show.{recordBytes, fitBoth, showFor, showOutcome}
 use Rattle.containment.specs.Demands.{Question, Catalogue, Record, Sheet, Uncrowded, Crowded, Book, extracts, extractOf, linkOf, Covers, Covered, Uncovered, lackingIn, lacking, chosenOf, answerOf, firstOf, secondOf, Full, Over, OverFile, OverEither, Fitted, Reads, Writes, Matched, MatchedIn}
 use Rattle.containment.proofs.SetBits.{test-cases}
 use Rattle.containment.proofs.ChoiceLaws.{covers-exactly, chosen-covers, used-covered, used-uncovered}
-use Rattle.containment.proofs.QuoteLaws.{test-is, place-of, matched-exactly, Listed, matched-say, matched-by, listed-whole}
+use Rattle.containment.proofs.QuoteLaws.{test-is, place-of, matched-exactly, ListedEdge, matched-say, matched-by, listed-whole}
 use Rattle.containment.proofs.CoveredBytes.{question-bounds, few-views, coveredIn, coveredBy, answer-covered, answer-uncovered}
 
 -- ---- answers are told apart
@@ -49,7 +49,7 @@ not-refused h = let z : _≡_ {A = ℕ} 0 1 = cc in omega arith
 
 -- ---- an accepted file's content goes on
 
-pub goes-on : {v : Verdict} {ws : List ℕ} (k : List ℕ → Answer) → v ≡ accepted ws → judged v k ≡ k ws
+pub goes-on : {v : Verdict} {ws : List ℕ} (k : List ℕ → Outcome) → v ≡ accepted ws → judged v k ≡ k ws
 unfolding judged
 goes-on k e = rw e
 
@@ -64,16 +64,16 @@ written file F s ws y e = ap (inFile file) (written-accepted F ws s .1 (bytes-by
 
 -- ---- the workspace
 
-pub few-words : (words : ℕ) (a : Answer) → words < 16384 → withWorkspace words a ≡ refuse 14 0
+pub few-words : (words : ℕ) (a : Outcome) → words < 16384 → withWorkspace words a ≡ refuse 14 0
 unfolding withWorkspace
 few-words words a h = rw (lt-ltb words 16384 h)
 
-pub enough-words : (words : ℕ) (a : Answer) → 16384 ≤ words → withWorkspace words a ≡ a
+pub enough-words : (words : ℕ) (a : Outcome) → 16384 ≤ words → withWorkspace words a ≡ a
 unfolding withWorkspace
 enough-words words a h = rw (le-ltb words 16384 h)
 
 -- what is not 14 is answered with enough words
-pub enough-for : (words : ℕ) (a : Answer) {b : Answer} → (refuse 14 0 ≡ b → ⊥) → withWorkspace words a ≡ b → (16384 ≤ words) × (a ≡ b)
+pub enough-for : (words : ℕ) (a : Outcome) {b : Outcome} → (refuse 14 0 ≡ b → ⊥) → withWorkspace words a ≡ b → (16384 ≤ words) × (a ≡ b)
 enough-for words a n e =
     ⊎-elim
     (λ (h : words < 16384). absurd (n (sym (few-words words a h) ∙ e)))
@@ -85,22 +85,22 @@ enough-for words a n e =
 no-full : {n d : ℕ} → Full (refuse n d) → ⊥
 no-full f = not-refused (sym (f .is))
 
-full-same : {a b : Answer} → a ≡ b → Full a → Full b
+full-same : {a b : Outcome} → a ≡ b → Full a → Full b
 full-same e f = rw e at f
 
-pub full-words : (words : ℕ) (a : Answer) → Full (withWorkspace words a) → Full a
+pub full-words : (words : ℕ) (a : Outcome) → Full (withWorkspace words a) → Full a
 full-words words a f = record { values = f .values; outputs = f .outputs; is = enough-for words a (λ z. not-refused (sym z)) (f .is) .1 }
 
-pub full-judged : (v : Verdict) (k : List ℕ → Answer) → Full (judged v k) → (ws : List ℕ) × (v ≡ accepted ws) × Full (k ws)
+pub full-judged : (v : Verdict) (k : List ℕ → Outcome) → Full (judged v k) → (ws : List ℕ) × (v ≡ accepted ws) × Full (k ws)
 unfolding judged
 full-judged (accepted ws) k f = (ws, refl, f)
 full-judged (rejected n d) k f = absurd (no-full f)
 
-pub full-twice : (v : Verdict) (w : List ℕ → Verdict) (k : List ℕ → List ℕ → Answer) → Full (judged v (λ x. judged (w x) (k x)))
+pub full-twice : (v : Verdict) (w : List ℕ → Verdict) (k : List ℕ → List ℕ → Outcome) → Full (judged v (λ x. judged (w x) (k x)))
     → (x : List ℕ) × (y : List ℕ) × (v ≡ accepted x) × (w x ≡ accepted y) × Full (k x y)
 full-twice v w k f = let r = full-judged v (λ x. judged (w x) (k x)) f in let t = full-judged (w (r .0)) (k (r .0)) (r .2) in (r .0, t .0, r .1, t .1, t .2)
 
-pub full-uncrowded : (ms ws : List ℕ) (a : Answer) → Full (uncrowdedBy ms ws a) → length (pairsOf ms ws) ≤ 8192
+pub full-uncrowded : (ms ws : List ℕ) (a : Outcome) → Full (uncrowdedBy ms ws a) → length (pairsOf ms ws) ≤ 8192
 unfolding uncrowdedBy
 full-uncrowded ms ws a f =
     ⊎-elim
@@ -119,7 +119,7 @@ wrote file F s ws e = let r = written-accepted F ws s .0 (result-ok file (encode
 
 -- ---- 12, or the outputs
 
-module _ (words : ℕ) (a : Answer) {NoFit : ℕ → Type 0} {outputs : List (List ℕ)} where
+module _ (words : ℕ) (a : Outcome) {NoFit : ℕ → Type 0} {outputs : List (List ℕ)} where
   fitted-few : words < 16384 → Fitted words NoFit outputs (withWorkspace words a)
   fitted-few h =
       let w = few-words words a h in
@@ -166,7 +166,7 @@ unfolding fit
 fit-tight room o h = rw (lt-ltb room (length o) h)
 
 -- an output of bytes or words
-pub fitted : (a : Answer) (words room : ℕ) (o : List ℕ) → a ≡ fit room o → Fitted words (Over room o) (o ∷ []) (withWorkspace words a)
+pub fitted : (a : Outcome) (words room : ℕ) (o : List ℕ) → a ≡ fit room o → Fitted words (Over room o) (o ∷ []) (withWorkspace words a)
 fitted a words room o e =
     fitted-by words a (length o)
     (⊎-elim
@@ -185,7 +185,7 @@ file-tight room o (inl h) = rw (lt-ltb room (length o) h)
 file-tight room o (inr h) = rw (lt-ltb 65536 (length o) h, or-true (ltb room (length o)))
 
 -- a sheet, a book or an answer
-pub fitted-file : (a : Answer) (words room : ℕ) (o : List ℕ) → a ≡ fitFile room o → Fitted words (OverFile room o) (o ∷ []) (withWorkspace words a)
+pub fitted-file : (a : Outcome) (words room : ℕ) (o : List ℕ) → a ≡ fitFile room o → Fitted words (OverFile room o) (o ∷ []) (withWorkspace words a)
 fitted-file a words room o e =
     fitted-by words a (length o)
     (⊎-elim
@@ -210,7 +210,7 @@ unfolding fitBoth
 both-given room room′ o o′ h l = rw (le-ltb room (length o) h, le-ltb room′ (length o′) l)
 
 -- two outputs: the first that doesn't fit counts
-pub fitted-both : (a : Answer) (words room room′ : ℕ) (o o′ : List ℕ) → a ≡ fitBoth room room′ o o′
+pub fitted-both : (a : Outcome) (words room room′ : ℕ) (o o′ : List ℕ) → a ≡ fitBoth room room′ o o′
     → Fitted words (OverEither room room′ o o′) (o ∷ o′ ∷ []) (withWorkspace words a)
 fitted-both a words room room′ o o′ e =
     ⊎-elim
@@ -226,7 +226,7 @@ fitted-both a words room room′ o o′ e =
 
 -- ---- readers and writers
 
-lone-reads : {read : List ℕ → ℕ → Answer} (v : List ℕ → Verdict) → ((s : List ℕ) (room : ℕ) → read s room ≡ judged (v s) (fit room))
+lone-reads : {read : List ℕ → ℕ → Outcome} (v : List ℕ → Verdict) → ((s : List ℕ) (room : ℕ) → read s room ≡ judged (v s) (fit room))
     → Reads read (λ s ws. v s ≡ accepted ws)
 lone-reads {read} v is = record {
   gives = λ s ws e room words. fitted (read s room) words room ws (is s room ∙ goes-on _ e);
@@ -262,7 +262,7 @@ book-reads c = record {
       (r .1, (r .0, r .2, record { read = r .3; few = full-uncrowded _ _ _ (r .4) }));
 }
 
-lone-writes : {write : List ℕ → ℕ → Answer} {Has : List ℕ → List ℕ → Type 0} (file : ℕ) (F : Format) → ((s ws : List ℕ) → (decode F s ≡ ok ws) ↔ Has s ws)
+lone-writes : {write : List ℕ → ℕ → Outcome} {Has : List ℕ → List ℕ → Type 0} (file : ℕ) (F : Format) → ((s ws : List ℕ) → (decode F s ≡ ok ws) ↔ Has s ws)
     → ((ws : List ℕ) (room : ℕ) → write ws room ≡ judged (writeFile file F ws) (fit room)) → Writes write Over Has
 lone-writes {write} file F has is = record {
   gives = λ s ws y h room words. fitted (write ws room) words room s (is ws room ∙ goes-on _ (written file F s ws y (has s ws .1 h)));
@@ -310,7 +310,7 @@ book-writes c = record {
 -- ---- 10
 
 -- 10 falls exactly to a crowded book, where what would be answered else is not 10
-pub crowded-exactly : (words : ℕ) (a : Answer) (ms ws : List ℕ) (b : Answer) → a ≡ uncrowdedBy ms ws b → ((d : ℕ) → b ≡ refuse 10 d → ⊥) → (d : ℕ)
+pub crowded-exactly : (words : ℕ) (a : Outcome) (ms ws : List ℕ) (b : Outcome) → a ≡ uncrowdedBy ms ws b → ((d : ℕ) → b ≡ refuse 10 d → ⊥) → (d : ℕ)
     → (withWorkspace words a ≡ refuse 10 d) ↔ ((16384 ≤ words) × (8192 < length (pairsOf ms ws)) × (d ≡ 4))
 crowded-exactly words a ms ws b e n d = (
   λ x.
@@ -350,7 +350,7 @@ crowded-written c cs s ws e y f room words d =
     (λ k x. let z = file-number room s 10 k x in omega arith) d
 
 -- what is answered from a book that isn't crowded
-abbrev uncrowdedAnswer : ℕ → List ℕ → List ℕ → List ℕ → ℕ → Answer
+abbrev uncrowdedAnswer : ℕ → List ℕ → List ℕ → List ℕ → ℕ → Outcome
 uncrowdedAnswer set qs cs bs room = pick (coveredIn set qs cs) (fitFile room (answerBytes qs set (extracts cs) (sheetsIn (edgeCounts cs) bs))) (refuse 11 (lackingIn set qs cs))
 
 answer-number : (b : Bool) (room : ℕ) (o : List ℕ) (k d : ℕ) → pick b (fitFile room o) (refuse 11 k) ≡ refuse 10 d → ⊥
@@ -358,14 +358,14 @@ answer-number true room o k d e = let z = file-number room o 10 d e in omega ari
 answer-number false room o k d e = let z = number-same e in omega arith
 
 pub crowded-answer : (q c b qs cs bs : List ℕ) → Question q qs → Catalogue c cs → readBook cs b ≡ accepted bs → (room words d : ℕ)
-    → (withWorkspace words (answerAnswer q c b room) ≡ refuse 10 d) ↔ ((16384 ≤ words) × Crowded cs bs × (d ≡ 4))
-unfolding answerAnswer answerBy answerIn
+    → (withWorkspace words (answerOutcome q c b room) ≡ refuse 10 d) ↔ ((16384 ≤ words) × Crowded cs bs × (d ≡ 4))
+unfolding answerOutcome answerBy answerIn
 crowded-answer q c b qs cs bs e f g room words d =
     crowded-exactly words _ (edgeCounts cs) bs (uncrowdedAnswer (usedFor qs cs) qs cs bs room) (goes-on _ e ∙ goes-on _ f ∙ goes-on _ g)
     (λ k x. answer-number (coveredIn (usedFor qs cs) qs cs) room _ (lackingIn (usedFor qs cs) qs cs) k x) d
 
 -- no other number
-no-other : {words n e : ℕ} {NoFit : ℕ → Type 0} {outputs : List (List ℕ)} {a : Answer} → Fitted words NoFit outputs a → a ≡ refuse n e → (n ≡ 14) ⊎ (n ≡ 12)
+no-other : {words n e : ℕ} {NoFit : ℕ → Type 0} {outputs : List (List ℕ)} {a : Outcome} → Fitted words NoFit outputs a → a ≡ refuse n e → (n ≡ 14) ⊎ (n ≡ 12)
 no-other f x =
     ⊎-elim (λ y. inl (number-same (sym x ∙ y)))
     (⊎-elim (λ y. inr (number-same (sym x ∙ y .1))) (λ y. absurd (not-refused (sym y ∙ x))))
@@ -375,10 +375,10 @@ no-other f x =
 
 -- an edge of the query that is matched is so by a view that fits the query as a whole
 module _ (Q : Pattern) (Ps : List Pattern) (e : Edge) where
-  pub listed-matched : Listed Q Ps e → Matched Q Ps e
+  pub listed-matched : ListedEdge Q Ps e → Matched Q Ps e
   listed-matched o = record { extract = o .view; given = o .given; link = o .at; below = o .below; lists = o .lists; whole = listed-whole Q Ps e o }
 
-  pub matched-listed : Matched Q Ps e → Listed Q Ps e
+  pub matched-listed : Matched Q Ps e → ListedEdge Q Ps e
   matched-listed o = record { view = o .extract; given = o .given; at = o .link; below = o .below; lists = o .lists }
 
   pub matched-whole : T (matched Q Ps e) ↔ Matched Q Ps e
@@ -394,15 +394,15 @@ place-below ls i {c} m =
 -- an edge of the query that a view matches is listed under an edge of the view
 module _ (Q : Pattern) (e : Edge) (P : Pattern) where
   link-of : T (matchedBy Q e P) → (f : ℕ) × In (code (e .from) (e .to)) (getD (viewSheet P (asGraph Q)) f [])
-  unfolding matchedBy lists
+  unfolding matchedBy listsEdge
   link-of t =
-      let l = some-in (lists e) (viewSheet P (asGraph Q)) t in
+      let l = some-in (listsEdge e) (viewSheet P (asGraph Q)) t in
       let o = place-of [] (l .1) in
-      (o .at, subst (λ m. In (code (e .from) (e .to)) m) (o .holds) (member-in (l .0) (test-is (lists e (l .0)) .1 (l .2))))
+      (o .at, subst (λ m. In (code (e .from) (e .to)) m) (o .holds) (member-in (l .0) (test-is (listsEdge e (l .0)) .1 (l .2))))
 
   by-link : (f : ℕ) → In (code (e .from) (e .to)) (getD (viewSheet P (asGraph Q)) f []) → T (matchedBy Q e P)
   unfolding matchedBy
-  by-link f i = in-some (lists e) (in-at (viewSheet P (asGraph Q)) f [] (place-below (viewSheet P (asGraph Q)) f i)) (lists-by e i)
+  by-link f i = in-some (listsEdge e) (in-at (viewSheet P (asGraph Q)) f [] (place-below (viewSheet P (asGraph Q)) f i)) (lists-by e i)
 
 -- the extracts that answer a query: the chosen ones, or all
 module _ (qs cs : List ℕ) where
@@ -440,56 +440,56 @@ module _ (q c qs cs : List ℕ) (p : Question q qs) (d : Catalogue c cs) where
             record { at = m .extract; below = k; holds = (test-is _ .1 (m .in-set), t) }),
       )
 
-  pub shown-both : Uncovered qs cs → (room room′ : ℕ) → showAnswer q c room room′ ≡ fitBoth room room′ (recordBytes (firstOf qs)) (recordBytes (secondOf qs cs))
-  unfolding showAnswer showFor judged
+  pub shown-both : Uncovered qs cs → (room room′ : ℕ) → showOutcome q c room room′ ≡ fitBoth room room′ (recordBytes (firstOf qs)) (recordBytes (secondOf qs cs))
+  unfolding showOutcome showFor judged
   shown-both n room room′ = rw (p, d, n)
 
-  shown-none : Covered qs cs → (room room′ : ℕ) → showAnswer q c room room′ ≡ refuse 13 0
-  unfolding showAnswer showFor judged
+  shown-none : Covered qs cs → (room room′ : ℕ) → showOutcome q c room room′ ≡ refuse 13 0
+  unfolding showOutcome showFor judged
   shown-none h room room′ = rw (p, d, h)
 
   -- 13 falls exactly to a covered query
-  pub shown-exactly : (room room′ words e : ℕ) → (withWorkspace words (showAnswer q c room room′) ≡ refuse 13 e) ↔ ((16384 ≤ words) × Covered qs cs × (e ≡ 0))
+  pub shown-exactly : (room room′ words e : ℕ) → (withWorkspace words (showOutcome q c room room′) ≡ refuse 13 e) ↔ ((16384 ≤ words) × Covered qs cs × (e ≡ 0))
   shown-exactly room room′ words e = (
     λ x.
-        let w = enough-for words (showAnswer q c room room′) (λ z. let y = number-same z in omega arith) x in
+        let w = enough-for words (showOutcome q c room room′) (λ z. let y = number-same z in omega arith) x in
         ⊎-elim
         (λ h. (w .0, h, sym (detail-same (sym (shown-none h room room′) ∙ w .1))))
-        (λ n. absurd (⊎-elim (λ y. omega arith) (λ y. omega arith) (no-other (fitted-both (showAnswer q c room room′) words room room′ _ _ (shown-both n room room′)) x)))
+        (λ n. absurd (⊎-elim (λ y. omega arith) (λ y. omega arith) (no-other (fitted-both (showOutcome q c room room′) words room room′ _ _ (shown-both n room room′)) x)))
         (test-cases (coveredBy qs cs)),
     λ x. enough-words words _ (x .0) ∙ shown-none (x .1) room room′ ∙ ap (refuse 13) (sym (x .2)),
   )
 
   -- a showing is given of an uncovered query alone
-  pub full-shown : (room room′ : ℕ) → Full (showAnswer q c room room′) → Uncovered qs cs
+  pub full-shown : (room room′ : ℕ) → Full (showOutcome q c room room′) → Uncovered qs cs
   full-shown room room′ f = ⊎-elim (λ h. absurd (no-full (full-same (shown-none h room room′) f))) (λ n. n) (test-cases (coveredBy qs cs))
 
   -- ---- accepted books
   module _ (b bs : List ℕ) (k : Book cs b bs) where
-    pub refused-by : Uncovered qs cs → (room : ℕ) → answerAnswer q c b room ≡ refuse 11 (lacking qs cs)
-    unfolding answerAnswer
+    pub refused-by : Uncovered qs cs → (room : ℕ) → answerOutcome q c b room ≡ refuse 11 (lacking qs cs)
+    unfolding answerOutcome
     refused-by n room =
         let e = used-all qs cs n in
         answer-uncovered q c qs cs p d b bs k usedFor room (rw e n) ∙ ap (λ (set : ℕ). refuse 11 (lackingIn set qs cs)) e
 
-    pub given-by : Covered qs cs → (room : ℕ) → answerAnswer q c b room ≡ fitFile room (sheetBytes (answerOf (chosenOf qs cs) qs cs bs))
-    unfolding answerAnswer answerBytes
+    pub given-by : Covered qs cs → (room : ℕ) → answerOutcome q c b room ≡ fitFile room (sheetBytes (answerOf (chosenOf qs cs) qs cs bs))
+    unfolding answerOutcome answerBytes
     given-by h room =
         answer-covered q c qs cs p d b bs k usedFor room (used-covers qs cs h)
         ∙ ap (λ (set : ℕ). fitFile room (sheetBytes (answerOf set qs cs bs))) (used-chosen qs cs h)
 
     -- 11 falls exactly to an uncovered query
-    pub refused-exactly : (room words e : ℕ) → (withWorkspace words (answerAnswer q c b room) ≡ refuse 11 e) ↔ ((16384 ≤ words) × Uncovered qs cs × (e ≡ lacking qs cs))
+    pub refused-exactly : (room words e : ℕ) → (withWorkspace words (answerOutcome q c b room) ≡ refuse 11 e) ↔ ((16384 ≤ words) × Uncovered qs cs × (e ≡ lacking qs cs))
     refused-exactly room words e = (
       λ x.
-          let w = enough-for words (answerAnswer q c b room) (λ z. let y = number-same z in omega arith) x in
+          let w = enough-for words (answerOutcome q c b room) (λ z. let y = number-same z in omega arith) x in
           ⊎-elim
-          (λ h. absurd (⊎-elim (λ y. omega arith) (λ y. omega arith) (no-other (fitted-file (answerAnswer q c b room) words room _ (given-by h room)) x)))
+          (λ h. absurd (⊎-elim (λ y. omega arith) (λ y. omega arith) (no-other (fitted-file (answerOutcome q c b room) words room _ (given-by h room)) x)))
           (λ n. (w .0, n, sym (detail-same (sym (refused-by n room) ∙ w .1))))
           (test-cases (coveredBy qs cs)),
       λ x. enough-words words _ (x .0) ∙ refused-by (x .1) room ∙ ap (refuse 11) (sym (x .2)),
     )
 
     -- an answer is given to a covered query alone
-    pub full-answered : (room : ℕ) → Full (answerAnswer q c b room) → Covered qs cs
+    pub full-answered : (room : ℕ) → Full (answerOutcome q c b room) → Covered qs cs
     full-answered room f = ⊎-elim (λ h. h) (λ n. absurd (no-full (full-same (refused-by n room) f))) (test-cases (coveredBy qs cs))

@@ -6,11 +6,11 @@ use lib.ListN.{length, length-map, List·getD-map}
 use lib.Dec.{T}
 use native.Mathlib.Omega.{arith}
 use Rattle.packed.specs.Formats.{code}
-use Rattle.packed.specs.Contents.{edgesOf, viewsOf, edgeCounts, ends, fieldsOf, total, sheetsIn}
-use Rattle.packed.specs.Calls.{Answer, give, withWorkspace, Verdict, accepted, rejected, judged, readPattern, readCatalogue, fitFile}
+use Rattle.packed.specs.Contents.{edgesOf, viewsOf, edgeCounts, ends, fieldsOf, pairCount, sheetsIn}
+use Rattle.packed.specs.Calls.{Outcome, give, withWorkspace, Verdict, accepted, rejected, judged, readPattern, readCatalogue, fitFile}
 use Rattle.matching.specs.Lists.{In}
 use Rattle.matching.specs.Simulation.{Pattern, patternOf, graphOf, sound, matchSets}
-use Rattle.matching.specs.Search.{sheetBytes, bookBytes, viewSheets, searchAnswer, makeBookAnswer}
+use Rattle.matching.specs.Search.{sheetBytes, bookBytes, viewSheets, searchOutcome, makeBookOutcome}
 use Rattle.matching.proofs.ListLaws.{in-at, length-each}
 use Rattle.matching.proofs.MatchSetLaws.{view-same, order-free}
 use Rattle.matching.proofs.PatternLaws.{sound-of}
@@ -31,27 +31,27 @@ pair-fields a b l h = let x : code a b / 4096 ≡ a = omega arith in let y : cod
 
 -- ---- the sheet that a search gives
 module _ (p r ps rs : List ℕ) (e : Question p ps) (f : Record r rs) where
-  pub searched : (room : ℕ) → searchAnswer p r room ≡ fitFile room (sheetOf (patternOf ps) rs)
-  unfolding searchAnswer
+  pub searched : (room : ℕ) → searchOutcome p r room ≡ fitFile room (sheetOf (patternOf ps) rs)
+  unfolding searchOutcome
   searched room = goes-on _ e ∙ goes-on _ f
 
-  pub searched-back : (out : List ℕ) (room words : ℕ) → withWorkspace words (searchAnswer p r room) ≡ give [] (out ∷ [])
+  pub searched-back : (out : List ℕ) (room words : ℕ) → withWorkspace words (searchOutcome p r room) ≡ give [] (out ∷ [])
       → Sheet ps out (fieldsOf (matchSets (patternOf ps) (graphOf rs)))
   searched-back out room words g =
-      let w = enough-for words (searchAnswer p r room) (λ z. not-refused (sym z)) g in
+      let w = enough-for words (searchOutcome p r room) (λ z. not-refused (sym z)) g in
       let o = given-file room (sheetOf (patternOf ps) rs) out (sym (searched room) ∙ w .1) in
       rw (o .0) (search-back p r ps rs (question-is p ps e) (record-is r rs f) (o .1))
 
-  pub searched-length : length (sheetOf (patternOf ps) rs) ≡ (14 * edgesOf ps + 24 * total (matchSets (patternOf ps) (graphOf rs)) + 7) / 8
+  pub searched-length : length (sheetOf (patternOf ps) rs) ≡ (14 * edgesOf ps + 24 * pairCount (matchSets (patternOf ps) (graphOf rs)) + 7) / 8
   searched-length = search-size p r ps rs (question-is p ps e) (record-is r rs f)
 
-pub book-made : (c r cs rs : List ℕ) → Catalogue c cs → Record r rs → (room : ℕ) → makeBookAnswer c r room ≡ fitFile room (bookOf cs rs)
-unfolding makeBookAnswer
+pub book-made : (c r cs rs : List ℕ) → Catalogue c cs → Record r rs → (room : ℕ) → makeBookOutcome c r room ≡ fitFile room (bookOf cs rs)
+unfolding makeBookOutcome
 book-made c r cs rs e f room = goes-on _ e ∙ goes-on _ f
 
 -- an answer is as long as such a sheet
 pub answer-size : (q qs cs b bs : List ℕ) → Question q qs → Book cs b bs → (set : ℕ)
-    → length (sheetBytes (answerOf set qs cs bs)) ≡ (14 * edgesOf qs + 24 * total (answerOf set qs cs bs) + 7) / 8
+    → length (sheetBytes (answerOf set qs cs bs)) ≡ (14 * edgesOf qs + 24 * pairCount (answerOf set qs cs bs) + 7) / 8
 answer-size q qs cs b bs p k set =
     let Q = patternOf qs in
     let vs = viewsIn set (extracts cs) (sheetsIn (edgeCounts cs) bs) in
@@ -59,7 +59,7 @@ answer-size q qs cs b bs p k set =
     rw n at (answer-sheet cs b bs k Q set .size)
 
 -- ---- the order of a record's edges
-judged-same : (v : Verdict) (k l : List ℕ → Answer) → ((ws : List ℕ) → k ws ≡ l ws) → judged v k ≡ judged v l
+judged-same : (v : Verdict) (k l : List ℕ → Outcome) → ((ws : List ℕ) → k ws ≡ l ws) → judged v k ≡ judged v l
 unfolding judged
 judged-same (accepted ws) k l h = h ws
 judged-same (rejected n d) k l h = refl
@@ -70,14 +70,14 @@ module _ (r r′ rs rs′ : List ℕ) (e : Record r rs) (e′ : Record r′ rs�
       order-free P (graphOf rs) (graphOf rs′)
       (record { same-labels = s .kinds; more = s .there }) (record { same-labels = sym (s .kinds); more = s .back })
 
-  pub order-sheets : (p : List ℕ) (room : ℕ) → searchAnswer p r room ≡ searchAnswer p r′ room
-  unfolding searchAnswer
+  pub order-sheets : (p : List ℕ) (room : ℕ) → searchOutcome p r room ≡ searchOutcome p r′ room
+  unfolding searchOutcome
   order-sheets p room =
       judged-same (readPattern p) _ _
       (λ ps. goes-on _ e ∙ ap (λ (ls : List (List ℕ)). fitFile room (sheetBytes ls)) (same-sets (patternOf ps)) ∙ sym (goes-on _ e′))
 
-  pub order-books : (c : List ℕ) (room : ℕ) → makeBookAnswer c r room ≡ makeBookAnswer c r′ room
-  unfolding makeBookAnswer viewSheets
+  pub order-books : (c : List ℕ) (room : ℕ) → makeBookOutcome c r room ≡ makeBookOutcome c r′ room
+  unfolding makeBookOutcome viewSheets
   order-books c room =
       judged-same (readCatalogue c) _ _
       (λ cs. goes-on _ e

@@ -11,12 +11,12 @@ use Rattle.packed.specs.Calls.{give, withWorkspace, readSheet, fitFile}
 use Rattle.matching.specs.Lists.{In, here, there}
 use Rattle.matching.specs.Simulation.{Pattern, Graph, bit, patternOf, graphOf, matchSets, viewSheet}
 use Rattle.matching.specs.Join.{without, answerSets}
-use Rattle.matching.specs.Search.{sheetBytes, viewSheets, searchAnswer}
+use Rattle.matching.specs.Search.{sheetBytes, viewSheets, searchOutcome}
 use Rattle.matching.proofs.BookBytes.{bookFields}
 use Rattle.matching.proofs.Uncovered.{uncovered-views}
-use Rattle.containment.specs.Answer.{answerBytes, usedFor, answerAnswer}
+use Rattle.containment.specs.Answer.{answerBytes, usedFor, answerOutcome}
 use Rattle.containment.specs.Show.{recordBytes}
-use Rattle.containment.specs.Demands.{Question, Catalogue, Record, Sheet, Book, extracts, Covered, Uncovered, bookOf, answerOf, lacking, linkOf, firstOf, secondOf, LowestUnmatched, Shown, Demand3, chosenOf, Answers}
+use Rattle.containment.specs.Demands.{Question, Catalogue, Record, Sheet, Book, extracts, Covered, Uncovered, bookOf, answerOf, lacking, linkOf, firstOf, secondOf, LowestUnmatched, Showing, Demand3, chosenOf, Answering}
 use Rattle.containment.proofs.SetBits.{test-cases}
 use Rattle.containment.proofs.ShowLaws.{lowest-of, shows, shows-book}
 use Rattle.containment.proofs.CoveredBytes.{views-same, question-is, catalogue-is, question-bounds, made-sheets, made-book, coveredBy, answer-search, answer-back, given-file}
@@ -26,12 +26,12 @@ use Rattle.containment.proofs.DemandJoin.{answer-joins}
 
 module _ (q c qs cs : List ℕ) (p : Question q qs) (d : Catalogue c cs) where
   -- ---- a covered query
-  from-book : (r rs : List ℕ) → Record r rs → Covered qs cs → length (bookOf cs rs) ≤ 65536 → (room : ℕ) → answerAnswer q c (bookOf cs rs) room ≡ searchAnswer q r room
-  unfolding answerAnswer
+  from-book : (r rs : List ℕ) → Record r rs → Covered qs cs → length (bookOf cs rs) ≤ 65536 → (room : ℕ) → answerOutcome q c (bookOf cs rs) room ≡ searchOutcome q r room
+  unfolding answerOutcome
   from-book r rs f h l room = answer-search q c qs cs p d r rs f usedFor (used-covers qs cs h) l room
 
   -- ---- an uncovered query
-  shown-by : Uncovered qs cs → Shown qs cs
+  shown-by : Uncovered qs cs → Showing qs cs
   shown-by n =
       let s = shows q c qs cs (question-is q qs p) (catalogue-is c cs d) n in
       record {
@@ -69,7 +69,7 @@ module _ (q c qs cs : List ℕ) (p : Question q qs) (d : Catalogue c cs) where
 
   -- ---- accepted books
   module _ (b bs : List ℕ) (k : Book cs b bs) where
-    read-back : (out : List ℕ) (room : ℕ) → answerAnswer q c b room ≡ give [] (out ∷ [])
+    read-back : (out : List ℕ) (room : ℕ) → answerOutcome q c b room ≡ give [] (out ∷ [])
         → Sheet qs out (fieldsOf (answerOf (chosenOf qs cs) qs cs bs))
     unfolding answerBytes
     read-back out room e =
@@ -88,7 +88,7 @@ same-sheets G H (v ∷ vs) h = ap₂ (λ (x : List (List ℕ)) (l : List (List (
 
 same-answer : (q c qs cs b b′ bs bs′ : List ℕ) → Question q qs → Catalogue c cs → Book cs b bs → Book cs b′ bs′
     → ((a : ℕ) → T (bit (chosenOf qs cs) a) → getD (sheetsIn (edgeCounts cs) bs) a [] ≡ getD (sheetsIn (edgeCounts cs) bs′) a [])
-    → (room : ℕ) → answerAnswer q c b room ≡ answerAnswer q c b′ room
+    → (room : ℕ) → answerOutcome q c b room ≡ answerOutcome q c b′ room
 same-answer q c qs cs b b′ bs bs′ p d k k′ s room =
     ⊎-elim
     (λ h.
@@ -120,7 +120,7 @@ demand-3 = record {
   refused = λ q c b qs cs bs p d k room words e. refused-exactly q c qs cs p d b bs k room words e;
 }
 
-pub answers : Answers
+pub answers : Answering
 answers = record {
   joins = answer-joins;
   same = same-answer;

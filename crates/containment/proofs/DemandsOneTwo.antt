@@ -12,21 +12,21 @@ use Rattle.packed.specs.Format.{pick}
 use Rattle.packed.specs.Formats.{code}
 use Rattle.packed.specs.Contents.{edgesOf, edgeCounts, ends, fieldsOf}
 use Rattle.packed.specs.Plain.{BookFile}
-use Rattle.packed.specs.Calls.{Answer, give, toldOf, fronts, outputsOf, workOf, withWorkspace, judged, readPattern, readCatalogue, readRecord, patternRead, catalogueRead, recordRead, sheetRead, bookRead, patternWritten, catalogueWritten, recordWritten, sheetWritten, bookWritten}
+use Rattle.packed.specs.Calls.{Outcome, give, toldOf, fronts, outputsOf, workOf, withWorkspace, judged, readPattern, readCatalogue, readRecord, patternRead, catalogueRead, recordRead, sheetRead, bookRead, patternWritten, catalogueWritten, recordWritten, sheetWritten, bookWritten}
 use Rattle.packed.proofs.Accepted.{pattern-read, catalogue-read, record-read, sheet-read, book-read}
 use Rattle.packed.proofs.CallRoundTrips.{pattern-back, pattern-again, catalogue-back, catalogue-again, record-back, record-again, sheet-back, sheet-again, book-back, book-again}
 use Rattle.matching.specs.Lists.{In}
 use Rattle.matching.specs.Simulation.{Pair, Edge, noEdge, Pattern, bit, patternOf, graphOf, asGraph, matchSets, viewSheet}
-use Rattle.matching.specs.Search.{searchAnswer, makeBookAnswer}
+use Rattle.matching.specs.Search.{searchOutcome, makeBookOutcome}
 use Rattle.matching.proofs.SimLaws.{sim-is, sim-most}
 use Rattle.matching.proofs.MatchSetLaws.{view-sheet}
 use Rattle.matching.proofs.Listed.{listed-exactly, matches-related, related-matches}
 use Rattle.matching.proofs.AllOrNone.{sets-even}
 use Rattle.matching.proofs.RecordLaws.{graph-narrow}
 use Rattle.containment.specs.Choice.{everyView, coversIn}
-use Rattle.containment.specs.Quote.{QuoteValues, flat, one, mapping, valuesFrom, quoteValues, quoteAnswer}
-use Rattle.containment.specs.Answer.{answerIn, answerBy, usedFor, answerAnswer}
-use Rattle.containment.specs.Show.{showFor, showAnswer}
+use Rattle.containment.specs.Quote.{QuoteValues, flat, one, mapping, valuesFrom, quoteValues, quoteOutcome}
+use Rattle.containment.specs.Answer.{answerIn, answerBy, usedFor, answerOutcome}
+use Rattle.containment.specs.Show.{showFor, showOutcome}
 use Rattle.containment.specs.Listing.{lineOf, lineAnswer}
 use Rattle.containment.specs.Demands.{Full, Settles, Worked, Demand1, Question, Catalogue, Record, Uncrowded, Book, extracts, extractOf, linkOf, Covered, lacking, chosenOf, Matching, Matched, Demand2}
 use Rattle.containment.proofs.Numbered.{numbered, pattern-faults, catalogue-faults, record-faults, sheet-faults, book-faults, gives, refuses, either, workspace-settles, uncrowded-settles, fit-settles, fitFile-settles, fitBoth-settles, read-settles, write-settles}
@@ -40,13 +40,13 @@ use Rattle.containment.proofs.DemandSheets.{pair-fields, searched, sear
 -- ---- demand 1
 
 -- a file is read first, by its limit and its number
-pattern-first : (s : List ℕ) {k : List ℕ → Answer} → ((ws : List ℕ) → Settles (k ws)) → Settles (judged (readPattern s) k)
+pattern-first : (s : List ℕ) {k : List ℕ → Outcome} → ((ws : List ℕ) → Settles (k ws)) → Settles (judged (readPattern s) k)
 pattern-first s h = read-settles 44 1 pattern-faults s h
 
-catalogue-first : (s : List ℕ) {k : List ℕ → Answer} → ((ws : List ℕ) → Settles (k ws)) → Settles (judged (readCatalogue s) k)
+catalogue-first : (s : List ℕ) {k : List ℕ → Outcome} → ((ws : List ℕ) → Settles (k ws)) → Settles (judged (readCatalogue s) k)
 catalogue-first s h = read-settles 705 2 catalogue-faults s h
 
-record-first : (s : List ℕ) {k : List ℕ → Answer} → ((ws : List ℕ) → Settles (k ws)) → Settles (judged (readRecord s) k)
+record-first : (s : List ℕ) {k : List ℕ → Outcome} → ((ws : List ℕ) → Settles (k ws)) → Settles (judged (readRecord s) k)
 record-first s h = read-settles 40964 3 record-faults s h
 
 -- whether the views in a set cover the query
@@ -82,7 +82,7 @@ book-exactly cs s ws = (
 )
 
 pub demand-1 : Demand1
-unfolding fronts patternRead catalogueRead recordRead sheetRead bookRead patternWritten catalogueWritten recordWritten sheetWritten bookWritten searchAnswer makeBookAnswer quoteAnswer answerBy answerAnswer showAnswer lineAnswer toldOf outputsOf
+unfolding fronts patternRead catalogueRead recordRead sheetRead bookRead patternWritten catalogueWritten recordWritten sheetWritten bookWritten searchOutcome makeBookOutcome quoteOutcome answerBy answerOutcome showOutcome lineAnswer toldOf outputsOf
 demand-1 = record {
   read-pattern = λ s room words. workspace-settles words (pattern-first s (fit-settles room));
   read-catalogue = λ s room words. workspace-settles words (catalogue-first s (fit-settles room));
@@ -133,14 +133,14 @@ demand-1 = record {
   quote-only = λ q c words f. let t = full-twice _ _ _ (full-words words _ f) in (t .0, t .1, t .2, t .3);
   answer-gives = λ q c b qs cs bs e f k h room words. fitted-file _ words room _ (given-by q c qs cs e f b bs k h room);
   answer-only = λ q c b room words f.
-      let w = full-words words (answerAnswer q c b room) f in
+      let w = full-words words (answerOutcome q c b room) f in
       let t = full-twice _ _ _ w in
       let z = full-judged _ _ (t .4) in
       let k : Book (t .1) b (z .0) = record { read = z .1; few = full-answer _ _ _ _ room (z .2) } in
       (t .0, t .1, z .0, t .2, t .3, k, full-answered q c (t .0) (t .1) (t .2) (t .3) b (z .0) k room w);
   show-gives = λ q c qs cs e f n room room′ words. fitted-both _ words room room′ _ _ (shown-both q c qs cs e f n room room′);
   show-only = λ q c room room′ words f.
-      let w = full-words words (showAnswer q c room room′) f in
+      let w = full-words words (showOutcome q c room room′) f in
       let t = full-twice _ _ _ w in
       (t .0, t .1, t .2, t .3, full-shown q c (t .0) (t .1) (t .2) (t .3) room room′ w);
   full = λ blank r outs outs′ work work′ values outputs s. (s .outputs, s .result, worked work work′ (s .workspace));
@@ -183,8 +183,8 @@ valuesBy qs cs b set =
     record { covered = one b; mapping = mapping (patternOf qs) (extracts cs); edges = edgesOf qs; chosen = set; lowest = pick b 0 (lacking qs cs) }
 
 quote-values : (q c qs cs : List ℕ) → Question q qs → Catalogue c cs → (b : Bool) → coveredBy qs cs ≡ b
-    → quoteAnswer q c ≡ give (flat (valuesBy qs cs b (chosenOf qs cs))) []
-unfolding quoteAnswer quoteValues valuesFrom
+    → quoteOutcome q c ≡ give (flat (valuesBy qs cs b (chosenOf qs cs))) []
+unfolding quoteOutcome quoteValues valuesFrom
 quote-values q c qs cs eq ec b h = goes-on _ eq ∙ goes-on _ ec ∙ rw (question-bounds q qs eq .many, h)
 
 one-same : (a b : Bool) → one a ≡ one b → a ≡ b
@@ -195,14 +195,14 @@ one-same false false e = refl
 
 -- which is all that it says of coverage
 quote-says : (q c qs cs : List ℕ) → Question q qs → Catalogue c cs → (b : Bool) (words : ℕ)
-    → ((v : QuoteValues) × (withWorkspace words (quoteAnswer q c) ≡ give (flat v) []) × (v .covered ≡ one b)) ↔ ((16384 ≤ words) × (coveredBy qs cs ≡ b))
+    → ((v : QuoteValues) × (withWorkspace words (quoteOutcome q c) ≡ give (flat v) []) × (v .covered ≡ one b)) ↔ ((16384 ≤ words) × (coveredBy qs cs ≡ b))
 unfolding flat
 quote-says q c qs cs eq ec b words = (
   λ x.
-      let w = enough-for words (quoteAnswer q c) (λ z. not-refused (sym z)) (x .1) in
+      let w = enough-for words (quoteOutcome q c) (λ z. not-refused (sym z)) (x .1) in
       let e = sym (quote-values q c qs cs eq ec (coveredBy qs cs) refl) ∙ w .1 in
       (w .0, one-same (coveredBy qs cs) b (cc)),
-  λ x. (valuesBy qs cs b (chosenOf qs cs), enough-words words (quoteAnswer q c) (x .0) ∙ quote-values q c qs cs eq ec b (x .1), refl),
+  λ x. (valuesBy qs cs b (chosenOf qs cs), enough-words words (quoteOutcome q c) (x .0) ∙ quote-values q c qs cs eq ec b (x .1), refl),
 )
 
 pub demand-2 : Demand2

@@ -14,7 +14,7 @@ use Rattle.packed.specs.ByValue.{HoldsPattern}
 use Rattle.packed.specs.declared.by_value.Pattern.{Pattern as Given}
 use Rattle.packed.proofs.OrderCases.{lt-or-ge}
 use Rattle.matching.specs.Simulation.{Edge, noEdge}
-use Rattle.matching.specs.Steps.{edgeAt as givenAt}
+use Rattle.matching.specs.Steps.{givenEdge as givenAt}
 use Rattle.matching.proofs.UpToLaws.{getD-upTo}
 use Rattle.matching.proofs.PatternLaws.{nodes-in, edges-in, edges-are, labels-same, edges-same}
 use Rattle.matching.proofs.EdgeLaws.{edgeAt}
@@ -160,10 +160,10 @@ module _ {ws : List ℕ} {bs : List Bool} (q : PlainPattern ws bs) {p : Given} (
       ∙ ap (λ (es : List Edge). getD es e noEdge) (edges-same q h)
       ∙ edge-at (q .ends) (q .number) e (q .edges .two-each) l
 
-  abbrev kept : ℕ → List ℕ
-  kept skip = endsBut (p .from) (p .to) skip (q .number)
+  abbrev endsKept : ℕ → List ℕ
+  endsKept skip = endsBut (p .from) (p .to) skip (q .number)
 
-  but-are : (skip : ℕ) → fieldsBut p skip ≡ q .nodes ∷ edgesBut (q .number) skip ∷ (powers (q .labels) ++ kept skip)
+  but-are : (skip : ℕ) → fieldsBut p skip ≡ q .nodes ∷ edgesBut (q .number) skip ∷ (powers (q .labels) ++ endsKept skip)
   unfolding fieldsBut labelFields
   but-are skip = rw (labels-same q h, edges-are q h, h .nodes, nodes-in q)
 

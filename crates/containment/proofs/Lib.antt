@@ -1,24 +1,32 @@
+-- sets of views and what they cover
 pub mod SetBits
 pub mod ChoiceLaws
+-- a query read as a record
 pub mod QueryGraph
 pub mod FieldLaws
 pub mod QueryLaws
+pub mod GraphedLaws
+-- the table of a quote
 pub mod MappingLaws
 pub mod NotingLaws
-pub mod GraphedLaws
-pub mod AnswerLaws
 pub mod QuoteLaws
-pub mod ShowLaws
+-- answers from a book
 pub mod BookLaws
 pub mod CandidateLaws
 pub mod AnsweringLaws
 pub mod CoveredBytes
+-- the calls
+pub mod AnswerLaws
+pub mod ShowLaws
+pub mod Numbered
+-- the demands
 pub mod DemandRules
 pub mod DemandSheets
 pub mod DemandJoin
 pub mod DemandThree
-pub mod Numbered
 pub mod DemandsOneTwo
+-- the listing
 pub mod ListingLaws
 pub mod Listings
+-- cases
 pub mod Table

@@ -85,11 +85,11 @@ unfolding edgesText
 edges-length a mask h = edges-so-far a mask 32 h (omega arith)
 
 -- the edges of the view a that match the edge e
-abbrev pub matches : List ℕ → ℕ → ℕ → List ℕ
-matches t e a = edgesText a (getD t (16 * e + a) 0)
+abbrev pub matchesLine : List ℕ → ℕ → ℕ → List ℕ
+matchesLine t e a = edgesText a (getD t (16 * e + a) 0)
 
-pub views-so-far : (t : List ℕ) (e n : ℕ) → n ≤ 16 → length (concat (matches t e) n) ≤ n * 192
-views-so-far t e n l = concat-length (matches t e) 192 n (λ a i. edges-length a (getD t (16 * e + a) 0) (omega arith))
+pub views-so-far : (t : List ℕ) (e n : ℕ) → n ≤ 16 → length (concat (matchesLine t e) n) ≤ n * 192
+views-so-far t e n l = concat-length (matchesLine t e) 192 n (λ a i. edges-length a (getD t (16 * e + a) 0) (omega arith))
 
 pub views-length : (t : List ℕ) (e : ℕ) → length (viewsText t e) ≤ 3072
 unfolding viewsText

@@ -7,10 +7,10 @@ use native.Mathlib.Omega.{arith}
 use borrow.Author.Tests.{lt-ltb, le-ltb}
 use Rattle.packed.specs.Contents.{edgesOf}
 use Rattle.packed.specs.Refusals.{Told, told, numberOf}
-use Rattle.packed.specs.Calls.{give, toldOf, fronts, outputsOf, fit, judged, Settled, Answered, withWorkspace}
+use Rattle.packed.specs.Calls.{give, toldOf, fronts, outputsOf, fit, judged, Settled, Fulfils, withWorkspace}
 use Rattle.matching.specs.Simulation.{patternOf}
 use Rattle.containment.specs.Choice.{everyView, coversIn}
-use Rattle.containment.specs.Quote.{QuoteValues, flat, blank, one, mapping, valuesFrom, quoteValues, quoteAnswer, quoteTold}
+use Rattle.containment.specs.Quote.{QuoteValues, flat, blank, one, mapping, valuesFrom, quoteValues, quoteOutcome, quoteTold}
 use Rattle.containment.specs.Listing.{linesAfter, chosenLine, lineOf, lineAnswer}
 use Rattle.containment.specs.Demands.{Question, Catalogue, extracts, Uncovered, UncoveredListing, Listings}
 use Rattle.containment.specs.declared.quote_type.Coverage.{Coverage}
@@ -56,11 +56,11 @@ module _ (q c qs cs : List ℕ) (eq : Question q qs) (ec : Catalogue c cs) (no :
   many : length (patternOf qs .edges) ≡ edgesOf qs
   many = question-bounds q qs eq .many
 
-  given : quoteAnswer q c ≡ give (flat (values qs cs)) []
-  unfolding quoteAnswer judged
+  given : quoteOutcome q c ≡ give (flat (values qs cs)) []
+  unfolding quoteOutcome judged
   given = rw (eq, ec)
 
-  tells : {work work′ : List ℕ} → 16384 ≤ length work → Settled blank (withWorkspace (length work) (quoteAnswer q c)) (quoteTold r) [] [] work work′ → Tells r (values qs cs)
+  tells : {work work′ : List ℕ} → 16384 ≤ length work → Settled blank (withWorkspace (length work) (quoteOutcome q c)) (quoteTold r) [] [] work work′ → Tells r (values qs cs)
   unfolding withWorkspace toldOf quoteValues valuesFrom
   tells {work} l s =
       let none : values qs cs .covered ≡ 0 = ap one (ap (coversIn (mapping (patternOf qs) (extracts cs)) everyView (length (extracts cs))) many ∙ no) in
@@ -82,7 +82,7 @@ module _ (q c qs cs : List ℕ) (eq : Question q qs) (ec : Catalogue c cs) (no :
       }
 
 -- ---- the call
-module _ (q : Quote) (k : ℕ) (r : Told) (out out′ : List ℕ) (a : Answered (lineAnswer q k (length out)) r out out′) where
+module _ (q : Quote) (k : ℕ) (r : Told) (out out′ : List ℕ) (a : Fulfils (lineAnswer q k (length out)) r out out′) where
   refuses : length out < length (lineOf q k) → (r ≡ told 12 (length (lineOf q k) ∷ [])) × (out′ ≡ out)
   unfolding lineAnswer fit toldOf outputsOf
   refuses h =

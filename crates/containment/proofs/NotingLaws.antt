@@ -19,7 +19,7 @@ use Rattle.matching.specs.Lists.{In, here, there}
 use Rattle.matching.specs.Simulation.{Edge, noEdge, Pattern, patternOf, graphOf, asGraph, matchSets, viewSheet}
 use Rattle.matching.specs.Steps.{graphIn, Edges}
 use Rattle.matching.specs.Sweeps.{OneOf}
-use Rattle.matching.specs.Matched.{Matched, ViewAt}
+use Rattle.matching.specs.Matched.{EdgesMatched, ViewAt}
 use Rattle.matching.specs.declared.views.View.{View}
 use Rattle.matching.proofs.ListLaws.{in-each}
 use Rattle.matching.proofs.CodeLaws.{in-member, member-in}
@@ -140,7 +140,7 @@ module _ {q : Given} {s : List ℕ} {n m : ℕ} {w : List ℕ} (t : Query q) (h 
 
   -- ---- the next view's column
   module _ {c : List ℕ} {k a byte : ℕ} {table table′ : List ℕ} (o : Noted q c k a byte table) (l : a < k) (v : Views c k) (r : View) (view : ViewAt c byte r)
-      {w₁ w₂ : List ℕ} (g : Edges w w₁) (d : Matched (r .pattern) s n m w₁ w₂)
+      {w₁ w₂ : List ℕ} (g : Edges w w₁) (d : EdgesMatched (r .pattern) s n m w₁ w₂)
       (col : Column a (q .edges) (λ e x. x ≡ maskIn (codeAt q e) (matchesOf m (r .pattern .edges) w₂)) table table′) where
     abbrev Q : Pattern
     Q = patternOf (t .content)
@@ -183,7 +183,7 @@ module _ {q : Given} {s : List ℕ} {n m : ℕ} {w : List ℕ} (t : Query q) (h 
 
 pub noted-more : {q : Given} {s : List ℕ} {n m : ℕ} {w : List ℕ} → Holds s n m w → ((t : Query q) → decode record′ s ≡ ok (graphFields (t .content)))
     → {c : List ℕ} {k a byte : ℕ} {table table′ : List ℕ} → Noted q c k a byte table → a < k → (r : View) → ViewAt c byte r
-    → {w₁ w₂ : List ℕ} → Edges w w₁ → Matched (r .pattern) s n m w₁ w₂
+    → {w₁ w₂ : List ℕ} → Edges w w₁ → EdgesMatched (r .pattern) s n m w₁ w₂
     → Column a (q .edges) (λ e x. x ≡ maskIn (codeAt q e) (matchesOf m (r .pattern .edges) w₂)) table table′ → Noted q c k (a + 1) (r .next) table′
 noted-more h reads {c} {a = a} o l r view g d col =
     record {

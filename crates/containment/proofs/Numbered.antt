@@ -13,7 +13,7 @@ use Rattle.packed.specs.Formats.{code, edges, label, joined, pattern, catalogue
 use Rattle.packed.specs.Refusals.{numberOf}
 use Rattle.packed.specs.declared.reply.Refusal.{Refusal}
 use Rattle.packed.specs.declared.reply.Refusal.the-variants.{TooLong, Truncated, OutOfRange, NoSuchNode, DuplicateEdge, NotAscending, IsolatedNode, MixedCounts, Trailing, TooManyPairs, NotContained, NoRoom, Contained, SmallWorkspace}
-use Rattle.packed.specs.Calls.{Answer, give, refuse, withWorkspace, rejected, inFile, readFile, writeFile, judged, pairsOf, uncrowdedBy, fit, fitFile}
+use Rattle.packed.specs.Calls.{Outcome, give, refuse, withWorkspace, rejected, inFile, readFile, writeFile, judged, pairsOf, uncrowdedBy, fit, fitFile}
 use Rattle.containment.specs.Show.{fitBoth}
 use Rattle.containment.specs.Demands.{Settles}
 
@@ -176,15 +176,15 @@ gives vs os = inl (record { values = vs; outputs = os; is = refl })
 pub refuses : {n : ℕ} (d : ℕ) → Numbered n → Settles (refuse n d)
 refuses {n} d h = inr (record { number = n; detail = d; is = refl; least = h .least; most = h .most })
 
-pub either : (b : Bool) {x y : Answer} → Settles x → Settles y → Settles (pick b x y)
+pub either : (b : Bool) {x y : Outcome} → Settles x → Settles y → Settles (pick b x y)
 either true p q = p
 either false p q = q
 
-pub workspace-settles : (words : ℕ) {a : Answer} → Settles a → Settles (withWorkspace words a)
+pub workspace-settles : (words : ℕ) {a : Outcome} → Settles a → Settles (withWorkspace words a)
 unfolding withWorkspace
 workspace-settles words h = either (ltb words 16384) (refuses 0 (numbered 14 refl refl)) h
 
-pub uncrowded-settles : (ms ws : List ℕ) {a : Answer} → Settles a → Settles (uncrowdedBy ms ws a)
+pub uncrowded-settles : (ms ws : List ℕ) {a : Outcome} → Settles a → Settles (uncrowdedBy ms ws a)
 unfolding uncrowdedBy
 uncrowded-settles ms ws h = either (ltb 8192 (length (pairsOf ms ws))) (refuses 4 (numbered 10 refl refl)) h
 
@@ -204,7 +204,7 @@ fitBoth-settles room room′ a b =
 
 -- ---- files: what is accepted goes on, what is refused has the fault's number
 
-pub read-settles : (most file : ℕ) {F : Format} → Faults F → (s : List ℕ) {k : List ℕ → Answer} → ((ws : List ℕ) → Settles (k ws)) → Settles (judged (readFile most file F s) k)
+pub read-settles : (most file : ℕ) {F : Format} → Faults F → (s : List ℕ) {k : List ℕ → Outcome} → ((ws : List ℕ) → Settles (k ws)) → Settles (judged (readFile most file F s) k)
 unfolding readFile judged
 read-settles most file {F} f s {k} h = go (ltb most (length s)) (decode-results f s)
   where
@@ -213,7 +213,7 @@ read-settles most file {F} f s {k} h = go (ltb most (length s)) (decode-results 
     go false (is-ok {xs}) = h xs
     go false (is-bad n) = refuses file n
 
-pub write-settles : (file : ℕ) {F : Format} → Faults F → (ws : List ℕ) {k : List ℕ → Answer} → ((s : List ℕ) → Settles (k s)) → Settles (judged (writeFile file F ws) k)
+pub write-settles : (file : ℕ) {F : Format} → Faults F → (ws : List ℕ) {k : List ℕ → Outcome} → ((s : List ℕ) → Settles (k s)) → Settles (judged (writeFile file F ws) k)
 unfolding writeFile judged
 write-settles file {F} f ws {k} h = go (encode-results f ws)
   where

@@ -13,7 +13,7 @@ use Rattle.packed.specs.Bits.{bitsOf, gap}
 use Rattle.packed.specs.Format.{ok, whole, lay, got, bytesOf, decode, encode}
 use Rattle.packed.specs.Formats.{record′}
 use Rattle.packed.specs.Contents.{nodesOf}
-use Rattle.packed.specs.Plain.{Below, fieldsOf, fromAt, toAt, PlainEdges, PlainPattern, PlainRecord}
+use Rattle.packed.specs.Plain.{Below, fieldBits, fromAt, toAt, PlainEdges, PlainPattern, PlainRecord}
 use Rattle.packed.proofs.OrderCases.{lt-or-ge, trichotomy}
 use Rattle.packed.proofs.BitsLaws.{gap-small, length-bitsOf}
 use Rattle.packed.proofs.GraphLaws.{fields-length}
@@ -53,16 +53,16 @@ module _ (nodes number : ℕ) (labels ends : List ℕ) (few : nodes ≤ 16) (few
   all = nodes ∷ number ∷ (labels ++ ends)
 
   abbrev body : List Bool
-  body = bitsOf 13 nodes ++ (bitsOf 14 number ++ (fieldsOf 32 labels ++ fieldsOf 12 ends))
+  body = bitsOf 13 nodes ++ (bitsOf 14 number ++ (fieldBits 32 labels ++ fieldBits 12 ends))
 
   abbrev laid : List Bool
   laid = body ++ replicate (gap (length body)) false
 
   body-length : length body ≤ 1307
   body-length =
-      let a = length-append (bitsOf 13 nodes) (bitsOf 14 number ++ (fieldsOf 32 labels ++ fieldsOf 12 ends)) in
-      let b = length-append (bitsOf 14 number) (fieldsOf 32 labels ++ fieldsOf 12 ends) in
-      let c = length-append (fieldsOf 32 labels) (fieldsOf 12 ends) in
+      let a = length-append (bitsOf 13 nodes) (bitsOf 14 number ++ (fieldBits 32 labels ++ fieldBits 12 ends)) in
+      let b = length-append (bitsOf 14 number) (fieldBits 32 labels ++ fieldBits 12 ends) in
+      let c = length-append (fieldBits 32 labels) (fieldBits 12 ends) in
       omega (arith, length-bitsOf 13 nodes, length-bitsOf 14 number, fields-length 32 labels, fields-length 12 ends, edges .two-each)
 
   plain : PlainRecord all body

@@ -18,7 +18,7 @@ use Rattle.packed.specs.declared.by_value.Pattern.{Pattern as Given}
 use Rattle.packed.proofs.OrderCases.{lt-or-ge}
 use Rattle.packed.proofs.Accepted.{pattern-accepted}
 use Rattle.matching.specs.Simulation.{noEdge, Pattern, patternOf}
-use Rattle.matching.specs.Steps.{edgeAt, patternIn, Fair}
+use Rattle.matching.specs.Steps.{givenEdge, patternIn, Fair}
 use Rattle.matching.proofs.UpToLaws.{length-upTo, getD-upTo}
 use Rattle.matching.proofs.PatternLaws.{edges-in, fair-by, pattern-same}
 use Rattle.containment.specs.Show.{graphFields, recordBytes}
@@ -47,11 +47,11 @@ module _ {p : Given} (t : Query p) where
   -- its edges by value
   pub query-number : length (patternOf (t .content) .edges) ≡ p .edges
   unfolding patternIn
-  query-number = ap (λ (P : Pattern). length (P .edges)) (sym (pattern-same plain (t .holds))) ∙ length-upTo (edgeAt p) (p .edges)
+  query-number = ap (λ (P : Pattern). length (P .edges)) (sym (pattern-same plain (t .holds))) ∙ length-upTo (givenEdge p) (p .edges)
 
-  pub query-edge : (e : ℕ) → e < p .edges → getD (patternOf (t .content) .edges) e noEdge ≡ edgeAt p e
+  pub query-edge : (e : ℕ) → e < p .edges → getD (patternOf (t .content) .edges) e noEdge ≡ givenEdge p e
   unfolding patternIn
-  query-edge e l = ap (λ (P : Pattern). getD (P .edges) e noEdge) (sym (pattern-same plain (t .holds))) ∙ getD-upTo (edgeAt p) (p .edges) e noEdge l
+  query-edge e l = ap (λ (P : Pattern). getD (P .edges) e noEdge) (sym (pattern-same plain (t .holds))) ∙ getD-upTo (givenEdge p) (p .edges) e noEdge l
 
   pub shown-whole : (skip : ℕ) → edgesOf (t .content) ≤ skip → shownFields (t .content) skip ≡ graphFields (t .content)
   unfolding shownFields

@@ -15,7 +15,7 @@ use Rattle.packed.specs.Formats.{code}
 use Rattle.packed.specs.Contents.{member}
 use Rattle.matching.specs.Lists.{_or_, In, here, there, some}
 use Rattle.matching.specs.Simulation.{Edge, noEdge, Pattern, bit, asGraph, viewSheet}
-use Rattle.matching.specs.Join.{lists}
+use Rattle.matching.specs.Join.{listsEdge}
 use Rattle.matching.proofs.ByEdge.{matchedBy, matched, covered}
 use Rattle.matching.specs.Sweeps.{OneOf}
 use Rattle.matching.proofs.ListLaws.{not-in-none, in-cases, in-at, every-in, in-every, some-in, in-some}
@@ -132,10 +132,10 @@ module _ (e : Edge) where
   mask-step false zero rest h = h
   mask-step false (suc x) rest h = ap not (ne-eqb (0 + 2 * suc x) 0 (λ (z : 0 + 2 * suc x ≡ 0). omega arith) ∙ sym (ne-eqb (suc x) 0 (λ (z : suc x ≡ 0). omega arith))) ∙ h
 
-  mask-some : (ls : List (List ℕ)) → not (eqb (maskIn (code (e .from) (e .to)) ls) 0) ≡ some (lists e) ls
-  unfolding maskIn some lists
+  mask-some : (ls : List (List ℕ)) → not (eqb (maskIn (code (e .from) (e .to)) ls) 0) ≡ some (listsEdge e) ls
+  unfolding maskIn some listsEdge
   mask-some [] = refl
-  mask-some (l ∷ ls) = mask-step (member (code (e .from) (e .to)) l) (maskIn (code (e .from) (e .to)) ls) (some (lists e) ls) (mask-some ls)
+  mask-some (l ∷ ls) = mask-step (member (code (e .from) (e .to)) l) (maskIn (code (e .from) (e .to)) ls) (some (listsEdge e) ls) (mask-some ls)
 
 module _ (Q : Pattern) (Ps : List Pattern) (few-edges : length (Q .edges) ≤ 32) where
   abbrev edge : ℕ → Edge
@@ -215,7 +215,7 @@ pub quote-covered-exactly : (Q : Pattern) (Ps : List Pattern) → length Ps ≤ 
 quote-covered-exactly Q Ps few few-edges = rw (chosen-every Ps few) at (set-covers-exactly Q Ps everyView few few-edges)
 
 -- a view of the list has an edge whose match set, on the query read as a graph, has the edge e
-pub record Listed (Q : Pattern) (Ps : List Pattern) (e : Edge) : Type 0 where
+pub record ListedEdge (Q : Pattern) (Ps : List Pattern) (e : Edge) : Type 0 where
   pub view : Pattern
   pub given : In view Ps
   pub at : ℕ
@@ -223,28 +223,28 @@ pub record Listed (Q : Pattern) (Ps : List Pattern) (e : Edge) : Type 0 where
   pub lists : In (code (e .from) (e .to)) (getD (viewSheet view (asGraph Q)) at [])
 
 module _ (Q : Pattern) (Ps : List Pattern) where
-  pub matched-say : (e : Edge) → T (matched Q Ps e) → Listed Q Ps e
-  unfolding matched matchedBy lists
+  pub matched-say : (e : Edge) → T (matched Q Ps e) → ListedEdge Q Ps e
+  unfolding matched matchedBy listsEdge
   matched-say e t =
       let p = some-in (matchedBy Q e) Ps t in
-      let l = some-in (lists e) (viewSheet (p .0) (asGraph Q)) (p .2) in
+      let l = some-in (listsEdge e) (viewSheet (p .0) (asGraph Q)) (p .2) in
       let o = place-of [] (l .1) in
       record {
         view = p .0;
         given = p .1;
         at = o .at;
         below = omega (arith, o .below, view-length (p .0) (asGraph Q));
-        lists = subst (λ m. In (code (e .from) (e .to)) m) (o .holds) (member-in (l .0) (test-is (lists e (l .0)) .1 (l .2)));
+        lists = subst (λ m. In (code (e .from) (e .to)) m) (o .holds) (member-in (l .0) (test-is (listsEdge e (l .0)) .1 (l .2)));
       }
 
-  pub matched-by : (e : Edge) → Listed Q Ps e → T (matched Q Ps e)
-  unfolding matched matchedBy lists
+  pub matched-by : (e : Edge) → ListedEdge Q Ps e → T (matched Q Ps e)
+  unfolding matched matchedBy listsEdge
   matched-by e o =
       let ms : List (List ℕ) = viewSheet (o .view) (asGraph Q) in
       let h : o .at < length ms = omega (arith, o .below, view-length (o .view) (asGraph Q)) in
-      in-some (matchedBy Q e) (o .given) (in-some (lists e) (in-at ms (o .at) [] h) (test-is (lists e (getD ms (o .at) [])) .0 (in-member (o .lists))))
+      in-some (matchedBy Q e) (o .given) (in-some (listsEdge e) (in-at ms (o .at) [] h) (test-is (listsEdge e (getD ms (o .at) [])) .0 (in-member (o .lists))))
 
-  pub covered-says : T (covered Q Ps) ↔ ((e : Edge) → In e (Q .edges) → Listed Q Ps e)
+  pub covered-says : T (covered Q Ps) ↔ ((e : Edge) → In e (Q .edges) → ListedEdge Q Ps e)
   unfolding covered
   covered-says = (
     λ t e i. matched-say e (every-in (matched Q Ps) t i),
@@ -252,14 +252,14 @@ module _ (Q : Pattern) (Ps : List Pattern) where
   )
 
   -- the view then fits the query as a whole: every node of it has a partner
-  pub listed-whole : (e : Edge) (o : Listed Q Ps e) → Total (o .view) (Sim (o .view) (asGraph Q))
+  pub listed-whole : (e : Edge) (o : ListedEdge Q Ps e) → Total (o .view) (Sim (o .view) (asGraph Q))
   listed-whole e o =
       let r = listed-related (o .view) (asGraph Q) (o .at) (o .below) (code (e .from) (e .to)) (subst (λ ls. In (code (e .from) (e .to)) (getD ls (o .at) [])) (view-sheet (o .view) (asGraph Q)) (o .lists)) in
       related-matches (o .view) (asGraph Q) (r .2) .whole
 
 -- covered exactly if each edge of the query is in the match set of some edge of some view
 pub quote-says-covered : (Q : Pattern) (Ps : List Pattern) → length Ps ≤ 16 → length (Q .edges) ≤ 32
-    → (coversIn (mapping Q Ps) everyView (length Ps) (length (Q .edges)) ≡ true) ↔ ((e : Edge) → In e (Q .edges) → Listed Q Ps e)
+    → (coversIn (mapping Q Ps) everyView (length Ps) (length (Q .edges)) ≡ true) ↔ ((e : Edge) → In e (Q .edges) → ListedEdge Q Ps e)
 quote-says-covered Q Ps few few-edges = Iff·trans (quote-covered-exactly Q Ps few few-edges) (covered-says Q Ps)
 
 -- ---- the lowest unmatched edge

@@ -24,7 +24,7 @@ use Rattle.matching.proofs.MatchSetLaws.{sets-length}
 use Rattle.matching.proofs.EdgeLaws.{edgeAt}
 use Rattle.matching.proofs.PatternLaws.{pattern-is, edges-in, edges-many, sound-of}
 use Rattle.matching.proofs.RecordLaws.{graph-narrow, graph-few}
-use Rattle.matching.proofs.SheetBytes.{Sheet, sets-sheet}
+use Rattle.matching.proofs.SheetBytes.{SheetFields, sets-sheet}
 use Rattle.matching.proofs.Uncovered.{uncovered-views, uncovered-query}
 use Rattle.containment.specs.Choice.{everyView, lowestUnmatched}
 use Rattle.containment.specs.Quote.{mapping}
@@ -62,7 +62,7 @@ fields-injective (l ∷ ls) (m ∷ ms) n h =
     ap₂ (λ (x : List ℕ) (t : List (List ℕ)). x ∷ t) (s .0) (fields-injective ls ms (omega arith) (s .1))
 
 -- and so off the bytes of their sheet
-pub bytes-injective : (ls ms : List (List ℕ)) → Sheet ls → Sheet ms → length ls ≡ length ms → sheetBytes ls ≡ sheetBytes ms → ls ≡ ms
+pub bytes-injective : (ls ms : List (List ℕ)) → SheetFields ls → SheetFields ms → length ls ≡ length ms → sheetBytes ls ≡ sheetBytes ms → ls ≡ ms
 bytes-injective ls ms a b n h =
     let p = a .back in
     let q = b .back in
@@ -106,7 +106,7 @@ module _ {qs : List ℕ} {bs : List Bool} (q : PlainPattern qs bs) where
   edge-is e h = ap (λ (P : Pattern). getD (P .edges) e noEdge) (pattern-is q) ∙ edge-at (q .ends) (q .number) e (q .edges .two-each) h
 
   -- the match sets of a pattern in a record that was made
-  made-sheet : {most : ℕ} {fs : List ℕ} → Made most fs → Sheet (matchSets (patternOf qs) (graphOf fs))
+  made-sheet : {most : ℕ} {fs : List ℕ} → Made most fs → SheetFields (matchSets (patternOf qs) (graphOf fs))
   made-sheet {fs = fs} m = sets-sheet (patternOf qs) (graphOf fs) (sound-of q) (graph-narrow (recordBytes fs) fs (m .back)) (graph-few (recordBytes fs) fs (m .back))
 
   module _ (Ps : List Pattern) (e : ℕ) (h : e < length (patternOf qs .edges)) (unmatched : T (matched (patternOf qs) Ps (queryEdge qs e)) → ⊥) where

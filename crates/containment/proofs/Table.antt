@@ -11,16 +11,16 @@ use Rattle.packed.specs.Bits.{bitsOf, num, numFrom, bits, zeros, gap}
 use Rattle.packed.specs.Format.{pick, then, times, whole, within, scan, lay, bytesOf, decode, encode}
 use Rattle.packed.specs.Formats.{linked, edges, isEnd, allEnds, label, joined, pattern, catalogue, labels, record′, pairs, lists, sheet, book}
 use Rattle.packed.specs.Contents.{patternSize, patternsIn, viewsOf, edgeCounts, codesIn, listsIn, afterLists, ends, fieldsOf, sheetsIn, pairsIn, sum, member, insert, distinct}
-use Rattle.packed.specs.Calls.{Answer, give, refuse, withWorkspace, readFile, writeFile, judged, pairsOf, uncrowdedBy, fit, fitFile, patternRead, catalogueRead, recordRead, sheetRead, bookRead, patternWritten, catalogueWritten, recordWritten, sheetWritten, bookWritten}
+use Rattle.packed.specs.Calls.{Outcome, give, refuse, withWorkspace, readFile, writeFile, judged, pairsOf, uncrowdedBy, fit, fitFile, patternRead, catalogueRead, recordRead, sheetRead, bookRead, patternWritten, catalogueWritten, recordWritten, sheetWritten, bookWritten}
 use Rattle.matching.specs.Lists.{_and_, _or_, _implies_, every, some, keep, gather, each, below, upTo}
 use Rattle.matching.specs.Greatest.{settle, greatest}
-use Rattle.matching.specs.Simulation.{same, has, sameEdge, pairs as allPairs, bit, edgesIn, patternOf, graphOf, asGraph, fits, follows, sim, total, row, ascending, matchSets, viewSheet}
-use Rattle.matching.specs.Search.{sheetBytes, bookBytes, searchAnswer, viewSheets, makeBookAnswer}
-use Rattle.matching.specs.Join.{lists as listsHere, pairOf, under, candidates, supported, join, complete, keptFor, answerSets}
+use Rattle.matching.specs.Simulation.{same, has, sameEdge, everyPair as allPairs, bit, edgesIn, patternOf, graphOf, asGraph, fits, follows, sim, total, row, ascending, matchSets, viewSheet}
+use Rattle.matching.specs.Search.{sheetBytes, bookBytes, searchOutcome, viewSheets, makeBookOutcome}
+use Rattle.matching.specs.Join.{listsEdge as listsHere, pairOf, under, candidates, supported, join, complete, keptFor, answerSets}
 use Rattle.containment.specs.Choice.{matches, matchedIn, coversIn, lowestUnmatched, addsTo, taken, kept, chosen, used}
-use Rattle.containment.specs.Quote.{maskIn, matchMask, maskAt, mapping, valuesFrom, quoteValues, flat, quoteAnswer}
-use Rattle.containment.specs.Answer.{viewsIn, answerBytes, answerIn, answerBy, usedFor, answerAnswer}
-use Rattle.containment.specs.Show.{graphFields, fewerFields, recordBytes, fitBoth, showFor, showAnswer}
+use Rattle.containment.specs.Quote.{maskIn, matchMask, maskAt, mapping, valuesFrom, quoteValues, flat, quoteOutcome}
+use Rattle.containment.specs.Answer.{viewsIn, answerBytes, answerIn, answerBy, usedFor, answerOutcome}
+use Rattle.containment.specs.Show.{graphFields, fewerFields, recordBytes, fitBoth, showFor, showOutcome}
 
 -- ---- how a case is written
 
@@ -52,23 +52,23 @@ fields s = numbers (0 ∷ []) s
 
 -- what a call answers, and what it has to
 pub data Case : Type 0 where
-  case : Answer → Answer → Case
+  case : Outcome → Outcome → Case
 
 -- the same of a call that is lent a whole workspace, and no more
-abbrev pub call : Answer → Answer → Case
+abbrev pub call : Outcome → Outcome → Case
 call a b = case (withWorkspace 16384 a) b
 
 -- one output, and a number that is no call's answer
-abbrev pub output : List ℕ → Answer
+abbrev pub output : List ℕ → Outcome
 output o = give [] (o ∷ [])
 
-abbrev pub number : ℕ → Answer
+abbrev pub number : ℕ → Outcome
 number n = give (n ∷ []) []
 
-abbrev pub answered : Case → Answer
+abbrev pub answered : Case → Outcome
 answered (case a b) = a
 
-abbrev pub due : Case → Answer
+abbrev pub due : Case → Outcome
 due (case a b) = b
 
 -- in each group, every call answers what it has to
@@ -455,87 +455,87 @@ books =
 unfoldable pub searches : List Case
 searches =
     -- K6, the sheet of extract 1 of C, and the book of C
-    call (searchAnswer extract1 r6 10) (output s6)
-    ∷ call (makeBookAnswer c r6 22) (output b6)
+    call (searchOutcome extract1 r6 10) (output s6)
+    ∷ call (makeBookOutcome c r6 22) (output b6)
     -- K7, K8
-    ∷ call (searchAnswer selfLoop r7 8) (output (hex "00 08 00 00 04 00 40 00"))
-    ∷ call (searchAnswer selfLoop r8 2) (output (hex "00 00"))
+    ∷ call (searchOutcome selfLoop r7 8) (output (hex "00 08 00 00 04 00 40 00"))
+    ∷ call (searchOutcome selfLoop r8 2) (output (hex "00 00"))
     -- K9, and the book of C
-    ∷ call (searchAnswer d r9 19) (output s9)
-    ∷ call (makeBookAnswer c r9 25) (output b9)
+    ∷ call (searchOutcome d r9 19) (output s9)
+    ∷ call (makeBookOutcome c r9 25) (output b9)
     -- K10
-    ∷ call (searchAnswer oneLink r10 2) (output (hex "00 00"))
+    ∷ call (searchOutcome oneLink r10 2) (output (hex "00 00"))
     -- no extracts, no bytes
-    ∷ call (makeBookAnswer c4 r9 0) (output [])
+    ∷ call (makeBookOutcome c4 r9 0) (output [])
     -- the pattern or catalogue is judged first, then the record
-    ∷ call (searchAnswer (hex "88") (hex "80 08") 99) (refuse 3 1)
-    ∷ call (makeBookAnswer (hex "88") (hex "80 08") 99) (refuse 3 2)
-    ∷ call (searchAnswer d (hex "80 08") 99) (refuse 3 3)
-    ∷ call (makeBookAnswer c (hex "80 08") 99) (refuse 3 3)
+    ∷ call (searchOutcome (hex "88") (hex "80 08") 99) (refuse 3 1)
+    ∷ call (makeBookOutcome (hex "88") (hex "80 08") 99) (refuse 3 2)
+    ∷ call (searchOutcome d (hex "80 08") 99) (refuse 3 3)
+    ∷ call (makeBookOutcome c (hex "80 08") 99) (refuse 3 3)
     -- too little room, by one; too few words
-    ∷ call (searchAnswer extract1 r6 9) (refuse 12 10)
-    ∷ call (makeBookAnswer c r6 21) (refuse 12 22)
-    ∷ case (withWorkspace 16383 (searchAnswer extract1 r6 10)) (refuse 14 0)
-    ∷ case (withWorkspace 16383 (makeBookAnswer c r6 22)) (refuse 14 0)
+    ∷ call (searchOutcome extract1 r6 9) (refuse 12 10)
+    ∷ call (makeBookOutcome c r6 21) (refuse 12 22)
+    ∷ case (withWorkspace 16383 (searchOutcome extract1 r6 10)) (refuse 14 0)
+    ∷ case (withWorkspace 16383 (makeBookOutcome c r6 22)) (refuse 14 0)
     ∷ []
 
 unfoldable pub quotes : List Case
 quotes =
     -- K2: covered, chosen 1 and 2
-    call (quoteAnswer d c) (give (1 ∷ (rowsOf (rowOf 1 1 0 ++ rowOf 0 0 1 ++ rowOf 0 2 0 ++ rowOf 0 0 2) ++ (4 ∷ 6 ∷ 0 ∷ []))) [])
+    call (quoteOutcome d c) (give (1 ∷ (rowsOf (rowOf 1 1 0 ++ rowOf 0 0 1 ++ rowOf 0 2 0 ++ rowOf 0 0 2) ++ (4 ∷ 6 ∷ 0 ∷ []))) [])
     -- K3: uncovered, lowest link 1
-    ∷ call (quoteAnswer d c3) (give (0 ∷ (rowsOf (rowOf 1 0 0 ++ rowOf 0 0 0 ++ rowOf 2 0 0 ++ rowOf 0 0 0) ++ (4 ∷ 0 ∷ 1 ∷ []))) [])
+    ∷ call (quoteOutcome d c3) (give (0 ∷ (rowsOf (rowOf 1 0 0 ++ rowOf 0 0 0 ++ rowOf 2 0 0 ++ rowOf 0 0 0) ++ (4 ∷ 0 ∷ 1 ∷ []))) [])
     -- K4: no extracts, link 0
-    ∷ call (quoteAnswer d c4) (give (0 ∷ (replicate 512 0 ++ (4 ∷ 0 ∷ 0 ∷ []))) [])
+    ∷ call (quoteOutcome d c4) (give (0 ∷ (replicate 512 0 ++ (4 ∷ 0 ∷ 0 ∷ []))) [])
     -- K5: slow to fast matches no link of D
-    ∷ call (quoteAnswer d c5) (give (0 ∷ (replicate 512 0 ++ (4 ∷ 0 ∷ 0 ∷ []))) [])
+    ∷ call (quoteOutcome d c5) (give (0 ∷ (replicate 512 0 ++ (4 ∷ 0 ∷ 0 ∷ []))) [])
     -- nor does an extract that fits D only in part
-    ∷ call (quoteAnswer d inPart) (give (0 ∷ (replicate 512 0 ++ (4 ∷ 0 ∷ 0 ∷ []))) [])
+    ∷ call (quoteOutcome d inPart) (give (0 ∷ (replicate 512 0 ++ (4 ∷ 0 ∷ 0 ∷ []))) [])
     -- the question is judged first, then the catalogue; too few words
-    ∷ call (quoteAnswer (hex "88") (hex "88")) (refuse 3 1)
-    ∷ call (quoteAnswer d (hex "88")) (refuse 3 2)
-    ∷ case (withWorkspace 16383 (quoteAnswer d c)) (refuse 14 0)
+    ∷ call (quoteOutcome (hex "88") (hex "88")) (refuse 3 1)
+    ∷ call (quoteOutcome d (hex "88")) (refuse 3 2)
+    ∷ case (withWorkspace 16383 (quoteOutcome d c)) (refuse 14 0)
     ∷ []
 
 unfoldable pub showings : List Case
 showings =
     -- K3: the second shown record lacks 0 → 2
-    call (showAnswer d c3 32 29) (give [] (first ∷ second ∷ []))
+    call (showOutcome d c3 32 29) (give [] (first ∷ second ∷ []))
     -- too little room, by one, for the first or for the second; the first that doesn't fit is told
-    ∷ call (showAnswer d c3 31 29) (refuse 12 32)
-    ∷ call (showAnswer d c3 32 28) (refuse 12 29)
-    ∷ call (showAnswer d c3 31 28) (refuse 12 32)
+    ∷ call (showOutcome d c3 31 29) (refuse 12 32)
+    ∷ call (showOutcome d c3 32 28) (refuse 12 29)
+    ∷ call (showOutcome d c3 31 28) (refuse 12 32)
     -- K2 is covered, which is told before too little room
-    ∷ call (showAnswer d c 32 29) (refuse 13 0)
-    ∷ call (showAnswer d c 0 0) (refuse 13 0)
+    ∷ call (showOutcome d c 32 29) (refuse 13 0)
+    ∷ call (showOutcome d c 0 0) (refuse 13 0)
     -- the question is judged first, then the catalogue; too few words
-    ∷ call (showAnswer (hex "88") (hex "88") 0 0) (refuse 3 1)
-    ∷ call (showAnswer d (hex "88") 0 0) (refuse 3 2)
-    ∷ case (withWorkspace 16383 (showAnswer d c3 32 29)) (refuse 14 0)
+    ∷ call (showOutcome (hex "88") (hex "88") 0 0) (refuse 3 1)
+    ∷ call (showOutcome d (hex "88") 0 0) (refuse 3 2)
+    ∷ case (withWorkspace 16383 (showOutcome d c3 32 29)) (refuse 14 0)
     ∷ []
 
 unfoldable pub answers : List Case
 answers =
     -- K9, as it is searched
-    call (answerAnswer d c b9 19) (output s9)
+    call (answerOutcome d c b9 19) (output s9)
     -- none where a list is empty, and none where a pair is not supported
-    ∷ call (answerAnswer d c b6 7) (output (replicate 7 0))
-    ∷ call (answerAnswer d c bn 7) (output (replicate 7 0))
+    ∷ call (answerOutcome d c b6 7) (output (replicate 7 0))
+    ∷ call (answerOutcome d c bn 7) (output (replicate 7 0))
     -- K3 is uncovered, link 1, which is told before too little room
-    ∷ call (answerAnswer d c3 b3 19) (refuse 11 1)
-    ∷ call (answerAnswer d c3 b3 0) (refuse 11 1)
+    ∷ call (answerOutcome d c3 b3 19) (refuse 11 1)
+    ∷ call (answerOutcome d c3 b3 0) (refuse 11 1)
     -- the question is judged first, then the catalogue, then the book, each before 11
-    ∷ call (answerAnswer (hex "88") (hex "88") [] 0) (refuse 3 1)
-    ∷ call (answerAnswer d (hex "88") [] 0) (refuse 3 2)
-    ∷ call (answerAnswer d c3 [] 0) (refuse 2 4)
+    ∷ call (answerOutcome (hex "88") (hex "88") [] 0) (refuse 3 1)
+    ∷ call (answerOutcome d (hex "88") [] 0) (refuse 3 2)
+    ∷ call (answerOutcome d c3 [] 0) (refuse 2 4)
     -- too little room, by one; too few words
-    ∷ call (answerAnswer d c b9 18) (refuse 12 19)
-    ∷ case (withWorkspace 16383 (answerAnswer d c b9 19)) (refuse 14 0)
+    ∷ call (answerOutcome d c b9 18) (refuse 12 19)
+    ∷ case (withWorkspace 16383 (answerOutcome d c b9 19)) (refuse 14 0)
     ∷ []
 
 unfoldable pub table : List (List Case)
 table = patterns ∷ catalogues ∷ records ∷ sheets ∷ books ∷ searches ∷ quotes ∷ showings ∷ answers ∷ []
 
 pub cases : Agree table
-unfolding Agree table patterns catalogues records sheets books searches quotes showings answers digit hex next turned numbers bitsOf num numFrom bits zeros gap then times whole within scan lay bytesOf decode encode linked edges isEnd allEnds label joined pattern catalogue labels record′ pairs lists sheet book patternSize patternsIn viewsOf edgeCounts codesIn listsIn afterLists ends fieldsOf sheetsIn pairsIn sum member insert distinct withWorkspace readFile writeFile judged pairsOf uncrowdedBy fit fitFile patternRead catalogueRead recordRead sheetRead bookRead patternWritten catalogueWritten recordWritten sheetWritten bookWritten _and_ _or_ _implies_ every some keep gather each below upTo settle greatest same has sameEdge allPairs bit edgesIn patternOf graphOf asGraph fits follows sim total row ascending matchSets viewSheet sheetBytes bookBytes searchAnswer viewSheets makeBookAnswer pairOf listsHere under candidates supported join complete keptFor answerSets matches matchedIn coversIn lowestUnmatched addsTo taken kept chosen used maskIn matchMask maskAt mapping valuesFrom quoteValues flat quoteAnswer viewsIn answerBytes answerIn answerBy usedFor answerAnswer graphFields fewerFields recordBytes fitBoth showFor showAnswer
+unfolding Agree table patterns catalogues records sheets books searches quotes showings answers digit hex next turned numbers bitsOf num numFrom bits zeros gap then times whole within scan lay bytesOf decode encode linked edges isEnd allEnds label joined pattern catalogue labels record′ pairs lists sheet book patternSize patternsIn viewsOf edgeCounts codesIn listsIn afterLists ends fieldsOf sheetsIn pairsIn sum member insert distinct withWorkspace readFile writeFile judged pairsOf uncrowdedBy fit fitFile patternRead catalogueRead recordRead sheetRead bookRead patternWritten catalogueWritten recordWritten sheetWritten bookWritten _and_ _or_ _implies_ every some keep gather each below upTo settle greatest same has sameEdge allPairs bit edgesIn patternOf graphOf asGraph fits follows sim total row ascending matchSets viewSheet sheetBytes bookBytes searchOutcome viewSheets makeBookOutcome pairOf listsHere under candidates supported join complete keptFor answerSets matches matchedIn coversIn lowestUnmatched addsTo taken kept chosen used maskIn matchMask maskAt mapping valuesFrom quoteValues flat quoteOutcome viewsIn answerBytes answerIn answerBy usedFor answerOutcome graphFields fewerFields recordBytes fitBoth showFor showOutcome
 cases = (refl, (refl, (refl, (refl, (refl, (refl, (refl, (refl, (refl, tt)))))))))

@@ -4,7 +4,7 @@ use mathlib.Core.List.{List, [], _∷_, map}
 use lib.ListN.{length, drop, getD}
 use Rattle.packed.specs.Format.{pick}
 use Rattle.packed.specs.Contents.{edgesOf, edgeCounts, viewsOf, sheetsIn}
-use Rattle.packed.specs.Calls.{Answer, refuse, judged, readPattern, readCatalogue, readBook, uncrowded, fitFile}
+use Rattle.packed.specs.Calls.{Outcome, refuse, judged, readPattern, readCatalogue, readBook, uncrowded, fitFile}
 use Rattle.matching.specs.Simulation.{Pattern, bit, patternOf}
 use Rattle.matching.specs.Join.{View, answerSets}
 use Rattle.matching.specs.Search.{sheetBytes}
@@ -22,7 +22,7 @@ unfoldable pub answerBytes : List ℕ → ℕ → List Pattern → List (List (L
 answerBytes qs set Ps sheets = sheetBytes (answerSets (patternOf qs) (viewsIn set Ps sheets))
 
 -- answering by the views in a set: 10, 11 with the lowest edge that they leave unmatched, 12
-unfoldable pub answerIn : ℕ → List ℕ → List ℕ → List ℕ → ℕ → Answer
+unfoldable pub answerIn : ℕ → List ℕ → List ℕ → List ℕ → ℕ → Outcome
 answerIn set qs cs bs room =
     let Ps = map patternOf (viewsOf cs) in
     let t = mapping (patternOf qs) Ps in
@@ -36,7 +36,7 @@ abbrev pub Choose : Type 0
 Choose = List ℕ → List ℕ → ℕ
 
 -- the files are judged first: the question, the catalogue, the book
-unfoldable pub answerBy : Choose → List ℕ → List ℕ → List ℕ → ℕ → Answer
+unfoldable pub answerBy : Choose → List ℕ → List ℕ → List ℕ → ℕ → Outcome
 answerBy choose q c b room = judged (readPattern q) (λ qs. judged (readCatalogue c) (λ cs. judged (readBook cs b) (λ bs. answerIn (choose qs cs) qs cs bs room)))
 
 -- the chosen set; for a query that is not covered, all views, so that 11 has the lowest edge that none of them matches
@@ -44,5 +44,5 @@ unfoldable pub usedFor : Choose
 usedFor qs cs = used (mapping (patternOf qs) (map patternOf (viewsOf cs))) everyView (edgesOf qs) (length (map patternOf (viewsOf cs)))
 
 -- answering by that set
-unfoldable pub answerAnswer : List ℕ → List ℕ → List ℕ → ℕ → Answer
-answerAnswer q c b room = answerBy usedFor q c b room
+unfoldable pub answerOutcome : List ℕ → List ℕ → List ℕ → ℕ → Outcome
+answerOutcome q c b room = answerBy usedFor q c b room

@@ -12,19 +12,20 @@ use mathlib.Core.Bool.{true, false}
 use mathlib.Core.List.{List, [], _∷_, _++_, map}
 use lib.ListN.{length, getD, drop, replicate}
 use lib.Dec.{T}
+use Rattle.packed.specs.Limits.{patternMost, catalogueMost, recordMost, bookMost, pairsMost, workspace}
 use Rattle.packed.specs.Formats.{code}
 use Rattle.packed.specs.Plain.{Below, PatternFile, CatalogueFile, RecordFile, SheetFile, BookFile}
-use Rattle.packed.specs.Contents.{edgesOf, viewsOf, edgeCounts, sheetsIn, ends, fieldsOf, total}
+use Rattle.packed.specs.Contents.{edgesOf, viewsOf, edgeCounts, sheetsIn, ends, fieldsOf, pairCount}
 use Rattle.packed.specs.Refusals.{Told, told}
-use Rattle.packed.specs.Calls.{Answer, give, refuse, fronts, Settled, Answered, withWorkspace, accepted, readPattern, readCatalogue, readRecord, readSheet, readBook, pairsOf, fitFile, patternRead, catalogueRead, recordRead, sheetRead, bookRead, patternWritten, catalogueWritten, recordWritten, sheetWritten, bookWritten}
+use Rattle.packed.specs.Calls.{Outcome, give, refuse, fronts, Settled, Fulfils, withWorkspace, accepted, readPattern, readCatalogue, readRecord, readSheet, readBook, pairsOf, fitFile, patternRead, catalogueRead, recordRead, sheetRead, bookRead, patternWritten, catalogueWritten, recordWritten, sheetWritten, bookWritten}
 use Rattle.matching.specs.Lists.{In}
 use Rattle.matching.specs.Simulation.{Pair, Edge, asPair, noEdge, Pattern, Graph, patternOf, graphOf, asGraph, bit, IsSim, sim, sound, matchSets, viewSheet}
 use Rattle.matching.specs.Join.{without, answerSets}
-use Rattle.matching.specs.Search.{sheetBytes, bookBytes, viewSheets, searchAnswer, makeBookAnswer}
+use Rattle.matching.specs.Search.{sheetBytes, bookBytes, viewSheets, searchOutcome, makeBookOutcome}
 use Rattle.containment.specs.Choice.{everyView, coversIn, lowestUnmatched, chosen}
-use Rattle.containment.specs.Quote.{noPattern, mapping, QuoteValues, flat, blank, quoteAnswer, quoteTold}
-use Rattle.containment.specs.Answer.{viewsIn, answerBy, answerAnswer}
-use Rattle.containment.specs.Show.{graphFields, fewerFields, recordBytes, fitBoth, showAnswer}
+use Rattle.containment.specs.Quote.{noPattern, mapping, QuoteValues, flat, blank, quoteOutcome, quoteTold}
+use Rattle.containment.specs.Answer.{viewsIn, answerBy, answerOutcome}
+use Rattle.containment.specs.Show.{graphFields, fewerFields, recordBytes, fitBoth, showOutcome}
 use Rattle.containment.specs.Listing.{bytes, linkLine, lineOf, lineAnswer}
 use Rattle.containment.specs.declared.quote_type.Quote.{Quote}
 
@@ -45,10 +46,10 @@ abbrev pub Sheet : List ℕ → List ℕ → List ℕ → Type 0
 Sheet ps s ws = readSheet ps s ≡ accepted ws
 
 abbrev pub Uncrowded : List ℕ → List ℕ → Type 0
-Uncrowded cs bs = length (pairsOf (edgeCounts cs) bs) ≤ 8192
+Uncrowded cs bs = length (pairsOf (edgeCounts cs) bs) ≤ pairsMost
 
 abbrev pub Crowded : List ℕ → List ℕ → Type 0
-Crowded cs bs = 8192 < length (pairsOf (edgeCounts cs) bs)
+Crowded cs bs = pairsMost < length (pairsOf (edgeCounts cs) bs)
 
 pub record Book (cs b bs : List ℕ) : Type 0 where
   pub read : readBook cs b ≡ accepted bs
@@ -115,20 +116,20 @@ secondOf qs cs = fewerFields qs (lacking qs cs)
 -- leaves the output untouched."
 
 -- a full result
-pub record Full (a : Answer) : Type 0 where
+pub record Full (a : Outcome) : Type 0 where
   pub values : List ℕ
   pub outputs : List (List ℕ)
   pub is : a ≡ give values outputs
 
 -- a refusal with a number from 1 to 14
-pub record Refused (a : Answer) : Type 0 where
+pub record Refused (a : Outcome) : Type 0 where
   pub number : ℕ
   pub detail : ℕ
   pub is : a ≡ refuse number detail
   pub least : 1 ≤ number
   pub most : number ≤ 14
 
-abbrev pub Settles : Answer → Type 0
+abbrev pub Settles : Outcome → Type 0
 Settles a = Full a ⊎ Refused a
 
 -- 12: "an output needs more bytes than were lent"; "where content is the output, 12 counts words". It needs d.
@@ -137,35 +138,35 @@ Over room o d = (room < length o) × (d ≡ length o)
 
 -- "or a sheet, book or answer more than 65,536"
 abbrev pub OverFile : ℕ → List ℕ → ℕ → Type 0
-OverFile room o d = ((room < length o) ⊎ (65536 < length o)) × (d ≡ length o)
+OverFile room o d = ((room < length o) ⊎ (bookMost < length o)) × (d ≡ length o)
 
 -- "12 the bytes needed, of the first output that doesn't fit"
 abbrev pub OverEither : ℕ → ℕ → List ℕ → List ℕ → ℕ → Type 0
 OverEither room room′ o o′ d = Over room o d ⊎ ((length o ≤ room) × Over room′ o′ d)
 
 -- what a call answers once nothing but 14 and 12 can fall to it: "each refusal is given in its case and no other"; else its outputs, whole
-pub record Fitted (words : ℕ) (NoFit : ℕ → Type 0) (outputs : List (List ℕ)) (a : Answer) : Type 0 where
-  pub desk : (d : ℕ) → (a ≡ refuse 14 d) ↔ ((words < 16384) × (d ≡ 0))
-  pub no-fit : (d : ℕ) → (a ≡ refuse 12 d) ↔ ((16384 ≤ words) × NoFit d)
-  pub gives : (a ≡ give [] outputs) ↔ ((16384 ≤ words) × ((d : ℕ) → NoFit d → ⊥))
+pub record Fitted (words : ℕ) (NoFit : ℕ → Type 0) (outputs : List (List ℕ)) (a : Outcome) : Type 0 where
+  pub desk : (d : ℕ) → (a ≡ refuse 14 d) ↔ ((words < workspace) × (d ≡ 0))
+  pub no-fit : (d : ℕ) → (a ≡ refuse 12 d) ↔ ((workspace ≤ words) × NoFit d)
+  pub gives : (a ≡ give [] outputs) ↔ ((workspace ≤ words) × ((d : ℕ) → NoFit d → ⊥))
   pub no-other : (a ≡ refuse 14 0) ⊎ (((d : ℕ) × (a ≡ refuse 12 d)) ⊎ (a ≡ give [] outputs))
 
 -- reading: an accepted file's content is given, and nothing of another file
-pub record Reads (read : List ℕ → ℕ → Answer) (Accepted : List ℕ → List ℕ → Type 0) : Type 0 where
+pub record Reads (read : List ℕ → ℕ → Outcome) (Accepted : List ℕ → List ℕ → Type 0) : Type 0 where
   pub gives : (s ws : List ℕ) → Accepted s ws → (room words : ℕ) → Fitted words (Over room ws) (ws ∷ []) (withWorkspace words (read s room))
   pub only : (s : List ℕ) (room words : ℕ) → Full (withWorkspace words (read s room)) → (ws : List ℕ) × Accepted s ws
 
 -- writing: "content handed to a writer meets the same rules", those of the file of bytes s that has it
-pub record Writes (write : List ℕ → ℕ → Answer) (NoFit : ℕ → List ℕ → ℕ → Type 0) (Has : List ℕ → List ℕ → Type 0) : Type 0 where
+pub record Writes (write : List ℕ → ℕ → Outcome) (NoFit : ℕ → List ℕ → ℕ → Type 0) (Has : List ℕ → List ℕ → Type 0) : Type 0 where
   pub gives : (s ws : List ℕ) → Below 256 s → Has s ws → (room words : ℕ) → Fitted words (NoFit room s) (s ∷ []) (withWorkspace words (write ws room))
   pub only : (ws : List ℕ) (room words : ℕ) → Full (withWorkspace words (write ws room)) → (s : List ℕ) × Below 256 s × Has s ws
 
 -- what a call leaves in the workspace
 pub record Worked (work work′ : List ℕ) : Type 0 where
   -- "the first 16,384 work words are zero after every call", "words beyond never change"
-  pub zeroed : 16384 ≤ length work → work′ ≡ replicate 16384 0 ++ drop 16384 work
+  pub zeroed : workspace ≤ length work → work′ ≡ replicate workspace 0 ++ drop workspace work
   -- "except 14, which leaves them as they came"
-  pub as-came : length work < 16384 → work′ ≡ work
+  pub as-came : length work < workspace → work′ ≡ work
 
 pub record Demand1 : Type 0 where
   -- "every call", "for all bytes and buffers of every length"
@@ -179,22 +180,22 @@ pub record Demand1 : Type 0 where
   pub write-record : (ws : List ℕ) (room words : ℕ) → Settles (withWorkspace words (recordWritten ws room))
   pub write-sheet : (p ws : List ℕ) (room words : ℕ) → Settles (withWorkspace words (sheetWritten p ws room))
   pub write-book : (c ws : List ℕ) (room words : ℕ) → Settles (withWorkspace words (bookWritten c ws room))
-  pub search : (p r : List ℕ) (room words : ℕ) → Settles (withWorkspace words (searchAnswer p r room))
-  pub make-book : (c r : List ℕ) (room words : ℕ) → Settles (withWorkspace words (makeBookAnswer c r room))
-  pub quote : (q c : List ℕ) (words : ℕ) → Settles (withWorkspace words (quoteAnswer q c))
-  pub answer : (q c b : List ℕ) (room words : ℕ) → Settles (withWorkspace words (answerAnswer q c b room))
-  pub show : (q c : List ℕ) (room room′ words : ℕ) → Settles (withWorkspace words (showAnswer q c room room′))
+  pub search : (p r : List ℕ) (room words : ℕ) → Settles (withWorkspace words (searchOutcome p r room))
+  pub make-book : (c r : List ℕ) (room words : ℕ) → Settles (withWorkspace words (makeBookOutcome c r room))
+  pub quote : (q c : List ℕ) (words : ℕ) → Settles (withWorkspace words (quoteOutcome q c))
+  pub answer : (q c b : List ℕ) (room words : ℕ) → Settles (withWorkspace words (answerOutcome q c b room))
+  pub show : (q c : List ℕ) (room room′ words : ℕ) → Settles (withWorkspace words (showOutcome q c room room′))
   pub line : (q : Quote) (k room : ℕ) → Settles (lineAnswer q k room)
   -- "under a fixed rule": 14, "fewer than 16,384 work words were lent", stands before all else
-  pub desk : (a : Answer) (words : ℕ) → words < 16384 → withWorkspace words a ≡ refuse 14 0
-  pub enough : (a : Answer) (words : ℕ) → 16384 ≤ words → withWorkspace words a ≡ a
+  pub desk : (a : Outcome) (words : ℕ) → words < workspace → withWorkspace words a ≡ refuse 14 0
+  pub enough : (a : Outcome) (words : ℕ) → workspace ≤ words → withWorkspace words a ≡ a
   -- a file is accepted, with its content, exactly when the plain conditions of its format hold (packed/specs/Plain.antt:
   -- counts in range, ends that are items, no repeat, each item at a link, ascending, even, padding zero and nothing after it)
-  pub accepts-pattern : (s ws : List ℕ) → Question s ws ↔ ((length s ≤ 44) × PatternFile s ws)
-  pub accepts-catalogue : (s ws : List ℕ) → Catalogue s ws ↔ ((length s ≤ 705) × CatalogueFile s ws)
-  pub accepts-record : (s ws : List ℕ) → Record s ws ↔ ((length s ≤ 40964) × RecordFile s ws)
-  pub accepts-sheet : (ps s ws : List ℕ) → Sheet ps s ws ↔ ((length s ≤ 65536) × SheetFile (edgesOf ps) s ws)
-  pub accepts-book : (cs s ws : List ℕ) → Book cs s ws ↔ ((length s ≤ 65536) × BookFile (edgeCounts cs) s ws × Uncrowded cs ws)
+  pub accepts-pattern : (s ws : List ℕ) → Question s ws ↔ ((length s ≤ patternMost) × PatternFile s ws)
+  pub accepts-catalogue : (s ws : List ℕ) → Catalogue s ws ↔ ((length s ≤ catalogueMost) × CatalogueFile s ws)
+  pub accepts-record : (s ws : List ℕ) → Record s ws ↔ ((length s ≤ recordMost) × RecordFile s ws)
+  pub accepts-sheet : (ps s ws : List ℕ) → Sheet ps s ws ↔ ((length s ≤ bookMost) × SheetFile (edgesOf ps) s ws)
+  pub accepts-book : (cs s ws : List ℕ) → Book cs s ws ↔ ((length s ≤ bookMost) × BookFile (edgeCounts cs) s ws × Uncrowded cs ws)
   -- a reader gives the content of an accepted file and of no other; a writer the file that has the content by the same conditions
   pub reads-pattern : Reads patternRead Question
   pub reads-catalogue : Reads catalogueRead Catalogue
@@ -208,32 +209,32 @@ pub record Demand1 : Type 0 where
   pub writes-book : (c : List ℕ) → Writes (bookWritten c) OverFile (λ s ws. (cs : List ℕ) × Catalogue c cs × BookFile (edgeCounts cs) s ws × Uncrowded cs ws)
   -- 10, "over 8,192 different pairs stand in a book", falls to a book exactly then, with the detail 4, "book or lone sheet"
   pub read-crowded : (c cs s ws : List ℕ) → Catalogue c cs → readBook cs s ≡ accepted ws → (room words d : ℕ)
-      → (withWorkspace words (bookRead c s room) ≡ refuse 10 d) ↔ ((16384 ≤ words) × Crowded cs ws × (d ≡ 4))
+      → (withWorkspace words (bookRead c s room) ≡ refuse 10 d) ↔ ((workspace ≤ words) × Crowded cs ws × (d ≡ 4))
   pub write-crowded : (c cs s ws : List ℕ) → Catalogue c cs → Below 256 s → BookFile (edgeCounts cs) s ws → (room words d : ℕ)
-      → (withWorkspace words (bookWritten c ws room) ≡ refuse 10 d) ↔ ((16384 ≤ words) × Crowded cs ws × (d ≡ 4))
+      → (withWorkspace words (bookWritten c ws room) ≡ refuse 10 d) ↔ ((workspace ≤ words) × Crowded cs ws × (d ≡ 4))
   pub answer-crowded : (q c b qs cs bs : List ℕ) → Question q qs → Catalogue c cs → readBook cs b ≡ accepted bs → (room words d : ℕ)
-      → (withWorkspace words (answerAnswer q c b room) ≡ refuse 10 d) ↔ ((16384 ≤ words) × Crowded cs bs × (d ≡ 4))
+      → (withWorkspace words (answerOutcome q c b room) ≡ refuse 10 d) ↔ ((workspace ≤ words) × Crowded cs bs × (d ≡ 4))
   -- a search gives the sheet of accepted files, making a book the book, and neither anything of others
   pub search-gives : (p r ps rs : List ℕ) → Question p ps → Record r rs → (room words : ℕ)
-      → Fitted words (OverFile room (sheetOf (patternOf ps) rs)) (sheetOf (patternOf ps) rs ∷ []) (withWorkspace words (searchAnswer p r room))
-  pub search-only : (p r : List ℕ) (room words : ℕ) → Full (withWorkspace words (searchAnswer p r room))
+      → Fitted words (OverFile room (sheetOf (patternOf ps) rs)) (sheetOf (patternOf ps) rs ∷ []) (withWorkspace words (searchOutcome p r room))
+  pub search-only : (p r : List ℕ) (room words : ℕ) → Full (withWorkspace words (searchOutcome p r room))
       → (ps : List ℕ) × (rs : List ℕ) × Question p ps × Record r rs
   pub make-book-gives : (c r cs rs : List ℕ) → Catalogue c cs → Record r rs → (room words : ℕ)
-      → Fitted words (OverFile room (bookOf cs rs)) (bookOf cs rs ∷ []) (withWorkspace words (makeBookAnswer c r room))
-  pub make-book-only : (c r : List ℕ) (room words : ℕ) → Full (withWorkspace words (makeBookAnswer c r room))
+      → Fitted words (OverFile room (bookOf cs rs)) (bookOf cs rs ∷ []) (withWorkspace words (makeBookOutcome c r room))
+  pub make-book-only : (c r : List ℕ) (room words : ℕ) → Full (withWorkspace words (makeBookOutcome c r room))
       → (cs : List ℕ) × (rs : List ℕ) × Catalogue c cs × Record r rs
   -- a quote is given of accepted files alone (what it says is in demand 2); it has no output to fit
-  pub quote-only : (q c : List ℕ) (words : ℕ) → Full (withWorkspace words (quoteAnswer q c)) → (qs : List ℕ) × (cs : List ℕ) × Question q qs × Catalogue c cs
+  pub quote-only : (q c : List ℕ) (words : ℕ) → Full (withWorkspace words (quoteOutcome q c)) → (qs : List ℕ) × (cs : List ℕ) × Question q qs × Catalogue c cs
   -- answering gives the answer from the book to a covered question, showing the two records of an uncovered one
   pub answer-gives : (q c b qs cs bs : List ℕ) → Question q qs → Catalogue c cs → Book cs b bs → Covered qs cs → (room words : ℕ)
       → Fitted words (OverFile room (sheetBytes (answerOf (chosenOf qs cs) qs cs bs))) (sheetBytes (answerOf (chosenOf qs cs) qs cs bs) ∷ [])
-      (withWorkspace words (answerAnswer q c b room))
-  pub answer-only : (q c b : List ℕ) (room words : ℕ) → Full (withWorkspace words (answerAnswer q c b room))
+      (withWorkspace words (answerOutcome q c b room))
+  pub answer-only : (q c b : List ℕ) (room words : ℕ) → Full (withWorkspace words (answerOutcome q c b room))
       → (qs : List ℕ) × (cs : List ℕ) × (bs : List ℕ) × Question q qs × Catalogue c cs × Book cs b bs × Covered qs cs
   pub show-gives : (q c qs cs : List ℕ) → Question q qs → Catalogue c cs → Uncovered qs cs → (room room′ words : ℕ)
       → Fitted words (OverEither room room′ (recordBytes (firstOf qs)) (recordBytes (secondOf qs cs))) (recordBytes (firstOf qs) ∷ recordBytes (secondOf qs cs) ∷ [])
-      (withWorkspace words (showAnswer q c room room′))
-  pub show-only : (q c : List ℕ) (room room′ words : ℕ) → Full (withWorkspace words (showAnswer q c room room′))
+      (withWorkspace words (showOutcome q c room room′))
+  pub show-only : (q c : List ℕ) (room room′ words : ℕ) → Full (withWorkspace words (showOutcome q c room room′))
       → (qs : List ℕ) × (cs : List ℕ) × Question q qs × Catalogue c cs × Uncovered qs cs
   -- a full result tells 0, the length of each output and the values; it stands at the front of each output, and the rest is as it was
   pub full : (blank : List ℕ) (r : Told) (outs outs′ : List (List ℕ)) (work work′ values : List ℕ) (outputs : List (List ℕ))
@@ -281,7 +282,7 @@ pub record MatchedIn (Q : Pattern) (Ps : List Pattern) (set : ℕ) (e : Edge) : 
   pub lists : In (code (e .from) (e .to)) (getD (viewSheet (getD Ps extract noPattern) (asGraph Q)) link [])
 
 -- what was read is written back as the same bytes s; what was written is read back as the same content ws
-pub record RoundTrip (read : List ℕ → ℕ → Answer) (write : List ℕ → ℕ → Answer) : Type 0 where
+pub record RoundTrip (read : List ℕ → ℕ → Outcome) (write : List ℕ → ℕ → Outcome) : Type 0 where
   pub back : (s ws : List ℕ) (room room′ words : ℕ) → Below 256 s → withWorkspace words (read s room) ≡ give [] (ws ∷ []) → length s ≤ room′
       → withWorkspace words (write ws room′) ≡ give [] (s ∷ [])
   pub again : (s ws : List ℕ) (room room′ words : ℕ) → withWorkspace words (write ws room) ≡ give [] (s ∷ []) → length ws ≤ room′
@@ -292,15 +293,15 @@ pub record Demand2 : Type 1 where
   pub simulates : (P : Pattern) (G : Graph) → IsSim P G (λ u v. In (u, v) (sim P G))
   pub greatest : (P : Pattern) (G : Graph) (R : ℕ → ℕ → Type 0) → IsSim P G R → (u v : ℕ) → R u v → In (u, v) (sim P G)
   -- a search gives the match sets as a sheet, and a book has a sheet of them for each extract
-  pub searches : (p r ps rs : List ℕ) → Question p ps → Record r rs → (room : ℕ) → searchAnswer p r room ≡ fitFile room (sheetOf (patternOf ps) rs)
-  pub books : (c r cs rs : List ℕ) → Catalogue c cs → Record r rs → (room : ℕ) → makeBookAnswer c r room ≡ fitFile room (bookOf cs rs)
+  pub searches : (p r ps rs : List ℕ) → Question p ps → Record r rs → (room : ℕ) → searchOutcome p r room ≡ fitFile room (sheetOf (patternOf ps) rs)
+  pub books : (c r cs rs : List ℕ) → Catalogue c cs → Record r rs → (room : ℕ) → makeBookOutcome c r room ≡ fitFile room (bookOf cs rs)
   -- "matches": the match sets list exactly what the greatest simulation matches
   pub lists : (r rs : List ℕ) → Record r rs → (P : Pattern) (i : ℕ) → i < length (P .edges) → (f : Pair) → f .1 < 4096
       → In (code (f .0) (f .1)) (getD (matchSets P (graphOf rs)) i []) ↔ Matching P (graphOf rs) (getD (P .edges) i noEdge) f
   -- and so do the lists of an extract, in a book as on a question read as a record
   pub of-extracts : (P : Pattern) (G : Graph) → viewSheet P G ≡ matchSets P G
   -- the sheet that a search gives is read back as its match sets: for each link the number of its pairs, then each pair's from and to
-  pub sheet-back : (p r ps rs out : List ℕ) → Question p ps → Record r rs → (room words : ℕ) → withWorkspace words (searchAnswer p r room) ≡ give [] (out ∷ [])
+  pub sheet-back : (p r ps rs out : List ℕ) → Question p ps → Record r rs → (room words : ℕ) → withWorkspace words (searchOutcome p r room) ≡ give [] (out ∷ [])
       → Sheet ps out (fieldsOf (matchSets (patternOf ps) (graphOf rs)))
   pub each-link : (l : List ℕ) (ls : List (List ℕ)) → fieldsOf (l ∷ ls) ≡ length l ∷ (ends l ++ fieldsOf ls)
   pub no-links : fieldsOf [] ≡ []
@@ -308,12 +309,12 @@ pub record Demand2 : Type 1 where
   pub no-pairs : ends [] ≡ []
   -- "a sheet with m links and t pairs takes (14·m + 24·t)/8 bytes, rounded up"
   pub sheet-length : (p r ps rs : List ℕ) → Question p ps → Record r rs
-      → length (sheetOf (patternOf ps) rs) ≡ (14 * edgesOf ps + 24 * total (matchSets (patternOf ps) (graphOf rs)) + 7) / 8
+      → length (sheetOf (patternOf ps) rs) ≡ (14 * edgesOf ps + 24 * pairCount (matchSets (patternOf ps) (graphOf rs)) + 7) / 8
   -- "links stand in any order, and that order never alters a sheet"
   pub any-order : (r r′ rs rs′ : List ℕ) → Record r rs → Record r′ rs′ → SameLinks rs rs′ → (p : List ℕ) (room words : ℕ)
-      → withWorkspace words (searchAnswer p r room) ≡ withWorkspace words (searchAnswer p r′ room)
+      → withWorkspace words (searchOutcome p r room) ≡ withWorkspace words (searchOutcome p r′ room)
   pub any-order-books : (r r′ rs rs′ : List ℕ) → Record r rs → Record r′ rs′ → SameLinks rs rs′ → (c : List ℕ) (room words : ℕ)
-      → withWorkspace words (makeBookAnswer c r room) ≡ withWorkspace words (makeBookAnswer c r′ room)
+      → withWorkspace words (makeBookOutcome c r room) ≡ withWorkspace words (makeBookOutcome c r′ room)
   -- "all links or none", of a lone pattern and of each extract of a catalogue
   pub all-or-none : (P : Pattern) (G : Graph) → T (sound P) → ((l : List ℕ) → In l (matchSets P G) → 0 < length l) ⊎ ((l : List ℕ) → In l (matchSets P G) → l ≡ [])
   pub patterns-sound : (p ps : List ℕ) → Question p ps → T (sound (patternOf ps))
@@ -324,14 +325,14 @@ pub record Demand2 : Type 1 where
       → Covers set qs cs ↔ ((i : ℕ) → i < edgesOf qs → MatchedIn (patternOf qs) (extracts cs) set (linkOf qs i))
   -- which is the first value that the call gives, where enough words are lent: 1, or 0 for an uncovered question
   pub says-covered : (q c qs cs : List ℕ) → Question q qs → Catalogue c cs → (words : ℕ)
-      → ((v : QuoteValues) × (withWorkspace words (quoteAnswer q c) ≡ give (flat v) []) × (v .covered ≡ 1)) ↔ ((16384 ≤ words) × Covered qs cs)
+      → ((v : QuoteValues) × (withWorkspace words (quoteOutcome q c) ≡ give (flat v) []) × (v .covered ≡ 1)) ↔ ((workspace ≤ words) × Covered qs cs)
   pub says-uncovered : (q c qs cs : List ℕ) → Question q qs → Catalogue c cs → (words : ℕ)
-      → ((v : QuoteValues) × (withWorkspace words (quoteAnswer q c) ≡ give (flat v) []) × (v .covered ≡ 0)) ↔ ((16384 ≤ words) × Uncovered qs cs)
+      → ((v : QuoteValues) × (withWorkspace words (quoteOutcome q c) ≡ give (flat v) []) × (v .covered ≡ 0)) ↔ ((workspace ≤ words) × Uncovered qs cs)
   -- the other values: the masks of what matches each link, the number of links, the chosen set, the lowest unmatched link; what has no meaning is 0
   pub values-covered : (q c qs cs : List ℕ) → Question q qs → Catalogue c cs → Covered qs cs
-      → quoteAnswer q c ≡ give (flat (record { covered = 1; mapping = mapping (patternOf qs) (extracts cs); edges = edgesOf qs; chosen = chosenOf qs cs; lowest = 0 })) []
+      → quoteOutcome q c ≡ give (flat (record { covered = 1; mapping = mapping (patternOf qs) (extracts cs); edges = edgesOf qs; chosen = chosenOf qs cs; lowest = 0 })) []
   pub values-uncovered : (q c qs cs : List ℕ) → Question q qs → Catalogue c cs → Uncovered qs cs
-      → quoteAnswer q c ≡ give (flat (record { covered = 0; mapping = mapping (patternOf qs) (extracts cs); edges = edgesOf qs; chosen = 0; lowest = lacking qs cs })) []
+      → quoteOutcome q c ≡ give (flat (record { covered = 0; mapping = mapping (patternOf qs) (extracts cs); edges = edgesOf qs; chosen = 0; lowest = lacking qs cs })) []
   -- "for each question link, the extract links that match it": bit f in the mask of link i and extract a says that link f of a lists i
   pub maps : (q c qs cs : List ℕ) → Question q qs → Catalogue c cs → (i a f : ℕ) → i < edgesOf qs → a < length (extracts cs) → f < length (extractOf cs a .edges)
       → T (bit (getD (mapping (patternOf qs) (extracts cs)) (16 * i + a) 0) f) ↔ In (code (linkOf qs i .from) (linkOf qs i .to)) (getD (viewSheet (extractOf cs a) (asGraph (patternOf qs))) f [])
@@ -357,7 +358,7 @@ pub record LowestUnmatched (qs cs : List ℕ) : Type 0 where
   pub lower : (e : ℕ) → e < lacking qs cs → Matched (patternOf qs) (extracts cs) (linkOf qs e)
 
 -- what is shown of an uncovered question
-pub record Shown (qs cs : List ℕ) : Type 0 where
+pub record Showing (qs cs : List ℕ) : Type 0 where
   -- "the two shown records are accepted"
   pub first-accepted : Record (recordBytes (firstOf qs)) (firstOf qs)
   pub second-accepted : Record (recordBytes (secondOf qs cs)) (secondOf qs cs)
@@ -377,26 +378,26 @@ pub record Demand3 : Type 0 where
   -- "for every accepted question and catalogue and every accepted record: if covered" (here by the extracts in any set), "and the extract lists
   -- made from the record fit in a book, answering from that book alone equals searching the record": the same answer, for all lengths of
   -- output and workspace lent to both
-  pub covered-by : (q c r qs cs rs : List ℕ) → Question q qs → Catalogue c cs → Record r rs → (set : ℕ) → Covers set qs cs → length (bookOf cs rs) ≤ 65536
-      → (room words : ℕ) → withWorkspace words (answerBy (λ _ _. set) q c (bookOf cs rs) room) ≡ withWorkspace words (searchAnswer q r room)
+  pub covered-by : (q c r qs cs rs : List ℕ) → Question q qs → Catalogue c cs → Record r rs → (set : ℕ) → Covers set qs cs → length (bookOf cs rs) ≤ bookMost
+      → (room words : ℕ) → withWorkspace words (answerBy (λ _ _. set) q c (bookOf cs rs) room) ≡ withWorkspace words (searchOutcome q r room)
   -- the same by the chosen set, which is what the call that answers uses
-  pub covered : (q c r qs cs rs : List ℕ) → Question q qs → Catalogue c cs → Record r rs → Covered qs cs → length (bookOf cs rs) ≤ 65536
-      → (room words : ℕ) → withWorkspace words (answerAnswer q c (bookOf cs rs) room) ≡ withWorkspace words (searchAnswer q r room)
+  pub covered : (q c r qs cs rs : List ℕ) → Question q qs → Catalogue c cs → Record r rs → Covered qs cs → length (bookOf cs rs) ≤ bookMost
+      → (room words : ℕ) → withWorkspace words (answerOutcome q c (bookOf cs rs) room) ≡ withWorkspace words (searchOutcome q r room)
   -- that book is an accepted one, whose sheets are the extracts' lists
-  pub fits : (c r cs rs : List ℕ) → Catalogue c cs → Record r rs → length (bookOf cs rs) ≤ 65536
+  pub fits : (c r cs rs : List ℕ) → Catalogue c cs → Record r rs → length (bookOf cs rs) ≤ bookMost
       → (bs : List ℕ) × Book cs (bookOf cs rs) bs × (sheetsIn (edgeCounts cs) bs ≡ viewSheets cs (graphOf rs))
   -- "if uncovered": showing gives these two records, or 12, or 14
   pub shows : (q c qs cs : List ℕ) → Question q qs → Catalogue c cs → Uncovered qs cs → (room room′ words : ℕ)
-      → withWorkspace words (showAnswer q c room room′) ≡ withWorkspace words (fitBoth room room′ (recordBytes (firstOf qs)) (recordBytes (secondOf qs cs)))
-  pub uncovered : (q c qs cs : List ℕ) → Question q qs → Catalogue c cs → Uncovered qs cs → Shown qs cs
+      → withWorkspace words (showOutcome q c room room′) ≡ withWorkspace words (fitBoth room room′ (recordBytes (firstOf qs)) (recordBytes (secondOf qs cs)))
+  pub uncovered : (q c qs cs : List ℕ) → Question q qs → Catalogue c cs → Uncovered qs cs → Showing qs cs
   -- "its lowest unmatched link"
   pub lowest : (q c qs cs : List ℕ) → Question q qs → Catalogue c cs → Uncovered qs cs → LowestUnmatched qs cs
   -- 13, "a showing was wanted for a covered question", exactly then
   pub shows-covered : (q c qs cs : List ℕ) → Question q qs → Catalogue c cs → (room room′ words d : ℕ)
-      → (withWorkspace words (showAnswer q c room room′) ≡ refuse 13 d) ↔ ((16384 ≤ words) × Covered qs cs × (d ≡ 0))
+      → (withWorkspace words (showOutcome q c room room′) ≡ refuse 13 d) ↔ ((workspace ≤ words) × Covered qs cs × (d ≡ 0))
   -- 11, "an answer was wanted and the question isn't covered", exactly then, with "the lowest unmatched link"
   pub refused : (q c b qs cs bs : List ℕ) → Question q qs → Catalogue c cs → Book cs b bs → (room words d : ℕ)
-      → (withWorkspace words (answerAnswer q c b room) ≡ refuse 11 d) ↔ ((16384 ≤ words) × Uncovered qs cs × (d ≡ lacking qs cs))
+      → (withWorkspace words (answerOutcome q c b room) ≡ refuse 11 d) ↔ ((workspace ≤ words) × Uncovered qs cs × (d ≡ lacking qs cs))
 
 -- ---- what else holds of answers
 
@@ -430,18 +431,18 @@ pub record Joins (set : ℕ) (qs cs bs : List ℕ) : Type 1 where
   pub lists : (i : ℕ) → i < length (patternOf qs .edges) → (f : Pair) → f .1 < 4096
       → In (code (f .0) (f .1)) (getD (answerOf set qs cs bs) i []) ↔ (((e : Edge) → In e (patternOf qs .edges) → (h : Pair) × keeps e h) × keeps (linkOf qs i) f)
 
-pub record Answers : Type 1 where
+pub record Answering : Type 1 where
   -- "the answer is the greatest choice ..", from any book, also one "that belongs to no record"
   pub joins : (set : ℕ) (qs cs bs : List ℕ) → Joins set qs cs bs
   -- "two accepted books that agree on the chosen sheets give the same answer"
   pub same : (q c qs cs b b′ bs bs′ : List ℕ) → Question q qs → Catalogue c cs → Book cs b bs → Book cs b′ bs′
       → ((a : ℕ) → T (bit (chosenOf qs cs) a) → getD (sheetsIn (edgeCounts cs) bs) a [] ≡ getD (sheetsIn (edgeCounts cs) bs′) a [])
-      → (room : ℕ) → answerAnswer q c b room ≡ answerAnswer q c b′ room
+      → (room : ℕ) → answerOutcome q c b room ≡ answerOutcome q c b′ room
   -- an answer, also from a book of no record, is read back as its content, and is as long as such a sheet
-  pub back : (q c b qs cs bs out : List ℕ) → Question q qs → Catalogue c cs → Book cs b bs → (room : ℕ) → answerAnswer q c b room ≡ give [] (out ∷ [])
+  pub back : (q c b qs cs bs out : List ℕ) → Question q qs → Catalogue c cs → Book cs b bs → (room : ℕ) → answerOutcome q c b room ≡ give [] (out ∷ [])
       → Sheet qs out (fieldsOf (answerOf (chosenOf qs cs) qs cs bs))
   pub answer-length : (q qs cs b bs : List ℕ) → Question q qs → Book cs b bs → (set : ℕ)
-      → length (sheetBytes (answerOf set qs cs bs)) ≡ (14 * edgesOf qs + 24 * total (answerOf set qs cs bs) + 7) / 8
+      → length (sheetBytes (answerOf set qs cs bs)) ≡ (14 * edgesOf qs + 24 * pairCount (answerOf set qs cs bs) + 7) / 8
   -- for an uncovered question no function whatsoever of the extracts' lists gives the question's sheet on every record
   pub no-other-way : (q c qs cs : List ℕ) → Question q qs → Catalogue c cs → Uncovered qs cs → (F : List (List (List ℕ)) → List ℕ)
       → ((r rs : List ℕ) → Record r rs → F (viewSheets cs (graphOf rs)) ≡ sheetOf (patternOf qs) rs) → ⊥
@@ -459,13 +460,13 @@ pub record UncoveredListing (r : Quote) (t : List ℕ) (m : ℕ) : Type 0 where
 
 pub record Listings : Type 0 where
   -- "an uncovered quote": any that the call gives for an uncovered question
-  pub uncovered : (q c qs cs work work′ : List ℕ) → Question q qs → Catalogue c cs → Uncovered qs cs → (r : Quote) → 16384 ≤ length work
-      → Settled blank (withWorkspace (length work) (quoteAnswer q c)) (quoteTold r) [] [] work work′
+  pub uncovered : (q c qs cs work work′ : List ℕ) → Question q qs → Catalogue c cs → Uncovered qs cs → (r : Quote) → workspace ≤ length work
+      → Settled blank (withWorkspace (length work) (quoteOutcome q c)) (quoteTold r) [] [] work work′
       → UncoveredListing r (mapping (patternOf qs) (extracts cs)) (edgesOf qs)
   -- "an output needs more bytes than were lent": 12 with the length of the line, and the buffer is untouched; else the whole line
-  pub refuses : (q : Quote) (k : ℕ) (r : Told) (out out′ : List ℕ) → Answered (lineAnswer q k (length out)) r out out′ → length out < length (lineOf q k)
+  pub refuses : (q : Quote) (k : ℕ) (r : Told) (out out′ : List ℕ) → Fulfils (lineAnswer q k (length out)) r out out′ → length out < length (lineOf q k)
       → (r ≡ told 12 (length (lineOf q k) ∷ [])) × (out′ ≡ out)
-  pub writes : (q : Quote) (k : ℕ) (r : Told) (out out′ : List ℕ) → Answered (lineAnswer q k (length out)) r out out′ → length (lineOf q k) ≤ length out
+  pub writes : (q : Quote) (k : ℕ) (r : Told) (out out′ : List ℕ) → Fulfils (lineAnswer q k (length out)) r out out′ → length (lineOf q k) ≤ length out
       → (r ≡ told 0 (length (lineOf q k) ∷ [])) × (out′ ≡ lineOf q k ++ drop (length (lineOf q k)) out)
   -- 4,096 bytes take every line
   pub longest : (q : Quote) (k : ℕ) → length (lineOf q k) ≤ 4096

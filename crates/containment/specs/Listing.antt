@@ -7,7 +7,7 @@ use lib.ListN.{getD}
 use lib.Dec.{eqb, ltb}
 use Rattle.packed.specs.Format.{pick}
 use Rattle.packed.specs.Refusals.{numberOf, detailOf}
-use Rattle.packed.specs.Calls.{Answer, fit}
+use Rattle.packed.specs.Calls.{Outcome, fit}
 use Rattle.packed.specs.declared.reply.Refusal.{Refusal}
 use Rattle.matching.specs.Simulation.{bit}
 use Rattle.containment.specs.declared.quote_type.Coverage.{Coverage}
@@ -93,5 +93,5 @@ lineOf q k =
     (pick (eqb k (linesAfter q)) (chosenLine (q .chosen)) (linkLine (q .mapping) (k - 1))))
 
 -- what the call that writes line k answers: the whole line, or 12 and its length
-unfoldable pub lineAnswer : Quote → ℕ → ℕ → Answer
+unfoldable pub lineAnswer : Quote → ℕ → ℕ → Outcome
 lineAnswer q k room = fit room (lineOf q k)

@@ -9,7 +9,7 @@ use Rattle.packed.specs.Format.{pick}
 use Rattle.packed.specs.Formats.{code}
 use Rattle.packed.specs.Contents.{viewsOf, member}
 use Rattle.packed.specs.Refusals.{Told, told, numberOf, detailOf}
-use Rattle.packed.specs.Calls.{Answer, give, judged, readPattern, readCatalogue}
+use Rattle.packed.specs.Calls.{Outcome, give, judged, readPattern, readCatalogue}
 use Rattle.matching.specs.Simulation.{Edge, noEdge, Pattern, patternOf, asGraph, viewSheet}
 use Rattle.matching.specs.Lists.{upTo}
 use Rattle.containment.specs.Choice.{everyView, coversIn, lowestUnmatched, chosen}
@@ -70,8 +70,8 @@ unfoldable pub flat : QuoteValues → List ℕ
 flat v = v .covered ∷ (v .mapping ++ (v .edges ∷ v .chosen ∷ v .lowest ∷ []))
 
 -- quoting, by all views: 14, the question's refusals, the catalogue's
-unfoldable pub quoteAnswer : List ℕ → List ℕ → Answer
-quoteAnswer q c =
+unfoldable pub quoteOutcome : List ℕ → List ℕ → Outcome
+quoteOutcome q c =
     judged (readPattern q) (λ qs. judged (readCatalogue c) (λ cs. give (flat (quoteValues everyView (patternOf qs) (map patternOf (viewsOf cs)))) []))
 
 -- on a refusal each of them is zero

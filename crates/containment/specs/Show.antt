@@ -6,7 +6,7 @@ use lib.Dec.{ltb}
 use Rattle.packed.specs.Format.{pick, encode}
 use Rattle.packed.specs.Formats.{record′}
 use Rattle.packed.specs.Contents.{nodesOf, edgesOf, viewsOf}
-use Rattle.packed.specs.Calls.{Answer, give, refuse, judged, readPattern, readCatalogue}
+use Rattle.packed.specs.Calls.{Outcome, give, refuse, judged, readPattern, readCatalogue}
 use Rattle.packed.specs.Refusals.{Told, told, numberOf, detailOf}
 use Rattle.matching.specs.Search.{bytesIn}
 use Rattle.matching.specs.Simulation.{Pattern, patternOf}
@@ -30,20 +30,20 @@ unfoldable pub recordBytes : List ℕ → List ℕ
 recordBytes fs = bytesIn (encode record′ fs)
 
 -- two outputs, 12 for the first that doesn't fit
-unfoldable pub fitBoth : ℕ → ℕ → List ℕ → List ℕ → Answer
+unfoldable pub fitBoth : ℕ → ℕ → List ℕ → List ℕ → Outcome
 fitBoth room room′ a b =
     pick (ltb room (length a)) (refuse 12 (length a))
     (pick (ltb room′ (length b)) (refuse 12 (length b)) (give [] (a ∷ b ∷ [])))
 
 -- for the query with content qs and the views in a set: 13 where they cover it
-unfoldable pub showFor : ℕ → List ℕ → List Pattern → ℕ → ℕ → Answer
+unfoldable pub showFor : ℕ → List ℕ → List Pattern → ℕ → ℕ → Outcome
 showFor set qs Ps room room′ =
     pick (coversIn (mapping (patternOf qs) Ps) set (length Ps) (edgesOf qs)) (refuse 13 0)
     (fitBoth room room′ (recordBytes (graphFields qs)) (recordBytes (fewerFields qs (lowestUnmatched (mapping (patternOf qs) Ps) set (length Ps) (edgesOf qs)))))
 
 -- showing, by all views
-unfoldable pub showAnswer : List ℕ → List ℕ → ℕ → ℕ → Answer
-showAnswer q c room room′ = judged (readPattern q) (λ qs. judged (readCatalogue c) (λ cs. showFor everyView qs (map patternOf (viewsOf cs)) room room′))
+unfoldable pub showOutcome : List ℕ → List ℕ → ℕ → ℕ → Outcome
+showOutcome q c room room′ = judged (readPattern q) (λ qs. judged (readCatalogue c) (λ cs. showFor everyView qs (map patternOf (viewsOf cs)) room room′))
 
 -- what a showing tells: the lengths of the two outputs, or the refusal with its detail
 abbrev pub shownTold : Shown → Told

@@ -9,7 +9,7 @@ use Rattle.packed.specs.Format.{ok, pick, decode}
 use Rattle.packed.specs.Formats.{pattern, catalogue, code}
 use Rattle.packed.specs.Contents.{edgesOf, edgeCounts}
 use Rattle.packed.specs.ByValue.{HoldsPattern, Small}
-use Rattle.packed.specs.Calls.{Answer, toldOf, outputsOf}
+use Rattle.packed.specs.Calls.{Outcome, toldOf, outputsOf}
 use Rattle.packed.specs.Refusals.{Told}
 use Rattle.packed.specs.declared.by_value.Pattern.{Pattern as Given}
 use Rattle.matching.specs.Sweeps.{OneOf, Has}
@@ -37,7 +37,7 @@ pub record ViewCounts (counts : List ℕ) (k : ℕ) : Type 0 where
   pub small : Small counts
 
 -- with the workspace aside: the result and the outputs
-pub record Answers (blank : List ℕ) (a : Answer) (r : Told) (outs outs′ : List (List ℕ)) : Type 0 where
+pub record FulfilsAll (blank : List ℕ) (a : Outcome) (r : Told) (outs outs′ : List (List ℕ)) : Type 0 where
   pub result : r ≡ toldOf blank a
   pub outputs : outs′ ≡ outputsOf a outs
 

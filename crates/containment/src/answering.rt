@@ -4,7 +4,7 @@ ghost use mathlib.Core.List.{List, map};
 ghost use lib.ListN.{length};
 ghost use Rattle.packed.specs.Contents.{viewsOf};
 ghost use Rattle.packed.specs.Refusals.{replyTold};
-ghost use Rattle.packed.specs.Calls.{Answered, judged, readCatalogue, readBook, fitFile};
+ghost use Rattle.packed.specs.Calls.{Fulfils, judged, readCatalogue, readBook, fitFile};
 ghost use Rattle.matching.specs.Simulation.{patternOf};
 ghost use Rattle.matching.specs.Steps.{Fair, patternIn};
 ghost use Rattle.matching.specs.Search.{sheetBytes};
@@ -12,7 +12,7 @@ ghost use Rattle.matching.specs.Join.{View, answerSets};
 ghost use Rattle.matching.specs.Candidates.{Booked};
 ghost use Rattle.matching.specs.Joining.{Agrees};
 ghost use Rattle.containment.specs.Quote.{mapping};
-ghost use Rattle.containment.specs.Answer.{answerIn, usedFor, answerAnswer};
+ghost use Rattle.containment.specs.Answer.{answerIn, usedFor, answerOutcome};
 ghost use Rattle.containment.specs.Steps.{Query, ViewCounts};
 use crate::choose;
 use crate::mapping;
@@ -39,7 +39,7 @@ fn answer_from(
     work: &mut [u32],
 ) -> Reply
     requires { ⌜ Fair q × Booked (now book) counts k d (now work) ⌝ }
-    ensures { λ r. ⌜ ((vs : List View) → Agrees q (now (table .entry)) set (now (book .entry)) counts k vs → Answered (fitFile (length (now (out .entry))) (sheetBytes (answerSets (patternIn q) vs))) (replyTold r) (now (out .entry)) (now (out .exit))) ⌝ }
+    ensures { λ r. ⌜ ((vs : List View) → Agrees q (now (table .entry)) set (now (book .entry)) counts k vs → Fulfils (fitFile (length (now (out .entry))) (sheetBytes (answerSets (patternIn q) vs))) (replyTold r) (now (out .entry)) (now (out .exit))) ⌝ }
 {
     join::join(q, table, set, book, counts, k, d, work);
     let m = q.edges as u32;
@@ -63,7 +63,7 @@ fn answer_book(
     work: &mut [u32],
 ) -> Reply
     requires { ⌜ Query q × ViewCounts counts k × (length (now work) ≡ 16384) ⌝ }
-    ensures { λ r. ⌜ ((t : Query q) (v : ViewCounts counts k) → now (table .entry) ≡ mapping (patternOf (t .content)) (map patternOf (viewsOf (v .views .content))) → Answered (judged (readBook (v .views .content) (now (book .entry))) (λ bs. answerIn set (t .content) (v .views .content) bs (length (now (out .entry))))) (replyTold r) (now (out .entry)) (now (out .exit))) ⌝ }
+    ensures { λ r. ⌜ ((t : Query q) (v : ViewCounts counts k) → now (table .entry) ≡ mapping (patternOf (t .content)) (map patternOf (viewsOf (v .views .content))) → Fulfils (judged (readBook (v .views .content) (now (book .entry))) (λ bs. answerIn set (t .content) (v .views .content) bs (length (now (out .entry))))) (replyTold r) (now (out .entry)) (now (out .exit))) ⌝ }
 {
     let verdict = accept::accept_book(book, counts, k, &mut work[0..0]);
     let Reply::Done(_) = verdict else {
@@ -82,7 +82,7 @@ fn answer_book(
 
 fn answer_for(q: Pattern, catalogue: &[u8], book: &[u8], out: &mut [u8], work: &mut [u32]) -> Reply
     requires { ⌜ Query q × (length (now work) ≡ 16384) ⌝ }
-    ensures { λ r. ⌜ ((t : Query q) → Answered (judged (readCatalogue (now (catalogue .entry))) (λ cs. judged (readBook cs (now (book .entry))) (λ bs. answerIn (usedFor (t .content) cs) (t .content) cs bs (length (now (out .entry)))))) (replyTold r) (now (out .entry)) (now (out .exit))) ⌝ }
+    ensures { λ r. ⌜ ((t : Query q) → Fulfils (judged (readCatalogue (now (catalogue .entry))) (λ cs. judged (readBook cs (now (book .entry))) (λ bs. answerIn (usedFor (t .content) cs) (t .content) cs bs (length (now (out .entry)))))) (replyTold r) (now (out .entry)) (now (out .exit))) ⌝ }
 {
     let CatalogueFile {
         verdict,
@@ -105,7 +105,7 @@ pub fn answer(
     work: &mut [u32],
 ) -> Reply
     requires { ⌜ length (now work) ≡ 16384 ⌝ }
-    ensures { λ r. ⌜ Answered (answerAnswer (now (question .entry)) (now (catalogue .entry)) (now (book .entry)) (length (now (out .entry)))) (replyTold r) (now (out .entry)) (now (out .exit)) ⌝ }
+    ensures { λ r. ⌜ Fulfils (answerOutcome (now (question .entry)) (now (catalogue .entry)) (now (book .entry)) (length (now (out .entry)))) (replyTold r) (now (out .entry)) (now (out .exit)) ⌝ }
 {
     let f = accept::accept_pattern(question, work);
     let verdict = f.verdict;

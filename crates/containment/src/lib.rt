@@ -9,11 +9,11 @@ pub mod showing;
 
 ghost use mathlib.Core.List.{[], _∷_};
 ghost use lib.ListN.{length};
-ghost use Rattle.packed.specs.Calls.{Settled, withWorkspace};
+ghost use Rattle.packed.specs.Calls.{OneOutput, Settled, withWorkspace};
 ghost use Rattle.packed.specs.Refusals.{replyTold};
-ghost use Rattle.containment.specs.Answer.{answerAnswer};
-ghost use Rattle.containment.specs.Quote.{quoteAnswer, quoteTold, blank};
-ghost use Rattle.containment.specs.Show.{showAnswer, shownTold};
+ghost use Rattle.containment.specs.Answer.{answerOutcome};
+ghost use Rattle.containment.specs.Quote.{quoteOutcome, quoteTold, blank};
+ghost use Rattle.containment.specs.Show.{showOutcome, shownTold};
 use packed::limits;
 use packed::reply::Refusal;
 use packed::reply::Reply;
@@ -23,7 +23,7 @@ use showing::Shown;
 
 // Quotes a question with a catalogue.
 pub fn quote(question: &[u8], catalogue: &[u8], work: &mut [u32]) -> Quote
-    ensures { λ r. ⌜ Settled blank (withWorkspace (length (now (work .entry))) (quoteAnswer (now (question .entry)) (now (catalogue .entry)))) (quoteTold r) [] [] (now (work .entry)) (now (work .exit)) ⌝ }
+    ensures { λ r. ⌜ Settled blank (withWorkspace (length (now (work .entry))) (quoteOutcome (now (question .entry)) (now (catalogue .entry)))) (quoteTold r) [] [] (now (work .entry)) (now (work .exit)) ⌝ }
 {
     if work.len() < limits::WORKSPACE {
         return quoting::refused(Refusal::SmallWorkspace);
@@ -41,7 +41,7 @@ pub fn answer(
     out: &mut [u8],
     work: &mut [u32],
 ) -> Reply
-    ensures { λ r. ⌜ Settled [] (withWorkspace (length (now (work .entry))) (answerAnswer (now (question .entry)) (now (catalogue .entry)) (now (book .entry)) (length (now (out .entry))))) (replyTold r) (now (out .entry) ∷ []) (now (out .exit) ∷ []) (now (work .entry)) (now (work .exit)) ⌝ }
+    ensures { λ r. ⌜ OneOutput (answerOutcome (now (question .entry)) (now (catalogue .entry)) (now (book .entry))) (replyTold r) (now (out .entry)) (now (out .exit)) (now (work .entry)) (now (work .exit)) ⌝ }
 {
     if work.len() < limits::WORKSPACE {
         return Reply::Refused(Refusal::SmallWorkspace);
@@ -65,7 +65,7 @@ pub fn show_uncovered(
     second: &mut [u8],
     work: &mut [u32],
 ) -> Shown
-    ensures { λ r. ⌜ Settled [] (withWorkspace (length (now (work .entry))) (showAnswer (now (question .entry)) (now (catalogue .entry)) (length (now (first .entry))) (length (now (second .entry))))) (shownTold r) (now (first .entry) ∷ now (second .entry) ∷ []) (now (first .exit) ∷ now (second .exit) ∷ []) (now (work .entry)) (now (work .exit)) ⌝ }
+    ensures { λ r. ⌜ Settled [] (withWorkspace (length (now (work .entry))) (showOutcome (now (question .entry)) (now (catalogue .entry)) (length (now (first .entry))) (length (now (second .entry))))) (shownTold r) (now (first .entry) ∷ now (second .entry) ∷ []) (now (first .exit) ∷ now (second .exit) ∷ []) (now (work .entry)) (now (work .exit)) ⌝ }
 {
     if work.len() < limits::WORKSPACE {
         return Shown::Refused(Refusal::SmallWorkspace);

@@ -7,9 +7,9 @@ ghost use Rattle.packed.specs.Contents.{viewsOf};
 ghost use Rattle.packed.specs.Refusals.{told, numberOf, detailOf};
 ghost use Rattle.packed.specs.Calls.{give, judged, readCatalogue};
 ghost use Rattle.matching.specs.Simulation.{patternOf};
-ghost use Rattle.containment.specs.Quote.{blank, flat, mapping, valuesFrom, quoteValues, quoteAnswer, quoteTold};
+ghost use Rattle.containment.specs.Quote.{blank, flat, mapping, valuesFrom, quoteValues, quoteOutcome, quoteTold};
 ghost use Rattle.containment.specs.Choice.{everyView};
-ghost use Rattle.containment.specs.Steps.{Query, Answers};
+ghost use Rattle.containment.specs.Steps.{Query, FulfilsAll};
 use crate::choose;
 use crate::mapping;
 use crate::quote_type::Coverage;
@@ -56,7 +56,7 @@ fn quote_of(mapping: [u32; 512], set: u32, m: usize, k: usize) -> Quote
 
 fn quote_for(q: Pattern, catalogue: &[u8], work: &mut [u32]) -> Quote
     requires { ⌜ Query q × (length (now work) ≡ 16384) ⌝ }
-    ensures { λ r. ⌜ ((t : Query q) → Answers blank (judged (readCatalogue (now (catalogue .entry))) (λ cs. give (flat (quoteValues everyView (patternOf (t .content)) (map patternOf (viewsOf cs)))) [])) (quoteTold r) [] []) ⌝ }
+    ensures { λ r. ⌜ ((t : Query q) → FulfilsAll blank (judged (readCatalogue (now (catalogue .entry))) (λ cs. give (flat (quoteValues everyView (patternOf (t .content)) (map patternOf (viewsOf cs)))) [])) (quoteTold r) [] []) ⌝ }
 {
     let f = accept::accept_catalogue(catalogue, work);
     let verdict = f.verdict;
@@ -70,7 +70,7 @@ fn quote_for(q: Pattern, catalogue: &[u8], work: &mut [u32]) -> Quote
 
 pub fn quote(question: &[u8], catalogue: &[u8], work: &mut [u32]) -> Quote
     requires { ⌜ length (now work) ≡ 16384 ⌝ }
-    ensures { λ r. ⌜ Answers blank (quoteAnswer (now (question .entry)) (now (catalogue .entry))) (quoteTold r) [] [] ⌝ }
+    ensures { λ r. ⌜ FulfilsAll blank (quoteOutcome (now (question .entry)) (now (catalogue .entry))) (quoteTold r) [] [] ⌝ }
 {
     let f = accept::accept_pattern(question, work);
     let verdict = f.verdict;

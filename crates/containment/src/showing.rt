@@ -6,8 +6,8 @@ ghost use Rattle.packed.specs.Contents.{viewsOf};
 ghost use Rattle.packed.specs.Calls.{judged, readCatalogue};
 ghost use Rattle.matching.specs.Simulation.{patternOf};
 ghost use Rattle.containment.specs.Choice.{everyView};
-ghost use Rattle.containment.specs.Show.{recordBytes, fitBoth, showFor, showAnswer, shownTold};
-ghost use Rattle.containment.specs.Steps.{Query, Answers, shownFields};
+ghost use Rattle.containment.specs.Show.{recordBytes, fitBoth, showFor, showOutcome, shownTold};
+ghost use Rattle.containment.specs.Steps.{Query, FulfilsAll, shownFields};
 use crate::choose;
 use crate::mapping;
 use crate::query;
@@ -25,7 +25,7 @@ pub enum Shown {
 // The two records of a query that is not covered, whose lowest unmatched edge is e.
 fn show_both(q: Pattern, e: usize, first: &mut [u8], second: &mut [u8], work: &mut [u32]) -> Shown
     requires { ⌜ Query q × (length (now work) ≡ 16384) ⌝ }
-    ensures { λ r. ⌜ ((t : Query q) → Answers [] (fitBoth (length (now (first .entry))) (length (now (second .entry))) (recordBytes (shownFields (t .content) 32)) (recordBytes (shownFields (t .content) e))) (shownTold r) (now (first .entry) ∷ now (second .entry) ∷ []) (now (first .exit) ∷ now (second .exit) ∷ [])) ⌝ }
+    ensures { λ r. ⌜ ((t : Query q) → FulfilsAll [] (fitBoth (length (now (first .entry))) (length (now (second .entry))) (recordBytes (shownFields (t .content) 32)) (recordBytes (shownFields (t .content) e))) (shownTold r) (now (first .entry) ∷ now (second .entry) ∷ []) (now (first .exit) ∷ now (second .exit) ∷ [])) ⌝ }
 {
     let a = query::write_graph(q, 32, &mut first[0..0], work);
     if first.len() < a {
@@ -48,7 +48,7 @@ fn show_for(
     work: &mut [u32],
 ) -> Shown
     requires { ⌜ Query q × (length (now work) ≡ 16384) ⌝ }
-    ensures { λ r. ⌜ ((t : Query q) → Answers [] (judged (readCatalogue (now (catalogue .entry))) (λ cs. showFor everyView (t .content) (map patternOf (viewsOf cs)) (length (now (first .entry))) (length (now (second .entry))))) (shownTold r) (now (first .entry) ∷ now (second .entry) ∷ []) (now (first .exit) ∷ now (second .exit) ∷ [])) ⌝ }
+    ensures { λ r. ⌜ ((t : Query q) → FulfilsAll [] (judged (readCatalogue (now (catalogue .entry))) (λ cs. showFor everyView (t .content) (map patternOf (viewsOf cs)) (length (now (first .entry))) (length (now (second .entry))))) (shownTold r) (now (first .entry) ∷ now (second .entry) ∷ []) (now (first .exit) ∷ now (second .exit) ∷ [])) ⌝ }
 {
     let f = accept::accept_catalogue(catalogue, work);
     let verdict = f.verdict;
@@ -72,7 +72,7 @@ pub(crate) fn show(
     work: &mut [u32],
 ) -> Shown
     requires { ⌜ length (now work) ≡ 16384 ⌝ }
-    ensures { λ r. ⌜ Answers [] (showAnswer (now (question .entry)) (now (catalogue .entry)) (length (now (first .entry))) (length (now (second .entry)))) (shownTold r) (now (first .entry) ∷ now (second .entry) ∷ []) (now (first .exit) ∷ now (second .exit) ∷ []) ⌝ }
+    ensures { λ r. ⌜ FulfilsAll [] (showOutcome (now (question .entry)) (now (catalogue .entry)) (length (now (first .entry))) (length (now (second .entry)))) (shownTold r) (now (first .entry) ∷ now (second .entry) ∷ []) (now (first .exit) ∷ now (second .exit) ∷ []) ⌝ }
 {
     let f = accept::accept_pattern(question, work);
     let verdict = f.verdict;

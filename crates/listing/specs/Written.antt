@@ -6,6 +6,6 @@ use lib.ListN.{length}
 use lib.Seq.{sets}
 
 -- the text went to the buffer from at on, as far as that goes, and ends at r
-pub record Written (text before : List ℕ) (at : ℕ) (now : List ℕ) (r : ℕ) : Type 0 where
+pub record TextWritten (text before : List ℕ) (at : ℕ) (now : List ℕ) (r : ℕ) : Type 0 where
   pub is : now ≡ sets before at text
   pub end : r ≡ at + length text

@@ -3,12 +3,12 @@ ghost use mathlib.Core.Path.{_≡_};
 ghost use Prim.Native.Nat.{_+_, _*_, _%_, _^_, _<_, _≤_};
 ghost use lib.ListN.{length, getD, set};
 ghost use lib.Dec.{eqb};
-ghost use Rattle.packed.specs.Calls.{Answered};
+ghost use Rattle.packed.specs.Calls.{Fulfils};
 ghost use Rattle.packed.specs.Format.{pick};
 ghost use Rattle.packed.specs.Refusals.{replyTold};
 ghost use Rattle.matching.specs.Simulation.{bit};
 ghost use Rattle.containment.specs.Listing.{bytes, decimal, edgeText, edgesText, viewsText, viewText, chosenText, linkLine, chosenLine, firstLine, linesAfter, lineOf, refusedLine, lineAnswer};
-ghost use Rattle.listing.specs.Written.{Written};
+ghost use Rattle.listing.specs.Written.{TextWritten};
 use containment::quote_type::Coverage;
 use containment::quote_type::Quote;
 use packed::reply;
@@ -27,7 +27,7 @@ fn store(bytes: &mut [u8], i: usize, v: u8)
 // The text goes to the buffer from `at` on; the result is where it ends.
 fn put(out: &mut [u8], at: usize, text: &[u8]) -> usize
     requires { ⌜ at ≤ 65536 ⌝ }
-    ensures { λ r. ⌜ Written (now (text .entry)) (now (out .entry)) at (now (out .exit)) r ⌝ }
+    ensures { λ r. ⌜ TextWritten (now (text .entry)) (now (out .entry)) at (now (out .exit)) r ⌝ }
 {
     let mut i = 0;
     while i < text.len() {
@@ -60,7 +60,7 @@ fn width(n: usize) -> usize
 // n in decimal, from its last digit to its first.
 fn put_number(out: &mut [u8], at: usize, n: usize) -> usize
     requires { ⌜ at ≤ 65536 ⌝ }
-    ensures { λ r. ⌜ Written (decimal n) (now (out .entry)) at (now (out .exit)) r ⌝ }
+    ensures { λ r. ⌜ TextWritten (decimal n) (now (out .entry)) at (now (out .exit)) r ⌝ }
 {
     let end = at + width(n);
     let mut i = end;
@@ -86,7 +86,7 @@ fn has(set: u32, k: usize) -> bool
 // " a.b" where the mask of the view a has the edge b.
 fn put_edge(out: &mut [u8], at: usize, a: usize, mask: u32, b: usize) -> usize
     requires { ⌜ (at ≤ 65000) × (b < 32) ⌝ }
-    ensures { λ r. ⌜ Written (edgeText a mask b) (now (out .entry)) at (now (out .exit)) r ⌝ }
+    ensures { λ r. ⌜ TextWritten (edgeText a mask b) (now (out .entry)) at (now (out .exit)) r ⌝ }
 {
     if !has(mask, b) {
         return at;
@@ -100,7 +100,7 @@ fn put_edge(out: &mut [u8], at: usize, a: usize, mask: u32, b: usize) -> usize
 // The edges of the view a that the mask has.
 fn put_edges(out: &mut [u8], at: usize, a: usize, mask: u32) -> usize
     requires { ⌜ (at ≤ 60000) × (a < 16) ⌝ }
-    ensures { λ r. ⌜ Written (edgesText a mask) (now (out .entry)) at (now (out .exit)) r ⌝ }
+    ensures { λ r. ⌜ TextWritten (edgesText a mask) (now (out .entry)) at (now (out .exit)) r ⌝ }
 {
     let mut end = at;
     let mut b = 0;
@@ -121,7 +121,7 @@ fn mask_at(mapping: &[u32], i: usize) -> u32
 // The views' edges that match the edge e.
 fn put_views(out: &mut [u8], at: usize, mapping: &[u32], e: usize) -> usize
     requires { ⌜ (at ≤ 1000) × (e < 2 ^ 32) ⌝ }
-    ensures { λ r. ⌜ Written (viewsText (now (mapping .entry)) e) (now (out .entry)) at (now (out .exit)) r ⌝ }
+    ensures { λ r. ⌜ TextWritten (viewsText (now (mapping .entry)) e) (now (out .entry)) at (now (out .exit)) r ⌝ }
 {
     let mut end = at;
     let mut a = 0;
@@ -135,7 +135,7 @@ fn put_views(out: &mut [u8], at: usize, mapping: &[u32], e: usize) -> usize
 // " a" where the set has the view a.
 fn put_view(out: &mut [u8], at: usize, set: u32, a: usize) -> usize
     requires { ⌜ (at ≤ 60000) × (a < 32) ⌝ }
-    ensures { λ r. ⌜ Written (viewText set a) (now (out .entry)) at (now (out .exit)) r ⌝ }
+    ensures { λ r. ⌜ TextWritten (viewText set a) (now (out .entry)) at (now (out .exit)) r ⌝ }
 {
     if !has(set, a) {
         return at;
@@ -147,7 +147,7 @@ fn put_view(out: &mut [u8], at: usize, set: u32, a: usize) -> usize
 // The views in the set.
 fn put_chosen(out: &mut [u8], at: usize, set: u32) -> usize
     requires { ⌜ at ≤ 1000 ⌝ }
-    ensures { λ r. ⌜ Written (chosenText set) (now (out .entry)) at (now (out .exit)) r ⌝ }
+    ensures { λ r. ⌜ TextWritten (chosenText set) (now (out .entry)) at (now (out .exit)) r ⌝ }
 {
     let mut end = at;
     let mut a = 0;
@@ -161,7 +161,7 @@ fn put_chosen(out: &mut [u8], at: usize, set: u32) -> usize
 // The end of a line whose parts stand from `start` to `at`.
 fn put_end(out: &mut [u8], start: usize, at: usize) -> usize
     requires { ⌜ at ≤ 65536 ⌝ }
-    ensures { λ r. ⌜ Written (pick (eqb start at) (bytes " none\n") (bytes "\n")) (now (out .entry)) at (now (out .exit)) r ⌝ }
+    ensures { λ r. ⌜ TextWritten (pick (eqb start at) (bytes " none\n") (bytes "\n")) (now (out .entry)) at (now (out .exit)) r ⌝ }
 {
     if start == at {
         put(out, at, b" none\n")
@@ -173,7 +173,7 @@ fn put_end(out: &mut [u8], start: usize, at: usize) -> usize
 // The line of the edge e.
 fn put_link(out: &mut [u8], q: Quote, e: usize) -> usize
     requires { ⌜ e < 2 ^ 32 ⌝ }
-    ensures { λ r. ⌜ Written (linkLine (q .mapping) e) (now (out .entry)) 0 (now (out .exit)) r ⌝ }
+    ensures { λ r. ⌜ TextWritten (linkLine (q .mapping) e) (now (out .entry)) 0 (now (out .exit)) r ⌝ }
 {
     let mapping = q.mapping;
     let number = put(out, 0, b"link ");
@@ -185,7 +185,7 @@ fn put_link(out: &mut [u8], q: Quote, e: usize) -> usize
 
 // The last line.
 fn put_extracts(out: &mut [u8], set: u32) -> usize
-    ensures { λ r. ⌜ Written (chosenLine set) (now (out .entry)) 0 (now (out .exit)) r ⌝ }
+    ensures { λ r. ⌜ TextWritten (chosenLine set) (now (out .entry)) 0 (now (out .exit)) r ⌝ }
 {
     if set % 65536 == 0 {
         return put(out, 0, b"extracts none\n");
@@ -197,7 +197,7 @@ fn put_extracts(out: &mut [u8], set: u32) -> usize
 
 // The line of a refusal.
 fn put_refused(out: &mut [u8], x: Refusal) -> usize
-    ensures { λ r. ⌜ Written (refusedLine x) (now (out .entry)) 0 (now (out .exit)) r ⌝ }
+    ensures { λ r. ⌜ TextWritten (refusedLine x) (now (out .entry)) 0 (now (out .exit)) r ⌝ }
 {
     let number = put(out, 0, b"refused ");
     let space = put_number(out, number, reply::number_of(x));
@@ -208,7 +208,7 @@ fn put_refused(out: &mut [u8], x: Refusal) -> usize
 
 // The first line.
 fn put_first(out: &mut [u8], coverage: Coverage) -> usize
-    ensures { λ r. ⌜ Written (firstLine coverage) (now (out .entry)) 0 (now (out .exit)) r ⌝ }
+    ensures { λ r. ⌜ TextWritten (firstLine coverage) (now (out .entry)) 0 (now (out .exit)) r ⌝ }
 {
     match coverage {
         Coverage::Covered => put(out, 0, b"quote covered\n"),
@@ -231,7 +231,7 @@ fn lines_after(q: Quote) -> usize
 
 // Line k of the listing, empty beyond the last line, goes to the front of the buffer, as far as that goes; the result is its length.
 fn put_line(out: &mut [u8], q: Quote, k: usize) -> usize
-    ensures { λ r. ⌜ Written (lineOf q k) (now (out .entry)) 0 (now (out .exit)) r ⌝ }
+    ensures { λ r. ⌜ TextWritten (lineOf q k) (now (out .entry)) 0 (now (out .exit)) r ⌝ }
 {
     let last = lines_after(q);
     if k == 0 {
@@ -249,7 +249,7 @@ fn put_line(out: &mut [u8], q: Quote, k: usize) -> usize
 
 // Writes line k of the listing, empty beyond the last line: whole, or not at all if the buffer is too short for it.
 pub fn line(q: Quote, k: usize, out: &mut [u8]) -> Reply
-    ensures { λ r. ⌜ Answered (lineAnswer q k (length (now (out .entry)))) (replyTold r) (now (out .entry)) (now (out .exit)) ⌝ }
+    ensures { λ r. ⌜ Fulfils (lineAnswer q k (length (now (out .entry)))) (replyTold r) (now (out .entry)) (now (out .exit)) ⌝ }
 {
     let n = put_line(&mut out[0..0], q, k);
     if out.len() < n {

@@ -15,7 +15,7 @@ use Rattle.matching.specs.Lists.{In, here, there, each}
 use Rattle.matching.specs.Simulation.{Pair, Edge, asPair, Pattern, Graph, sim, total, row, ascending, matchSets, sound}
 use Rattle.matching.proofs.ListLaws.{not-in-none, in-cases, each-in, in-each, in-length, first-in}
 use Rattle.matching.proofs.SimLaws.{sim-is}
-use Rattle.matching.proofs.MatchLaws.{Sim, Total, total-say, total-by, row-in, in-row, Sound, sound-say}
+use Rattle.matching.proofs.MatchLaws.{Sim, Total, total-say, total-by, row-in, in-row, SoundPattern, sound-say}
 use Rattle.matching.proofs.CodeLaws.{ascending-say, ascending-by, ascending-none}
 
 pub none-empty : (ls : List (List ℕ)) → anyEmpty ls ≡ false → (l : List ℕ) → In l ls → 0 < length l
@@ -93,7 +93,7 @@ allOrNone-even ls = allOrNone-case Even ls (λ f. inl f) (λ r. inr (emptied-in 
 
 -- ---- the match sets
 module _ (P : Pattern) (G : Graph) (ok : T (sound P)) where
-  abbrev s : Sound P
+  abbrev s : SoundPattern P
   s = sound-say P ok
 
   -- every node of the pattern has a partner exactly if no edge's row is empty

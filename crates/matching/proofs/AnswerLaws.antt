@@ -13,7 +13,7 @@ use Rattle.packed.specs.Matches.{allOrNone}
 use Rattle.packed.proofs.DistinctLaws.{distinct-own}
 use Rattle.matching.specs.Lists.{In, here, there, gather, each}
 use Rattle.matching.specs.Simulation.{Pair, Edge, Pattern, asGraph, ascending, viewSheet}
-use Rattle.matching.specs.Join.{lists, View, pairOf, under, candidates, join, complete, keptFor, answerSets}
+use Rattle.matching.specs.Join.{listsEdge, View, pairOf, under, candidates, join, complete, keptFor, answerSets}
 use Rattle.matching.proofs.ByEdge.{answerTo}
 use Rattle.matching.proofs.ListLaws.{cond-case, not-in-none, append-in, gather-in, each-in}
 use Rattle.matching.proofs.CodeLaws.{ascending-say, ascending-increasing, distinct-fewer}
@@ -22,7 +22,7 @@ use Rattle.matching.proofs.AllOrNone.{cond-all-or-none}
 use Rattle.matching.proofs.JoinLaws.{join-candidate, kept-in, in-kept, complete-say, complete-by, answer-say, answer-each, pair-code}
 
 -- the code c stands in a list of one of the sheets
-pub record Stands (vs : List View) (c : ℕ) : Type 0 where
+pub record AnswerStands (vs : List View) (c : ℕ) : Type 0 where
   pub view : View
   pub given : In view vs
   pub list : List ℕ
@@ -33,10 +33,10 @@ under-from : (e : Edge) (ms ls : List (List ℕ)) {c : ℕ} → In c (under e ms
 unfolding under
 under-from e [] ls i = absurd (not-in-none i)
 under-from e (m ∷ ms) [] i = absurd (not-in-none i)
-under-from e (m ∷ ms) (l ∷ ls) {c} i = ⊎-elim first (λ j. let r = under-from e ms ls {c = c} j in (r .0, there (r .1), r .2)) (append-in (cond (lists e m) l []) i)
+under-from e (m ∷ ms) (l ∷ ls) {c} i = ⊎-elim first (λ j. let r = under-from e ms ls {c = c} j in (r .0, there (r .1), r .2)) (append-in (cond (listsEdge e m) l []) i)
   where
-    first : In c (cond (lists e m) l []) → (k : List ℕ) × In k (l ∷ ls) × In c k
-    first = cond-case (λ k. In c k → (h : List ℕ) × In h (l ∷ ls) × In c h) (lists e m) l [] (λ t j. (l, here refl, j)) (λ t j. absurd (not-in-none j))
+    first : In c (cond (listsEdge e m) l []) → (k : List ℕ) × In k (l ∷ ls) × In c k
+    first = cond-case (λ k. In c k → (h : List ℕ) × In h (l ∷ ls) × In c h) (listsEdge e m) l [] (λ t j. (l, here refl, j)) (λ t j. absurd (not-in-none j))
 
 module _ (Q : Pattern) (vs : List View) where
   -- the answer by the pairs kept, found without asking whether every edge keeps some
@@ -48,33 +48,33 @@ module _ (Q : Pattern) (vs : List View) where
         λ t e i. let r = complete-say Q vs t e i in (r .0, in-kept Q vs (r .1)),
       )
 
-  candidate-stands : (e : Edge) {f : Pair} → In f (candidates Q vs e) → Stands vs (code (f .0) (f .1))
+  candidate-stands : (e : Edge) {f : Pair} → In f (candidates Q vs e) → AnswerStands vs (code (f .0) (f .1))
   unfolding candidates
   candidate-stands e {f} i = of-code (each-in pairOf _ i)
     where
-      of-view : (c : ℕ) (v : View) → In v vs → In c (under e (viewSheet (v .pattern) (asGraph Q)) (v .sheet)) → Stands vs c
+      of-view : (c : ℕ) (v : View) → In v vs → In c (under e (viewSheet (v .pattern) (asGraph Q)) (v .sheet)) → AnswerStands vs c
       of-view c v i j = let r = under-from e (viewSheet (v .pattern) (asGraph Q)) (v .sheet) j in record { view = v; given = i; list = r .0; of-view = r .1; here = r .2 }
 
-      of-code : (c : ℕ) × In c (gather (λ v. under e (viewSheet (v .pattern) (asGraph Q)) (v .sheet)) vs) × (f ≡ pairOf c) → Stands vs (code (f .0) (f .1))
+      of-code : (c : ℕ) × In c (gather (λ v. under e (viewSheet (v .pattern) (asGraph Q)) (v .sheet)) vs) × (f ≡ pairOf c) → AnswerStands vs (code (f .0) (f .1))
       of-code (c, j, q) =
           let r = gather-in _ vs j in
-          subst (λ g. Stands vs (code (g .0) (g .1))) (sym q) (subst (Stands vs) (sym (pair-code c)) (of-view c (r .0) (r .1) (r .2)))
+          subst (λ g. AnswerStands vs (code (g .0) (g .1))) (sym q) (subst (AnswerStands vs) (sym (pair-code c)) (of-view c (r .0) (r .1) (r .2)))
 
   -- each pair of an answer stands in a sheet
-  pub answer-stands : {l : List ℕ} {c : ℕ} → In l (answerSets Q vs) → In c l → Stands vs c
+  pub answer-stands : {l : List ℕ} {c : ℕ} → In l (answerSets Q vs) → In c l → AnswerStands vs c
   answer-stands {l} {c} i j = of-list (each-in _ (Q .edges) (subst (λ ls. In l ls) (answer-each Q vs) i))
     where
-      of-pair : (e : Edge) → (f : Pair) × In f (answerTo Q vs e) × (c ≡ code (f .0) (f .1)) → Stands vs c
-      of-pair e (f, k, q) = subst (Stands vs) (sym q) (candidate-stands e (join-candidate Q vs (answer-say Q vs k .1) .1))
+      of-pair : (e : Edge) → (f : Pair) × In f (answerTo Q vs e) × (c ≡ code (f .0) (f .1)) → AnswerStands vs c
+      of-pair e (f, k, q) = subst (AnswerStands vs) (sym q) (candidate-stands e (join-candidate Q vs (answer-say Q vs k .1) .1))
 
-      of-list : (e : Edge) × In e (Q .edges) × (l ≡ ascending (answerTo Q vs e)) → Stands vs c
+      of-list : (e : Edge) × In e (Q .edges) × (l ≡ ascending (answerTo Q vs e)) → AnswerStands vs c
       of-list (e, k, q) = of-pair e (ascending-say _ (subst (λ z. In c z) q j))
 
   pub answer-increasing : {l : List ℕ} → In l (answerSets Q vs) → Increasing l
   answer-increasing {l} i = let r = each-in _ (Q .edges) (subst (λ ls. In l ls) (answer-each Q vs) i) in subst Increasing (sym (r .2)) (ascending-increasing (answerTo Q vs (r .0)))
 
   -- a sheet can have the lists of the answer, where the sheets have at most 8192 different pairs: those of pool
-  pub answer-listable : (pool : List ℕ) → length pool ≤ 8192 → ((c : ℕ) → In c pool → c < 2 ^ 24) → ((c : ℕ) → Stands vs c → In c pool) → (l : List ℕ) → In l (answerSets Q vs) → Listable l
+  pub answer-listable : (pool : List ℕ) → length pool ≤ 8192 → ((c : ℕ) → In c pool → c < 2 ^ 24) → ((c : ℕ) → AnswerStands vs c → In c pool) → (l : List ℕ) → In l (answerSets Q vs) → Listable l
   answer-listable pool h s p l i = listable-by l (answer-increasing i) (λ c j. s c (in-pool c j)) most
     where
       in-pool : (c : ℕ) → In c l → In c pool

@@ -26,7 +26,7 @@ use Rattle.matching.proofs.MatchSetLaws.{view-sheet, view-length, book-
 use Rattle.matching.proofs.PatternLaws.{sound-of, edges-many}
 use Rattle.matching.proofs.RecordLaws.{graph-narrow, graph-few}
 use Rattle.matching.proofs.ViewLaws.{all-ahead, in-follow}
-use Rattle.matching.proofs.SheetBytes.{Sheet, sets-sheet}
+use Rattle.matching.proofs.SheetBytes.{SheetFields, sets-sheet}
 
 -- ---- sheets one after the other
 pub book-append : (xs ys : List (List (List ℕ))) → bookBytes (xs ++ ys) ≡ bookBytes xs ++ bookBytes ys
@@ -45,7 +45,7 @@ bookFields sheets = flatten (map fieldsOf sheets)
 abbrev Sheets : List ℕ → ℕ → List ℕ → List Bool → Type 0
 Sheets ms k ws bs = InTurn (λ i. Whole (PlainSheet (getD ms i 0))) k ws bs
 
-sheets-turn : (sheets : List (List (List ℕ))) → ((ls : List (List ℕ)) → In ls sheets → Sheet ls)
+sheets-turn : (sheets : List (List (List ℕ))) → ((ls : List (List ℕ)) → In ls sheets → SheetFields ls)
     → Sheets (map length sheets) (length (map length sheets)) (bookFields sheets) (bits (bookBytes sheets))
 unfolding bookBytes flatten
 sheets-turn [] f = no-turns (λ i. Whole (PlainSheet (getD [] i 0))) [] (bits []) .0 (refl, unfold bits in refl)
@@ -63,7 +63,7 @@ sheets-turn (ls ∷ sheets) f =
       after = sheets-turn sheets (λ x i. f x (there i));
     })
 
-pub book-back : (sheets : List (List (List ℕ))) → ((ls : List (List ℕ)) → In ls sheets → Sheet ls)
+pub book-back : (sheets : List (List (List ℕ))) → ((ls : List (List ℕ)) → In ls sheets → SheetFields ls)
     → decode (book (map length sheets)) (bookBytes sheets) ≡ ok (bookFields sheets)
 book-back sheets f = book-accepted (map length sheets) (bookBytes sheets) (bookFields sheets) .1 (sheets-turn sheets f)
 
@@ -129,11 +129,11 @@ module _ (c r cs rs : List ℕ) (e : decode catalogue c ≡ ok cs) (f : decode r
       (λ v i. let q = view-plain v i .1 in sym (view-length (patternOf v) (graphOf rs) ∙ edges-many q))
       ∙ sym (map-map length (λ v. viewSheet (patternOf v) (graphOf rs)) (viewsOf cs))
 
-  all-sheets : (ls : List (List ℕ)) → In ls sheets → Sheet ls
+  all-sheets : (ls : List (List ℕ)) → In ls sheets → SheetFields ls
   unfolding viewSheets
   all-sheets ls i =
       let q = map-in (λ v. viewSheet (patternOf v) (graphOf rs)) (viewsOf cs) i in
-      subst Sheet (sym (q .2 ∙ view-sheet (patternOf (q .0)) (graphOf rs))) (sets-sheet (patternOf (q .0)) (graphOf rs) (sound-of (view-plain (q .0) (q .1) .1)) (graph-narrow r rs f) (graph-few r rs f))
+      subst SheetFields (sym (q .2 ∙ view-sheet (patternOf (q .0)) (graphOf rs))) (sets-sheet (patternOf (q .0)) (graphOf rs) (sound-of (view-plain (q .0) (q .1) .1)) (graph-narrow r rs f) (graph-few r rs f))
 
   -- the book that is made is accepted beside its catalogue, as the fields of its sheets
   pub made-is : decode (book (edgeCounts cs)) (bookBytes sheets) ≡ ok (bookFields sheets)

@@ -11,10 +11,10 @@ use native.Mathlib.Nat.{add-zero, zero-add}
 use borrow.Rule.Slice.PartMut.{putMid, postOf}
 use Rattle.packed.specs.Format.{pick, ok, decode}
 use Rattle.packed.specs.Formats.{catalogue}
-use Rattle.packed.specs.Contents.{viewsOf, total}
+use Rattle.packed.specs.Contents.{viewsOf, pairCount}
 use Rattle.packed.specs.Reading.{Stands}
 use Rattle.packed.specs.LoadedGraph.{Holds}
-use Rattle.packed.specs.Matches.{marked, markedFrom, anyEmpty, emptied, allOrNone, matchesOf, Written}
+use Rattle.packed.specs.Matches.{marked, markedFrom, anyEmpty, emptied, allOrNone, matchesOf, SheetWritten}
 use Rattle.packed.proofs.Sets.{sets-append, sets-drop}
 use Rattle.packed.proofs.SheetLaws.{Fit, fit-none, fit-next, fit-all}
 use Rattle.packed.proofs.MatchLaws.{fit-lists, matches-encode}
@@ -23,7 +23,7 @@ use Rattle.packed.specs.declared.by_value.Pattern.{Pattern as Given}
 use Rattle.matching.specs.Simulation.{Graph, patternOf, matchSets, viewSheet}
 use Rattle.matching.specs.Search.{sheetBytes, bookBytes, viewSheets}
 use Rattle.matching.specs.Steps.{patternIn, graphIn, Fair, Ready, Edges}
-use Rattle.matching.specs.Matched.{Proper, Rises, Matched, Sheeted, ViewAt}
+use Rattle.matching.specs.Matched.{Proper, Rises, EdgesMatched, SheetSized, ViewAt}
 use Rattle.matching.specs.Books.{Catalogued, Bookable, bookIn, sheetSize, Sizes, Sized, Fits, Filled}
 use Rattle.matching.specs.declared.views.View.{View}
 use Rattle.matching.proofs.MatchSetLaws.{sets-length, view-sheet}
@@ -36,15 +36,15 @@ use Rattle.matching.proofs.SheetBytes.{sheet-is, sheet-by}
 use Rattle.matching.proofs.BookBytes.{book-append, book-one}
 
 -- ---- one sheet
-total-most : {ls : List (List ℕ)} → Fit ls → total ls ≤ 8192 * length ls
-unfolding total
+total-most : {ls : List (List ℕ)} → Fit ls → pairCount ls ≤ 8192 * length ls
+unfolding pairCount
 total-most fit-none = omega arith
 total-most (fit-next r h f) = omega (arith, total-most f)
 
-pub sheeted-by : {p : Given} {s : List ℕ} {n m : ℕ} {w w′ : List ℕ} → Matched p s n m w w′ → Sheeted p s n m w m w′
+pub sheeted-by : {p : Given} {s : List ℕ} {n m : ℕ} {w w′ : List ℕ} → EdgesMatched p s n m w w′ → SheetSized p s n m w m w′
 sheeted-by q = record { edges = q .edges; marked = q .marked; sets = q .sets }
 
-module _ {p : Given} {s : List ℕ} {n m : ℕ} {w : List ℕ} {d : ℕ} {w′ : List ℕ} (q : Sheeted p s n m w d w′) where
+module _ {p : Given} {s : List ℕ} {n m : ℕ} {w : List ℕ} {d : ℕ} {w′ : List ℕ} (q : SheetSized p s n m w d w′) where
   abbrev made : List (List ℕ)
   made = matchesOf d (p .edges) w′
 
@@ -56,23 +56,23 @@ module _ {p : Given} {s : List ℕ} {n m : ℕ} {w : List ℕ} {d : ℕ} {w′ :
   made-long = ap length (q .sets) ∙ sets-length (patternIn p) (graphIn s n m w) ∙ length-upTo _ (p .edges)
 
   -- the bytes that are counted
-  pub size-is : (14 * p .edges + 24 * total made + 7) / 8 ≡ length (sheetBytes listed)
+  pub size-is : (14 * p .edges + 24 * pairCount made + 7) / 8 ≡ length (sheetBytes listed)
   size-is =
       let x = sheet-by (p .edges) made made-long (matches-encode d (p .edges) w′ (q .marked)) in
       let y = rw made-long at (x .size) in
       sym y ∙ ap (λ (ls : List (List ℕ)). length (sheetBytes ls)) (q .sets)
 
-  pub size-most : p .edges ≤ 32 → (14 * p .edges + 24 * total made + 7) / 8 ≤ 786489
+  pub size-most : p .edges ≤ 32 → (14 * p .edges + 24 * pairCount made + 7) / 8 ≤ 786489
   unfolding matchesOf
   size-most h = omega (arith, total-most (fit-all _ (fit-lists d (p .edges) w′ (q .marked))), made-long)
 
   -- the bytes that are written
-  pub bytes-are : {out out′ : List ℕ} {r : ℕ} (x : Written d (p .edges) w′ out r out′) → x .bytes ≡ sheetBytes listed
+  pub bytes-are : {out out′ : List ℕ} {r : ℕ} (x : SheetWritten d (p .edges) w′ out r out′) → x .bytes ≡ sheetBytes listed
   bytes-are x = sym (sheet-is (p .edges) made (x .bytes) made-long (x .is)) ∙ ap sheetBytes (q .sets)
 
   -- what is kept of its size
-  pub size-kept : (14 * p .edges + 24 * total made + 7) / 8 ≡ sheetSize listed
-  size-kept = ap (λ (k : ℕ). (14 * k + 24 * total made + 7) / 8) (sym made-long) ∙ ap sheetSize (q .sets)
+  pub size-kept : (14 * p .edges + 24 * pairCount made + 7) / 8 ≡ sheetSize listed
+  size-kept = ap (λ (k : ℕ). (14 * k + 24 * pairCount made + 7) / 8) (sym made-long) ∙ ap sheetSize (q .sets)
 
 -- ---- a sheet that lists nothing
 none-marked : (e m : ℕ) (qs : List ℕ) → markedFrom e m [] qs ≡ replicate m []
@@ -95,20 +95,20 @@ none-matches m w =
     ap (λ (ls : List (List ℕ)). pick (anyEmpty ls) (emptied ls) ls) (none-marked 0 m [])
     ∙ pick-same (anyEmpty (replicate m [])) (none-emptied m)
 
-none-total : (ls : List (List ℕ)) → total ls ≡ 0 → ls ≡ replicate (length ls) []
-unfolding total
+none-total : (ls : List (List ℕ)) → pairCount ls ≡ 0 → ls ≡ replicate (length ls) []
+unfolding pairCount
 none-total [] h = refl
 none-total ([] ∷ ls) h = ap (λ (x : List (List ℕ)). [] ∷ x) (none-total ls (omega arith))
 none-total ((x ∷ l) ∷ ls) h = absurd (omega arith)
 
 -- it is made from no pairs
 pub sheeted-none : (p : Given) (s : List ℕ) (n m : ℕ) (w : List ℕ) → Ready s n m w
-    → (14 * p .edges + 7) / 8 ≡ sheetSize (matchSets (patternIn p) (graphIn s n m w)) → Sheeted p s n m w 0 w
+    → (14 * p .edges + 7) / 8 ≡ sheetSize (matchSets (patternIn p) (graphIn s n m w)) → SheetSized p s n m w 0 w
 unfolding patternIn
 sheeted-none p s n m w r e =
     let ls : List (List ℕ) = matchSets (patternIn p) (graphIn s n m w) in
     let l : length ls ≡ p .edges = sets-length (patternIn p) (graphIn s n m w) ∙ length-upTo _ (p .edges) in
-    let z : total ls ≡ 0 = omega arith in
+    let z : pairCount ls ≡ 0 = omega arith in
     record {
       edges = record { long = refl; same = λ i h. refl };
       marked = record { long = omega (arith, r .long); most = omega arith; small = λ i h. absurd (omega arith); rises = λ i j a b. absurd (omega arith) };
@@ -131,7 +131,7 @@ on-append : (G : Graph) (us vs : List (List ℕ)) → bookOn G (us ++ vs) ≡ bo
 on-append G us vs = ap bookBytes (map-append (λ v. viewSheet (patternOf v) G) us vs) ∙ book-append (sheetsOn G us) (sheetsOn G vs)
 
 -- a catalogue of k views of which a are past, the rest from a byte on
-pub record Turned (c s : List ℕ) (n m : ℕ) (w₀ : List ℕ) (k byte a : ℕ) (w : List ℕ) : Type 0 where
+pub record ViewPassed (c s : List ℕ) (n m : ℕ) (w₀ : List ℕ) (k byte a : ℕ) (w : List ℕ) : Type 0 where
   pub small : length c ≤ 65536
   pub fields : List ℕ
   pub is : decode catalogue c ≡ ok fields
@@ -147,10 +147,10 @@ pub record Turned (c s : List ℕ) (n m : ℕ) (w₀ : List ℕ) (k byte a : ℕ
   pub edges : Edges w₀ w
 
 -- the book of the views that are past
-abbrev pub bookPast : {c s : List ℕ} {n m : ℕ} {w₀ : List ℕ} {k byte a : ℕ} {w : List ℕ} → Turned c s n m w₀ k byte a w → List ℕ
+abbrev pub bookPast : {c s : List ℕ} {n m : ℕ} {w₀ : List ℕ} {k byte a : ℕ} {w : List ℕ} → ViewPassed c s n m w₀ k byte a w → List ℕ
 bookPast {s = s} {n} {m} {w₀} t = bookOn (graphIn s n m w₀) (t .past)
 
-pub turned-start : {c : List ℕ} {k : ℕ} {s : List ℕ} {n m : ℕ} {w : List ℕ} → Bookable c k s n m w → Turned c s n m w k 1 0 w
+pub turned-start : {c : List ℕ} {k : ℕ} {s : List ℕ} {n m : ℕ} {w : List ℕ} → Bookable c k s n m w → ViewPassed c s n m w k 1 0 w
 turned-start {c} {k} b =
     let q = b .views in
     let v = catalogue-views c (q .fields) (q .is) in
@@ -179,7 +179,7 @@ none-left : (l : List (List ℕ)) → length l ≡ 0 → l ≡ []
 none-left [] h = refl
 none-left (x ∷ xs) h = absurd (omega arith)
 
-module _ {c s : List ℕ} {n m : ℕ} {w₀ : List ℕ} {k byte a : ℕ} {w : List ℕ} (t : Turned c s n m w₀ k byte a w) where
+module _ {c s : List ℕ} {n m : ℕ} {w₀ : List ℕ} {k byte a : ℕ} {w : List ℕ} (t : ViewPassed c s n m w₀ k byte a w) where
   abbrev G : Graph
   G = graphIn s n m w₀
 
@@ -237,8 +237,8 @@ module _ {c s : List ℕ} {n m : ℕ} {w₀ : List ℕ} {k byte a : ℕ} {w : Li
         ∙ ap sheetSize (sym turn-lists)
 
     -- and was matched
-    module _ {d : ℕ} {w′ : List ℕ} (q : Sheeted (v .pattern) s n m w d w′) where
-      pub turned-next : Turned c s n m w₀ k (v .next) (a + 1) w′
+    module _ {d : ℕ} {w′ : List ℕ} (q : SheetSized (v .pattern) s n m w d w′) where
+      pub turned-next : ViewPassed c s n m w₀ k (v .next) (a + 1) w′
       turned-next =
           record {
             small = t .small;
@@ -269,7 +269,7 @@ module _ {c s : List ℕ} {n m : ℕ} {w₀ : List ℕ} {k byte a : ℕ} {w : Li
 
 -- ---- the size of a book
 pub record Sizing (c s : List ℕ) (n m : ℕ) (w₀ : List ℕ) (k size byte a : ℕ) (w : List ℕ) : Type 0 where
-  pub turn : Turned c s n m w₀ k byte a w
+  pub turn : ViewPassed c s n m w₀ k byte a w
   pub is : size ≡ length (bookPast turn)
   pub most : size ≤ 786489 * a
 
@@ -278,8 +278,8 @@ unfolding bookBytes turned-start
 sizing-start b = record { turn = turned-start b; is = refl; most = omega arith }
 
 pub sizing-next : {c s : List ℕ} {n m : ℕ} {w₀ : List ℕ} {k size byte a : ℕ} {w : List ℕ} (z : Sizing c s n m w₀ k size byte a w)
-    (some : a < k) (v : View) (at : ViewAt c byte v) {d : ℕ} {w′ : List ℕ} (q : Sheeted (v .pattern) s n m w d w′) (r : ℕ)
-    → r ≡ (14 * v .pattern .edges + 24 * total (matchesOf d (v .pattern .edges) w′) + 7) / 8 → Sizing c s n m w₀ k (size + r) (v .next) (a + 1) w′
+    (some : a < k) (v : View) (at : ViewAt c byte v) {d : ℕ} {w′ : List ℕ} (q : SheetSized (v .pattern) s n m w d w′) (r : ℕ)
+    → r ≡ (14 * v .pattern .edges + 24 * pairCount (matchesOf d (v .pattern .edges) w′) + 7) / 8 → Sizing c s n m w₀ k (size + r) (v .next) (a + 1) w′
 sizing-next z some v at q r e =
     let t = z .turn in
     let f = turn-fair t some v at .edges in
@@ -302,8 +302,8 @@ module _ {c s : List ℕ} {n m : ℕ} {w₀ : List ℕ} {k size byte a : ℕ} {s
   pub keeping-room : a < k → a < length sizes
   keeping-room h = omega (arith, z .long, z .sizing .turn .few)
 
-  pub keeping-next : (some : a < k) (v : View) (at : ViewAt c byte v) {w′ : List ℕ} (q : Matched (v .pattern) s n m w w′) (r : ℕ)
-      → r ≡ (14 * v .pattern .edges + 24 * total (matchesOf m (v .pattern .edges) w′) + 7) / 8 → Keeping c s n m w₀ k (size + r) (v .next) (a + 1) (set sizes a r) w′
+  pub keeping-next : (some : a < k) (v : View) (at : ViewAt c byte v) {w′ : List ℕ} (q : EdgesMatched (v .pattern) s n m w w′) (r : ℕ)
+      → r ≡ (14 * v .pattern .edges + 24 * pairCount (matchesOf m (v .pattern .edges) w′) + 7) / 8 → Keeping c s n m w₀ k (size + r) (v .next) (a + 1) (set sizes a r) w′
   unfolding sizing-next turned-next
   keeping-next some v at q r e =
       let t = z .sizing .turn in
@@ -345,17 +345,17 @@ rest-written out at part bytes h e =
     ∙ sym (sets-drop out at 0 bytes h)
     ∙ ap (λ (i : ℕ). sets out i bytes) (add-zero at)
 
-pub record Filling (c s : List ℕ) (n m : ℕ) (w₀ out₀ : List ℕ) (k at byte a : ℕ) (out w : List ℕ) : Type 0 where
+pub record BookFilling (c s : List ℕ) (n m : ℕ) (w₀ out₀ : List ℕ) (k at byte a : ℕ) (out w : List ℕ) : Type 0 where
   pub sizing : Sizing c s n m w₀ k at byte a w
   pub fits : length (bookIn (sizing .turn .fields) s n m w₀) ≤ length out₀
   pub front : out ≡ sets out₀ 0 (bookPast (sizing .turn))
 
-pub filling-start : {c : List ℕ} {k : ℕ} {s : List ℕ} {n m : ℕ} {w out : List ℕ} → Bookable c k s n m w → Fits c s n m w out → Filling c s n m w out k 0 1 0 out w
+pub filling-start : {c : List ℕ} {k : ℕ} {s : List ℕ} {n m : ℕ} {w out : List ℕ} → Bookable c k s n m w → Fits c s n m w out → BookFilling c s n m w out k 0 1 0 out w
 unfolding bookBytes sizing-start turned-start
 filling-start b f = record { sizing = sizing-start b; fits = f (b .views .fields) (b .views .is); front = refl }
 
-module _ {c s : List ℕ} {n m : ℕ} {w₀ out₀ : List ℕ} {k at byte a : ℕ} {out w : List ℕ} (z : Filling c s n m w₀ out₀ k at byte a out w) where
-  abbrev turn : Turned c s n m w₀ k byte a w
+module _ {c s : List ℕ} {n m : ℕ} {w₀ out₀ : List ℕ} {k at byte a : ℕ} {out w : List ℕ} (z : BookFilling c s n m w₀ out₀ k at byte a out w) where
+  abbrev turn : ViewPassed c s n m w₀ k byte a w
   turn = z .sizing .turn
 
   pub filling-long : length out ≡ length out₀
@@ -365,12 +365,12 @@ module _ {c s : List ℕ} {n m : ℕ} {w₀ out₀ : List ℕ} {k at byte a : �
   filling-inside = omega (arith, z .sizing .is, z .fits, past-most turn, filling-long)
 
   -- a sheet was written there
-  module _ (some : a < k) (v : View) (y : ViewAt c byte v) {d : ℕ} {w′ : List ℕ} (q : Sheeted (v .pattern) s n m w d w′)
-      {r : ℕ} {part : List ℕ} (x : Written d (v .pattern .edges) w′ (take (length out - at) (drop at out)) r part) where
+  module _ (some : a < k) (v : View) (y : ViewAt c byte v) {d : ℕ} {w′ : List ℕ} (q : SheetSized (v .pattern) s n m w d w′)
+      {r : ℕ} {part : List ℕ} (x : SheetWritten d (v .pattern .edges) w′ (take (length out - at) (drop at out)) r part) where
     pub filling-sized : Sizing c s n m w₀ k (at + r) (v .next) (a + 1) w′
     filling-sized = sizing-next (z .sizing) some v y q r (x .number ∙ ap length (bytes-are q x) ∙ sym (size-is q))
 
-    pub filling-next : Filling c s n m w₀ out₀ k (at + r) (v .next) (a + 1) (putMid at (length out - at) out part) w′
+    pub filling-next : BookFilling c s n m w₀ out₀ k (at + r) (v .next) (a + 1) (putMid at (length out - at) out part) w′
     unfolding filling-sized sizing-next turned-next
     filling-next =
         let e = past-next turn some v y q in

@@ -3,7 +3,7 @@ use mathlib.Core.Bool.{Bool, cond}
 use mathlib.Core.List.{List, []}
 use Rattle.matching.specs.Lists.{every, some}
 use Rattle.matching.specs.Simulation.{Pair, Edge, Pattern, Graph, asGraph, sim, total, row, viewSheet}
-use Rattle.matching.specs.Join.{View, lists, join, complete, keptFor}
+use Rattle.matching.specs.Join.{View, listsEdge, join, complete, keptFor}
 
 -- the edges of G that are listed under the edge e of P: none where some node of P has no partner
 unfoldable pub rowOf : Pattern → Graph → Edge → List Pair
@@ -11,7 +11,7 @@ rowOf P G e = cond (total P (sim P G)) (row G (sim P G) e) []
 
 -- the edge e of the query Q is matched by an edge of the view P: that edge's list, on Q read as a graph, has e
 unfoldable pub matchedBy : Pattern → Edge → Pattern → Bool
-matchedBy Q e P = some (lists e) (viewSheet P (asGraph Q))
+matchedBy Q e P = some (listsEdge e) (viewSheet P (asGraph Q))
 
 unfoldable pub matched : Pattern → List Pattern → Edge → Bool
 matched Q Ps e = some (matchedBy Q e) Ps

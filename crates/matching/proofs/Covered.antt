@@ -9,16 +9,16 @@ use lib.Dec.{T}
 use Rattle.matching.specs.Lists.{In, some, each}
 use Rattle.matching.specs.Simulation.{Pair, Edge, asPair, bit, Pattern, Graph, asGraph, ascending, matchSets, viewSheet, IsSim, sound}
 use Rattle.matching.proofs.ByEdge.{rowOf, matchedBy, matched, covered, viewOf, answerTo}
-use Rattle.matching.specs.Join.{lists, View, join, complete, answerSets}
+use Rattle.matching.specs.Join.{listsEdge, View, join, complete, answerSets}
 use Rattle.matching.proofs.ListLaws.{every-in, some-in, each-same}
-use Rattle.matching.proofs.SimLaws.{Fits, fits-say, fits-by, sim-is, sim-most}
-use Rattle.matching.proofs.MatchLaws.{Sim, Total, Matches, matches-edge, row-say, row-by, own-label, matches-through, Sound, sound-say}
+use Rattle.matching.proofs.SimLaws.{FitsInto, fits-say, fits-by, sim-is, sim-most}
+use Rattle.matching.proofs.MatchLaws.{Sim, Total, Matches, matches-edge, row-say, row-by, own-label, matches-through, SoundPattern, sound-say}
 use Rattle.matching.proofs.CodeLaws.{ascending-same}
 use Rattle.matching.proofs.MatchSetLaws.{Narrow, matches-narrow, sets-each, view-sheet, sets-in}
-use Rattle.matching.proofs.JoinLaws.{Joined, join-candidate, join-supported, join-most, complete-say, complete-by, answer-say, answer-by, answer-each, lists-say, Found, candidates-say, candidates-by}
+use Rattle.matching.proofs.JoinLaws.{JoinedPair, join-candidate, join-supported, join-most, complete-say, complete-by, answer-say, answer-by, answer-each, lists-say, Found, candidates-say, candidates-by}
 
 -- the codes of a query's edges tell them apart
-pub narrow-query : (Q : Pattern) → Sound Q → length (Q .labels) ≤ 4096 → Narrow (asGraph Q)
+pub narrow-query : (Q : Pattern) → SoundPattern Q → length (Q .labels) ≤ 4096 → Narrow (asGraph Q)
 unfolding asGraph
 narrow-query Q ok h f i = let r = ok .ends f i in (omega arith, omega arith)
 
@@ -28,16 +28,16 @@ pub matched-say : (Q : Pattern) (Ps : List Pattern) → Narrow (asGraph Q) → (
 unfolding matched matchedBy
 matched-say Q Ps n e h t = of-view (some-in _ Ps t)
   where
-    of-view : (P : Pattern) × In P Ps × T (some (lists e) (viewSheet P (asGraph Q))) → (P : Pattern) × In P Ps × (g : Edge) × In g (P .edges) × Matches P (asGraph Q) g (asPair e)
+    of-view : (P : Pattern) × In P Ps × T (some (listsEdge e) (viewSheet P (asGraph Q))) → (P : Pattern) × In P Ps × (g : Edge) × In g (P .edges) × Matches P (asGraph Q) g (asPair e)
     of-view (P, p, s) = of-list (some-in _ (viewSheet P (asGraph Q)) s)
       where
-        of-edge : (l : List ℕ) → T (lists e l) → (g : Edge) × In g (P .edges) × (l ≡ ascending (rowOf P (asGraph Q) g)) → (P : Pattern) × In P Ps × (g : Edge) × In g (P .edges) × Matches P (asGraph Q) g (asPair e)
-        of-edge l k (g, j, q) = (P, p, g, j, row-say P (asGraph Q) (lists-say (rowOf P (asGraph Q) g) h (λ f m. matches-narrow n (row-say P (asGraph Q) m) .1) (subst (λ z. T (lists e z)) q k)))
+        of-edge : (l : List ℕ) → T (listsEdge e l) → (g : Edge) × In g (P .edges) × (l ≡ ascending (rowOf P (asGraph Q) g)) → (P : Pattern) × In P Ps × (g : Edge) × In g (P .edges) × Matches P (asGraph Q) g (asPair e)
+        of-edge l k (g, j, q) = (P, p, g, j, row-say P (asGraph Q) (lists-say (rowOf P (asGraph Q) g) h (λ f m. matches-narrow n (row-say P (asGraph Q) m) .1) (subst (λ z. T (listsEdge e z)) q k)))
 
-        of-list : (l : List ℕ) × In l (viewSheet P (asGraph Q)) × T (lists e l) → (P : Pattern) × In P Ps × (g : Edge) × In g (P .edges) × Matches P (asGraph Q) g (asPair e)
+        of-list : (l : List ℕ) × In l (viewSheet P (asGraph Q)) × T (listsEdge e l) → (P : Pattern) × In P Ps × (g : Edge) × In g (P .edges) × Matches P (asGraph Q) g (asPair e)
         of-list (l, i, k) = of-edge l k (sets-in P (asGraph Q) (subst (λ ls. In l ls) (view-sheet P (asGraph Q)) i))
 
-module _ (Q : Pattern) (Ps : List Pattern) (G : Graph) (ok : Sound Q) (nq : Narrow (asGraph Q)) (ng : Narrow G) where
+module _ (Q : Pattern) (Ps : List Pattern) (G : Graph) (ok : SoundPattern Q) (nq : Narrow (asGraph Q)) (ng : Narrow G) where
   -- the views, with their sheets
   abbrev views : List View
   views = each (viewOf G) Ps
@@ -46,61 +46,61 @@ module _ (Q : Pattern) (Ps : List Pattern) (G : Graph) (ok : Sound Q) (nq : Narr
   unfolding asGraph
   narrow-edge {e} i = nq e i .1
 
-  join-found : {e : Edge} {f : Pair} → Joined Q views e f → In e (Q .edges) × Found Q Ps G e f
+  join-found : {e : Edge} {f : Pair} → JoinedPair Q views e f → In e (Q .edges) × Found Q Ps G e f
   join-found i = let c = join-candidate Q views i in (c .0, candidates-say Q Ps G nq ng (narrow-edge (c .0)) (c .1))
 
   -- ---- the ends of what is kept are a simulation of the query in the graph
-  pub Ends : ℕ → ℕ → Type 0
-  Ends u v = (e : Edge) × (f : Pair) × Joined Q views e f × (((e .from ≡ u) × (f .0 ≡ v)) ⊎ ((e .to ≡ u) × (f .1 ≡ v)))
+  pub KeptEnds : ℕ → ℕ → Type 0
+  KeptEnds u v = (e : Edge) × (f : Pair) × JoinedPair Q views e f × (((e .from ≡ u) × (f .0 ≡ v)) ⊎ ((e .to ≡ u) × (f .1 ≡ v)))
 
   -- because only matched edges count, the ends have the right labels
-  fits-of : (P : Pattern) {w u v : ℕ} → Sim P (asGraph Q) w u → Sim P G w v → u < length (Q .labels) → Fits Q G u v
+  fits-of : (P : Pattern) {w u v : ℕ} → Sim P (asGraph Q) w u → Sim P G w v → u < length (Q .labels) → FitsInto Q G u v
   fits-of P {w} {u} {v} i j l =
       let f = fits-say P (asGraph Q) (sim-is P (asGraph Q) .fit w u i) in
       let g = fits-say P G (sim-is P G .fit w v j) in
       record { left = l; right = g .right; label = subst (λ k. T (bit (getD (G .labels) v 0) k)) (own-label P Q f) (g .label) }
 
-  ends-fit : (u v : ℕ) → Ends u v → Fits Q G u v
-  unfolding Ends
+  ends-fit : (u v : ℕ) → KeptEnds u v → FitsInto Q G u v
+  unfolding KeptEnds
   ends-fit u v (e, f, i, inl (p, q)) =
       let c = join-found i in
-      subst₂ (Fits Q G) p q (fits-of (c .1 .view) (c .1 .of-query .tail) (c .1 .of-graph .tail) (ok .ends e (c .0) .0))
+      subst₂ (FitsInto Q G) p q (fits-of (c .1 .view) (c .1 .of-query .tail) (c .1 .of-graph .tail) (ok .ends e (c .0) .0))
   ends-fit u v (e, f, i, inr (p, q)) =
       let c = join-found i in
-      subst₂ (Fits Q G) p q (fits-of (c .1 .view) (c .1 .of-query .head) (c .1 .of-graph .head) (ok .ends e (c .0) .1))
+      subst₂ (FitsInto Q G) p q (fits-of (c .1 .view) (c .1 .of-query .head) (c .1 .of-graph .head) (ok .ends e (c .0) .1))
 
   -- one more kept pair, and its head
-  ends-next : (v : ℕ) (g : Edge) → (h : Pair) × Joined Q views g h × (h .0 ≡ v) → (f : Edge) × In f (G .edges) × (f .from ≡ v) × Ends (g .to) (f .to)
-  unfolding Ends
+  ends-next : (v : ℕ) (g : Edge) → (h : Pair) × JoinedPair Q views g h × (h .0 ≡ v) → (f : Edge) × In f (G .edges) × (f .from ≡ v) × KeptEnds (g .to) (f .to)
+  unfolding KeptEnds
   ends-next v g (h, k, q) =
       let m = join-found k .1 .of-graph in
       (m .link, m .edge, sym (ap (λ (p : Pair). p .0) (m .ends)) ∙ q, (g, h, k, inr (refl, ap (λ (p : Pair). p .1) (m .ends))))
 
-  ends-follow : (u v : ℕ) → Ends u v → (g : Edge) → In g (Q .edges) → g .from ≡ u → (f : Edge) × In f (G .edges) × (f .from ≡ v) × Ends (g .to) (f .to)
-  unfolding Ends
+  ends-follow : (u v : ℕ) → KeptEnds u v → (g : Edge) → In g (Q .edges) → g .from ≡ u → (f : Edge) × In f (G .edges) × (f .from ≡ v) × KeptEnds (g .to) (f .to)
+  unfolding KeptEnds
   ends-follow u v (e, f, i, inl (p, q)) g j t = let r = join-supported Q views i .tail g j (t ∙ sym p) in ends-next v g (r .0, r .1, r .2 ∙ q)
   ends-follow u v (e, f, i, inr (p, q)) g j t = let r = join-supported Q views i .head g j (t ∙ sym p) in ends-next v g (r .0, r .1, r .2 ∙ q)
 
-  pub ends-sim : IsSim Q G Ends
+  pub ends-sim : IsSim Q G KeptEnds
   ends-sim = record { fit = λ u v r. fits-by Q G (ends-fit u v r); follow = ends-follow }
 
-  joined-tail : {e : Edge} {f : Pair} → Joined Q views e f → Sim Q G (e .from) (f .0)
-  unfolding Ends
-  joined-tail {e} {f} i = sim-most Q G Ends ends-sim (e .from) (f .0) (e, f, i, inl (refl, refl))
+  joined-tail : {e : Edge} {f : Pair} → JoinedPair Q views e f → Sim Q G (e .from) (f .0)
+  unfolding KeptEnds
+  joined-tail {e} {f} i = sim-most Q G KeptEnds ends-sim (e .from) (f .0) (e, f, i, inl (refl, refl))
 
-  joined-head : {e : Edge} {f : Pair} → Joined Q views e f → Sim Q G (e .to) (f .1)
-  unfolding Ends
-  joined-head {e} {f} i = sim-most Q G Ends ends-sim (e .to) (f .1) (e, f, i, inr (refl, refl))
+  joined-head : {e : Edge} {f : Pair} → JoinedPair Q views e f → Sim Q G (e .to) (f .1)
+  unfolding KeptEnds
+  joined-head {e} {f} i = sim-most Q G KeptEnds ends-sim (e .to) (f .1) (e, f, i, inr (refl, refl))
 
   complete-total : T (complete Q (join Q views)) → Total Q (Sim Q G)
   complete-total t u l = let c = ok .touched u l in let r = complete-say Q views t (c .0) (c .1) in which (c .0) (r .0) (r .1) (c .2)
     where
-      which : (e : Edge) (f : Pair) → Joined Q views e f → (e .from ≡ u) ⊎ (e .to ≡ u) → (v : ℕ) × Sim Q G u v
+      which : (e : Edge) (f : Pair) → JoinedPair Q views e f → (e .from ≡ u) ⊎ (e .to ≡ u) → (v : ℕ) × Sim Q G u v
       which e f i (inl p) = (f .0, subst (λ w. Sim Q G w (f .0)) p (joined-tail i))
       which e f i (inr p) = (f .1, subst (λ w. Sim Q G w (f .1)) p (joined-head i))
 
   -- what is kept matches the query's edge
-  pub joined-matches : T (complete Q (join Q views)) → {e : Edge} {f : Pair} → Joined Q views e f → Matches Q G e f
+  pub joined-matches : T (complete Q (join Q views)) → {e : Edge} {f : Pair} → JoinedPair Q views e f → Matches Q G e f
   joined-matches t i =
       let m = join-found i .1 .of-graph in
       record { whole = complete-total t; link = m .link; edge = m .edge; ends = m .ends; tail = joined-tail i; head = joined-head i }
@@ -123,7 +123,7 @@ module _ (Q : Pattern) (Ps : List Pattern) (G : Graph) (ok : Sound Q) (nq : Narr
     Asked : Edge → Pair → Type 0
     Asked e f = In e (Q .edges) × Matches Q G e f
 
-    pub matches-joined : (e : Edge) (f : Pair) → In e (Q .edges) → Matches Q G e f → Joined Q views e f
+    pub matches-joined : (e : Edge) (f : Pair) → In e (Q .edges) → Matches Q G e f → JoinedPair Q views e f
     unfolding Asked
     matches-joined e f i m =
         join-most Q views Asked

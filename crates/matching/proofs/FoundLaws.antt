@@ -12,24 +12,24 @@ use Rattle.packed.specs.declared.by_value.Pattern.{Pattern as Given}
 use Rattle.packed.proofs.OrderCases.{lt-or-ge}
 use Rattle.matching.specs.Lists.{In}
 use Rattle.matching.specs.Simulation.{Pattern, Graph, bit, fits, sim}
-use Rattle.matching.specs.Steps.{edgeAt, edgeOfWord, patternIn, graphIn, Fair, Ready}
+use Rattle.matching.specs.Steps.{givenEdge, edgeOfWord, patternIn, graphIn, Fair, Ready}
 use Rattle.matching.specs.Matched.{Rises}
 use Rattle.matching.specs.Sweeps.{Has, Mask}
 use Rattle.matching.specs.Sweeping.{Tabled}
 use Rattle.matching.specs.Choices.{Prepared, Fixed}
-use Rattle.matching.specs.Starting.{Room, Held, Spread}
+use Rattle.matching.specs.Starting.{NodeRoom, AllHeld, LinksSpread}
 use Rattle.matching.proofs.UpToLaws.{length-upTo, getD-upTo, in-upTo, upTo-in}
 use Rattle.matching.proofs.SimLaws.{fits-say, fits-by}
 use Rattle.matching.proofs.MaskBits.{none-has, part-le}
-use Rattle.matching.proofs.SearchingLaws.{Numbered, Begun, held-say, held-by}
-use Rattle.matching.proofs.MatchedLaws.{Lists}
+use Rattle.matching.proofs.SearchingLaws.{EdgeNumbered, Begun, held-say, held-by}
+use Rattle.matching.proofs.MatchedLaws.{ListsCodes}
 
 -- the edges of the pattern and of the graph, by their numbers
-links-numbered : (p : Given) → Numbered (patternIn p .edges) (p .edges) (edgeAt p)
+links-numbered : (p : Given) → EdgeNumbered (patternIn p .edges) (p .edges) (givenEdge p)
 unfolding patternIn
-links-numbered p = record { has = λ e l. in-upTo (edgeAt p) (p .edges) e l; is = λ f i. upTo-in (edgeAt p) (p .edges) i }
+links-numbered p = record { has = λ e l. in-upTo (givenEdge p) (p .edges) e l; is = λ f i. upTo-in (givenEdge p) (p .edges) i }
 
-pairs-numbered : (s : List ℕ) (n m : ℕ) (w w′ : List ℕ) → ((i : ℕ) → i < m → getD w′ i 0 ≡ getD w i 0) → Numbered (graphIn s n m w .edges) m (λ i. edgeOfWord (getD w′ i 0))
+pairs-numbered : (s : List ℕ) (n m : ℕ) (w w′ : List ℕ) → ((i : ℕ) → i < m → getD w′ i 0 ≡ getD w i 0) → EdgeNumbered (graphIn s n m w .edges) m (λ i. edgeOfWord (getD w′ i 0))
 unfolding graphIn
 pairs-numbered s n m w w′ e =
     record {
@@ -73,8 +73,8 @@ module _ {p : Given} {s : List ℕ} {n m : ℕ} {w : List ℕ} (fair : Fair p) (
       let lv : v < n = (let z = f .right in omega arith) in
       (lv, subst T (label-test u v lu lv) (f .label))
 
-  module _ {all : ℕ} {leave₀ arrive₀ out₀ w₁ leave arrive out : List ℕ} (A : Mask (λ k. k < p .edges) all) (R : Room n leave₀ arrive₀ out₀)
-      (H : Held m all w w₁) (S : Spread p s n leave₀ arrive₀ out₀ leave arrive out) where
+  module _ {all : ℕ} {leave₀ arrive₀ out₀ w₁ leave arrive out : List ℕ} (A : Mask (λ k. k < p .edges) all) (R : NodeRoom n leave₀ arrive₀ out₀)
+      (H : AllHeld m all w w₁) (S : LinksSpread p s n leave₀ arrive₀ out₀ leave arrive out) where
     code : (i : ℕ) → i < m → getD w₁ i 0 ≡ getD w i 0
     code i l = H .around .low i (let z = ready .edges in omega arith)
 
@@ -138,7 +138,7 @@ module _ {p : Given} {s : List ℕ} {n m : ℕ} {w : List ℕ} (fair : Fair p) (
       apart : (e : ℕ) → Has all e → Has 0 e → ⊥
       apart e y h = none-has e h
 
-      pub found : Lists p s n m w w₂
+      pub found : ListsCodes p s n m w w₂
       found =
           record {
             edges = record { long = F .falls .long ∙ H .around .long; same = λ k l. F .falls .low k l ∙ H .around .low k l };
@@ -157,7 +157,7 @@ module _ {p : Given} {s : List ℕ} {n m : ℕ} {w : List ℕ} (fair : Fair p) (
           }
 
       -- the lent arrays may be lent again
-      pub room-again : Room n leave′ arrive′ out′
+      pub room-again : NodeRoom n leave′ arrive′ out′
       room-again =
           let f = F .sound (p .from) (p .to) (p .edges) T₁ T₂ apart in
           let a = F .leave-long ∙ S .leaves .long ∙ R .leave-long in

@@ -14,14 +14,14 @@ use Rattle.matching.specs.Sweeps.{Has}
 use Rattle.matching.specs.Sweeping.{fromOf, toOf, Ends}
 use Rattle.matching.proofs.ListLaws.{decide}
 use Rattle.matching.proofs.MaskBits.{none-has, and-say, and-by, minus-say, minus-by, one-last, one-more, one-cases}
-use Rattle.matching.specs.Late.{Ordered, Before, Cut, Firsts, FirstsMade, Looked}
+use Rattle.matching.specs.Late.{ByStart, BeginsBelow, Cut, Firsts, FirstsMade, Looked}
 
 has-or : (x k : ℕ) → Has x k ⊎ (Has x k → ⊥)
 has-or x k = decide (bit x k)
 
 -- ---- the first pair that does not begin below v
-module _ {d : ℕ} {w : List ℕ} {v i : ℕ} (h : Before d w v i) where
-  pub before-more : i < d → fromOf w i < v → Before d w v (i + 1)
+module _ {d : ℕ} {w : List ℕ} {v i : ℕ} (h : BeginsBelow d w v i) where
+  pub before-more : i < d → fromOf w i < v → BeginsBelow d w v (i + 1)
   before-more l f =
       record {
         upto = omega arith;
@@ -29,7 +29,7 @@ module _ {d : ℕ} {w : List ℕ} {v i : ℕ} (h : Before d w v i) where
             (λ (z : i ≤ j). let y : i ≡ j = omega arith in subst (λ (k : ℕ). fromOf w k < v) y f) (lt-or-ge j i);
       }
 
-  pub before-cut : Ordered d w → v ≤ fromOf w i → Cut d w v i
+  pub before-cut : ByStart d w → v ≤ fromOf w i → Cut d w v i
   before-cut p f =
       record {
         before = h;
@@ -42,7 +42,7 @@ module _ {d : ℕ} {w : List ℕ} {v i : ℕ} (h : Before d w v i) where
 -- ---- the index, node by node
 pub record Indexing (d n : ℕ) (w first₀ first : List ℕ) (i v : ℕ) : Type 0 where
   pub upto : v ≤ n + 1
-  pub before : Before d w v i
+  pub before : BeginsBelow d w v i
   pub long : length first ≡ length first₀
   pub done : (k : ℕ) → k < v → Cut d w k (getD first k 0)
   pub later : (k : ℕ) → v ≤ k → getD first k 0 ≡ getD first₀ k 0

@@ -10,7 +10,7 @@ use Rattle.packed.specs.Formats.{code}
 use Rattle.matching.specs.Lists.{_and_, In, here, there, some, gather, each}
 use Rattle.matching.specs.Simulation.{Pair, Edge, sameEdge, asPair, Pattern, Graph, asGraph, ascending, viewSheet}
 use Rattle.matching.proofs.ByEdge.{rowOf, viewOf, answerTo}
-use Rattle.matching.specs.Join.{lists, View, pairOf, under, candidates, Kept, supported, join, complete, keptFor, answerSets}
+use Rattle.matching.specs.Join.{listsEdge, View, pairOf, under, candidates, Kept, supported, join, complete, keptFor, answerSets}
 use Rattle.matching.proofs.ListLaws.{and-left, and-right, both, use-if, make-if, cond-case, not-in-none, in-cast, every-in, in-every, some-in, in-some, keep-in, in-keep, append-in, in-append-left, in-append-right, gather-in, in-gather, each-in, in-each}
 use Rattle.matching.proofs.GreatestLaws.{greatest-part, greatest-ok, greatest-all}
 use Rattle.matching.proofs.SimLaws.{same-edge, same-edge-refl}
@@ -57,10 +57,10 @@ supported-more Q K L m s = record {
 
 -- ---- the join is a choice from the candidates, is supported by itself, and holds every such choice
 module _ (Q : Pattern) (vs : List View) where
-  abbrev pub Joined : Edge → Pair → Type 0
-  Joined e f = In (e, f) (join Q vs)
+  abbrev pub JoinedPair : Edge → Pair → Type 0
+  JoinedPair e f = In (e, f) (join Q vs)
 
-  pub join-candidate : {e : Edge} {f : Pair} → Joined e f → In e (Q .edges) × In f (candidates Q vs e)
+  pub join-candidate : {e : Edge} {f : Pair} → JoinedPair e f → In e (Q .edges) × In f (candidates Q vs e)
   unfolding join
   join-candidate {e} {f} i =
       let r = gather-in _ (Q .edges) (greatest-part _ _ (e, f) i) in
@@ -69,11 +69,11 @@ module _ (Q : Pattern) (vs : List View) where
       let q : f ≡ s .0 = ap (λ k. k .1) (s .2) in
       (in-cast (sym p) (r .1), subst (λ z. In f (candidates Q vs z)) (sym p) (in-cast (sym q) (s .1)))
 
-  pub join-supported : {e : Edge} {f : Pair} → Joined e f → Supported Q Joined e f
+  pub join-supported : {e : Edge} {f : Pair} → JoinedPair e f → Supported Q JoinedPair e f
   unfolding join
   join-supported {e} {f} i = supported-say Q _ (greatest-ok (supported Q) _ (e, f) i)
 
-  pub join-most : (K : Edge → Pair → Type 0) → ((e : Edge) (f : Pair) → K e f → In e (Q .edges) × In f (candidates Q vs e)) → ((e : Edge) (f : Pair) → K e f → Supported Q K e f) → (e : Edge) (f : Pair) → K e f → Joined e f
+  pub join-most : (K : Edge → Pair → Type 0) → ((e : Edge) (f : Pair) → K e f → In e (Q .edges) × In f (candidates Q vs e)) → ((e : Edge) (f : Pair) → K e f → Supported Q K e f) → (e : Edge) (f : Pair) → K e f → JoinedPair e f
   unfolding join
   join-most K c s e f k =
       greatest-all (supported Q) (λ j. K (j .0) (j .1))
@@ -83,35 +83,35 @@ module _ (Q : Pattern) (vs : List View) where
       (e, f) k
 
   -- ---- the lists of the answer
-  pub kept-in : {e : Edge} {f : Pair} → In f (keptFor (join Q vs) e) → Joined e f
+  pub kept-in : {e : Edge} {f : Pair} → In f (keptFor (join Q vs) e) → JoinedPair e f
   unfolding keptFor
   kept-in {e} {f} i =
       let r = each-in _ _ i in
       let s = keep-in _ (join Q vs) (r .1) in
       subst (λ z. In (e, z) (join Q vs)) (sym (r .2)) (subst (λ z. In (z, r .0 .1) (join Q vs)) (same-edge (r .0 .0) e (s .1)) (s .0))
 
-  pub in-kept : {e : Edge} {f : Pair} → Joined e f → In f (keptFor (join Q vs) e)
+  pub in-kept : {e : Edge} {f : Pair} → JoinedPair e f → In f (keptFor (join Q vs) e)
   unfolding keptFor
   in-kept {e} {f} i = in-each (λ k. k .1) {x = (e, f)} (in-keep _ i (same-edge-refl e))
 
-  pub complete-say : T (complete Q (join Q vs)) → (e : Edge) → In e (Q .edges) → (f : Pair) × Joined e f
+  pub complete-say : T (complete Q (join Q vs)) → (e : Edge) → In e (Q .edges) → (f : Pair) × JoinedPair e f
   unfolding complete
   complete-say t e i =
       let r = some-in _ (join Q vs) (every-in _ t i) in
       (r .0 .1, subst (λ z. In (z, r .0 .1) (join Q vs)) (same-edge (r .0 .0) e (r .2)) (r .1))
 
-  pub complete-by : ((e : Edge) → In e (Q .edges) → (f : Pair) × Joined e f) → T (complete Q (join Q vs))
+  pub complete-by : ((e : Edge) → In e (Q .edges) → (f : Pair) × JoinedPair e f) → T (complete Q (join Q vs))
   unfolding complete
   complete-by h = in-every _ (Q .edges) λ e i. in-some _ (h e i .1) (same-edge-refl e)
 
-  pub answer-say : {e : Edge} {f : Pair} → In f (answerTo Q vs e) → T (complete Q (join Q vs)) × Joined e f
+  pub answer-say : {e : Edge} {f : Pair} → In f (answerTo Q vs e) → T (complete Q (join Q vs)) × JoinedPair e f
   unfolding answerTo
   answer-say {e} {f} =
-      cond-case (λ l. In f l → T (complete Q (join Q vs)) × Joined e f) (complete Q (join Q vs)) (keptFor (join Q vs) e) []
+      cond-case (λ l. In f l → T (complete Q (join Q vs)) × JoinedPair e f) (complete Q (join Q vs)) (keptFor (join Q vs) e) []
       (λ t i. (t, kept-in i))
       (λ t i. absurd (not-in-none i))
 
-  pub answer-by : {e : Edge} {f : Pair} → T (complete Q (join Q vs)) → Joined e f → In f (answerTo Q vs e)
+  pub answer-by : {e : Edge} {f : Pair} → T (complete Q (join Q vs)) → JoinedPair e f → In f (answerTo Q vs e)
   unfolding answerTo
   answer-by {e} {f} t i = cond-case (λ l. In f l) (complete Q (join Q vs)) (keptFor (join Q vs) e) [] (λ h. in-kept i) (λ h. absurd (h t))
 
@@ -132,35 +132,35 @@ unfolding pairOf
 pair-code c = omega arith
 
 -- a list of codes has e
-pub lists-say : {e : Edge} (l : List Pair) → e .to < 4096 → ((f : Pair) → In f l → f .1 < 4096) → T (lists e (ascending l)) → In (asPair e) l
-unfolding lists
+pub lists-say : {e : Edge} (l : List Pair) → e .to < 4096 → ((f : Pair) → In f l → f .1 < 4096) → T (listsEdge e (ascending l)) → In (asPair e) l
+unfolding listsEdge
 lists-say {e} l h n t = let r = ascending-say l (member-in _ (true-by _ t)) in in-cast (sym (code-same h (n (r .0) (r .1)) (r .2))) (r .1)
   where
     true-by : (b : Bool) → T b → b ≡ true
     true-by true t = refl
     true-by false t = absurd t
 
-pub lists-by : (e : Edge) {l : List ℕ} → In (code (e .from) (e .to)) l → T (lists e l)
-unfolding lists
+pub lists-by : (e : Edge) {l : List ℕ} → In (code (e .from) (e .to)) l → T (listsEdge e l)
+unfolding listsEdge
 lists-by e i = subst T (sym (in-member i)) tt
 
 module _ (e : Edge) (a b : Edge → List ℕ) where
-  pub under-in : (l : List Edge) {c : ℕ} → In c (under e (each a l) (each b l)) → (g : Edge) × In g l × T (lists e (a g)) × In c (b g)
+  pub under-in : (l : List Edge) {c : ℕ} → In c (under e (each a l) (each b l)) → (g : Edge) × In g l × T (listsEdge e (a g)) × In c (b g)
   unfolding under each
   under-in [] i = absurd (not-in-none i)
-  under-in (g ∷ l) {c} i = ⊎-elim first (λ j. let r = under-in l {c = c} j in (r .0, there (r .1), r .2, r .3)) (append-in (cond (lists e (a g)) (b g) []) i)
+  under-in (g ∷ l) {c} i = ⊎-elim first (λ j. let r = under-in l {c = c} j in (r .0, there (r .1), r .2, r .3)) (append-in (cond (listsEdge e (a g)) (b g) []) i)
     where
-      first : In c (cond (lists e (a g)) (b g) []) → (h : Edge) × In h (g ∷ l) × T (lists e (a h)) × In c (b h)
+      first : In c (cond (listsEdge e (a g)) (b g) []) → (h : Edge) × In h (g ∷ l) × T (listsEdge e (a h)) × In c (b h)
       first =
-          cond-case (λ k. In c k → (h : Edge) × In h (g ∷ l) × T (lists e (a h)) × In c (b h)) (lists e (a g)) (b g) []
+          cond-case (λ k. In c k → (h : Edge) × In h (g ∷ l) × T (listsEdge e (a h)) × In c (b h)) (listsEdge e (a g)) (b g) []
           (λ t j. (g, here refl, t, j))
           (λ t j. absurd (not-in-none j))
 
-  pub in-under : {l : List Edge} {c : ℕ} {g : Edge} → In g l → T (lists e (a g)) → In c (b g) → In c (under e (each a l) (each b l))
+  pub in-under : {l : List Edge} {c : ℕ} {g : Edge} → In g l → T (listsEdge e (a g)) → In c (b g) → In c (under e (each a l) (each b l))
   unfolding under each
   in-under {c = c} (here {x = h} {l = l} q) t j =
-      in-append-left _ (cond-case (λ k. In c k) (lists e (a h)) (b h) [] (λ s. subst (λ z. In c (b z)) q j) (λ s. absurd (s (subst (λ z. T (lists e (a z))) q t))))
-  in-under (there {x = h} n) t j = in-append-right (cond (lists e (a h)) (b h) []) (in-under n t j)
+      in-append-left _ (cond-case (λ k. In c k) (listsEdge e (a h)) (b h) [] (λ s. subst (λ z. In c (b z)) q j) (λ s. absurd (s (subst (λ z. T (listsEdge e (a z))) q t))))
+  in-under (there {x = h} n) t j = in-append-right (cond (listsEdge e (a h)) (b h) []) (in-under n t j)
 
 -- a view and its edge that both e, of the query, and f, of the graph, match
 pub record Found (Q : Pattern) (Ps : List Pattern) (G : Graph) (e : Edge) (f : Pair) : Type 0 where
@@ -173,7 +173,7 @@ pub record Found (Q : Pattern) (Ps : List Pattern) (G : Graph) (e : Edge) (f : P
 
 module _ (Q : Pattern) (Ps : List Pattern) (G : Graph) (nq : Narrow (asGraph Q)) (ng : Narrow G) where
   -- both lists of an edge g of a view P, read
-  found-at : (P : Pattern) (g e : Edge) (f : Pair) → In P Ps → In g (P .edges) → e .to < 4096 → T (lists e (ascending (rowOf P (asGraph Q) g))) → In f (rowOf P G g) → Found Q Ps G e f
+  found-at : (P : Pattern) (g e : Edge) (f : Pair) → In P Ps → In g (P .edges) → e .to < 4096 → T (listsEdge e (ascending (rowOf P (asGraph Q) g))) → In f (rowOf P G g) → Found Q Ps G e f
   found-at P g e f p i h t m =
       let q = lists-say (rowOf P (asGraph Q) g) h (λ k n. matches-narrow nq (row-say P (asGraph Q) n) .1) t in
       record { view = P; given = p; at = g; at-edge = i; of-query = row-say P (asGraph Q) q; of-graph = row-say P G m }
@@ -187,7 +187,7 @@ module _ (Q : Pattern) (Ps : List Pattern) (G : Graph) (nq : Narrow (asGraph Q))
   found-under : (P : Pattern) (e : Edge) (c : ℕ) → In P Ps → e .to < 4096 → In c (under e (viewSheet P (asGraph Q)) (viewSheet P G)) → Found Q Ps G e (pairOf c)
   found-under P e c p h i = from (under-in e (λ g. ascending (rowOf P (asGraph Q) g)) (λ g. ascending (rowOf P G g)) (P .edges) (rw (view-each P (asGraph Q), view-each P G) at i))
     where
-      from : (g : Edge) × In g (P .edges) × T (lists e (ascending (rowOf P (asGraph Q) g))) × In c (ascending (rowOf P G g)) → Found Q Ps G e (pairOf c)
+      from : (g : Edge) × In g (P .edges) × T (listsEdge e (ascending (rowOf P (asGraph Q) g))) × In c (ascending (rowOf P G g)) → Found Q Ps G e (pairOf c)
       from (g, j, t, k) = found-at P g e (pairOf c) p j h t (pair-in P g c k)
 
   pub candidates-say : {e : Edge} {f : Pair} → e .to < 4096 → In f (candidates Q (each (viewOf G) Ps) e) → Found Q Ps G e f

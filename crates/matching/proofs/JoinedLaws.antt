@@ -16,7 +16,7 @@ use Rattle.packed.specs.declared.by_value.Pattern.{Pattern as Given}
 use Rattle.matching.specs.Lists.{In, here, there, gather, each, keep, upTo}
 use Rattle.matching.specs.Simulation.{Pair, Edge, Pattern, has, ascending}
 use Rattle.matching.specs.Join.{View, pairOf, candidates, Kept, join, keptFor, answerSets}
-use Rattle.matching.specs.Steps.{edgeAt, patternIn, Fair, Edges}
+use Rattle.matching.specs.Steps.{givenEdge, patternIn, Fair, Edges}
 use Rattle.matching.specs.Sweeps.{Has, OneOf}
 use Rattle.matching.specs.Candidates.{Booked, Blank, Taken, BookListing}
 use Rattle.matching.specs.Sweeping.{fromOf, toOf}
@@ -129,13 +129,13 @@ module _ (q : Given) (t : List ℕ) (set : ℕ) {s counts : List ℕ} {k d : ℕ
   ends-below i l = let h = book .pool .small i l in let e = twice i (short i l) in (omega arith, omega arith)
 
   -- ---- the query's edges
-  in-edges : (n : ℕ) → n < q .edges → In (edgeAt q n) (Q .edges)
+  in-edges : (n : ℕ) → n < q .edges → In (givenEdge q n) (Q .edges)
   unfolding patternIn
-  in-edges n l = in-upTo (edgeAt q) (q .edges) n l
+  in-edges n l = in-upTo (givenEdge q) (q .edges) n l
 
-  edges-in : {e : Edge} → In e (Q .edges) → OneOf (q .edges) (λ n. e ≡ edgeAt q n)
+  edges-in : {e : Edge} → In e (Q .edges) → OneOf (q .edges) (λ n. e ≡ givenEdge q n)
   unfolding patternIn
-  edges-in i = upTo-in (edgeAt q) (q .edges) i
+  edges-in i = upTo-in (givenEdge q) (q .edges) i
 
   pair : ℕ → Pair
   pair i = pairOf (getD w₂ i 0)
@@ -147,13 +147,13 @@ module _ (q : Given) (t : List ℕ) (set : ℕ) {s counts : List ℕ} {k d : ℕ
     -- ---- what is marked is in the join
     -- the pair f is marked with the edge e
     abbrev Marks : Edge → Pair → Type 0
-    Marks e f = OneOf (q .edges) (λ n. (e ≡ edgeAt q n) × OneOf d (λ i. (f ≡ pair i) × After i n))
+    Marks e f = OneOf (q .edges) (λ n. (e ≡ givenEdge q n) × OneOf d (λ i. (f ≡ pair i) × After i n))
 
-    candidate : (i n : ℕ) → i < d → After i n → In (pair i) (candidates Q vs (edgeAt q n))
+    candidate : (i n : ℕ) → i < d → After i n → In (pair i) (candidates Q vs (givenEdge q n))
     unfolding pair
     candidate i n l h =
         let r = after-say i n l h in
-        subst (λ (c : ℕ). In (pairOf c) (candidates Q vs (edgeAt q n))) (sym (twice i (short i l))) (g .to n (getD w i 0) (r .0) (r .1))
+        subst (λ (c : ℕ). In (pairOf c) (candidates Q vs (givenEdge q n))) (sym (twice i (short i l))) (g .to n (getD w i 0) (r .0) (r .1))
 
     -- the edges that leave u keep pairs that begin at v
     marks-from : (u v : ℕ) → ((n : ℕ) → n < q .edges → getD (q .from) n 0 ≡ u → OneOf d (λ j. (fromOf w₂ j ≡ v) × After j n))
@@ -164,7 +164,7 @@ module _ (q : Given) (t : List ℕ) (set : ℕ) {s counts : List ℕ} {k d : ℕ
         let r = h (o .at) (o .below) (sym (ap (λ (x : Edge). x .from) (o .holds)) ∙ p) in
         (pair (r .at), record { at = o .at; below = o .below; holds = (o .holds, record { at = r .at; below = r .below; holds = (refl, r .holds .1) }) }, r .holds .0)
 
-    supports : (i n : ℕ) → i < d → After i n → Supported Q Marks (edgeAt q n) (pair i)
+    supports : (i n : ℕ) → i < d → After i n → Supported Q Marks (givenEdge q n) (pair i)
     unfolding pair pairOf
     supports i n l h =
         let m = after-say i n l h .0 in
@@ -173,7 +173,7 @@ module _ (q : Given) (t : List ℕ) (set : ℕ) {s counts : List ℕ} {k d : ℕ
           head = marks-from (getD (q .to) n 0) (toOf w₂ i) (λ k b e. chosen .head i n k l m b h e);
         }
 
-    after-joined : (i n : ℕ) → i < d → n < q .edges → After i n → In (edgeAt q n, pair i) J
+    after-joined : (i n : ℕ) → i < d → n < q .edges → After i n → In (givenEdge q n, pair i) J
     after-joined i n l m h =
         join-most Q vs Marks
         (λ e f c. let o = c .holds .1 in (
@@ -181,34 +181,34 @@ module _ (q : Given) (t : List ℕ) (set : ℕ) {s counts : List ℕ} {k d : ℕ
           subst (λ (x : Edge). In f (candidates Q vs x)) (sym (c .holds .0)) (in-cast (sym (o .holds .0)) (candidate (o .at) (c .at) (o .below) (o .holds .1))),
         ))
         (λ e f c. let o = c .holds .1 in
-        subst (λ (x : Edge). Supported Q Marks x f) (sym (c .holds .0)) (subst (Supported Q Marks (edgeAt q (c .at))) (sym (o .holds .0)) (supports (o .at) (c .at) (o .below) (o .holds .1))))
-        (edgeAt q n) (pair i) (record { at = n; below = m; holds = (refl, record { at = i; below = l; holds = (refl, h) }) })
+        subst (λ (x : Edge). Supported Q Marks x f) (sym (c .holds .0)) (subst (Supported Q Marks (givenEdge q (c .at))) (sym (o .holds .0)) (supports (o .at) (c .at) (o .below) (o .holds .1))))
+        (givenEdge q n) (pair i) (record { at = n; below = m; holds = (refl, record { at = i; below = l; holds = (refl, h) }) })
 
     -- ---- what is in the join is marked
     pair-same : {a b : ℕ} → pairOf a ≡ pairOf b → b ≡ a
     pair-same {a} {b} e = sym (pair-code b) ∙ sym (ap (λ (x : Pair). code (x .0) (x .1)) e) ∙ pair-code a
 
-    joined-takes : (n c : ℕ) → n < q .edges → In (edgeAt q n, pairOf c) J → Takes c n
+    joined-takes : (n c : ℕ) → n < q .edges → In (givenEdge q n, pairOf c) J → Takes c n
     joined-takes n c l j =
         let r = g .from n (pairOf c) l (join-candidate Q vs j .1) in
         subst (λ (x : ℕ). Takes x n) (pair-same (r .1)) (r .2)
 
-    joined-at : (n : ℕ) → n < q .edges → {f : Pair} → In (edgeAt q n, f) J → OneOf d (λ i. f ≡ pair i)
+    joined-at : (n : ℕ) → n < q .edges → {f : Pair} → In (givenEdge q n, f) J → OneOf d (λ i. f ≡ pair i)
     unfolding pair
     joined-at n l {f} j =
         let r = g .from n f l (join-candidate Q vs j .1) in
         let o = present (r .0) n (r .2) in
         record { at = o .at; below = o .below; holds = r .1 ∙ ap pairOf (sym (o .holds) ∙ sym (twice (o .at) (short (o .at) (o .below)))) }
 
-    joined-before : (i n : ℕ) → i < d → n < q .edges → In (edgeAt q n, pair i) J → Before i n
+    joined-before : (i n : ℕ) → i < d → n < q .edges → In (givenEdge q n, pair i) J → Before i n
     unfolding pair
-    joined-before i n l m j = before-by i n l (joined-takes n (getD w i 0) m (subst (λ (c : ℕ). In (edgeAt q n, pairOf c) J) (twice i (short i l)) j))
+    joined-before i n l m j = before-by i n l (joined-takes n (getD w i 0) m (subst (λ (c : ℕ). In (givenEdge q n, pairOf c) J) (twice i (short i l)) j))
 
-    offers : (n : ℕ) → n < q .edges → {f : Pair} → In (edgeAt q n, f) J → Offers (q .to) d w₂ (λ u v. T (stands J u v)) (f .0) n
+    offers : (n : ℕ) → n < q .edges → {f : Pair} → In (givenEdge q n, f) J → Offers (q .to) d w₂ (λ u v. T (stands J u v)) (f .0) n
     unfolding pair pairOf
     offers n l {f} j =
         let o = joined-at n l j in
-        let i : In (edgeAt q n, pair (o .at)) J = subst (λ (x : Pair). In (edgeAt q n, x) J) (o .holds) j in
+        let i : In (givenEdge q n, pair (o .at)) J = subst (λ (x : Pair). In (givenEdge q n, x) J) (o .holds) j in
         record {
           at = o .at;
           below = o .below;
@@ -219,12 +219,12 @@ module _ (q : Given) (t : List ℕ) (set : ℕ) {s counts : List ℕ} {k d : ℕ
     stands-supports u v h n l a =
         stands-all (λ x y. getD (q .from) n 0 ≡ x → Offers (q .to) d w₂ (λ a b. T (stands J a b)) y n)
         (λ e f j. let r = join-supported Q vs j in (
-          λ p. from (r .tail (edgeAt q n) (in-edges n l) p),
-          λ p. from (r .head (edgeAt q n) (in-edges n l) p),
+          λ p. from (r .tail (givenEdge q n) (in-edges n l) p),
+          λ p. from (r .head (givenEdge q n) (in-edges n l) p),
         ))
         h
       where
-        from : {y : ℕ} → (f : Pair) × In (edgeAt q n, f) J × (f .0 ≡ y) → Offers (q .to) d w₂ (λ a b. T (stands J a b)) y n
+        from : {y : ℕ} → (f : Pair) × In (givenEdge q n, f) J × (f .0 ≡ y) → Offers (q .to) d w₂ (λ a b. T (stands J a b)) y n
         from (f, j, p) = subst (λ (y : ℕ). Offers (q .to) d w₂ (λ a b. T (stands J a b)) y n) p (offers n l j)
 
     stands-below : (u v : ℕ) → T (stands J u v) → v < 4096
@@ -237,28 +237,28 @@ module _ (q : Given) (t : List ℕ) (set : ℕ) {s counts : List ℕ} {k d : ℕ
             let o = joined-at (c .at) (c .below) (subst (λ (x : Edge). In (x, f) J) (c .holds) j) in
             subst (λ (x : Pair). (x .0 < 4096) × (x .1 < 4096)) (sym (o .holds)) (ends-below (o .at) (o .below))
 
-    joined-after : (i n : ℕ) → i < d → n < q .edges → In (edgeAt q n, pair i) J → After i n
+    joined-after : (i n : ℕ) → i < d → n < q .edges → In (givenEdge q n, pair i) J → After i n
     unfolding pair pairOf
     joined-after i n l m j = chosen .stays (stands J) stands-supports stands-below i n l m (tail-stands j) (head-stands j) (joined-before i n l m j)
 
     -- ---- the lists
-    row : (n : ℕ) → n < q .edges → distinct (marked n (take d w₃) (take d (drop 8192 w₃))) ≡ ascending (keptFor J (edgeAt q n))
+    row : (n : ℕ) → n < q .edges → distinct (marked n (take d w₃) (take d (drop 8192 w₃))) ≡ ascending (keptFor J (givenEdge q n))
     row n l =
         row-marked pairs-marked n (λ i. i) pair test
         (λ i m. same-test _ _ (λ h. in-has (in-kept Q vs (after-joined i n m l h))) (λ h. joined-after i n m l (kept-in Q vs (has-in (pair i) h))))
         (λ i m. chosen .falls .low i (short i m) ∙ sym (unfold pair in pair-code (getD w₂ i 0)))
-        ∙ ascending-same (each pair (keep test (upTo (λ i. i) d))) (keptFor J (edgeAt q n))
+        ∙ ascending-same (each pair (keep test (upTo (λ i. i) d))) (keptFor J (givenEdge q n))
         (λ f j. let r = each-in pair _ j in in-cast (sym (r .2)) (has-in (pair (r .0)) (keep-in test (upTo (λ i. i) d) (r .1) .1)))
         (λ f j.
         let o = joined-at n l (kept-in Q vs j) in
         in-cast (sym (o .holds)) (in-each pair (in-keep test (in-upTo (λ i. i) d (o .at) (o .below)) (in-has (in-cast (o .holds) j)))))
       where
         test : ℕ → Bool
-        test i = has (pair i) (keptFor J (edgeAt q n))
+        test i = has (pair i) (keptFor J (givenEdge q n))
 
     sets : matchesOf d (q .edges) w₃ ≡ answerSets Q vs
     unfolding patternIn
-    sets = sets-marked pairs-marked (q .edges) (edgeAt q) (keptFor J) row ∙ sym (answer-all-or-none Q vs)
+    sets = sets-marked pairs-marked (q .edges) (givenEdge q) (keptFor J) row ∙ sym (answer-all-or-none Q vs)
 
   pub joined-by : Joined q t set s counts k d w w₃
   joined-by = record { edges = edges; sets = sets }

@@ -1,45 +1,56 @@
+-- lists, masks and loops
 pub mod ListLaws
-pub mod GreatestLaws
+pub mod UpToLaws
 pub mod Masks
-pub mod SimLaws
 pub mod MaskBits
 pub mod Filling
-pub mod UpToLaws
-pub mod ByEdge
+-- the greatest choice and simulation
+pub mod GreatestLaws
+pub mod SimLaws
 pub mod MatchLaws
+pub mod Removed
+-- match sets by their edges and codes
+pub mod ByEdge
 pub mod CodeLaws
 pub mod MatchSetLaws
 pub mod Listed
 pub mod AllOrNone
-pub mod MatchedLaws
 pub mod EdgeLaws
+pub mod MatchedLaws
+-- files by value: patterns, views, records
 pub mod PatternLaws
-pub mod RecordLaws
 pub mod ViewLaws
-pub mod SheetBytes
-pub mod BookBytes
-pub mod BookLaws
-pub mod AnswerFits
-pub mod Removed
+pub mod RecordLaws
+-- the engine: tables and the start
+pub mod TableLaws
+pub mod RowLaws
+pub mod StartLaws
+-- the engine: sweeps
+pub mod SweepingLaws
+pub mod SettlingLaws
+pub mod SoundLaws
+pub mod RoundLaws
+pub mod RestingLaws
+-- the engine: marked nodes
+pub mod IndexLaws
+pub mod EndLaws
+pub mod SetLaws
+pub mod TurnLaws
+-- the engine: what its rest is
+pub mod SearchingLaws
+pub mod JoiningLaws
+pub mod FoundLaws
+-- the join and its candidates
 pub mod JoinLaws
 pub mod Taking
 pub mod TakingSheets
 pub mod JoinedLaws
 pub mod AnswerLaws
+-- sheets and books in bytes
+pub mod SheetBytes
+pub mod BookBytes
+pub mod BookLaws
+pub mod AnswerFits
+-- demand 3 on lists
 pub mod Covered
 pub mod Uncovered
-pub mod SweepingLaws
-pub mod TableLaws
-pub mod SettlingLaws
-pub mod SoundLaws
-pub mod RoundLaws
-pub mod RestingLaws
-pub mod SearchingLaws
-pub mod JoiningLaws
-pub mod StartLaws
-pub mod FoundLaws
-pub mod RowLaws
-pub mod IndexLaws
-pub mod EndLaws
-pub mod SetLaws
-pub mod TurnLaws

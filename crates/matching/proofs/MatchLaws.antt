@@ -11,7 +11,7 @@ use Rattle.matching.specs.Simulation.{Pair, Edge, asPair, bit, Pattern, 
 use Rattle.matching.proofs.ByEdge.{rowOf}
 use Rattle.matching.proofs.ListLaws.{and-left, and-right, both, or-left, or-right, or-cases, cond-case, not-in-none, in-cast, every-in, in-every, some-in, in-some, keep-in, in-keep, each-in, in-each, length-each, getD-each, below-in, in-below}
 use Rattle.matching.proofs.Masks.{bit-one}
-use Rattle.matching.proofs.SimLaws.{has-in, in-has, Fits, fits-say, fits-by, sim-is, sim-most}
+use Rattle.matching.proofs.SimLaws.{has-in, in-has, FitsInto, fits-say, fits-by, sim-is, sim-most}
 
 abbrev pub Sim : Pattern → Graph → ℕ → ℕ → Type 0
 Sim P G u v = In (u, v) (sim P G)
@@ -91,14 +91,14 @@ pub subgraph-fewer : (P : Pattern) (G H : Graph) → Subgraph G H → (u v : ℕ
 subgraph-fewer P G H m u v i = sim-most P H (Sim P G) (subgraph-sim P G H (Sim P G) m (sim-is P G)) u v i
 
 -- the label of a node of a pattern read as a graph
-pub own-label : (P Q : Pattern) {w u : ℕ} → Fits P (asGraph Q) w u → getD (P .labels) w 0 ≡ getD (Q .labels) u 0
+pub own-label : (P Q : Pattern) {w u : ℕ} → FitsInto P (asGraph Q) w u → getD (P .labels) w 0 ≡ getD (Q .labels) u 0
 unfolding asGraph
 own-label P Q {w} {u} f =
     let r : u < length (Q .labels) = omega (arith, f .right, length-each (λ k. 2 ^ k) (Q .labels)) in
     bit-one _ _ (subst (λ m. T (bit m (getD (P .labels) w 0))) (getD-each (λ k. 2 ^ k) (Q .labels) u 0 0 r) (f .label))
 
 -- through a node of Q that has the label of P's
-pub fits-through : (P Q : Pattern) (G : Graph) {w u v : ℕ} → Fits P (asGraph Q) w u → Fits Q G u v → Fits P G w v
+pub fits-through : (P Q : Pattern) (G : Graph) {w u v : ℕ} → FitsInto P (asGraph Q) w u → FitsInto Q G u v → FitsInto P G w v
 fits-through P Q G {v = v} f g = record {
   left = f .left;
   right = g .right;
@@ -136,11 +136,11 @@ matches-through P Q G g e f a b = record {
 }
 
 -- what `sound` says
-pub record Sound (P : Pattern) : Type 0 where
+pub record SoundPattern (P : Pattern) : Type 0 where
   pub ends : (e : Edge) → In e (P .edges) → (e .from < length (P .labels)) × (e .to < length (P .labels))
   pub touched : (u : ℕ) → u < length (P .labels) → (e : Edge) × In e (P .edges) × ((e .from ≡ u) ⊎ (e .to ≡ u))
 
-pub sound-say : (P : Pattern) → T (sound P) → Sound P
+pub sound-say : (P : Pattern) → T (sound P) → SoundPattern P
 unfolding sound
 sound-say P h = record {
   ends = λ e i. let r = every-in _ (and-left _ _ h) i in (ltb→lt (e .from) _ (and-left _ _ r), ltb→lt (e .to) _ (and-right _ _ r));
@@ -153,7 +153,7 @@ sound-say P h = record {
     which e u (inl t) = inl (eqb→eq (e .from) u t)
     which e u (inr t) = inr (eqb→eq (e .to) u t)
 
-pub sound-by : (P : Pattern) → Sound P → T (sound P)
+pub sound-by : (P : Pattern) → SoundPattern P → T (sound P)
 unfolding sound
 sound-by P s =
     both _ _

@@ -19,8 +19,8 @@ use Rattle.packed.proofs.SheetLaws.{Rising, rising-none, rising-next, Fit, fit-
 use Rattle.packed.proofs.MatchLaws.{fit-lists}
 use Rattle.matching.specs.Lists.{_and_, In, each, keep, put, upTo}
 use Rattle.matching.specs.Simulation.{Pair, Edge, asPair, Pattern, Graph, bit, has, sim, row, ascending, matchSets}
-use Rattle.matching.specs.Steps.{edgeAt, edgeOfWord, patternIn, graphIn, Ready, Edges}
-use Rattle.matching.specs.Matched.{Proper, Rises, Matched}
+use Rattle.matching.specs.Steps.{givenEdge, edgeOfWord, patternIn, graphIn, Ready, Edges}
+use Rattle.matching.specs.Matched.{Proper, Rises, EdgesMatched}
 use Rattle.matching.proofs.ListLaws.{and-left, and-right, both, same-test}
 use Rattle.matching.proofs.SimLaws.{has-in, in-has}
 use Rattle.matching.proofs.AllOrNone.{sets-all-or-none}
@@ -113,7 +113,7 @@ pub edges-twice : {w w₁ w₂ : List ℕ} → Edges w w₁ → Edges w₁ w₂ 
 edges-twice a b = record { long = b .long ∙ a .long; same = λ k l. b .same k l ∙ a .same k l }
 
 -- each edge is held for the edges of the pattern whose ends have its own as partners
-pub record Lists (p : Given) (s : List ℕ) (n m : ℕ) (w w′ : List ℕ) : Type 0 where
+pub record ListsCodes (p : Given) (s : List ℕ) (n m : ℕ) (w w′ : List ℕ) : Type 0 where
   pub edges : Edges w w′
   pub say : (i e : ℕ) → i < m → e < p .edges → T (bit (getD w′ (8192 + i) 0) e)
       → In (getD (p .from) e 0, getD w i 0 / 4096) (sim (patternIn p) (graphIn s n m w)) × In (getD (p .to) e 0, getD w i 0 % 4096) (sim (patternIn p) (graphIn s n m w))
@@ -122,7 +122,7 @@ pub record Lists (p : Given) (s : List ℕ) (n m : ℕ) (w w′ : List ℕ) : Ty
   pub only : (i e : ℕ) → i < m → e < 32 → T (bit (getD w′ (8192 + i) 0) e) → e < p .edges
 
 -- ---- the match sets
-module _ {p : Given} {s : List ℕ} {n m : ℕ} {w w₂ : List ℕ} (ready : Ready s n m w) (k : Lists p s n m w w₂) where
+module _ {p : Given} {s : List ℕ} {n m : ℕ} {w w₂ : List ℕ} (ready : Ready s n m w) (k : ListsCodes p s n m w w₂) where
   abbrev P : Pattern
   P = patternIn p
 
@@ -133,7 +133,7 @@ module _ {p : Given} {s : List ℕ} {n m : ℕ} {w w₂ : List ℕ} (ready : Rea
   edge i = edgeOfWord (getD w i 0)
 
   abbrev passes : ℕ → Edge → Bool
-  passes e f = has (edgeAt p e .from, f .from) (sim P G) and has (edgeAt p e .to, f .to) (sim P G)
+  passes e f = has (givenEdge p e .from, f .from) (sim P G) and has (givenEdge p e .to, f .to) (sim P G)
 
   long : length w₂ ≡ 16384
   long = k .edges .long ∙ ready .long
@@ -155,7 +155,7 @@ module _ {p : Given} {s : List ℕ} {n m : ℕ} {w w₂ : List ℕ} (ready : Rea
           rises = λ i j l h. rw (k .edges .same i (omega arith), k .edges .same j (omega arith)) (rises i j l h);
         }
 
-    edge-row : (e : ℕ) → e < p .edges → distinct (marked e (take m w₂) (take m (drop 8192 w₂))) ≡ ascending (row G (sim P G) (edgeAt p e))
+    edge-row : (e : ℕ) → e < p .edges → distinct (marked e (take m w₂) (take m (drop 8192 w₂))) ≡ ascending (row G (sim P G) (givenEdge p e))
     unfolding row graphIn
     edge-row e l =
         row-marked pairs-marked e edge asPair (passes e) (λ i h. test e i l h)
@@ -163,7 +163,7 @@ module _ {p : Given} {s : List ℕ} {n m : ℕ} {w w₂ : List ℕ} (ready : Rea
 
     edge-sets : matchesOf m (p .edges) w₂ ≡ matchSets P G
     unfolding patternIn
-    edge-sets = sets-marked pairs-marked (p .edges) (edgeAt p) (row G (sim P G)) edge-row ∙ sym (sets-all-or-none P G (proper .sound))
+    edge-sets = sets-marked pairs-marked (p .edges) (givenEdge p) (row G (sim P G)) edge-row ∙ sym (sets-all-or-none P G (proper .sound))
 
-    pub matches : Matched p s n m w w₂
+    pub matches : EdgesMatched p s n m w w₂
     matches = record { edges = k .edges; marked = pairs-marked; sets = edge-sets; only = k .only }

@@ -14,11 +14,11 @@ use Rattle.packed.specs.ByValue.{HoldsPattern}
 use Rattle.packed.specs.declared.by_value.Pattern.{Pattern as Given}
 use Rattle.matching.specs.Simulation.{Edge, between, Pattern, edgesIn, patternOf, sound}
 use Rattle.matching.specs.Steps.{patternIn, Fair}
-use Rattle.matching.specs.Steps.{edgeAt as givenAt}
+use Rattle.matching.specs.Steps.{givenEdge as givenAt}
 use Rattle.matching.specs.Lists.{upTo}
 use Rattle.matching.specs.Matched.{Proper}
 use Rattle.matching.proofs.UpToLaws.{upTo-same}
-use Rattle.matching.proofs.MatchLaws.{Sound, sound-by}
+use Rattle.matching.proofs.MatchLaws.{SoundPattern, sound-by}
 use Rattle.matching.proofs.EdgeLaws.{edgeAt, edgesIn-upTo, edgesIn-length, edgesIn-at, at-edgesIn}
 
 abbrev made : List ℕ → List Edge → Pattern
@@ -61,7 +61,7 @@ module _ {ws : List ℕ} {bs : List Bool} (q : PlainPattern ws bs) where
       ap₂ (λ (l m : List ℕ). made l (edgesIn m)) a b
 
   -- each end is a node, and each node is an end of an edge
-  sound-made : Sound (made (q .labels) (edgesIn (q .ends)))
+  sound-made : SoundPattern (made (q .labels) (edgesIn (q .ends)))
   sound-made =
       record {
         ends = λ e i.

@@ -10,13 +10,13 @@ use Rattle.matching.specs.Sweeping.{toOf, Ends}
 use Rattle.matching.specs.Choices.{Supports, Shape, May, Rests}
 
 -- the item u may stand at one of n nodes
-abbrev pub Stands : List ℕ → List ℕ → ℕ → ℕ → List ℕ → List ℕ → ℕ → ℕ → Type 0
-Stands from to m n leave arrive u v = May from to m leave arrive u v × (v < n)
+abbrev pub RestsAt : List ℕ → List ℕ → ℕ → ℕ → List ℕ → List ℕ → ℕ → ℕ → Type 0
+RestsAt from to m n leave arrive u v = May from to m leave arrive u v × (v < n)
 
 module _ (from to : List ℕ) (m : ℕ) where
   -- what may stand supports itself
   pub rests-supports : {n free due d : ℕ} {w leave arrive : List ℕ} → m ≤ 32 → Ends n d w → ((e : ℕ) → Has due e → Has free e → ⊥) → Shape from to m leave arrive
-      → Rests n free due d w leave arrive → Supports from to m (Has due) d w (Stands from to m n leave arrive)
+      → Rests n free due d w leave arrive → Supports from to m (Has due) d w (RestsAt from to m n leave arrive)
   rests-supports {w = w} {arrive = arrive} few ends apart s R u v p e le y q =
       let o = R .held v e (p .1) y (omega arith) (p .0 .leaves e le q) in
       let i = o .at in

@@ -11,7 +11,7 @@ use Rattle.matching.specs.Sweeps.{Has, OneOf}
 use Rattle.matching.proofs.ListLaws.{decide}
 use Rattle.matching.proofs.MaskBits.{none-has, and-say, and-by, not-say, not-by}
 use Rattle.matching.proofs.SoundLaws.{sound-none, sound-then, swept-same, from-same, to-same, held-say, held-by, swept-sound, left-lost, Loses, loses-none, losing-sound}
-use Rattle.matching.specs.Sweeping.{fromOf, toOf, Ends, Starts, heldAt, Swept, missing, Settled}
+use Rattle.matching.specs.Sweeping.{fromOf, toOf, Ends, Starts, heldAt, Swept, missing, NodesSettled}
 use Rattle.matching.specs.Choices.{Falls, Rests, Prepared, Fixed}
 
 -- ---- one node
@@ -64,7 +64,7 @@ module _ {n free d : ℕ} {w leave arrive out w′ out₁ : List ℕ} (P : Prepa
 
 -- ---- a round
 module _ {n free due d : ℕ} {leaving arriving w leave arrive out w′ out₁ : List ℕ} {r : ℕ} {leave′ arrive′ out′ : List ℕ} (P : Prepared n d w leave arrive out)
-    (W : Swept d leave arrive free w out w′ out₁) (E : Settled n due leaving arriving leave arrive out₁ r leave′ arrive′ out′) where
+    (W : Swept d leave arrive free w out w′ out₁) (E : NodesSettled n due leaving arriving leave arrive out₁ r leave′ arrive′ out′) where
   -- the masks of the nodes from n on stay
   leave-beyond : (v : ℕ) → n ≤ v → getD leave′ v 0 ≡ getD leave v 0
   leave-beyond v l = E .leaves .high v (omega arith)

@@ -13,17 +13,17 @@ use Rattle.matching.proofs.SimLaws.{has-in, in-has, sim-is, sim-most}
 use Rattle.matching.specs.Sweeping.{fromOf, toOf, heldAt, Tabled}
 use Rattle.matching.specs.Choices.{Safe, Shape, Prepared, Fixed}
 use Rattle.matching.proofs.RoundLaws.{fixed-prepared}
-use Rattle.matching.proofs.RestingLaws.{Stands, rests-supports}
+use Rattle.matching.proofs.RestingLaws.{RestsAt, rests-supports}
 
 -- the edges are those numbered below m
-pub record Numbered (edges : List Edge) (m : ℕ) (numbered : ℕ → Edge) : Type 0 where
+pub record EdgeNumbered (edges : List Edge) (m : ℕ) (numbered : ℕ → Edge) : Type 0 where
   pub has : (e : ℕ) → e < m → In (numbered e) edges
   pub is : (f : Edge) → In f edges → OneOf m (λ e. f ≡ numbered e)
 
 -- each pair is held for all links, and the masks have those whose end fits
 pub record Begun (P : Pattern) (G : Graph) (from to : List ℕ) (m n d : ℕ) (w leave arrive : List ℕ) : Type 0 where
-  pub links : Numbered (P .edges) m (λ e. between (getD from e 0) (getD to e 0))
-  pub pairs : Numbered (G .edges) d (λ i. between (fromOf w i) (toOf w i))
+  pub links : EdgeNumbered (P .edges) m (λ e. between (getD from e 0) (getD to e 0))
+  pub pairs : EdgeNumbered (G .edges) d (λ i. between (fromOf w i) (toOf w i))
   pub nodes : length (G .labels) ≡ n
   pub held : (i e : ℕ) → i < d → e < m → Has (heldAt w i) e
   pub leave-by : (v e : ℕ) → e < m → T (fits P G (getD from e 0, v)) → Has (getD leave v 0) e
@@ -70,7 +70,7 @@ module _ (P : Pattern) (G : Graph) (from to : List ℕ) (m n d : ℕ) (w leave a
     apart e y h = none-has e h
 
     -- where nothing was lost, what may stand is a simulation
-    stands-sim : r ≡ 0 → IsSim P G (λ u v. Stands from to m n leave′ arrive′ u v × EndOf from to m u)
+    stands-sim : r ≡ 0 → IsSim P G (λ u v. RestsAt from to m n leave′ arrive′ u v × EndOf from to m u)
     stands-sim z =
         let s = F .sound from to m T₁ T₂ apart in
         record {
@@ -93,14 +93,14 @@ module _ (P : Pattern) (G : Graph) (from to : List ℕ) (m n d : ℕ) (w leave a
                 B .pairs .has i (o .below),
                 sym (ap (λ (y : ℕ). y / 4096) c) ∙ o .holds .0,
                 (
-                  subst₂ (Stands from to m n leave′ arrive′) b (ap (λ (y : ℕ). y % 4096) c) (o .holds .2),
+                  subst₂ (RestsAt from to m n leave′ arrive′) b (ap (λ (y : ℕ). y % 4096) c) (o .holds .2),
                   record { at = e; below = k .below; holds = inr b },
                 ),
               ));
         }
 
     -- so for the ends of links it is the greatest simulation
-    pub search-greatest : r ≡ 0 → (u v : ℕ) → EndOf from to m u → Stands from to m n leave′ arrive′ u v → In (u, v) (sim P G)
+    pub search-greatest : r ≡ 0 → (u v : ℕ) → EndOf from to m u → RestsAt from to m n leave′ arrive′ u v → In (u, v) (sim P G)
     search-greatest z u v k p = sim-most P G _ (stands-sim z) u v (p, k)
 
     -- a pair is held for a link where its ends are partners of the link's ends

@@ -14,7 +14,7 @@ use Rattle.matching.specs.Sweeps.{Has, OneOf}
 use Rattle.matching.specs.Sweeping.{fromOf, sumTo, heldAt}
 use Rattle.matching.proofs.Masks.{bit-self, bit-one}
 use Rattle.matching.proofs.MaskBits.{none-has, or-left, or-right, or-cases, and-by, minus-say, minus-by, part-le, one-last, one-more}
-use Rattle.matching.specs.Late.{Member, Added, FirstWord, Drawn, Marked, Marks, Full, Taken, MarkedStart, MarkedBefore, Backs}
+use Rattle.matching.specs.Late.{Member, NumberAdded, FirstWord, Drawn, IsMarked, Marks, AllMarked, TakenOut, MarkedStart, MarkedBefore, Backs}
 use Rattle.matching.proofs.EndLaws.{ends-at, ends-of}
 
 -- ---- one word of a list is set
@@ -62,7 +62,7 @@ minus-lt a b k h i =
     ⊎-elim (λ (e : bitXor a (bitAnd a b) ≡ a). absurd (minus-say a b k (cast k (sym e) h) .1 i)) (λ (z : bitXor a (bitAnd a b) < a). z) (eq-or-lt-of-le l)
 
 -- ---- adding
-pub add-by : (s : List ℕ) (v b : ℕ) → length s ≡ 256 → v < 8192 → b ≡ 2 ^ (v % 32) → Added v s (set s (v / 32) (bitOr (getD s (v / 32) 0) b))
+pub add-by : (s : List ℕ) (v b : ℕ) → length s ≡ 256 → v < 8192 → b ≡ 2 ^ (v % 32) → NumberAdded v s (set s (v / 32) (bitOr (getD s (v / 32) 0) b))
 add-by s v b len l e =
     let old = getD s (v / 32) 0 in
     let y = bitOr old b in
@@ -125,7 +125,7 @@ module _ (s : List ℕ) (at : ℕ) (l : at < 256) (p : ℕ) (m : p < 32) (h : Ha
       }
 
 -- ---- marking nodes
-pub added-marks : {v x : ℕ} {s s′ : List ℕ} → v < 4096 → (x ≡ v) ⊎ (x ≡ 4096 + v) → Added x s s′ → Marks v s s′
+pub added-marks : {v x : ℕ} {s s′ : List ℕ} → v < 4096 → (x ≡ v) ⊎ (x ≡ 4096 + v) → NumberAdded x s s′ → Marks v s s′
 added-marks {v} {x} {s} {s′} l is A =
     record {
       long = A .long;
@@ -138,10 +138,10 @@ added-marks {v} {x} {s} {s′} l is A =
     }
 
 module _ {s : List ℕ} {x : ℕ} {s′ : List ℕ} (L : Drawn s x s′) where
-  drawn-why : (y : ℕ) → Marked s′ y → Marked s y
+  drawn-why : (y : ℕ) → IsMarked s′ y → IsMarked s y
   drawn-why y h = ⊎-elim (λ m. inl (L .why y m .0)) (λ m. inr (L .why (4096 + y) m .0)) h
 
-  pub drawn-first : x < 4096 → Taken s x s′
+  pub drawn-first : x < 4096 → TakenOut s x s′
   drawn-first l =
       record {
         long = L .long;
@@ -152,7 +152,7 @@ module _ {s : List ℕ} {x : ℕ} {s′ : List ℕ} (L : Drawn s x s′) where
         fell = λ k. L .fell (omega arith);
       }
 
-  pub drawn-second : 4096 ≤ x → Taken s (x - 4096) s′
+  pub drawn-second : 4096 ≤ x → TakenOut s (x - 4096) s′
   drawn-second l =
       let u = L .upto in
       record {
@@ -164,19 +164,19 @@ module _ {s : List ℕ} {x : ℕ} {s′ : List ℕ} (L : Drawn s x s′) where
         fell = λ k. L .fell (omega arith);
       }
 
-pub blank-unmarked : (v : ℕ) → Marked (replicate 256 0) v → ⊥
+pub blank-unmarked : (v : ℕ) → IsMarked (replicate 256 0) v → ⊥
 blank-unmarked v h =
     ⊎-elim (λ m. none-has (v % 32) (cast (v % 32) (nothing-at 256 (v / 32)) m)) (λ m. none-has ((4096 + v) % 32) (cast ((4096 + v) % 32) (nothing-at 256 ((4096 + v) / 32)) m)) h
 
 -- the nodes below v are marked, and no other
-pub full-start : (s : List ℕ) → length s ≡ 256 → ((v : ℕ) → v < 4096 → Marked s v → ⊥) → Full 0 s
+pub full-start : (s : List ℕ) → length s ≡ 256 → ((v : ℕ) → v < 4096 → IsMarked s v → ⊥) → AllMarked 0 s
 full-start s e n = record { long = e; each = λ x l. absurd (omega arith); why = λ x l h. absurd (n x l h) }
 
-pub full-more : {v : ℕ} {s s′ : List ℕ} → Full v s → Marks v s s′ → Full (v + 1) s′
+pub full-more : {v : ℕ} {s s′ : List ℕ} → AllMarked v s → Marks v s s′ → AllMarked (v + 1) s′
 full-more {v} {s} {s′} F M =
     record {
       long = M .long ∙ F .long;
-      each = λ x l. ⊎-elim (λ (q : x < v). M .keeps x (F .each x q)) (λ (q : v ≤ x). subst (Marked s′) (let e : v ≡ x = omega arith in e) (M .hit)) (lt-or-ge x v);
+      each = λ x l. ⊎-elim (λ (q : x < v). M .keeps x (F .each x q)) (λ (q : v ≤ x). subst (IsMarked s′) (let e : v ≡ x = omega arith in e) (M .hit)) (lt-or-ge x v);
       why = λ x l h. ⊎-elim (λ p. let z = F .why x l p in omega arith) (λ (e : x ≡ v). omega arith) (M .why x l h);
     }
 
@@ -198,9 +198,9 @@ module _ (w : List ℕ) (lost : ℕ) (leave : List ℕ) where
   -- the pairs whose numbers stand in rev from a up to k
   pub record MarkedRange (rev : List ℕ) (a k : ℕ) (s s′ : List ℕ) : Type 0 where
     pub long : length s′ ≡ length s
-    pub keeps : (x : ℕ) → Marked s x → Marked s′ x
-    pub hit : (j e : ℕ) → a ≤ j → j < k → Has (heldAt w (getD rev j 0)) e → Has (getD leave (fromOf w (getD rev j 0)) 0) e → Has lost e → Marked s′ (fromOf w (getD rev j 0))
-    pub why : (x : ℕ) → x < 4096 → Marked s′ x → Marked s x ⊎ OneOf k (λ j. (a ≤ j) × (fromOf w (getD rev j 0) ≡ x))
+    pub keeps : (x : ℕ) → IsMarked s x → IsMarked s′ x
+    pub hit : (j e : ℕ) → a ≤ j → j < k → Has (heldAt w (getD rev j 0)) e → Has (getD leave (fromOf w (getD rev j 0)) 0) e → Has lost e → IsMarked s′ (fromOf w (getD rev j 0))
+    pub why : (x : ℕ) → x < 4096 → IsMarked s′ x → IsMarked s x ⊎ OneOf k (λ j. (a ≤ j) × (fromOf w (getD rev j 0) ≡ x))
 
   pub range-start : (rev : List ℕ) (a k : ℕ) (s : List ℕ) → k ≡ a → MarkedRange rev a k s s
   range-start rev a k s z = record { long = refl; keeps = λ x h. h; hit = λ j e l m. absurd (omega arith); why = λ x l h. inl h }
@@ -215,7 +215,7 @@ module _ (w : List ℕ) (lost : ℕ) (leave : List ℕ) where
             (λ (q : j < k). r .keeps _ (h .hit j e n q x y z))
             (λ (q : k ≤ j).
             let i : k ≡ j = omega arith in
-            subst (λ (j : ℕ). Has (heldAt w (getD rev j 0)) e → Has (getD leave (fromOf w (getD rev j 0)) 0) e → Has lost e → Marked s′ (fromOf w (getD rev j 0))) i (r .hit e) x y z)
+            subst (λ (j : ℕ). Has (heldAt w (getD rev j 0)) e → Has (getD leave (fromOf w (getD rev j 0)) 0) e → Has lost e → IsMarked s′ (fromOf w (getD rev j 0))) i (r .hit e) x y z)
             (lt-or-ge j k);
         why = λ x l p. ⊎-elim (λ q. ⊎-elim (λ u. inl u) (λ u. inr (one-more k u)) (h .why x l q)) (λ q. inr (one-last k (m, q))) (r .why x l p);
       }
@@ -230,7 +230,7 @@ module _ (w : List ℕ) (lost : ℕ) (leave : List ℕ) where
             (let o = ends-at B v l i m t in
             let q = o .holds .1 in
             let b = o .below in
-            subst (λ (i : ℕ). Has (heldAt w i) e → Has (getD leave (fromOf w i) 0) e → Has lost e → Marked s′ (fromOf w i)) q (h .hit (o .at) e (o .holds .0) (omega arith)) x y u);
+            subst (λ (i : ℕ). Has (heldAt w i) e → Has (getD leave (fromOf w i) 0) e → Has lost e → IsMarked s′ (fromOf w i)) q (h .hit (o .at) e (o .holds .0) (omega arith)) x y u);
         why = λ x lx p. ⊎-elim (λ q. inl q)
             (λ o. inr (
             let r = ends-of B v l (o .at) (o .holds .0) (let b = o .below in omega arith) in

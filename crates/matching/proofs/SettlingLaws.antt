@@ -10,7 +10,7 @@ use lib.Bits.{bitOr}
 use Rattle.packed.proofs.OrderCases.{lt-or-ge}
 use Rattle.matching.proofs.MaskBits.{part-le, or-left, or-right}
 use Rattle.matching.proofs.Filling.{Filling, filling-start, filling-more, filling-around, filling-front}
-use Rattle.matching.specs.Sweeping.{Left, missing, Settled}
+use Rattle.matching.specs.Sweeping.{Left, missing, NodesSettled}
 
 -- the nodes below v are settled
 pub record Settling (n due : ℕ) (leaving arriving leave₀ arrive₀ out₀ leave arrive out : List ℕ) (lost v : ℕ) : Type 0 where
@@ -56,7 +56,7 @@ module _ (n due : ℕ) (leaving arriving : List ℕ) where
               (λ (q : v ≤ j). let e : j ≡ v = omega arith in ap (missing due leave₀ out₀) e ∙ sym m ∙ (let g : c ≡ 0 = omega arith in g)) (lt-or-ge j v));
         }
 
-    pub settling-end : n ≤ v → Settled n due leaving arriving leave₀ arrive₀ out₀ lost leave arrive out
+    pub settling-end : n ≤ v → NodesSettled n due leaving arriving leave₀ arrive₀ out₀ lost leave arrive out
     settling-end l =
         record {
           leaves = filling-around 0 n _ (h .leaves) l;

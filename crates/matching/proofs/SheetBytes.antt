@@ -7,7 +7,7 @@ use lib.Dec.{T}
 use native.Mathlib.Omega.{arith}
 use Rattle.packed.specs.Format.{ok, decode, encode}
 use Rattle.packed.specs.Formats.{pattern, record′, sheet}
-use Rattle.packed.specs.Contents.{edgesOf, fieldsOf, total}
+use Rattle.packed.specs.Contents.{edgesOf, fieldsOf, pairCount}
 use Rattle.packed.specs.Matches.{allOrNone}
 use Rattle.packed.specs.Calls.{accepted, readSheet}
 use Rattle.packed.proofs.SheetLaws.{Fit, fit-none, fit-next, rising-by, all-twice, Encoded, sheet-encodes}
@@ -26,11 +26,11 @@ unfolding sheetBytes
 sheet-is m ls bytes e h = ap (λ (k : ℕ). bytesIn (encode (sheet k) (fieldsOf ls))) e ∙ ap bytesIn h
 
 -- what they are
-pub record Sheet (ls : List (List ℕ)) : Type 0 where
+pub record SheetFields (ls : List (List ℕ)) : Type 0 where
   pub back : decode (sheet (length ls)) (sheetBytes ls) ≡ ok (fieldsOf ls)
-  pub size : length (sheetBytes ls) ≡ (14 * length ls + 24 * total ls + 7) / 8
+  pub size : length (sheetBytes ls) ≡ (14 * length ls + 24 * pairCount ls + 7) / 8
 
-pub sheet-by : (m : ℕ) (ls : List (List ℕ)) → length ls ≡ m → Encoded m ls → Sheet ls
+pub sheet-by : (m : ℕ) (ls : List (List ℕ)) → length ls ≡ m → Encoded m ls → SheetFields ls
 sheet-by m ls e x =
     let b : sheetBytes ls ≡ x .bytes = sheet-is m ls (x .bytes) e (x .is) in
     record { back = rw (e, b) (x .back); size = rw (e, b) (x .number) }
@@ -42,7 +42,7 @@ fit-by (l ∷ ls) f =
     fit-next (rising-by 0 l (λ h. omega arith) (r .small) (r .rises)) (r .most) (fit-by ls (λ x i. f x (there i)))
 
 -- the match sets of a pattern in a graph make a sheet
-pub sets-sheet : (P : Pattern) (G : Graph) → T (sound P) → Narrow G → length (G .edges) ≤ 8192 → Sheet (matchSets P G)
+pub sets-sheet : (P : Pattern) (G : Graph) → T (sound P) → Narrow G → length (G .edges) ≤ 8192 → SheetFields (matchSets P G)
 sets-sheet P G s n h =
     let e = sets-all-or-none P G s in
     sheet-by (length (matchSets P G)) (matchSets P G) refl
@@ -53,14 +53,14 @@ module _ (p r ps rs : List ℕ) (e : decode pattern p ≡ ok ps) (f : decode rec
   abbrev lists : List (List ℕ)
   lists = matchSets (patternOf ps) (graphOf rs)
 
-  pub search-sheet : Sheet lists
+  pub search-sheet : SheetFields lists
   search-sheet = sets-sheet (patternOf ps) (graphOf rs) (sound-of (pattern-accepted p ps .0 e .laid)) (graph-narrow r rs f) (graph-few r rs f)
 
   pub search-many : length lists ≡ edgesOf ps
   search-many = sets-length (patternOf ps) (graphOf rs) ∙ edges-many (pattern-accepted p ps .0 e .laid)
 
   -- a sheet with m edges and t pairs takes (14 m + 24 t) / 8 bytes, rounded up
-  pub search-size : length (sheetBytes lists) ≡ (14 * edgesOf ps + 24 * total lists + 7) / 8
+  pub search-size : length (sheetBytes lists) ≡ (14 * edgesOf ps + 24 * pairCount lists + 7) / 8
   search-size = rw search-many at (search-sheet .size)
 
   -- the sheet that a search gives is accepted beside its pattern, as the same content

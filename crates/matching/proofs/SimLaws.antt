@@ -5,7 +5,7 @@ use Prim.Native.Nat.{ℕ, _<_}
 use lib.ListN.{length, getD}
 use lib.Dec.{T, eqb, eqb→eq, eqb-refl, ltb→lt, lt→ltb}
 use Rattle.matching.specs.Lists.{In, keep}
-use Rattle.matching.specs.Simulation.{Pair, same, has, Edge, sameEdge, between, asPair, pairs, bit, Pattern, Graph, fits, follows, sim, IsSim}
+use Rattle.matching.specs.Simulation.{Pair, same, has, Edge, sameEdge, between, asPair, everyPair, bit, Pattern, Graph, fits, follows, sim, IsSim}
 use Rattle.matching.proofs.ListLaws.{and-left, and-right, both, use-if, make-if, in-cast, every-in, in-every, some-in, in-some, keep-in, in-keep, in-gather, in-each, in-below}
 use Rattle.matching.proofs.GreatestLaws.{greatest-part, greatest-ok, greatest-all}
 
@@ -39,18 +39,18 @@ pub in-has : {a : Pair} {l : List Pair} → In a l → T (has a l)
 unfolding has
 in-has {a} i = in-some (same a) i (same-refl a)
 
-pub in-pairs : (n m u v : ℕ) → u < n → v < m → In (u, v) (pairs n m)
-unfolding pairs
+pub in-pairs : (n m u v : ℕ) → u < n → v < m → In (u, v) (everyPair n m)
+unfolding everyPair
 in-pairs n m u v hu hv = in-gather _ (in-below n u hu) (in-each _ (in-below m v hv))
 
 -- what a fit says
-pub record Fits (P : Pattern) (G : Graph) (u v : ℕ) : Type 0 where
+pub record FitsInto (P : Pattern) (G : Graph) (u v : ℕ) : Type 0 where
   pub left : u < length (P .labels)
   pub right : v < length (G .labels)
   pub label : T (bit (getD (G .labels) v 0) (getD (P .labels) u 0))
 
 module _ (P : Pattern) (G : Graph) where
-  pub fits-say : {u v : ℕ} → T (fits P G (u, v)) → Fits P G u v
+  pub fits-say : {u v : ℕ} → T (fits P G (u, v)) → FitsInto P G u v
   unfolding fits
   fits-say {u} {v} h = record {
     left = ltb→lt u _ (and-left _ _ h);
@@ -58,7 +58,7 @@ module _ (P : Pattern) (G : Graph) where
     label = and-right _ _ (and-right _ _ h);
   }
 
-  pub fits-by : {u v : ℕ} → Fits P G u v → T (fits P G (u, v))
+  pub fits-by : {u v : ℕ} → FitsInto P G u v → T (fits P G (u, v))
   unfolding fits
   fits-by {u} {v} f = both _ _ (lt→ltb u _ (f .left)) (both _ _ (lt→ltb v _ (f .right)) (f .label))
 
@@ -79,7 +79,7 @@ module _ (P : Pattern) (G : Graph) where
       in-some _ (j .1) (both _ _ (subst (λ z. T (eqb (j .0 .from) z)) (j .2) (eqb-refl (j .0 .from))) (in-has (j .3)))
 
   -- where the search starts
-  pub in-start : {u v : ℕ} → T (fits P G (u, v)) → In (u, v) (keep (fits P G) (pairs (length (P .labels)) (length (G .labels))))
+  pub in-start : {u v : ℕ} → T (fits P G (u, v)) → In (u, v) (keep (fits P G) (everyPair (length (P .labels)) (length (G .labels))))
   in-start {u} {v} t = let f = fits-say {u = u} {v = v} t in in-keep _ (in-pairs _ _ u v (f .left) (f .right)) t
 
   pub sim-is : IsSim P G (λ u v. In (u, v) (sim P G))

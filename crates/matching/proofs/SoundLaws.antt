@@ -8,7 +8,7 @@ use lib.ListN.{getD}
 use lib.Dec.{T}
 use lib.Bits.{bitAnd}
 use Rattle.matching.specs.Sweeps.{Has, OneOf}
-use Rattle.matching.specs.Sweeping.{fromOf, toOf, heldAt, kept, Swept, Meets, Tabled, Left}
+use Rattle.matching.specs.Sweeping.{fromOf, toOf, heldAt, heldAfter, Swept, Meets, Tabled, Left}
 use Rattle.matching.proofs.MaskBits.{none-has, and-say, and-by, or-left, or-right, or-cases}
 use Rattle.matching.specs.Choices.{Supports, Safe, Sound}
 
@@ -53,17 +53,17 @@ module _ (from to : List ℕ) (m : ℕ) {free due d : ℕ} {w leave arrive : Lis
 
 -- ---- a sweep
 module _ (leave arrive : List ℕ) (free : ℕ) (w : List ℕ) (i e : ℕ) where
-  abbrev Allowed : Type 0
-  Allowed = Has free e ⊎ (Has (getD leave (fromOf w i) 0) e × Has (getD arrive (toOf w i) 0) e)
+  abbrev MayStay : Type 0
+  MayStay = Has free e ⊎ (Has (getD leave (fromOf w i) 0) e × Has (getD arrive (toOf w i) 0) e)
 
-  kept-say : Has (kept leave arrive free w i) e → Has (heldAt w i) e × Allowed
-  unfolding kept
+  kept-say : Has (heldAfter leave arrive free w i) e → Has (heldAt w i) e × MayStay
+  unfolding heldAfter
   kept-say h =
       let p = and-say _ _ e h in
       (p .0, ⊎-elim (λ f. inl f) (λ b. inr (and-say _ _ e b)) (or-cases _ _ e (p .1)))
 
-  kept-by : Has (heldAt w i) e → Allowed → Has (kept leave arrive free w i) e
-  unfolding kept
+  kept-by : Has (heldAt w i) e → MayStay → Has (heldAfter leave arrive free w i) e
+  unfolding heldAfter
   kept-by h a =
       let b = bitAnd (getD leave (fromOf w i) 0) (getD arrive (toOf w i) 0) in
       and-by _ _ e h (⊎-elim (λ f. or-left free b e f) (λ p. or-right free b e (and-by _ _ e (p .0) (p .1))) a)

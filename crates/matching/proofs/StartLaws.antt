@@ -14,7 +14,7 @@ use Rattle.packed.proofs.OrderCases.{lt-or-ge, eq-or-ne}
 use Rattle.packed.proofs.ByValueLaws.{nothing-at}
 use Rattle.matching.specs.Steps.{Fair}
 use Rattle.matching.specs.Sweeps.{Has, Mask, OneOf}
-use Rattle.matching.specs.Starting.{Room, ByLabel, OfLabels, Allowed, Spread}
+use Rattle.matching.specs.Starting.{NodeRoom, ByLabel, OfLabels, Allowed, LinksSpread}
 use Rattle.matching.proofs.Masks.{bit-self, bit-one}
 use Rattle.matching.proofs.MaskBits.{none-has, or-left, or-right, and-say, and-by, minus-say, minus-by, lowest-has, mask-cast, mask-or, mask-one, mask-self, mask-none}
 use Rattle.matching.proofs.Filling.{Filling, filling-start, filling-more, filling-around, filling-front}
@@ -25,7 +25,7 @@ pub lowest-of : (x : ℕ) → (x ≡ 0 → ⊥) → x < 2 ^ 32 → (trailingZero
 lowest-of x n l = lowest-has 32 x (⊎-elim (λ (z : 0 < x). z) (λ (z : x ≤ 0). absurd (n (omega arith))) (lt-or-ge 0 x)) l
 
 -- arrays of nothing-at
-pub room-blank : (k n : ℕ) {leave arrive out : List ℕ} → n ≤ k → leave ≡ replicate k 0 → arrive ≡ replicate k 0 → out ≡ replicate k 0 → Room n leave arrive out
+pub room-blank : (k n : ℕ) {leave arrive out : List ℕ} → n ≤ k → leave ≡ replicate k 0 → arrive ≡ replicate k 0 → out ≡ replicate k 0 → NodeRoom n leave arrive out
 room-blank k n l a b c =
     let z = blank-long k c in
     record {
@@ -145,7 +145,7 @@ module _ (s : List ℕ) (n used : ℕ) (leaving arriving : List ℕ) where
   spreading-start leave arrive out = record { leaves = filling-start 0 n _ leave; arrives = filling-start 0 n _ arrive; outs = filling-start 0 n _ out }
 
   module _ {leave₀ arrive₀ out₀ leave arrive out : List ℕ} {v : ℕ} (h : Spreading s n used leaving arriving leave₀ arrive₀ out₀ leave arrive out v) where
-    pub spreading-more : Room n leave₀ arrive₀ out₀ → v < n → {x : ℕ} → x ≡ field s (27 + 32 * v) 32 → (a b : ℕ)
+    pub spreading-more : NodeRoom n leave₀ arrive₀ out₀ → v < n → {x : ℕ} → x ≡ field s (27 + 32 * v) 32 → (a b : ℕ)
         → OfLabels leaving (bitAnd x used) a → OfLabels arriving (bitAnd x used) b
         → Spreading s n used leaving arriving leave₀ arrive₀ out₀ (set leave v a) (set arrive v b) (set out v 0) (v + 1)
     spreading-more R l e a b A B =
@@ -160,7 +160,7 @@ module _ (s : List ℕ) (n used : ℕ) (leaving arriving : List ℕ) where
 
     -- the tables are those of a pattern
     pub spreading-end : {p : Given} → Fair p → ByLabel (p .labels) (p .from) (p .edges) leaving → ByLabel (p .labels) (p .to) (p .edges) arriving
-        → ((u : ℕ) → u < p .nodes → Has used (getD (p .labels) u 0)) → n ≤ v → Spread p s n leave₀ arrive₀ out₀ leave arrive out
+        → ((u : ℕ) → u < p .nodes → Has used (getD (p .labels) u 0)) → n ≤ v → LinksSpread p s n leave₀ arrive₀ out₀ leave arrive out
     spreading-end {p} fair A B u l =
         record {
           leaves = filling-around 0 n _ (h .leaves) l;

@@ -11,13 +11,13 @@ use Rattle.packed.proofs.OrderCases.{eq-or-ne}
 use Rattle.matching.specs.Sweeps.{Has, Mask, OneOf}
 use Rattle.matching.proofs.MaskBits.{mask-cast, mask-or, mask-self, one-none, one-last, one-more, one-cases}
 use Rattle.matching.proofs.Filling.{Filling, filling-start, filling-more, filling-around, filling-each}
-use Rattle.matching.specs.Sweeping.{fromOf, toOf, Ends, Starts, Carried, heldAt, kept, Swept}
+use Rattle.matching.specs.Sweeping.{fromOf, toOf, Ends, Starts, Carried, heldAt, heldAfter, Swept}
 
 -- the first i pairs have been swept
 pub record Sweeping (d : ℕ) (leave arrive : List ℕ) (free : ℕ) (w₀ out₀ w out : List ℕ) (i : ℕ) : Type 0 where
-  pub fill : Filling 8192 d (λ j x. x ≡ kept leave arrive free w₀ j) w₀ w i
+  pub fill : Filling 8192 d (λ j x. x ≡ heldAfter leave arrive free w₀ j) w₀ w i
   pub long : length out ≡ length out₀
-  pub each : (v : ℕ) → v < length out₀ → Mask (λ k. Has (getD out₀ v 0) k ⊎ OneOf i (λ j. (fromOf w₀ j ≡ v) × Has (kept leave arrive free w₀ j) k)) (getD out v 0)
+  pub each : (v : ℕ) → v < length out₀ → Mask (λ k. Has (getD out₀ v 0) k ⊎ OneOf i (λ j. (fromOf w₀ j ≡ v) × Has (heldAfter leave arrive free w₀ j) k)) (getD out v 0)
 
 module _ (d : ℕ) (leave arrive : List ℕ) (free : ℕ) where
   pub sweeping-start : (w out : List ℕ) → Sweeping d leave arrive free w out w out 0
@@ -38,18 +38,18 @@ module _ (d : ℕ) (leave arrive : List ℕ) (free : ℕ) where
     pub sweeping-to : toOf w i < length out₀
     sweeping-to = let a = s .to i l in let e = ap (λ (x : ℕ). x % 4096) code in omega arith
 
-    pub sweeping-word : kept leave arrive free w i ≡ kept leave arrive free w₀ i
-    unfolding kept
+    pub sweeping-word : heldAfter leave arrive free w i ≡ heldAfter leave arrive free w₀ i
+    unfolding heldAfter
     sweeping-word =
         let e : heldAt w i ≡ heldAt w₀ i = h .fill .later (8192 + i) (omega arith) in
         rw (e, code)
 
-    pub sweeping-more : Sweeping d leave arrive free w₀ out₀ (set w (8192 + i) (kept leave arrive free w i))
-        (set out (fromOf w i) (bitOr (getD out (fromOf w i) 0) (kept leave arrive free w i))) (i + 1)
+    pub sweeping-more : Sweeping d leave arrive free w₀ out₀ (set w (8192 + i) (heldAfter leave arrive free w i))
+        (set out (fromOf w i) (bitOr (getD out (fromOf w i) 0) (heldAfter leave arrive free w i))) (i + 1)
     sweeping-more =
         let f = fromOf w i in
-        let x = kept leave arrive free w i in
-        let x₀ = kept leave arrive free w₀ i in
+        let x = heldAfter leave arrive free w i in
+        let x₀ = heldAfter leave arrive free w₀ i in
         let ex : x ≡ x₀ = sweeping-word in
         let ef : f ≡ fromOf w₀ i = ap (λ (y : ℕ). y / 4096) code in
         let fin : f < length out = let a = sweeping-from in let b = h .long in omega arith in
@@ -59,13 +59,13 @@ module _ (d : ℕ) (leave arrive : List ℕ) (free : ℕ) where
           each = λ v b. ⊎-elim
               (λ (z : v ≡ f).
               subst (Mask _) (sym (ap (λ (y : ℕ). getD (set out f (bitOr (getD out f 0) x)) y 0) z ∙ getD-set-same out f (bitOr (getD out f 0) x) 0 fin))
-              (mask-cast {A = λ k. (Has (getD out₀ v 0) k ⊎ OneOf i (λ j. (fromOf w₀ j ≡ v) × Has (kept leave arrive free w₀ j) k)) ⊎ Has x k}
+              (mask-cast {A = λ k. (Has (getD out₀ v 0) k ⊎ OneOf i (λ j. (fromOf w₀ j ≡ v) × Has (heldAfter leave arrive free w₀ j) k)) ⊎ Has x k}
               (λ k. ⊎-elim (⊎-elim (λ p. inl p) (λ o. inr (one-more i o))) (λ p. inr (one-last i (sym ef ∙ sym z, subst (λ (y : ℕ). Has y k) ex p))))
               (λ k. ⊎-elim (λ p. inl (inl p)) (λ o. ⊎-elim (λ q. inl (inr q)) (λ q. inr (subst (λ (y : ℕ). Has y k) (sym ex) (q .1))) (one-cases i o)))
-              (mask-or (subst (λ (y : ℕ). Mask (λ k. Has (getD out₀ v 0) k ⊎ OneOf i (λ j. (fromOf w₀ j ≡ v) × Has (kept leave arrive free w₀ j) k)) (getD out y 0)) z (h .each v b)) (mask-self x))))
+              (mask-or (subst (λ (y : ℕ). Mask (λ k. Has (getD out₀ v 0) k ⊎ OneOf i (λ j. (fromOf w₀ j ≡ v) × Has (heldAfter leave arrive free w₀ j) k)) (getD out y 0)) z (h .each v b)) (mask-self x))))
               (λ (z : v ≡ f → ⊥).
               subst (Mask _) (sym (getD-set-other out f v (bitOr (getD out f 0) x) 0 z))
-              (mask-cast {A = λ k. Has (getD out₀ v 0) k ⊎ OneOf i (λ j. (fromOf w₀ j ≡ v) × Has (kept leave arrive free w₀ j) k)}
+              (mask-cast {A = λ k. Has (getD out₀ v 0) k ⊎ OneOf i (λ j. (fromOf w₀ j ≡ v) × Has (heldAfter leave arrive free w₀ j) k)}
               (λ k. ⊎-elim (λ p. inl p) (λ o. inr (one-more i o)))
               (λ k. ⊎-elim (λ p. inl p) (λ o. ⊎-elim (λ q. inr q) (λ q. absurd (z (sym (q .0) ∙ sym ef))) (one-cases i o)))
               (h .each v b)))
@@ -79,7 +79,7 @@ module _ (d : ℕ) (leave arrive : List ℕ) (free : ℕ) where
         around = filling-around 8192 d _ (h .fill) l;
         held = filling-each 8192 d _ (h .fill) l;
         long = h .long;
-        each = λ v b. subst (λ (n : ℕ). Mask (λ k. Has (getD out₀ v 0) k ⊎ OneOf n (λ j. (fromOf w₀ j ≡ v) × Has (kept leave arrive free w₀ j) k)) (getD out v 0)) e (h .each v b);
+        each = λ v b. subst (λ (n : ℕ). Mask (λ k. Has (getD out₀ v 0) k ⊎ OneOf n (λ j. (fromOf w₀ j ≡ v) × Has (heldAfter leave arrive free w₀ j) k)) (getD out v 0)) e (h .each v b);
       }
 
 -- ---- what is held at the node of the last pair is carried on
@@ -110,11 +110,11 @@ module _ (d : ℕ) (leave arrive : List ℕ) (free : ℕ) where
         (λ (z : fromOf w i ≡ last → ⊥). C .other z ∙ sym (n .other (λ e. z (from-same ∙ e))) ∙ ap (λ (y : ℕ). getD out y 0) (sym from-same))
         (eq-or-ne (fromOf w i) last)
 
-    pub running-more : Running d leave arrive free w₀ out₀ (set w (8192 + i) (kept leave arrive free w i))
-        (set out (fromOf w i) (bitOr c (kept leave arrive free w i))) (i + 1) (fromOf w i) (bitOr c (kept leave arrive free w i))
+    pub running-more : Running d leave arrive free w₀ out₀ (set w (8192 + i) (heldAfter leave arrive free w i))
+        (set out (fromOf w i) (bitOr c (heldAfter leave arrive free w i))) (i + 1) (fromOf w i) (bitOr c (heldAfter leave arrive free w i))
     running-more =
         let f = fromOf w i in
-        let x = kept leave arrive free w i in
+        let x = heldAfter leave arrive free w i in
         let e = from-same in
         let fin : f < length out = let a = sweeping-from d leave arrive free w₀ out₀ w out i s (h .sweeping) l in let b = h .sweeping .long in omega arith in
         record {

@@ -26,21 +26,21 @@ module _ (x q a i u : ℕ) (ha : a ≡ 4 * q) (hi : i ≡ 16 * q + x / 2 ^ a % 1
       record { group = omega arith; member = subst (λ (y : ℕ). Has y (u % 4)) f (four-by x a (u % 4) (omega arith) (subst (Has x) e h)) }
 
 module _ (a b : List ℕ) (m : ℕ) (t : List ℕ) (T : Tabled a b m t) (x : ℕ) where
-  abbrev In : ℕ → ℕ → Type 0
-  In q k = Meets a b m (λ u. (u / 4 ≡ q) × Has x u) k
+  abbrev InGroup : ℕ → ℕ → Type 0
+  InGroup q k = Meets a b m (λ u. (u / 4 ≡ q) × Has x u) k
 
   -- a word of the table has the links that meet the members of x in the group q
-  entry : (q s i : ℕ) → q < 8 → s ≡ 4 * q → i ≡ 16 * q + x / 2 ^ s % 16 → Mask (In q) (getD t i 0)
+  entry : (q s i : ℕ) → q < 8 → s ≡ 4 * q → i ≡ 16 * q + x / 2 ^ s % 16 → Mask (InGroup q) (getD t i 0)
   entry q s i l ha hi =
       mask-cast
       (λ k o. (o .0, record { at = o .1 .at; below = o .1 .below; holds = (names-say x q s i (o .1 .at) ha hi (o .1 .holds .0), o .1 .holds .1) }))
       (λ k o. (o .0, record { at = o .1 .at; below = o .1 .below; holds = (names-by x q s i (o .1 .at) ha hi (o .1 .holds .0 .0) (o .1 .holds .0 .1), o .1 .holds .1) }))
       (T .each i (omega arith))
 
-  forget : (q k : ℕ) → In q k → Meets a b m (Has x) k
+  forget : (q k : ℕ) → InGroup q k → Meets a b m (Has x) k
   forget q k o = (o .0, record { at = o .1 .at; below = o .1 .below; holds = (o .1 .holds .0 .1, o .1 .holds .1) })
 
-  in-group : (k : ℕ) → Meets a b m (Has x) k → (q : ℕ) × (q < 8) × In q k
+  in-group : (k : ℕ) → Meets a b m (Has x) k → (q : ℕ) × (q < 8) × InGroup q k
   in-group k o =
       let s = o .1 .below in
       let f = T .few in
@@ -64,7 +64,7 @@ module _ (a b : List ℕ) (m : ℕ) (t : List ℕ) (T : Tabled a b m t) (x : ℕ
   found =
       mask-cast
       (λ k. ⊎-elim (⊎-elim (⊎-elim (forget 0 k) (forget 1 k)) (⊎-elim (forget 2 k) (forget 3 k))) (⊎-elim (⊎-elim (forget 4 k) (forget 5 k)) (⊎-elim (forget 6 k) (forget 7 k))))
-      (λ k o. let g = in-group k o in choose (λ q. In q k) (g .0) (g .1) (g .2))
+      (λ k o. let g = in-group k o in choose (λ q. InGroup q k) (g .0) (g .1) (g .2))
       (mask-or
       (mask-or
       (mask-or (entry 0 0 (x % 16) (omega arith) refl (omega arith)) (entry 1 4 (16 + x / 16 % 16) (omega arith) refl refl))

@@ -14,7 +14,7 @@ use Rattle.matching.specs.Sweeps.{Has, OneOf}
 use Rattle.matching.specs.Sweeping.{fromOf, toOf, sumTo, Ends, heldAt, Swept, LookedUp}
 use Rattle.matching.proofs.MaskBits.{none-has, or-left, or-right, or-cases, and-say, and-by, minus-say, minus-by, part-le}
 use Rattle.matching.specs.Choices.{Prepared, Fixed}
-use Rattle.matching.specs.Late.{Firsts, Looked, Marked, Taken, Full, MarkedBefore, Fine, Rest, Keeps, Turned, Late}
+use Rattle.matching.specs.Late.{Firsts, Looked, IsMarked, TakenOut, AllMarked, MarkedBefore, Fine, Rest, Keeps, Turned, Late}
 use Rattle.matching.proofs.SoundLaws.{sound-none, sound-then, from-same, held-by, swept-sound, Loses, loses-none, losing-sound}
 use Rattle.matching.proofs.RoundLaws.{swept-falls, swept-within}
 use Rattle.matching.proofs.IndexLaws.{in-range, of-range}
@@ -141,7 +141,7 @@ module _ (due : ℕ) (leaving arriving leave arrive s : List ℕ) {n d : ℕ} {w
                   o .holds .0,
                   o .holds .1,
                   less-by arrive v gone in-arrive (toOf w (o .at)) e (o .holds .2)
-                      (λ q g. u (subst (Marked s′) (o .holds .0) (M .hit (o .at) e (o .below) q (o .holds .1) (subst (λ (x : ℕ). Has (getD leave′ x 0) e) (sym (o .holds .0)) p) g))),
+                      (λ q g. u (subst (IsMarked s′) (o .holds .0) (M .hit (o .at) e (o .below) q (o .holds .1) (subst (λ (x : ℕ). Has (getD leave′ x 0) e) (sym (o .holds .0)) p) g))),
                 );
               });
         }
@@ -152,10 +152,10 @@ pub record Turning (n due d : ℕ) (leaving arriving w leave₀ arrive₀ leave 
   pub arrive-long : length arrive ≡ length arrive₀
   pub long : length s ≡ 256
   pub keeps : Keeps due d leaving arriving w leave₀ arrive₀ leave arrive
-  pub within : (x : ℕ) → x < 4096 → Marked s x → x < n
+  pub within : (x : ℕ) → x < 4096 → IsMarked s x → x < n
   pub rest : Rest n due d w leave arrive s
 
-pub turning-start : (n due d : ℕ) (leaving arriving w leave arrive s : List ℕ) → Full n s → Turning n due d leaving arriving w leave arrive leave arrive s
+pub turning-start : (n due d : ℕ) (leaving arriving w leave arrive s : List ℕ) → AllMarked n s → Turning n due d leaving arriving w leave arrive leave arrive s
 turning-start n due d leaving arriving w leave arrive s F =
     record { leave-long = refl; arrive-long = refl; long = F .long; keeps = λ free from to m T₁ T₂ a. sound-none from to m; within = F .why; rest = λ x l u. absurd (u (F .each x l)) }
 
@@ -163,7 +163,7 @@ turning-start n due d leaving arriving w leave arrive s F =
 abbrev pub measure : ℕ → List ℕ → List ℕ → ℕ
 measure n leave s = sumTo n leave * 2 ^ 41 + sumTo 256 s
 
-module _ {n due d : ℕ} {leaving arriving w leave₀ arrive₀ leave arrive s : List ℕ} (h : Turning n due d leaving arriving w leave₀ arrive₀ leave arrive s) {v : ℕ} {s₁ : List ℕ} (K : Taken s v s₁) where
+module _ {n due d : ℕ} {leaving arriving w leave₀ arrive₀ leave arrive s : List ℕ} (h : Turning n due d leaving arriving w leave₀ arrive₀ leave arrive s) {v : ℕ} {s₁ : List ℕ} (K : TakenOut s v s₁) where
   pub turning-node : v < 4096 → v < n
   turning-node l = h .within v l (K .was l)
 

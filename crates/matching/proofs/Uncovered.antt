@@ -9,11 +9,11 @@ use Rattle.packed.specs.Formats.{code}
 use Rattle.matching.specs.Lists.{In}
 use Rattle.matching.specs.Simulation.{Pair, Edge, sameEdge, asPair, bit, Pattern, Graph, asGraph, fits, ascending, matchSets, viewSheet, IsSim, sound}
 use Rattle.matching.proofs.ByEdge.{rowOf, matchedBy, matched}
-use Rattle.matching.specs.Join.{lists, without}
+use Rattle.matching.specs.Join.{listsEdge, without}
 use Rattle.matching.proofs.ListLaws.{keep-in, in-some, length-each, getD-each}
 use Rattle.matching.proofs.Masks.{bit-self}
-use Rattle.matching.proofs.SimLaws.{same-edge-refl, pair-edge, Fits, fits-by, sim-most}
-use Rattle.matching.proofs.MatchLaws.{Matches, matches-edge, row-say, row-by, Sound, sound-say}
+use Rattle.matching.proofs.SimLaws.{same-edge-refl, pair-edge, FitsInto, fits-by, sim-most}
+use Rattle.matching.proofs.MatchLaws.{Matches, matches-edge, row-say, row-by, SoundPattern, sound-say}
 use Rattle.matching.proofs.CodeLaws.{code-same, ascending-say, ascending-by}
 use Rattle.matching.proofs.MatchSetLaws.{Narrow, sets-in, in-sets, view-sheet, view-same}
 use Rattle.matching.proofs.Removed.{unlisted-removed}
@@ -25,9 +25,9 @@ pub uncovered-views : (Q : Pattern) (Ps : List Pattern) (e : Edge) → (T (match
 unfolding matched matchedBy
 uncovered-views Q Ps e n P i =
     let q = view-sheet P (asGraph Q) in
-    view-same P (asGraph Q) (without e (asGraph Q)) (unlisted-removed P (asGraph Q) e λ l j k. n (in-some _ i (in-some (lists e) (subst (λ ls. In l ls) (sym q) j) (lists-by e k))))
+    view-same P (asGraph Q) (without e (asGraph Q)) (unlisted-removed P (asGraph Q) e λ l j k. n (in-some _ i (in-some (listsEdge e) (subst (λ ls. In l ls) (sym q) j) (lists-by e k))))
 
-module _ (Q : Pattern) (ok : Sound Q) where
+module _ (Q : Pattern) (ok : SoundPattern Q) where
   -- each node of Q as its own partner
   Own : ℕ → ℕ → Type 0
   Own u v = (u ≡ v) × (u < length (Q .labels))
@@ -39,7 +39,7 @@ module _ (Q : Pattern) (ok : Sound Q) where
     follow = λ u v r e i q. (e, i, q ∙ r .0, (refl, ok .ends e i .1));
   }
     where
-      own : (u : ℕ) → u < length (Q .labels) → Fits Q (asGraph Q) u u
+      own : (u : ℕ) → u < length (Q .labels) → FitsInto Q (asGraph Q) u u
       own u l = record {
         left = l;
         right = omega (arith, length-each (λ k. 2 ^ k) (Q .labels));

@@ -6,9 +6,9 @@ use lib.ListN.{length, getD}
 use lib.Seq.{sets}
 use Rattle.packed.specs.Format.{ok, decode}
 use Rattle.packed.specs.Formats.{catalogue}
-use Rattle.packed.specs.Contents.{viewsOf, total}
+use Rattle.packed.specs.Contents.{viewsOf, pairCount}
 use Rattle.packed.specs.Refusals.{Told}
-use Rattle.packed.specs.Calls.{Answered}
+use Rattle.packed.specs.Calls.{Fulfils}
 use Rattle.matching.specs.Simulation.{patternOf, viewSheet}
 use Rattle.matching.specs.Search.{bookBytes, viewSheets, bookFor}
 use Rattle.matching.specs.Steps.{graphIn, Ready, Edges}
@@ -32,7 +32,7 @@ bookIn cs s n m w = bookBytes (viewSheets cs (graphIn s n m w))
 
 -- how many bytes the sheet of these lists takes
 abbrev pub sheetSize : List (List ℕ) → ℕ
-sheetSize ls = (14 * length ls + 24 * total ls + 7) / 8
+sheetSize ls = (14 * length ls + 24 * pairCount ls + 7) / 8
 
 -- the sizes of the sheets
 abbrev pub Sizes : List ℕ → List ℕ → ℕ → ℕ → List ℕ → List ℕ → Type 0
@@ -52,4 +52,4 @@ Filled c s n m w out out′ = (cs : List ℕ) → decode catalogue c ≡ ok cs �
 
 -- what making a book answers, once the catalogue was accepted
 abbrev pub BookAnswered : List ℕ → List ℕ → Told → List ℕ → List ℕ → Type 0
-BookAnswered c s r out out′ = (cs : List ℕ) → decode catalogue c ≡ ok cs → Answered (bookFor cs s (length out)) r out out′
+BookAnswered c s r out out′ = (cs : List ℕ) → decode catalogue c ≡ ok cs → Fulfils (bookFor cs s (length out)) r out out′

@@ -21,14 +21,14 @@ unfoldable pub pairOf : ℕ → Pair
 pairOf c = (c / 4096, c % 4096)
 
 -- the list has the edge e
-unfoldable pub lists : Edge → List ℕ → Bool
-lists e l = member (code (e .from) (e .to)) l
+unfoldable pub listsEdge : Edge → List ℕ → Bool
+listsEdge e l = member (code (e .from) (e .to)) l
 
 -- what the second sheet lists under those edges under which the first lists e
 unfoldable pub under : Edge → List (List ℕ) → List (List ℕ) → List ℕ
 under e [] ls = []
 under e (m ∷ ms) [] = []
-under e (m ∷ ms) (l ∷ ls) = cond (lists e m) l [] ++ under e ms ls
+under e (m ∷ ms) (l ∷ ls) = cond (listsEdge e m) l [] ++ under e ms ls
 
 -- the candidates for the edge e of the query ("question") Q: the pairs listed under those edges of the views that match e, which are those whose
 -- lists, on Q read as a graph, have e

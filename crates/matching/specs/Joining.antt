@@ -7,13 +7,13 @@ use Rattle.packed.specs.declared.by_value.Pattern.{Pattern as Given}
 use Rattle.matching.specs.Lists.{In}
 use Rattle.matching.specs.Simulation.{Pair}
 use Rattle.matching.specs.Join.{View, pairOf, candidates, answerSets}
-use Rattle.matching.specs.Steps.{edgeAt, patternIn, Edges}
+use Rattle.matching.specs.Steps.{givenEdge, patternIn, Edges}
 use Rattle.matching.specs.Candidates.{BookListing}
 
 -- the book's lists, by the table t, have the candidates that the views vs give
 pub record Agrees (q : Given) (t : List ℕ) (set : ℕ) (s counts : List ℕ) (k : ℕ) (vs : List View) : Type 0 where
-  pub to : (e c : ℕ) → e < q .edges → BookListing s counts k t set (q .edges) c e → In (pairOf c) (candidates (patternIn q) vs (edgeAt q e))
-  pub from : (e : ℕ) (f : Pair) → e < q .edges → In f (candidates (patternIn q) vs (edgeAt q e)) → (c : ℕ) × (f ≡ pairOf c) × BookListing s counts k t set (q .edges) c e
+  pub to : (e c : ℕ) → e < q .edges → BookListing s counts k t set (q .edges) c e → In (pairOf c) (candidates (patternIn q) vs (givenEdge q e))
+  pub from : (e : ℕ) (f : Pair) → e < q .edges → In f (candidates (patternIn q) vs (givenEdge q e)) → (c : ℕ) × (f ≡ pairOf c) × BookListing s counts k t set (q .edges) c e
 
 -- the pairs are marked with the edges that keep them, for whatever views the table and the set stand for
 pub record Joined (q : Given) (t : List ℕ) (set : ℕ) (s counts : List ℕ) (k d : ℕ) (w w′ : List ℕ) : Type 0 where

@@ -26,14 +26,14 @@ abbrev pub Rises : ℕ → List ℕ → Type 0
 Rises m w = (i j : ℕ) → i < j → j < m → getD w i 0 < getD w j 0
 
 -- the m edges of the record s, at the front of the workspace, are marked with the edges of the pattern that list them
-pub record Matched (p : Given) (s : List ℕ) (n m : ℕ) (w w′ : List ℕ) : Type 0 where
+pub record EdgesMatched (p : Given) (s : List ℕ) (n m : ℕ) (w w′ : List ℕ) : Type 0 where
   pub edges : Edges w w′
   pub marked : MarkedPairs m w′
   pub sets : matchesOf m (p .edges) w′ ≡ matchSets (patternIn p) (graphIn s n m w)
   pub only : (i e : ℕ) → i < m → e < 32 → T (bit (getD w′ (8192 + i) 0) e) → e < p .edges
 
 -- the first d pairs of the workspace make the pattern's sheet
-pub record Sheeted (p : Given) (s : List ℕ) (n m : ℕ) (w : List ℕ) (d : ℕ) (w′ : List ℕ) : Type 0 where
+pub record SheetSized (p : Given) (s : List ℕ) (n m : ℕ) (w : List ℕ) (d : ℕ) (w′ : List ℕ) : Type 0 where
   pub edges : Edges w w′
   pub marked : MarkedPairs d w′
   pub sets : matchesOf d (p .edges) w′ ≡ matchSets (patternIn p) (graphIn s n m w)

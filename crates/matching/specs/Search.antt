@@ -5,7 +5,7 @@ use lib.ListN.{length}
 use Rattle.packed.specs.Format.{Result, ok, bad, encode}
 use Rattle.packed.specs.Formats.{sheet}
 use Rattle.packed.specs.Contents.{viewsOf, fieldsOf}
-use Rattle.packed.specs.Calls.{Answer, judged, readPattern, readCatalogue, readRecord, fitFile}
+use Rattle.packed.specs.Calls.{Outcome, judged, readPattern, readCatalogue, readRecord, fitFile}
 use Rattle.matching.specs.Simulation.{Pattern, Graph, patternOf, graphOf, matchSets, viewSheet}
 
 abbrev pub bytesIn : Result ℕ → List ℕ
@@ -22,19 +22,19 @@ bookBytes [] = []
 bookBytes (ls ∷ sheets) = sheetBytes ls ++ bookBytes sheets
 
 -- searching a record for a pattern: the pattern's sheet
-abbrev pub searchFor : Pattern → List ℕ → ℕ → Answer
+abbrev pub searchFor : Pattern → List ℕ → ℕ → Outcome
 searchFor P r room = judged (readRecord r) (λ rs. fitFile room (sheetBytes (matchSets P (graphOf rs))))
 
-unfoldable pub searchAnswer : List ℕ → List ℕ → ℕ → Answer
-searchAnswer p r room = judged (readPattern p) (λ ps. searchFor (patternOf ps) r room)
+unfoldable pub searchOutcome : List ℕ → List ℕ → ℕ → Outcome
+searchOutcome p r room = judged (readPattern p) (λ ps. searchFor (patternOf ps) r room)
 
 -- the sheets of a catalogue's views on a record
 unfoldable pub viewSheets : List ℕ → Graph → List (List (List ℕ))
 viewSheets c G = map (λ v. viewSheet (patternOf v) G) (viewsOf c)
 
 -- making the book of a catalogue from a record
-abbrev pub bookFor : List ℕ → List ℕ → ℕ → Answer
+abbrev pub bookFor : List ℕ → List ℕ → ℕ → Outcome
 bookFor cs r room = judged (readRecord r) (λ rs. fitFile room (bookBytes (viewSheets cs (graphOf rs))))
 
-unfoldable pub makeBookAnswer : List ℕ → List ℕ → ℕ → Answer
-makeBookAnswer c r room = judged (readCatalogue c) (λ cs. bookFor cs r room)
+unfoldable pub makeBookOutcome : List ℕ → List ℕ → ℕ → Outcome
+makeBookOutcome c r room = judged (readCatalogue c) (λ cs. bookFor cs r room)

@@ -20,8 +20,8 @@ same a b = eqb (a .0) (b .0) and eqb (a .1) (b .1)
 unfoldable pub has : Pair → List Pair → Bool
 has a l = some (same a) l
 
-unfoldable pub pairs : ℕ → ℕ → List Pair
-pairs n m = gather (λ u. each (λ v. (u, v)) (below m)) (below n)
+unfoldable pub everyPair : ℕ → ℕ → List Pair
+everyPair n m = gather (λ u. each (λ v. (u, v)) (below m)) (below n)
 
 -- an edge ("link") of a pattern or of a graph: all its fields tell it from another, and one test compares them
 pub record Edge : Type 0 where
@@ -89,7 +89,7 @@ follows P G l x = every (λ e. eqb (e .from) (x .0) implies some (λ f. eqb (f .
 
 -- the greatest simulation of P in G
 unfoldable pub sim : Pattern → Graph → List Pair
-sim P G = greatest (follows P G) (keep (fits P G) (pairs (length (P .labels)) (length (G .labels))))
+sim P G = greatest (follows P G) (keep (fits P G) (everyPair (length (P .labels)) (length (G .labels))))
 
 -- every node of P has a partner
 unfoldable pub total : Pattern → List Pair → Bool

@@ -10,7 +10,7 @@ use Rattle.matching.specs.Sweeps.{Has, Mask, OneOf}
 use Rattle.matching.specs.Sweeping.{heldAt}
 
 -- the lent arrays have room for n nodes, and nothing from n on
-pub record Room (n : ℕ) (leave arrive out : List ℕ) : Type 0 where
+pub record NodeRoom (n : ℕ) (leave arrive out : List ℕ) : Type 0 where
   pub nodes : n ≤ length out
   pub leave-long : length leave ≡ length out
   pub arrive-long : length arrive ≡ length out
@@ -18,7 +18,7 @@ pub record Room (n : ℕ) (leave arrive out : List ℕ) : Type 0 where
   pub arrive-clear : (v : ℕ) → n ≤ v → getD arrive v 0 ≡ 0
 
 -- each of d pairs is held for x
-pub record Held (d x : ℕ) (w w′ : List ℕ) : Type 0 where
+pub record AllHeld (d x : ℕ) (w w′ : List ℕ) : Type 0 where
   pub around : Outside 8192 d w w′
   pub each : (i : ℕ) → i < d → heldAt w′ i ≡ x
 
@@ -36,7 +36,7 @@ abbrev pub Allowed : List ℕ → List ℕ → ℕ → ℕ → ℕ → Type 0
 Allowed labels ends m x e = (e < m) × Has x (getD labels (getD ends e 0) 0)
 
 -- each of n nodes of the record s has the links that its labels allow to leave it and to arrive at it
-pub record Spread (p : Given) (s : List ℕ) (n : ℕ) (leave arrive out leave′ arrive′ out′ : List ℕ) : Type 0 where
+pub record LinksSpread (p : Given) (s : List ℕ) (n : ℕ) (leave arrive out leave′ arrive′ out′ : List ℕ) : Type 0 where
   pub leaves : Outside 0 n leave leave′
   pub arrives : Outside 0 n arrive arrive′
   pub outs : Outside 0 n out out′

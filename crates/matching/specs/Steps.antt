@@ -9,15 +9,15 @@ use Rattle.matching.specs.Lists.{upTo}
 use Rattle.matching.specs.Simulation.{Edge, between, Pattern, Graph}
 
 -- the edge number e of a pattern that is given by value, and the edge whose code stands in a word
-abbrev pub edgeAt : Given → ℕ → Edge
-edgeAt p e = between (getD (p .from) e 0) (getD (p .to) e 0)
+abbrev pub givenEdge : Given → ℕ → Edge
+givenEdge p e = between (getD (p .from) e 0) (getD (p .to) e 0)
 
 abbrev pub edgeOfWord : ℕ → Edge
 edgeOfWord c = between (c / 4096) (c % 4096)
 
 -- the pattern that is given by value
 unfoldable pub patternIn : Given → Pattern
-patternIn p = record { labels = take (p .nodes) (p .labels); edges = upTo (edgeAt p) (p .edges) }
+patternIn p = record { labels = take (p .nodes) (p .labels); edges = upTo (givenEdge p) (p .edges) }
 
 -- the graph of a record s with n nodes whose m edges stand in the workspace
 unfoldable pub graphIn : List ℕ → ℕ → ℕ → List ℕ → Graph

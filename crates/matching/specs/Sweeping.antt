@@ -28,15 +28,15 @@ heldAt w i = getD w (8192 + i) 0
 
 -- ---- the sweep
 -- what a sweep leaves of it
-unfoldable pub kept : List ℕ → List ℕ → ℕ → List ℕ → ℕ → ℕ
-kept leave arrive free w i = bitAnd (heldAt w i) (bitOr free (bitAnd (getD leave (fromOf w i) 0) (getD arrive (toOf w i) 0)))
+unfoldable pub heldAfter : List ℕ → List ℕ → ℕ → List ℕ → ℕ → ℕ
+heldAfter leave arrive free w i = bitAnd (heldAt w i) (bitOr free (bitAnd (getD leave (fromOf w i) 0) (getD arrive (toOf w i) 0)))
 
 -- each pair has kept that, and what is held at a node has also what the pairs that begin there have kept
 pub record Swept (d : ℕ) (leave arrive : List ℕ) (free : ℕ) (w out w′ out′ : List ℕ) : Type 0 where
   pub around : Outside 8192 d w w′
-  pub held : (i : ℕ) → i < d → heldAt w′ i ≡ kept leave arrive free w i
+  pub held : (i : ℕ) → i < d → heldAt w′ i ≡ heldAfter leave arrive free w i
   pub long : length out′ ≡ length out
-  pub each : (v : ℕ) → v < length out → Mask (λ k. Has (getD out v 0) k ⊎ OneOf d (λ i. (fromOf w i ≡ v) × Has (kept leave arrive free w i) k)) (getD out′ v 0)
+  pub each : (v : ℕ) → v < length out → Mask (λ k. Has (getD out v 0) k ⊎ OneOf d (λ i. (fromOf w i ≡ v) × Has (heldAfter leave arrive free w i) k)) (getD out′ v 0)
 
 -- the pairs stand in the order of the nodes where they begin, and nothing is held there yet
 pub record Starts (d : ℕ) (w out : List ℕ) : Type 0 where
@@ -71,7 +71,7 @@ pub record Left (t : List ℕ) (miss x r : ℕ) : Type 0 where
 unfoldable pub missing : ℕ → List ℕ → List ℕ → ℕ → ℕ
 missing due leave out v = bitAnd (bitAnd (getD leave v 0) due) ((2 ^ 32 - 1) - getD out v 0)
 
-pub record Settled (n due : ℕ) (leaving arriving leave arrive out : List ℕ) (r : ℕ) (leave′ arrive′ out′ : List ℕ) : Type 0 where
+pub record NodesSettled (n due : ℕ) (leaving arriving leave arrive out : List ℕ) (r : ℕ) (leave′ arrive′ out′ : List ℕ) : Type 0 where
   pub leaves : Outside 0 n leave leave′
   pub arrives : Outside 0 n arrive arrive′
   pub outs : Outside 0 n out out′

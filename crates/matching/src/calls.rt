@@ -2,13 +2,13 @@
 ghost use mathlib.Core.Path.{_≡_};
 ghost use lib.ListN.{length, replicate};
 ghost use Rattle.packed.specs.Refusals.{replyTold};
-ghost use Rattle.packed.specs.Calls.{Answered};
-ghost use Rattle.matching.specs.Search.{searchFor, searchAnswer, makeBookAnswer};
+ghost use Rattle.packed.specs.Calls.{Fulfils};
+ghost use Rattle.matching.specs.Search.{searchFor, searchOutcome, makeBookOutcome};
 ghost use Rattle.matching.specs.Steps.{patternIn, Fair};
-ghost use Rattle.matching.specs.Starting.{Room};
+ghost use Rattle.matching.specs.Starting.{NodeRoom};
 ghost use Rattle.matching.specs.Steps.{Ready, graphIn};
 ghost use Rattle.matching.specs.Simulation.{matchSets};
-ghost use Rattle.matching.specs.Matched.{Proper, Rises, Sheeted};
+ghost use Rattle.matching.specs.Matched.{Proper, Rises, SheetSized};
 ghost use Rattle.matching.specs.Books.{Catalogued, Bookable, sheetSize, Sizes, Sized, Fits, Filled, BookAnswered};
 use crate::matched;
 use crate::views;
@@ -31,7 +31,7 @@ fn no_words() -> [u32; 4096]
 // Searches a record for a pattern by value.
 fn search_for(p: Pattern, record: &[u8], out: &mut [u8], work: &mut [u32]) -> Reply
     requires { ⌜ (length (now work) ≡ 16384) × Fair p × Proper p ⌝ }
-    ensures { λ r. ⌜ Answered (searchFor (patternIn p) (now («record» .entry)) (length (now (out .entry)))) (replyTold r) (now (out .entry)) (now (out .exit)) ⌝ }
+    ensures { λ r. ⌜ Fulfils (searchFor (patternIn p) (now («record» .entry)) (length (now (out .entry)))) (replyTold r) (now (out .entry)) (now (out .exit)) ⌝ }
 {
     let g = graph::load_record(record, work);
     match g {
@@ -54,7 +54,7 @@ fn search_for(p: Pattern, record: &[u8], out: &mut [u8], work: &mut [u32]) -> Re
 
 pub fn search(pattern: &[u8], record: &[u8], out: &mut [u8], work: &mut [u32]) -> Reply
     requires { ⌜ length (now work) ≡ 16384 ⌝ }
-    ensures { λ r. ⌜ Answered (searchAnswer (now (pattern .entry)) (now («record» .entry)) (length (now (out .entry)))) (replyTold r) (now (out .entry)) (now (out .exit)) ⌝ }
+    ensures { λ r. ⌜ Fulfils (searchOutcome (now (pattern .entry)) (now («record» .entry)) (length (now (out .entry)))) (replyTold r) (now (out .entry)) (now (out .exit)) ⌝ }
 {
     let f = accept::accept_pattern(pattern, work);
     let verdict = f.verdict;
@@ -83,8 +83,8 @@ fn book_size(
     arrive: &mut [u32],
     held: &mut [u32],
 ) -> usize
-    requires { ⌜ Bookable (now catalogue) k (now «record») n m (now work) × (length (now sizes) ≡ 16) × Room n (now leave) (now arrive) (now held) ⌝ }
-    ensures { λ r. ⌜ Sized (now (catalogue .entry)) (now («record» .entry)) n m (now (work .entry)) (now (sizes .exit)) r (now (work .exit)) × Room n (now (leave .exit)) (now (arrive .exit)) (now (held .exit)) ⌝ }
+    requires { ⌜ Bookable (now catalogue) k (now «record») n m (now work) × (length (now sizes) ≡ 16) × NodeRoom n (now leave) (now arrive) (now held) ⌝ }
+    ensures { λ r. ⌜ Sized (now (catalogue .entry)) (now («record» .entry)) n m (now (work .entry)) (now (sizes .exit)) r (now (work .exit)) × NodeRoom n (now (leave .exit)) (now (arrive .exit)) (now (held .exit)) ⌝ }
 {
     let mut size: usize = 0;
     let mut byte: usize = 1;
@@ -115,8 +115,8 @@ fn match_again(
     arrive: &mut [u32],
     held: &mut [u32],
 ) -> usize
-    requires { ⌜ Fair p × Proper p × Ready (now «record») n m (now work) × Rises m (now work) × Room n (now leave) (now arrive) (now held) × (size ≡ sheetSize (matchSets (patternIn p) (graphIn (now «record») n m (now work)))) ⌝ }
-    ensures { λ r. ⌜ Sheeted p (now («record» .entry)) n m (now (work .entry)) r (now (work .exit)) × Room n (now (leave .exit)) (now (arrive .exit)) (now (held .exit)) ⌝ }
+    requires { ⌜ Fair p × Proper p × Ready (now «record») n m (now work) × Rises m (now work) × NodeRoom n (now leave) (now arrive) (now held) × (size ≡ sheetSize (matchSets (patternIn p) (graphIn (now «record») n m (now work)))) ⌝ }
+    ensures { λ r. ⌜ SheetSized p (now («record» .entry)) n m (now (work .entry)) r (now (work .exit)) × NodeRoom n (now (leave .exit)) (now (arrive .exit)) (now (held .exit)) ⌝ }
 {
     if size == (14 * p.edges + 7) / 8 {
         return 0;
@@ -139,7 +139,7 @@ fn write_book(
     arrive: &mut [u32],
     held: &mut [u32],
 )
-    requires { ⌜ Bookable (now catalogue) k (now «record») n m (now work) × Sizes (now catalogue) (now «record») n m (now work) sizes × Fits (now catalogue) (now «record») n m (now work) (now out) × Room n (now leave) (now arrive) (now held) ⌝ }
+    requires { ⌜ Bookable (now catalogue) k (now «record») n m (now work) × Sizes (now catalogue) (now «record») n m (now work) sizes × Fits (now catalogue) (now «record») n m (now work) (now out) × NodeRoom n (now leave) (now arrive) (now held) ⌝ }
     ensures { λ r. ⌜ Filled (now (catalogue .entry)) (now («record» .entry)) n m (now (work .entry)) (now (out .entry)) (now (out .exit)) ⌝ }
 {
     let mut at: usize = 0;
@@ -209,7 +209,7 @@ fn make_book_of(
 
 pub fn make_book(catalogue: &[u8], record: &[u8], out: &mut [u8], work: &mut [u32]) -> Reply
     requires { ⌜ length (now work) ≡ 16384 ⌝ }
-    ensures { λ r. ⌜ Answered (makeBookAnswer (now (catalogue .entry)) (now («record» .entry)) (length (now (out .entry)))) (replyTold r) (now (out .entry)) (now (out .exit)) ⌝ }
+    ensures { λ r. ⌜ Fulfils (makeBookOutcome (now (catalogue .entry)) (now («record» .entry)) (length (now (out .entry)))) (replyTold r) (now (out .entry)) (now (out .exit)) ⌝ }
 {
     let f = accept::accept_catalogue(catalogue, work);
     let verdict = f.verdict;

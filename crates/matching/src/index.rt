@@ -3,7 +3,7 @@ ghost use mathlib.Core.Path.{_≡_};
 ghost use Prim.Native.Nat.{_+_, _<_, _≤_};
 ghost use lib.ListN.{length};
 ghost use Rattle.matching.specs.Sweeping.{Ends};
-ghost use Rattle.matching.specs.Late.{Ordered, Cut, Before, FirstsMade, Looked};
+ghost use Rattle.matching.specs.Late.{ByStart, Cut, BeginsBelow, FirstsMade, Looked};
 use packed::limits;
 
 pub fn wide(x: u16) -> usize
@@ -14,7 +14,7 @@ pub fn wide(x: u16) -> usize
 
 // How many pairs begin below v, where those up to start do.
 fn skip(work: &[u32], start: usize, d: usize, v: usize) -> usize
-    requires { ⌜ (d ≤ 8192) × (length (now work) ≡ 16384) × Ordered d (now work) × Before d (now work) v start ⌝ }
+    requires { ⌜ (d ≤ 8192) × (length (now work) ≡ 16384) × ByStart d (now work) × BeginsBelow d (now work) v start ⌝ }
     ensures { λ r. ⌜ Cut d (now (work .entry)) v r ⌝ }
 {
     let mut i = start;
@@ -31,7 +31,7 @@ fn skip(work: &[u32], start: usize, d: usize, v: usize) -> usize
 
 // first[v] is how many pairs begin below v, for each v up to n.
 pub fn firsts(work: &[u32], d: usize, n: usize, first: &mut [u16])
-    requires { ⌜ (d ≤ 8192) × (length (now work) ≡ 16384) × Ordered d (now work) × (n < length (now first)) ⌝ }
+    requires { ⌜ (d ≤ 8192) × (length (now work) ≡ 16384) × ByStart d (now work) × (n < length (now first)) ⌝ }
     ensures { λ r. ⌜ FirstsMade d n (now (work .entry)) (now (first .entry)) (now (first .exit)) ⌝ }
 {
     let mut i: usize = 0;

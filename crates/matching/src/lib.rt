@@ -13,11 +13,9 @@ mod sweeps;
 mod turns;
 pub mod views;
 
-ghost use mathlib.Core.List.{[], _∷_};
-ghost use lib.ListN.{length};
 ghost use Rattle.packed.specs.Refusals.{replyTold};
-ghost use Rattle.packed.specs.Calls.{Settled, withWorkspace};
-ghost use Rattle.matching.specs.Search.{searchAnswer, makeBookAnswer};
+ghost use Rattle.packed.specs.Calls.{OneOutput};
+ghost use Rattle.matching.specs.Search.{searchOutcome, makeBookOutcome};
 use packed::limits;
 use packed::reply::Refusal;
 use packed::reply::Reply;
@@ -28,7 +26,7 @@ const CLEARED: usize = limits::WORKSPACE;
 
 // Searches a record for a pattern: writes the pattern's sheet.
 pub fn search(pattern: &[u8], record: &[u8], out: &mut [u8], work: &mut [u32]) -> Reply
-    ensures { λ r. ⌜ Settled [] (withWorkspace (length (now (work .entry))) (searchAnswer (now (pattern .entry)) (now («record» .entry)) (length (now (out .entry))))) (replyTold r) (now (out .entry) ∷ []) (now (out .exit) ∷ []) (now (work .entry)) (now (work .exit)) ⌝ }
+    ensures { λ r. ⌜ OneOutput (searchOutcome (now (pattern .entry)) (now («record» .entry))) (replyTold r) (now (out .entry)) (now (out .exit)) (now (work .entry)) (now (work .exit)) ⌝ }
 {
     if work.len() < limits::WORKSPACE {
         return Reply::Refused(Refusal::SmallWorkspace);
@@ -40,7 +38,7 @@ pub fn search(pattern: &[u8], record: &[u8], out: &mut [u8], work: &mut [u32]) -
 
 // Makes the book of a catalogue from a record: writes a sheet for each view.
 pub fn make_book(catalogue: &[u8], record: &[u8], out: &mut [u8], work: &mut [u32]) -> Reply
-    ensures { λ r. ⌜ Settled [] (withWorkspace (length (now (work .entry))) (makeBookAnswer (now (catalogue .entry)) (now («record» .entry)) (length (now (out .entry))))) (replyTold r) (now (out .entry) ∷ []) (now (out .exit) ∷ []) (now (work .entry)) (now (work .exit)) ⌝ }
+    ensures { λ r. ⌜ OneOutput (makeBookOutcome (now (catalogue .entry)) (now («record» .entry))) (replyTold r) (now (out .entry)) (now (out .exit)) (now (work .entry)) (now (work .exit)) ⌝ }
 {
     if work.len() < limits::WORKSPACE {
         return Reply::Refused(Refusal::SmallWorkspace);

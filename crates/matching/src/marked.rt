@@ -2,13 +2,13 @@
 ghost use mathlib.Core.Path.{_≡_};
 ghost use Prim.Native.Nat.{ℕ, _+_, _<_, _≤_};
 ghost use lib.ListN.{length};
-ghost use Rattle.matching.specs.Late.{Added, Marks, Full, FirstWord, Drawn, Taken, Marked};
+ghost use Rattle.matching.specs.Late.{NumberAdded, Marks, AllMarked, FirstWord, Drawn, TakenOut, IsMarked};
 use crate::index;
 use crate::start;
 
 fn add(set: &mut [u32], x: usize)
     requires { ⌜ (length (now set) ≡ 256) × (x < 8192) ⌝ }
-    ensures { λ r. ⌜ Added x (now (set .entry)) (now (set .exit)) ⌝ }
+    ensures { λ r. ⌜ NumberAdded x (now (set .entry)) (now (set .exit)) ⌝ }
 {
     let at = x / 32;
     let place = x % 32;
@@ -62,8 +62,8 @@ pub fn mark(first: &[u16], v: usize, set: &mut [u32])
 
 // Marks the first n nodes.
 pub fn mark_all(n: usize, first: &[u16], set: &mut [u32])
-    requires { ⌜ (n ≤ 4096) × (length (now first) ≡ 4097) × (length (now set) ≡ 256) × ((v : ℕ) → v < 4096 → Marked (now set) v → ⊥) ⌝ }
-    ensures { λ r. ⌜ Full n (now (set .exit)) ⌝ }
+    requires { ⌜ (n ≤ 4096) × (length (now first) ≡ 4097) × (length (now set) ≡ 256) × ((v : ℕ) → v < 4096 → IsMarked (now set) v → ⊥) ⌝ }
+    ensures { λ r. ⌜ AllMarked n (now (set .exit)) ⌝ }
 {
     let mut v: usize = 0;
     while v < n {
@@ -75,7 +75,7 @@ pub fn mark_all(n: usize, first: &[u16], set: &mut [u32])
 // Takes a marked node, one that does not wait where there is one; 4096 if none is marked.
 pub fn take(set: &mut [u32]) -> usize
     requires { ⌜ length (now set) ≡ 256 ⌝ }
-    ensures { λ r. ⌜ Taken (now (set .entry)) r (now (set .exit)) ⌝ }
+    ensures { λ r. ⌜ TakenOut (now (set .entry)) r (now (set .exit)) ⌝ }
 {
     let x = draw(set);
     if x < 4096 { x } else { x - 4096 }

@@ -1,7 +1,7 @@
 // A pattern matched with a record whose edges stand in the workspace.
 ghost use Rattle.matching.specs.Steps.{Fair, Ready};
-ghost use Rattle.matching.specs.Starting.{Room};
-ghost use Rattle.matching.specs.Matched.{Matched, Proper, Rises};
+ghost use Rattle.matching.specs.Starting.{NodeRoom};
+ghost use Rattle.matching.specs.Matched.{EdgesMatched, Proper, Rises};
 use crate::engine;
 use crate::link_tables;
 use crate::start;
@@ -18,8 +18,8 @@ pub fn match_edges(
     arrive: &mut [u32],
     out: &mut [u32],
 )
-    requires { ⌜ Fair p × Proper p × Ready (now s) n m (now work) × Rises m (now work) × Room n (now leave) (now arrive) (now out) ⌝ }
-    ensures { λ r. ⌜ Matched p (now (s .entry)) n m (now (work .entry)) (now (work .exit)) × Room n (now (leave .exit)) (now (arrive .exit)) (now (out .exit)) ⌝ }
+    requires { ⌜ Fair p × Proper p × Ready (now s) n m (now work) × Rises m (now work) × NodeRoom n (now leave) (now arrive) (now out) ⌝ }
+    ensures { λ r. ⌜ EdgesMatched p (now (s .entry)) n m (now (work .entry)) (now (work .exit)) × NodeRoom n (now (leave .exit)) (now (arrive .exit)) (now (out .exit)) ⌝ }
 {
     let from = p.from;
     let to = p.to;

@@ -4,7 +4,7 @@ ghost use Prim.Native.Nat.{ℕ, _+_, _*_, _^_, _<_, _≤_};
 ghost use lib.ListN.{length, getD, replicate};
 ghost use Rattle.matching.specs.Steps.{Fair};
 ghost use Rattle.matching.specs.Sweeps.{Has};
-ghost use Rattle.matching.specs.Starting.{Room, Held, ByLabel, OfLabels, Spread};
+ghost use Rattle.matching.specs.Starting.{NodeRoom, AllHeld, ByLabel, OfLabels, LinksSpread};
 use packed::by_value;
 use packed::by_value::Pattern;
 use packed::limits;
@@ -12,7 +12,7 @@ use packed::limits;
 // Each of d pairs is held for x.
 pub fn hold(work: &mut [u32], d: usize, x: u32)
     requires { ⌜ (d ≤ 8192) × (length (now work) ≡ 16384) ⌝ }
-    ensures { λ r. ⌜ Held d x (now (work .entry)) (now (work .exit)) ⌝ }
+    ensures { λ r. ⌜ AllHeld d x (now (work .entry)) (now (work .exit)) ⌝ }
 {
     let mut i: usize = 0;
     while i < d {
@@ -107,8 +107,8 @@ pub fn spread(
     arrive: &mut [u32],
     out: &mut [u32],
 )
-    requires { ⌜ Fair p × (length (now s) ≤ 65536) × (27 + 32 * n ≤ 8 * length (now s)) × Room n (now leave) (now arrive) (now out) ⌝ }
-    ensures { λ r. ⌜ Spread p (now (s .entry)) n (now (leave .entry)) (now (arrive .entry)) (now (out .entry)) (now (leave .exit)) (now (arrive .exit)) (now (out .exit)) ⌝ }
+    requires { ⌜ Fair p × (length (now s) ≤ 65536) × (27 + 32 * n ≤ 8 * length (now s)) × NodeRoom n (now leave) (now arrive) (now out) ⌝ }
+    ensures { λ r. ⌜ LinksSpread p (now (s .entry)) n (now (leave .entry)) (now (arrive .entry)) (now (out .entry)) (now (leave .exit)) (now (arrive .exit)) (now (out .exit)) ⌝ }
 {
     let labels = p.labels;
     let from = p.from;

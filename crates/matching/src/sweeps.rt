@@ -3,7 +3,7 @@
 ghost use mathlib.Core.Path.{_≡_};
 ghost use Prim.Native.Nat.{_+_, _<_, _≤_};
 ghost use lib.ListN.{length};
-ghost use Rattle.matching.specs.Sweeping.{Ends, Starts, Carried, Swept, LookedUp, Left, Settled};
+ghost use Rattle.matching.specs.Sweeping.{Ends, Starts, Carried, Swept, LookedUp, Left, NodesSettled};
 ghost use Rattle.matching.specs.Choices.{Prepared, Fixed};
 use packed::limits;
 
@@ -85,7 +85,7 @@ pub fn settle(
     arriving: &[u32; 128],
 ) -> u32
     requires { ⌜ (n ≤ length (now leave)) × (n ≤ length (now arrive)) × (n ≤ length (now out)) ⌝ }
-    ensures { λ r. ⌜ Settled n due (now (leaving .entry)) (now (arriving .entry)) (now (leave .entry)) (now (arrive .entry)) (now (out .entry)) r (now (leave .exit)) (now (arrive .exit)) (now (out .exit)) ⌝ }
+    ensures { λ r. ⌜ NodesSettled n due (now (leaving .entry)) (now (arriving .entry)) (now (leave .entry)) (now (arrive .entry)) (now (out .entry)) r (now (leave .exit)) (now (arrive .exit)) (now (out .exit)) ⌝ }
 {
     let mut lost: u32 = 0;
     let mut v: usize = 0;

@@ -3,7 +3,7 @@ ghost use mathlib.Core.Path.{_≡_};
 ghost use Prim.Native.Nat.{_+_, _<_, _≤_};
 ghost use lib.ListN.{length};
 ghost use Rattle.matching.specs.Sweeping.{fromOf, Ends};
-ghost use Rattle.matching.specs.Late.{Ordered, Firsts, Backs, Full, MarkedStart, MarkedBefore, Turned, Late};
+ghost use Rattle.matching.specs.Late.{ByStart, Firsts, Backs, AllMarked, MarkedStart, MarkedBefore, Turned, Late};
 use crate::ends;
 use crate::index;
 use crate::marked;
@@ -100,7 +100,7 @@ fn settle(
     arrive: &mut [u32],
     set: &mut [u32],
 )
-    requires { ⌜ Ends n d (now work) × Firsts d n (now work) (now first) × Backs d n (now work) (now back) (now rev) × (n ≤ 4096) × (length (now first) ≡ 4097) × (n ≤ length (now leave)) × (n ≤ length (now arrive)) × Full n (now set) ⌝ }
+    requires { ⌜ Ends n d (now work) × Firsts d n (now work) (now first) × Backs d n (now work) (now back) (now rev) × (n ≤ 4096) × (length (now first) ≡ 4097) × (n ≤ length (now leave)) × (n ≤ length (now arrive)) × AllMarked n (now set) ⌝ }
     ensures { λ r. ⌜ Late n due d (now (leaving .entry)) (now (arriving .entry)) (now (work .entry)) (now (leave .entry)) (now (arrive .entry)) (now (leave .exit)) (now (arrive .exit)) ⌝ }
 {
     loop {
@@ -137,7 +137,7 @@ pub fn late(
     leave: &mut [u32],
     arrive: &mut [u32],
 )
-    requires { ⌜ Ends n d (now work) × Ordered d (now work) × (n ≤ 4096) × (n ≤ length (now leave)) × (n ≤ length (now arrive)) ⌝ }
+    requires { ⌜ Ends n d (now work) × ByStart d (now work) × (n ≤ 4096) × (n ≤ length (now leave)) × (n ≤ length (now arrive)) ⌝ }
     ensures { λ r. ⌜ Late n due d (now (leaving .entry)) (now (arriving .entry)) (now (work .entry)) (now (leave .entry)) (now (arrive .entry)) (now (leave .exit)) (now (arrive .exit)) ⌝ }
 {
     let mut first: [u16; 4097] = [0; 4097];

@@ -8,7 +8,7 @@ use native.Mathlib.Nat.{sub-zero}
 use Rattle.packed.specs.Format.{Result, decode}
 use Rattle.packed.specs.Formats.{pattern, catalogue}
 use Rattle.packed.specs.Contents.{nodesOf, edgesOf, patternSize}
-use Rattle.packed.specs.ByValue.{HoldsPattern, Counted}
+use Rattle.packed.specs.ByValue.{HoldsPattern, CountTable}
 use Rattle.packed.specs.Reading.{Content}
 use Rattle.packed.specs.Calls.{Verdict, readPattern}
 use Rattle.packed.specs.Accepting.{Held, HoldsViews}
@@ -43,7 +43,7 @@ pattern-few s q = omega (arith, pattern-bounds s (q .fields) (read-says 44 1 pat
 
 -- the same of a catalogue's views
 views-held : (s : List ℕ) {n k : ℕ} {w w′ counts : List ℕ} (c : Content (decode catalogue s) n w w′) → n ≤ length w → k ≡ getD (take (n - 0) (drop 0 w′)) 0 0
-    → Counted (take (n - 0) (drop 0 w′)) counts → HoldsViews (c .fields) k counts
+    → CountTable (take (n - 0) (drop 0 w′)) counts → HoldsViews (c .fields) k counts
 views-held s {k = k} c room e m =
     let b = catalogue-bounds s (c .fields) (c .is) in
     let f = rw (front-is c room) at m in
@@ -51,6 +51,6 @@ views-held s {k = k} c room e m =
     record { number = g; few = omega (arith, g, b .0); are = counts-are f (b .0) k (b .1) g; small = counts-small f (b .0) (b .2) }
 
 pub catalogue-held : (s : List ℕ) {v : Verdict} {file n k : ℕ} {w w′ counts : List ℕ} (c : Content (decode catalogue s) n w w′) → n ≤ length w
-    → Finds v file (decode catalogue s) → length w′ ≡ length w → k ≡ getD (take (n - 0) (drop 0 w′)) 0 0 → Counted (take (n - 0) (drop 0 w′)) counts
+    → Finds v file (decode catalogue s) → length w′ ≡ length w → k ≡ getD (take (n - 0) (drop 0 w′)) 0 0 → CountTable (take (n - 0) (drop 0 w′)) counts
     → Held (λ cs. HoldsViews cs k counts) v n w′
 catalogue-held s c room f l e m = held-by c room f l (views-held s c room e m)

@@ -65,12 +65,12 @@ patternsIn-flatten (c ∷ cs) h =
     (ap (patternsIn (length cs)) (drop-at c (flatten cs) (length c) refl) ∙ patternsIn-flatten cs (λ i l. h (suc i) (omega arith))))
 
 -- the views of an accepted catalogue
-pub record Views (ws : List ℕ) : Type 0 where
+pub record ViewsWithin (ws : List ℕ) : Type 0 where
   pub most : getD ws 0 0 ≤ 16
   pub many : length (viewsOf ws) ≡ getD ws 0 0
   pub bounded : (j : ℕ) → j < getD ws 0 0 → Bounded (getD (viewsOf ws) j [])
 
-pub catalogue-views : (s ws : List ℕ) → decode catalogue s ≡ ok ws → Views ws
+pub catalogue-views : (s ws : List ℕ) → decode catalogue s ≡ ok ws → ViewsWithin ws
 unfolding viewsOf
 catalogue-views s ws e =
     let q = catalogue-accepted s ws .0 e in

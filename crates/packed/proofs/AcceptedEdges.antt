@@ -13,7 +13,7 @@ use borrow.Author.Tests.{eq-eqb, eqb-true}
 use Rattle.packed.specs.Bits.{bitsOf}
 use Rattle.packed.specs.Format.{Format, done, ask, then, times}
 use Rattle.packed.specs.Formats.{linked, edges, isEnd, allEnds}
-use Rattle.packed.specs.Plain.{Laid, Below, fieldsOf, fromAt, toAt}
+use Rattle.packed.specs.Plain.{Laid, Below, fieldBits, fromAt, toAt}
 use Rattle.packed.proofs.RoundTrip.{and-yes}
 use Rattle.packed.proofs.OrderCases.{or-cases}
 use Rattle.packed.proofs.AcceptedLaws.{Accepts, accepts-same, Nothing, accepts-done, Asked, accepts-ask, Tested, accepts-test}
@@ -43,16 +43,16 @@ below-cons l h g (suc j) i = g j (omega arith)
 pub record Fields (w bound n : ℕ) (ws : List ℕ) (bs : List Bool) : Type 0 where
   pub many : length ws ≡ n
   pub small : Below bound ws
-  pub layout : bs ≡ fieldsOf w ws
+  pub layout : bs ≡ fieldBits w ws
 
 module _ (w bound e : ℕ) (fits : bound ≤ 2 ^ w) where
   no-fields : (ws : List ℕ) (bs : List Bool) → Nothing ws bs ↔ Fields w bound 0 ws bs
-  unfolding fieldsOf
+  unfolding fieldBits
   no-fields [] bs = (λ q. record { many = refl; small = λ i h. absurd (omega arith); layout = q .1 }, λ q. (refl, q .layout))
   no-fields (v ∷ ws) bs = (λ q. absurd (let z = ap length (q .0) in omega arith), λ q. absurd (let z = q .many in omega arith))
 
   more-fields : (n : ℕ) (ws : List ℕ) (bs : List Bool) → Asked w 0 bound (λ v. Fields w bound n) ws bs ↔ Fields w bound (suc n) ws bs
-  unfolding fieldsOf
+  unfolding fieldBits
   more-fields n ws bs = (
     λ q.
         let r = q .after in
@@ -70,7 +70,7 @@ module _ (w bound e : ℕ) (fits : bound ≤ 2 ^ w) where
           record {
             value = v;
             rest = zs;
-            body = fieldsOf w zs;
+            body = fieldBits w zs;
             content = refl;
             layout = q .layout;
             least = omega arith;
@@ -147,17 +147,17 @@ module _ (es : List ℕ) (k : ℕ) (long : length es ≡ 2 * k) (a b : ℕ) (res
 
 -- ---- so many edges more, after the k edges with the ends es; at the end Last holds of all ends
 
-pub record Edges (w nodes : ℕ) (Last : List ℕ → Type 0) (more k : ℕ) (es ws : List ℕ) (bs : List Bool) : Type 0 where
+pub record EdgesLaid (w nodes : ℕ) (Last : List ℕ → Type 0) (more k : ℕ) (es ws : List ℕ) (bs : List Bool) : Type 0 where
   pub two-each : length ws ≡ 2 * more
   pub are-nodes : Below nodes ws
-  pub layout : bs ≡ fieldsOf w ws
+  pub layout : bs ≡ fieldBits w ws
   pub differ : (i j : ℕ) → i < j → k ≤ j → j < k + more → fromAt (es ++ ws) i ≡ fromAt (es ++ ws) j → toAt (es ++ ws) i ≡ toAt (es ++ ws) j → ⊥
   pub ends : Last (es ++ ws)
 
 module _ (w nodes : ℕ) (fits : nodes ≤ 2 ^ w) (last : List ℕ → Format) (Last : List ℕ → Type 0)
     (accepts-last : (ends : List ℕ) (at : ℕ) → Accepts (last ends) at (λ ws bs. Last ends × Nothing ws bs)) where
-  no-edges : (k : ℕ) (es ws : List ℕ) (bs : List Bool) → (Last es × Nothing ws bs) ↔ Edges w nodes Last 0 k es ws bs
-  unfolding fieldsOf
+  no-edges : (k : ℕ) (es ws : List ℕ) (bs : List Bool) → (Last es × Nothing ws bs) ↔ EdgesLaid w nodes Last 0 k es ws bs
+  unfolding fieldBits
   no-edges k es [] bs = (
     λ q. record {
       two-each = refl;
@@ -172,10 +172,10 @@ module _ (w nodes : ℕ) (fits : nodes ≤ 2 ^ w) (last : List ℕ → Format) (
 
   -- one edge, and the others
   abbrev One : ℕ → ℕ → List ℕ → Laid
-  One more k es = Asked w 0 nodes (λ a. Asked w 0 nodes (λ b. Tested (not (linked a b es)) (Edges w nodes Last more (suc k) (es ++ (a ∷ b ∷ [])))))
+  One more k es = Asked w 0 nodes (λ a. Asked w 0 nodes (λ b. Tested (not (linked a b es)) (EdgesLaid w nodes Last more (suc k) (es ++ (a ∷ b ∷ [])))))
 
-  edge-to : (more k : ℕ) (es : List ℕ) → length es ≡ 2 * k → (ws : List ℕ) (bs : List Bool) → One more k es ws bs → Edges w nodes Last (suc more) k es ws bs
-  unfolding fieldsOf
+  edge-to : (more k : ℕ) (es : List ℕ) → length es ≡ 2 * k → (ws : List ℕ) (bs : List Bool) → One more k es ws bs → EdgesLaid w nodes Last (suc more) k es ws bs
+  unfolding fieldBits
   edge-to more k es long ws bs q =
       let a : ℕ = q .value in
       let b : ℕ = q .after .value in
@@ -195,8 +195,8 @@ module _ (w nodes : ℕ) (fits : nodes ≤ 2 ^ w) (last : List ℕ → Format) (
         ends = subst Last shift (r .ends);
       })
 
-  edge-by : (more k : ℕ) (es : List ℕ) → length es ≡ 2 * k → (ws : List ℕ) (bs : List Bool) → Edges w nodes Last (suc more) k es ws bs → One more k es ws bs
-  unfolding fieldsOf
+  edge-by : (more k : ℕ) (es : List ℕ) → length es ≡ 2 * k → (ws : List ℕ) (bs : List Bool) → EdgesLaid w nodes Last (suc more) k es ws bs → One more k es ws bs
+  unfolding fieldBits
   edge-by more k es long [] bs q = absurd (let z = q .two-each in omega arith)
   edge-by more k es long (a ∷ []) bs q = absurd (let z = q .two-each in omega arith)
   edge-by more k es long (a ∷ b ∷ l) bs q =
@@ -206,7 +206,7 @@ module _ (w nodes : ℕ) (fits : nodes ≤ 2 ^ w) (last : List ℕ → Format) (
       record {
         value = a;
         rest = b ∷ l;
-        body = bitsOf w b ++ fieldsOf w l;
+        body = bitsOf w b ++ fieldBits w l;
         content = refl;
         layout = q .layout;
         least = omega arith;
@@ -215,7 +215,7 @@ module _ (w nodes : ℕ) (fits : nodes ≤ 2 ^ w) (last : List ℕ → Format) (
         after = record {
           value = b;
           rest = l;
-          body = fieldsOf w l;
+          body = fieldBits w l;
           content = refl;
           layout = refl;
           least = omega arith;
@@ -234,7 +234,7 @@ module _ (w nodes : ℕ) (fits : nodes ≤ 2 ^ w) (last : List ℕ → Format) (
         };
       }
 
-  pub accepts-edges : (more k at : ℕ) (es : List ℕ) → length es ≡ 2 * k → Accepts (edges w nodes last more es) at (Edges w nodes Last more k es)
+  pub accepts-edges : (more k at : ℕ) (es : List ℕ) → length es ≡ 2 * k → Accepts (edges w nodes last more es) at (EdgesLaid w nodes Last more k es)
   unfolding edges
   accepts-edges zero k at es long = accepts-same (no-edges k es) (accepts-last es at)
   accepts-edges (suc more) k at es long =

@@ -9,13 +9,13 @@ use lib.Dec.{lit≤}
 use native.Mathlib.Omega.{arith}
 use Rattle.packed.specs.Bits.{bitsOf}
 use Rattle.packed.specs.Format.{Format, done, ask, then, times}
-use Rattle.packed.specs.Formats.{count, edges, allEnds, label, joined, pattern, labels, nothing, record′}
-use Rattle.packed.specs.Plain.{Laid, Below, fieldsOf, PlainEdges, PlainPattern, PlainRecord}
+use Rattle.packed.specs.Formats.{countField, edges, allEnds, label, joined, pattern, labels, nothing, record′}
+use Rattle.packed.specs.Plain.{Laid, Below, fieldBits, PlainEdges, PlainPattern, PlainRecord}
 use Rattle.packed.proofs.AcceptedLaws.{Accepts, accepts-same, Nothing, accepts-done, Asked, accepts-ask, accepts-test, Then, accepts-then}
-use Rattle.packed.proofs.AcceptedEdges.{Fields, accepts-fields, Edges, accepts-edges, Met, all-met, met-all}
+use Rattle.packed.proofs.AcceptedEdges.{Fields, accepts-fields, EdgesLaid, accepts-edges, Met, all-met, met-all}
 
 -- the widths and bounds of a graph's fields
-record Sizes : Type 0 where
+record GraphSizes : Type 0 where
   wide-nodes : ℕ
   least-nodes : ℕ
   most-nodes : ℕ
@@ -31,14 +31,14 @@ record Sizes : Type 0 where
   label-fits : labels-bound ≤ 2 ^ wide-label
   ends-fit : most-nodes ≤ 2 ^ wide-end
 
-module _ (z : Sizes) where
+module _ (z : GraphSizes) where
   record Graph (Last : ℕ → List ℕ → Type 0) (ws : List ℕ) (bs : List Bool) : Type 0 where
     nodes : ℕ
     number : ℕ
     marks : List ℕ
     ends : List ℕ
     content : ws ≡ nodes ∷ number ∷ (marks ++ ends)
-    layout : bs ≡ bitsOf (z .wide-nodes) nodes ++ (bitsOf (z .wide-number) number ++ (fieldsOf (z .wide-label) marks ++ fieldsOf (z .wide-end) ends))
+    layout : bs ≡ bitsOf (z .wide-nodes) nodes ++ (bitsOf (z .wide-number) number ++ (fieldBits (z .wide-label) marks ++ fieldBits (z .wide-end) ends))
     nodes-low : z .least-nodes ≤ nodes
     nodes-high : nodes ≤ z .most-nodes
     number-low : z .least-number ≤ number
@@ -54,7 +54,7 @@ module _ (z : Sizes) where
     Parts =
         Asked (z .wide-nodes) (z .least-nodes) (suc (z .most-nodes)) (λ nodes.
         Asked (z .wide-number) (z .least-number) (suc (z .most-number)) (λ number.
-        Then (Fields (z .wide-label) (z .labels-bound) nodes) (λ front. Edges (z .wide-end) nodes (Last nodes) number 0 [])))
+        Then (Fields (z .wide-label) (z .labels-bound) nodes) (λ front. EdgesLaid (z .wide-end) nodes (Last nodes) number 0 [])))
 
     graph-to : (ws : List ℕ) (bs : List Bool) → Parts ws bs → Graph Last ws bs
     graph-to ws bs q =
@@ -76,7 +76,7 @@ module _ (z : Sizes) where
               ∙ ap (λ (l : List Bool). bitsOf (z .wide-number) (n .value) ++ l) (
               r .layout
               ∙ ap (λ (l : List Bool). l ++ r .back) (f .layout)
-              ∙ ap (λ (l : List Bool). fieldsOf (z .wide-label) (r .first) ++ l) (e .layout)
+              ∙ ap (λ (l : List Bool). fieldBits (z .wide-label) (r .first) ++ l) (e .layout)
               ));
           nodes-low = q .least;
           nodes-high = let m = q .most in omega arith;
@@ -93,7 +93,7 @@ module _ (z : Sizes) where
         record {
           value = q .nodes;
           rest = q .number ∷ (q .marks ++ q .ends);
-          body = bitsOf (z .wide-number) (q .number) ++ (fieldsOf (z .wide-label) (q .marks) ++ fieldsOf (z .wide-end) (q .ends));
+          body = bitsOf (z .wide-number) (q .number) ++ (fieldBits (z .wide-label) (q .marks) ++ fieldBits (z .wide-end) (q .ends));
           content = q .content;
           layout = q .layout;
           least = q .nodes-low;
@@ -102,7 +102,7 @@ module _ (z : Sizes) where
           after = record {
             value = q .number;
             rest = q .marks ++ q .ends;
-            body = fieldsOf (z .wide-label) (q .marks) ++ fieldsOf (z .wide-end) (q .ends);
+            body = fieldBits (z .wide-label) (q .marks) ++ fieldBits (z .wide-end) (q .ends);
             content = refl;
             layout = refl;
             least = q .number-low;
@@ -111,8 +111,8 @@ module _ (z : Sizes) where
             after = record {
               first = q .marks;
               second = q .ends;
-              front = fieldsOf (z .wide-label) (q .marks);
-              back = fieldsOf (z .wide-end) (q .ends);
+              front = fieldBits (z .wide-label) (q .marks);
+              back = fieldBits (z .wide-end) (q .ends);
               content = refl;
               layout = refl;
               before = record { many = q .mark-each; small = q .are-marks; layout = refl };
@@ -128,7 +128,7 @@ module _ (z : Sizes) where
         }
 
     accepts-graph : (at : ℕ)
-        → Accepts (count (z .wide-nodes) (z .least-nodes) (z .most-nodes) (λ nodes. count (z .wide-number) (z .least-number) (z .most-number) (λ number.
+        → Accepts (countField (z .wide-nodes) (z .least-nodes) (z .most-nodes) (λ nodes. countField (z .wide-number) (z .least-number) (z .most-number) (λ number.
         then (times nodes (ask (z .wide-label) 0 (z .labels-bound) 3 (λ v. done))) (edges (z .wide-end) nodes (last nodes) number [])))) at (Graph Last)
     accepts-graph at =
         accepts-same (λ ws bs. (graph-to ws bs, graph-by ws bs))
@@ -142,7 +142,7 @@ module _ (z : Sizes) where
 
 -- ---- a pattern
 
-abbrev pattern-sizes : Sizes
+abbrev pattern-sizes : GraphSizes
 pattern-sizes =
     record {
       wide-nodes = 5;
@@ -208,7 +208,7 @@ accepts-pattern at = accepts-same plain-pattern (accepts-graph pattern-sizes joi
 
 -- ---- a record
 
-abbrev record-sizes : Sizes
+abbrev record-sizes : GraphSizes
 record-sizes =
     record {
       wide-nodes = 13;

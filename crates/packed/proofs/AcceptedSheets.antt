@@ -11,7 +11,7 @@ use borrow.Author.Tests.{leb-true, le-leb, eqb-true, eqb-false, eq-eqb, ne-eqb, 
 use Rattle.packed.specs.Bits.{bitsOf}
 use Rattle.packed.specs.Format.{Format, then, whole}
 use Rattle.packed.specs.Formats.{code, pairs, lists, sheet, book}
-use Rattle.packed.specs.Plain.{Laid, Whole, InTurn, Below, fieldsOf, fromAt, toAt, Before, PlainList, PlainSheet, countAt}
+use Rattle.packed.specs.Plain.{Laid, Whole, InTurn, Below, fieldBits, fromAt, toAt, Before, PlainList, PlainSheet, countAt}
 use Rattle.packed.proofs.OrderCases.{lt-or-ge, or-neither}
 use Rattle.packed.proofs.AcceptedLaws.{Accepts, accepts-same, Nothing, accepts-done, Asked, accepts-ask, Tested, accepts-test, Then, accepts-then}
 use Rattle.packed.proofs.AcceptedEdges.{below-cons, from-cons, to-cons}
@@ -19,10 +19,10 @@ use Rattle.packed.proofs.AcceptedTurns.{no-turns, more-turns, row, acce
 
 -- ---- pairs by their codes
 
-abbrev codeAt : List ℕ → ℕ → ℕ
-codeAt ends i = code (fromAt ends i) (toAt ends i)
+abbrev codeFrom : List ℕ → ℕ → ℕ
+codeFrom ends i = code (fromAt ends i) (toAt ends i)
 
-code-cons : (a b : ℕ) (l : List ℕ) (i : ℕ) → codeAt (a ∷ b ∷ l) (suc i) ≡ codeAt l i
+code-cons : (a b : ℕ) (l : List ℕ) (i : ℕ) → codeFrom (a ∷ b ∷ l) (suc i) ≡ codeFrom l i
 code-cons a b l i = rw (from-cons a b l i, to-cons a b l i)
 
 -- by from, then to
@@ -36,23 +36,23 @@ code-order a b c d h g = (
 record Pairs (k least : ℕ) (ws : List ℕ) (bs : List Bool) : Type 0 where
   two-each : length ws ≡ 2 * k
   small : Below 4096 ws
-  layout : bs ≡ fieldsOf 12 ws
-  first : 0 < k → least ≤ codeAt ws 0
-  ascend : (i : ℕ) → suc i < k → codeAt ws i < codeAt ws (suc i)
+  layout : bs ≡ fieldBits 12 ws
+  first : 0 < k → least ≤ codeFrom ws 0
+  ascend : (i : ℕ) → suc i < k → codeFrom ws i < codeFrom ws (suc i)
 
 no-pairs : (least : ℕ) (ws : List ℕ) (bs : List Bool) → Nothing ws bs ↔ Pairs 0 least ws bs
-unfolding fieldsOf
+unfolding fieldBits
 no-pairs least [] bs = (
   λ q. record { two-each = refl; small = λ i h. absurd (omega arith); layout = q .1; first = λ h. absurd (omega arith); ascend = λ i h. absurd (omega arith) },
   λ q. (refl, q .layout),
 )
 no-pairs least (v ∷ ws) bs = (λ q. absurd (let z = ap length (q .0) in omega arith), λ q. absurd (let z = q .two-each in omega arith))
 
-abbrev Pair : ℕ → ℕ → Laid
-Pair k least = Asked 12 0 4096 (λ a. Asked 12 0 4096 (λ b. Tested (leb least (code a b)) (Pairs k (suc (code a b)))))
+abbrev PairLaid : ℕ → ℕ → Laid
+PairLaid k least = Asked 12 0 4096 (λ a. Asked 12 0 4096 (λ b. Tested (leb least (code a b)) (Pairs k (suc (code a b)))))
 
-pair-to : (k least : ℕ) (ws : List ℕ) (bs : List Bool) → Pair k least ws bs → Pairs (suc k) least ws bs
-unfolding fieldsOf
+pair-to : (k least : ℕ) (ws : List ℕ) (bs : List Bool) → PairLaid k least ws bs → Pairs (suc k) least ws bs
+unfolding fieldBits
 pair-to k least ws bs q =
     let a : ℕ = q .value in
     let b : ℕ = q .after .value in
@@ -68,12 +68,12 @@ pair-to k least ws bs q =
       ascend = order a b l r;
     })
   where
-    order : (a b : ℕ) (l : List ℕ) {cs : List Bool} → Pairs k (suc (code a b)) l cs → (i : ℕ) → suc i < suc k → codeAt (a ∷ b ∷ l) i < codeAt (a ∷ b ∷ l) (suc i)
+    order : (a b : ℕ) (l : List ℕ) {cs : List Bool} → Pairs k (suc (code a b)) l cs → (i : ℕ) → suc i < suc k → codeFrom (a ∷ b ∷ l) i < codeFrom (a ∷ b ∷ l) (suc i)
     order a b l r zero h = rw (code-cons a b l 0) (r .first (omega arith))
     order a b l r (suc i) h = rw (code-cons a b l i, code-cons a b l (suc i)) (r .ascend i (omega arith))
 
-pair-by : (k least : ℕ) (ws : List ℕ) (bs : List Bool) → Pairs (suc k) least ws bs → Pair k least ws bs
-unfolding fieldsOf
+pair-by : (k least : ℕ) (ws : List ℕ) (bs : List Bool) → Pairs (suc k) least ws bs → PairLaid k least ws bs
+unfolding fieldBits
 pair-by k least [] bs q = absurd (let z = q .two-each in omega arith)
 pair-by k least (a ∷ []) bs q = absurd (let z = q .two-each in omega arith)
 pair-by k least (a ∷ b ∷ l) bs q =
@@ -82,7 +82,7 @@ pair-by k least (a ∷ b ∷ l) bs q =
     record {
       value = a;
       rest = b ∷ l;
-      body = bitsOf 12 b ++ fieldsOf 12 l;
+      body = bitsOf 12 b ++ fieldBits 12 l;
       content = refl;
       layout = q .layout;
       least = omega arith;
@@ -91,7 +91,7 @@ pair-by k least (a ∷ b ∷ l) bs q =
       after = record {
         value = b;
         rest = l;
-        body = fieldsOf 12 l;
+        body = fieldBits 12 l;
         content = refl;
         layout = refl;
         least = omega arith;
@@ -137,7 +137,7 @@ list-to n ends bs most q =
           (q .small (2 * i + 1) (omega arith)) (q .small (2 * suc i + 1) (omega arith)) .0 (q .ascend i h);
     }
 
-list-by : (n : ℕ) (ends : List ℕ) → length ends ≡ 2 * n → Below 4096 ends → ((i : ℕ) → suc i < n → Before ends i (suc i)) → Pairs n 0 ends (fieldsOf 12 ends)
+list-by : (n : ℕ) (ends : List ℕ) → length ends ≡ 2 * n → Below 4096 ends → ((i : ℕ) → suc i < n → Before ends i (suc i)) → Pairs n 0 ends (fieldBits 12 ends)
 list-by n ends t small ascend =
     record {
       two-each = t;
@@ -150,20 +150,20 @@ list-by n ends t small ascend =
     }
 
 -- a list whose count P holds of
-abbrev Counted : (ℕ → Type 0) → Laid
-Counted P ws bs = PlainList ws bs × P (getD ws 0 0)
+abbrev CountLaid : (ℕ → Type 0) → Laid
+CountLaid P ws bs = PlainList ws bs × P (getD ws 0 0)
 
 -- a count, its pairs, and what S says of the rest
-abbrev Front : (ℕ → Laid) → Laid
-Front S = Asked 14 0 8193 (λ n. Then (Pairs n 0) (λ front. S n))
+abbrev FrontLaid : (ℕ → Laid) → Laid
+FrontLaid S = Asked 14 0 8193 (λ n. Then (Pairs n 0) (λ front. S n))
 
 module _ (P : ℕ → Type 0) (m : ℕ) where
-  list-more : {S : ℕ → Laid} {ws : List ℕ} {bs : List Bool} (q : Front S ws bs) → P (q .value) → InTurn (λ i. Counted P) m (q .after .second) (q .after .back)
-      → InTurn (λ i. Counted P) (suc m) ws bs
+  list-more : {S : ℕ → Laid} {ws : List ℕ} {bs : List Bool} (q : FrontLaid S ws bs) → P (q .value) → InTurn (λ i. CountLaid P) m (q .after .second) (q .after .back)
+      → InTurn (λ i. CountLaid P) (suc m) ws bs
   list-more {S} {ws} {bs} q h t =
       let n : ℕ = q .value in
       let r = q .after in
-      more-turns (λ i. Counted P) m ws bs .0 (record {
+      more-turns (λ i. CountLaid P) m ws bs .0 (record {
         first = n ∷ r .first;
         second = r .second;
         front = bitsOf 14 n ++ r .front;
@@ -174,26 +174,26 @@ module _ (P : ℕ → Type 0) (m : ℕ) where
         after = t;
       })
 
-  more-list : {S : ℕ → Laid} {ws : List ℕ} {bs : List Bool} → InTurn (λ i. Counted P) (suc m) ws bs
-      → ((n : ℕ) (zs : List ℕ) (cs : List Bool) → P n → InTurn (λ i. Counted P) m zs cs → S n zs cs) → Front S ws bs
+  more-list : {S : ℕ → Laid} {ws : List ℕ} {bs : List Bool} → InTurn (λ i. CountLaid P) (suc m) ws bs
+      → ((n : ℕ) (zs : List ℕ) (cs : List Bool) → P n → InTurn (λ i. CountLaid P) m zs cs → S n zs cs) → FrontLaid S ws bs
   more-list {S} {ws} {bs} t k =
-      let r = more-turns (λ i. Counted P) m ws bs .1 t in
+      let r = more-turns (λ i. CountLaid P) m ws bs .1 t in
       let p = r .before .0 in
       let n : ℕ = p .number in
       let h : P n = subst (λ (l : List ℕ). P (getD l 0 0)) (p .content) (r .before .1) in
       record {
         value = n;
         rest = p .ends ++ r .second;
-        body = fieldsOf 12 (p .ends) ++ r .back;
+        body = fieldBits 12 (p .ends) ++ r .back;
         content = r .content ∙ ap (λ (l : List ℕ). l ++ r .second) (p .content);
-        layout = r .layout ∙ ap (λ (l : List Bool). l ++ r .back) (p .layout) ∙ append-assoc (bitsOf 14 n) (fieldsOf 12 (p .ends)) (r .back);
+        layout = r .layout ∙ ap (λ (l : List Bool). l ++ r .back) (p .layout) ∙ append-assoc (bitsOf 14 n) (fieldBits 12 (p .ends)) (r .back);
         least = omega arith;
         most = let l = p .most in omega arith;
         fits = let l = p .most in omega arith;
         after = record {
           first = p .ends;
           second = r .second;
-          front = fieldsOf 12 (p .ends);
+          front = fieldBits 12 (p .ends);
           back = r .back;
           content = refl;
           layout = refl;
@@ -210,22 +210,22 @@ Positive n = 1 ≤ n
 abbrev Zero : ℕ → Type 0
 Zero n = n ≡ 0
 
-abbrev Lists : ℕ → Bool → Bool → Laid
-Lists m none some ws bs = ((none ≡ false) × InTurn (λ i. Counted Positive) m ws bs) ⊎ ((some ≡ false) × InTurn (λ i. Counted Zero) m ws bs)
+abbrev ListsLaid : ℕ → Bool → Bool → Laid
+ListsLaid m none some ws bs = ((none ≡ false) × InTurn (λ i. CountLaid Positive) m ws bs) ⊎ ((some ≡ false) × InTurn (λ i. CountLaid Zero) m ws bs)
 
-no-lists : (none some : Bool) (ws : List ℕ) (bs : List Bool) → Tested (not (none && some)) Nothing ws bs ↔ Lists 0 none some ws bs
+no-lists : (none some : Bool) (ws : List ℕ) (bs : List Bool) → Tested (not (none && some)) Nothing ws bs ↔ ListsLaid 0 none some ws bs
 no-lists none some ws bs = (
-  λ q. to none some (q .0) (no-turns (λ i. Counted Positive) ws bs .0 (q .1)) (no-turns (λ i. Counted Zero) ws bs .0 (q .1)),
+  λ q. to none some (q .0) (no-turns (λ i. CountLaid Positive) ws bs .0 (q .1)) (no-turns (λ i. CountLaid Zero) ws bs .0 (q .1)),
   ⊎-elim
-      (λ q. (ap (λ (b : Bool). not (b && some)) (q .0), no-turns (λ i. Counted Positive) ws bs .1 (q .1)))
-      (λ q. (ap (λ (b : Bool). not (none && b)) (q .0) ∙ neither none, no-turns (λ i. Counted Zero) ws bs .1 (q .1))),
+      (λ q. (ap (λ (b : Bool). not (b && some)) (q .0), no-turns (λ i. CountLaid Positive) ws bs .1 (q .1)))
+      (λ q. (ap (λ (b : Bool). not (none && b)) (q .0) ∙ neither none, no-turns (λ i. CountLaid Zero) ws bs .1 (q .1))),
 )
   where
     neither : (b : Bool) → not (b && false) ≡ true
     neither true = refl
     neither false = refl
 
-    to : (a b : Bool) → not (a && b) ≡ true → InTurn (λ i. Counted Positive) 0 ws bs → InTurn (λ i. Counted Zero) 0 ws bs → Lists 0 a b ws bs
+    to : (a b : Bool) → not (a && b) ≡ true → InTurn (λ i. CountLaid Positive) 0 ws bs → InTurn (λ i. CountLaid Zero) 0 ws bs → ListsLaid 0 a b ws bs
     to true true h p z = absurd (let z : _≡_ {A = ℕ} 0 1 = cc in omega arith)
     to true false h p z = inr (refl, z)
     to false b h p z = inl (refl, p)
@@ -234,7 +234,7 @@ or-none : (a b : Bool) → a ≡ false → b ≡ false → (a || b) ≡ false
 or-none a b p q = rw (p, q)
 
 more-lists : (m : ℕ) (none some : Bool) (ws : List ℕ) (bs : List Bool)
-    → Front (λ n. Lists m (none || eqb n 0) (some || not (eqb n 0))) ws bs ↔ Lists (suc m) none some ws bs
+    → FrontLaid (λ n. ListsLaid m (none || eqb n 0) (some || not (eqb n 0))) ws bs ↔ ListsLaid (suc m) none some ws bs
 more-lists m none some ws bs = (
   λ q.
       let n : ℕ = q .value in
@@ -252,7 +252,7 @@ more-lists m none some ws bs = (
       (λ q. more-list Zero m (q .1) (λ n zs cs h t. inr (or-none some (not (eqb n 0)) (q .0) (ap not (eq-eqb n 0 h)), t))),
 )
 
-accepts-lists : (m : ℕ) (none some : Bool) (at : ℕ) → Accepts (lists m none some) at (Lists m none some)
+accepts-lists : (m : ℕ) (none some : Bool) (at : ℕ) → Accepts (lists m none some) at (ListsLaid m none some)
 unfolding lists
 accepts-lists zero none some at = accepts-same (no-lists none some) (accepts-test (not (none && some)) 8 (accepts-done at))
 accepts-lists (suc m) none some at =
@@ -263,7 +263,7 @@ accepts-lists (suc m) none some at =
 
 -- ---- a sheet
 
-plain-sheet : (m : ℕ) (ws : List ℕ) (bs : List Bool) → Lists m false false ws bs ↔ PlainSheet m ws bs
+plain-sheet : (m : ℕ) (ws : List ℕ) (bs : List Bool) → ListsLaid m false false ws bs ↔ PlainSheet m ws bs
 plain-sheet m ws bs = (
   ⊎-elim
       (λ q. record { lists = bare Positive (q .1); even = inl (λ i h. q .1 .each i h .1) })
@@ -274,7 +274,7 @@ plain-sheet m ws bs = (
       (q .even),
 )
   where
-    bare : (P : ℕ → Type 0) → InTurn (λ i. Counted P) m ws bs → InTurn (λ i. PlainList) m ws bs
+    bare : (P : ℕ → Type 0) → InTurn (λ i. CountLaid P) m ws bs → InTurn (λ i. PlainList) m ws bs
     bare P t =
         record {
           contents = t .contents;
@@ -286,7 +286,7 @@ plain-sheet m ws bs = (
           layout = t .layout;
         }
 
-    with : (P : ℕ → Type 0) (t : InTurn (λ i. PlainList) m ws bs) → ((i : ℕ) → i < m → P (countAt (t .contents) i)) → InTurn (λ i. Counted P) m ws bs
+    with : (P : ℕ → Type 0) (t : InTurn (λ i. PlainList) m ws bs) → ((i : ℕ) → i < m → P (countAt (t .contents) i)) → InTurn (λ i. CountLaid P) m ws bs
     with P t h =
         record {
           contents = t .contents;

@@ -13,13 +13,13 @@ use borrow.Author.Tests.{lt-ltb, le-ltb, ltb-false}
 use borrow.Rule.Slice.PartMut.{putMid, postOf}
 use Rattle.packed.specs.Format.{Format, Result, ok, bad, pick, decode, encode}
 use Rattle.packed.specs.Contents.{edgeCounts, pairsIn, sum}
-use Rattle.packed.specs.ByValue.{Counted, Small}
+use Rattle.packed.specs.ByValue.{CountTable, Small}
 use Rattle.packed.specs.Refusals.{Told, numberOf, detailOf, replyTold}
 use Rattle.packed.specs.Reading.{Content, Judges}
 use Rattle.packed.specs.Writing.{JudgesFields}
 use Rattle.packed.specs.Walks.{Different}
-use Rattle.packed.specs.Calls.{Answer, give, refuse, toldOf, fronts, outputsOf, workOf, Settled, withWorkspace, Verdict, accepted, rejected, inFile, readFile, writeFile, judged, pairsOf, uncrowdedBy, fit, fitFile, Answered}
-use Rattle.packed.specs.Accepting.{replyOf, Accepts}
+use Rattle.packed.specs.Calls.{Outcome, give, refuse, toldOf, fronts, outputsOf, workOf, Settled, withWorkspace, Verdict, accepted, rejected, inFile, readFile, writeFile, judged, pairsOf, uncrowdedBy, fit, fitFile, Fulfils}
+use Rattle.packed.specs.Accepting.{replyOf, AcceptsFile}
 use Rattle.packed.specs.declared.reply.Refusal.{Refusal}
 use Rattle.packed.specs.declared.reply.Refusal.the-variants.{NoRoom, SmallWorkspace}
 use Rattle.packed.specs.declared.reply.Reply.{Reply}
@@ -64,22 +64,22 @@ read-says most file F s ws e = go (ltb most (length s)) (decode F s) refl refl e
     go false (bad n) p d q = absurd (let z : _≡_ {A = ℕ} 0 1 = cc in omega arith)
 
 -- a pass over a file of a fair length accepts it
-pub accepts-by : {v : Verdict} {r : Result ℕ} {file : ℕ} → Finds v file r → (p : Part) (w w′ : List ℕ) → Judges r file p w w′ → Accepts v (replyOf p) w w′
+pub accepts-by : {v : Verdict} {r : Result ℕ} {file : ℕ} → Finds v file r → (p : Part) (w w′ : List ℕ) → Judges r file p w w′ → AcceptsFile v (replyOf p) w w′
 accepts-by f (part-is.Upto at n) w w′ c = record { fields = c .fields; is = accepted-by f (c .is); number = c .number; front = c .front }
 accepts-by f (part-is.Refused x) w w′ q = refused-by f x q
 
-pub judged-accepted : {v : Verdict} {ws : List ℕ} (k : List ℕ → Answer) → v ≡ accepted ws → judged v k ≡ k ws
+pub judged-accepted : {v : Verdict} {ws : List ℕ} (k : List ℕ → Outcome) → v ≡ accepted ws → judged v k ≡ k ws
 unfolding judged
 judged-accepted k e = rw e
 
 -- ---- tests between a file's acceptance and the answer
 
 -- how an output is fitted: too long for the room is what t says of its length
-pub record Fits (g : ℕ → List ℕ → Answer) (t : ℕ → ℕ → Bool) : Type 0 where
+pub record FitsRoom (g : ℕ → List ℕ → Outcome) (t : ℕ → ℕ → Bool) : Type 0 where
   pub is : (room : ℕ) (o : List ℕ) → g room o ≡ pick (t room (length o)) (refuse 12 (length o)) (give [] (o ∷ []))
   pub within : (room n : ℕ) → t room n ≡ false → n ≤ room
 
-pub fit-fits : Fits fit ltb
+pub fit-fits : FitsRoom fit ltb
 unfolding fit
 fit-fits = record { is = λ room o. refl; within = λ room n e. ltb-false room n e }
 
@@ -93,43 +93,43 @@ overFile room n = ltb room n || ltb 65536 n
 pub overFile-no : (room n : ℕ) → overFile room n ≡ false → (n ≤ room) × (n ≤ 65536)
 overFile-no room n e = let q = or-no (ltb room n) (ltb 65536 n) e in (ltb-false room n (q .0), ltb-false 65536 n (q .1))
 
-pub fitFile-fits : Fits fitFile overFile
+pub fitFile-fits : FitsRoom fitFile overFile
 unfolding fitFile
 fitFile-fits = record { is = λ room o. refl; within = λ room n e. overFile-no room n e .0 }
 
-pub crowded : (ms ws : List ℕ) (a : Answer) → 8192 < length (pairsOf ms ws) → uncrowdedBy ms ws a ≡ refuse 10 4
+pub crowded : (ms ws : List ℕ) (a : Outcome) → 8192 < length (pairsOf ms ws) → uncrowdedBy ms ws a ≡ refuse 10 4
 unfolding uncrowdedBy
 crowded ms ws a h = rw (lt-ltb 8192 (length (pairsOf ms ws)) h)
 
-pub uncrowded-is : (ms ws : List ℕ) (a : Answer) → length (pairsOf ms ws) ≤ 8192 → uncrowdedBy ms ws a ≡ a
+pub uncrowded-is : (ms ws : List ℕ) (a : Outcome) → length (pairsOf ms ws) ≤ 8192 → uncrowdedBy ms ws a ≡ a
 unfolding uncrowdedBy
 uncrowded-is ms ws a h = rw (le-ltb 8192 (length (pairsOf ms ws)) h)
 
 -- the different pairs that were gathered are those of the content
 module _ {codes w : List ℕ} {n : ℕ} (ms ws : List ℕ) (d : Different codes n w) (e : codes ≡ pairsIn (sum ms) ws) where
-  pub gathered-many : (a : Answer) → 8192 < n → uncrowdedBy ms ws a ≡ refuse 10 4
+  pub gathered-many : (a : Outcome) → 8192 < n → uncrowdedBy ms ws a ≡ refuse 10 4
   unfolding pairsOf
   gathered-many a h = crowded ms ws a (rw e at (d .many h))
 
-  pub gathered-few : (a : Answer) → n ≤ 8192 → uncrowdedBy ms ws a ≡ a
+  pub gathered-few : (a : Outcome) → n ≤ 8192 → uncrowdedBy ms ws a ≡ a
   unfolding pairsOf
   gathered-few a h = uncrowded-is ms ws a (omega (arith, rw e at (d .number h)))
 
 -- ---- what is answered
 
-module _ {a : Answer} (out : List ℕ) {out′ : List ℕ} where
+module _ {a : Outcome} (out : List ℕ) {out′ : List ℕ} where
   -- a refusal leaves the output
-  answers-refusal : (x : Refusal) → a ≡ refuse (numberOf x) (detailOf x) → out′ ≡ out → Answered a (replyTold (reply-is.Refused x)) out out′
+  answers-refusal : (x : Refusal) → a ≡ refuse (numberOf x) (detailOf x) → out′ ≡ out → Fulfils a (replyTold (reply-is.Refused x)) out out′
   unfolding toldOf outputsOf
   answers-refusal x e q = record { result = rw e; output = rw (e, q) }
 
   -- an output stands at the front of what was lent
-  answers-given : {o : List ℕ} {n : ℕ} → a ≡ give [] (o ∷ []) → n ≡ length o → out′ ≡ o ++ drop (length o) out → Answered a (replyTold (reply-is.Done n)) out out′
+  answers-given : {o : List ℕ} {n : ℕ} → a ≡ give [] (o ∷ []) → n ≡ length o → out′ ≡ o ++ drop (length o) out → Fulfils a (replyTold (reply-is.Done n)) out out′
   unfolding toldOf outputsOf fronts
   answers-given e m q = record { result = rw (e, m); output = rw (e, q) }
 
 -- an output that was found is fitted
-module _ {g : ℕ → List ℕ → Answer} {t : ℕ → ℕ → Bool} (z : Fits g t) {a : Answer} (out o : List ℕ) {lent : List ℕ} (same : lent ≡ out) (e : a ≡ g (length out) o)
+module _ {g : ℕ → List ℕ → Outcome} {t : ℕ → ℕ → Bool} (z : FitsRoom g t) {a : Outcome} (out o : List ℕ) {lent : List ℕ} (same : lent ≡ out) (e : a ≡ g (length out) o)
     {n : ℕ} (number : n ≡ length o) where
   fitted : (b : Bool) → t (length lent) n ≡ b → a ≡ pick b (refuse 12 n) (give [] (o ∷ []))
   fitted b h =
@@ -139,34 +139,34 @@ module _ {g : ℕ → List ℕ → Answer} {t : ℕ → ℕ → Bool} (z : Fits 
       ∙ ap (λ (l : List ℕ). pick (t (length l) n) (refuse 12 n) (give [] (o ∷ []))) (sym same)
       ∙ ap (λ (s : Bool). pick s (refuse 12 n) (give [] (o ∷ []))) h
 
-  pub fitted-tight : t (length lent) n ≡ true → Answered a (replyTold (reply-is.Refused (NoRoom n))) out lent
+  pub fitted-tight : t (length lent) n ≡ true → Fulfils a (replyTold (reply-is.Refused (NoRoom n))) out lent
   fitted-tight h = answers-refusal out (NoRoom n) (fitted true h) same
 
-  pub fitted-given : {out′ : List ℕ} → t (length lent) n ≡ false → out′ ≡ sets lent 0 o → Answered a (replyTold (reply-is.Done n)) out out′
+  pub fitted-given : {out′ : List ℕ} → t (length lent) n ≡ false → out′ ≡ sets lent 0 o → Fulfils a (replyTold (reply-is.Done n)) out out′
   fitted-given h q =
       let l : n ≤ length out = rw same at (z .within (length lent) n h) in
       answers-given out (fitted false h) number (q ∙ ap (λ (l : List ℕ). sets l 0 o) same ∙ sets-front out o (omega (arith, number)))
 
   -- a file that was accepted is read once more, with the output lent
-  pub fitted-again : {v : Verdict} (r : Reply) (out′ : List ℕ) → t (length lent) n ≡ false → v ≡ accepted o → Accepts v r lent out′ → Answered a (replyTold r) out out′
+  pub fitted-again : {v : Verdict} (r : Reply) (out′ : List ℕ) → t (length lent) n ≡ false → v ≡ accepted o → AcceptsFile v r lent out′ → Fulfils a (replyTold r) out out′
   fitted-again (reply-is.Done m) out′ h is c =
       let f : c .fields ≡ o = cc (c .is) in
       rw (c .number ∙ ap length f ∙ sym number) (fitted-given h (c .front ∙ ap (sets lent 0) f))
   fitted-again (reply-is.Refused x) out′ h is c = absurd (let z : _≡_ {A = ℕ} 0 1 = cc in omega arith)
 
-module _ {v : Verdict} (k : List ℕ → Answer) where
+module _ {v : Verdict} (k : List ℕ → Outcome) where
   -- a file was refused, and the refusal is handed up
-  pub body-refused : (out : List ℕ) {lent : List ℕ} → lent ≡ out → (x : Refusal) → v ≡ rejected (numberOf x) (detailOf x) → Answered (judged v k) (replyTold (reply-is.Refused x)) out lent
+  pub body-refused : (out : List ℕ) {lent : List ℕ} → lent ≡ out → (x : Refusal) → v ≡ rejected (numberOf x) (detailOf x) → Fulfils (judged v k) (replyTold (reply-is.Refused x)) out lent
   unfolding judged
   body-refused out same x e = answers-refusal out x (rw e) same
 
   -- it was accepted, and the call goes on with its content
   module _ {ws : List ℕ} (e : v ≡ accepted ws) where
-    pub body-goes-on : {told : Told} {out out′ : List ℕ} → Answered (k ws) told out out′ → Answered (judged v k) told out out′
+    pub body-goes-on : {told : Told} {out out′ : List ℕ} → Fulfils (k ws) told out out′ → Fulfils (judged v k) told out out′
     body-goes-on b = rw (judged-accepted k e) b
 
     -- to a refusal
-    pub body-declined : (out : List ℕ) {lent : List ℕ} → lent ≡ out → (x : Refusal) → k ws ≡ refuse (numberOf x) (detailOf x) → Answered (judged v k) (replyTold (reply-is.Refused x)) out lent
+    pub body-declined : (out : List ℕ) {lent : List ℕ} → lent ≡ out → (x : Refusal) → k ws ≡ refuse (numberOf x) (detailOf x) → Fulfils (judged v k) (replyTold (reply-is.Refused x)) out lent
     body-declined out same x q = body-goes-on (answers-refusal out x q same)
 
 -- ---- how the output came about
@@ -200,7 +200,7 @@ judges-fields-front r file (part-is.Refused x) ws w w′ c e = absurd (let q = c
 
 -- ---- the numbers of edges of a catalogue's views, in a table of 16
 
-module _ {ws counts : List ℕ} (c : Counted ws counts) (few : getD ws 0 0 ≤ 16) where
+module _ {ws counts : List ℕ} (c : CountTable ws counts) (few : getD ws 0 0 ≤ 16) where
   pub counts-are : (k : ℕ) → length (edgeCounts ws) ≡ getD ws 0 0 → k ≡ getD ws 0 0 → take k counts ≡ edgeCounts ws
   counts-are k l e = ap (take k) (c .is few) ∙ take-at (edgeCounts ws) (replicate (16 - getD ws 0 0) 0) k (omega arith)
 
@@ -233,7 +233,7 @@ sum-more l j = rw add-one (sum-suc l j)
 
 -- ---- the workspace
 
-module _ (a : Answer) (out work : List ℕ) where
+module _ (a : Outcome) (out work : List ℕ) where
   -- too small
   pub settles-small : length work < 16384 → Settled [] (withWorkspace (length work) a) (replyTold (reply-is.Refused SmallWorkspace)) (out ∷ []) (out ∷ []) work work
   unfolding withWorkspace workOf toldOf outputsOf
@@ -242,7 +242,7 @@ module _ (a : Answer) (out work : List ℕ) where
       record { result = rw e; outputs = rw e; workspace = rw e }
 
   -- cleared
-  pub settles : {r : Told} {out′ work′ : List ℕ} → 16384 ≤ length work → Answered a r out out′ → work′ ≡ replicate 16384 0 ++ drop 16384 work
+  pub settles : {r : Told} {out′ work′ : List ℕ} → 16384 ≤ length work → Fulfils a r out out′ → work′ ≡ replicate 16384 0 ++ drop 16384 work
       → Settled [] (withWorkspace (length work) a) r (out ∷ []) (out′ ∷ []) work work′
   unfolding withWorkspace workOf
   settles h b q =
@@ -250,7 +250,7 @@ module _ (a : Answer) (out work : List ℕ) where
       record { result = rw e (b .result); outputs = rw e (b .output); workspace = rw e q }
 
   -- cleared, once its first words were lent
-  pub settles-lent : {r : Told} {out′ work′ : List ℕ} (ys : List ℕ) → 16384 ≤ length work → Answered a r out out′ → length ys ≡ length (take (16384 - 0) (drop 0 work))
+  pub settles-lent : {r : Told} {out′ work′ : List ℕ} (ys : List ℕ) → 16384 ≤ length work → Fulfils a r out out′ → length ys ≡ length (take (16384 - 0) (drop 0 work))
       → work′ ≡ replicate 16384 0 ++ drop 16384 (putMid 0 (16384 - 0) work ys) → Settled [] (withWorkspace (length work) a) r (out ∷ []) (out′ ∷ []) work work′
   settles-lent ys h b n q =
       let l : length ys ≡ 16384 = n ∙ simp length-take (omega arith) in

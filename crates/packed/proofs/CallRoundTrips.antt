@@ -10,7 +10,7 @@ use borrow.Author.Tests.{ltb-false, le-ltb}
 use Rattle.packed.specs.Format.{Format, Result, ok, bad, pick, decode, encode}
 use Rattle.packed.specs.Formats.{pattern, catalogue, record′, sheet, book}
 use Rattle.packed.specs.Contents.{edgesOf, edgeCounts}
-use Rattle.packed.specs.Calls.{Answer, give, refuse, withWorkspace, rejected, inFile, readFile, writeFile, judged, pairsOf, uncrowdedBy, fit, fitFile, patternRead, catalogueRead, recordRead, sheetRead, bookRead, patternWritten, catalogueWritten, recordWritten, sheetWritten, bookWritten}
+use Rattle.packed.specs.Calls.{Outcome, give, refuse, withWorkspace, rejected, inFile, readFile, writeFile, judged, pairsOf, uncrowdedBy, fit, fitFile, patternRead, catalogueRead, recordRead, sheetRead, bookRead, patternWritten, catalogueWritten, recordWritten, sheetWritten, bookWritten}
 use Rattle.packed.proofs.RoundTrip.{Bytes, decode-encode, encode-decode}
 use Rattle.packed.proofs.Most.{pattern-bytes, catalogue-bytes, record-bytes}
 use Rattle.packed.proofs.CallLaws.{read-finds, write-finds, accepted-by, judged-accepted, overFile, overFile-no}
@@ -18,16 +18,16 @@ use Rattle.packed.proofs.CallLaws.{read-finds, write-finds, accepted-by
 -- ---- what a call that gave its output went through
 
 -- a test that it passed
-passed : (t : Bool) (n d : ℕ) (a : Answer) (o : List ℕ) → pick t (refuse n d) a ≡ give [] (o ∷ []) → (t ≡ false) × (a ≡ give [] (o ∷ []))
+passed : (t : Bool) (n d : ℕ) (a : Outcome) (o : List ℕ) → pick t (refuse n d) a ≡ give [] (o ∷ []) → (t ≡ false) × (a ≡ give [] (o ∷ []))
 passed true n d a o e = absurd (let z : _≡_ {A = ℕ} 0 1 = cc in omega arith)
 passed false n d a o e = (refl, e)
 
 -- so it passes with any answer
-withWorkspace-given : (words : ℕ) (a : Answer) (o : List ℕ) → withWorkspace words a ≡ give [] (o ∷ []) → (a ≡ give [] (o ∷ [])) × ((b : Answer) → withWorkspace words b ≡ b)
+withWorkspace-given : (words : ℕ) (a : Outcome) (o : List ℕ) → withWorkspace words a ≡ give [] (o ∷ []) → (a ≡ give [] (o ∷ [])) × ((b : Outcome) → withWorkspace words b ≡ b)
 unfolding withWorkspace
 withWorkspace-given words a o e = let p = passed (ltb words 16384) 14 0 a o e in (p .1, λ b. rw (p .0))
 
-uncrowded-given : (ms ws : List ℕ) (a : Answer) (o : List ℕ) → uncrowdedBy ms ws a ≡ give [] (o ∷ []) → (a ≡ give [] (o ∷ [])) × ((b : Answer) → uncrowdedBy ms ws b ≡ b)
+uncrowded-given : (ms ws : List ℕ) (a : Outcome) (o : List ℕ) → uncrowdedBy ms ws a ≡ give [] (o ∷ []) → (a ≡ give [] (o ∷ [])) × ((b : Outcome) → uncrowdedBy ms ws b ≡ b)
 unfolding uncrowdedBy
 uncrowded-given ms ws a o e = let p = passed (ltb 8192 (length (pairsOf ms ws))) 10 4 a o e in (p .1, λ b. rw (p .0))
 
@@ -45,7 +45,7 @@ fitFile-gave room a o e =
     (given-is a o (p .1), overFile-no room (length a) (p .0) .1)
 
 -- a file that was read, and one that was written
-read-gave : (most file : ℕ) (F : Format) (s : List ℕ) (k : List ℕ → Answer) (o : List ℕ) → judged (readFile most file F s) k ≡ give [] (o ∷ [])
+read-gave : (most file : ℕ) (F : Format) (s : List ℕ) (k : List ℕ → Outcome) (o : List ℕ) → judged (readFile most file F s) k ≡ give [] (o ∷ [])
     → (ws : List ℕ) × (length s ≤ most) × (decode F s ≡ ok ws) × (k ws ≡ give [] (o ∷ []))
 unfolding readFile judged
 read-gave most file F s k o e = go (ltb most (length s)) (decode F s) refl refl e
@@ -56,7 +56,7 @@ read-gave most file F s k o e = go (ltb most (length s)) (decode F s) refl refl 
     go false (ok ws) p d q = (ws, ltb-false most (length s) p, d, q)
     go false (bad n) p d q = absurd (let z : _≡_ {A = ℕ} 0 1 = cc in omega arith)
 
-write-gave : (file : ℕ) (F : Format) (ws : List ℕ) (k : List ℕ → Answer) (o : List ℕ) → judged (writeFile file F ws) k ≡ give [] (o ∷ [])
+write-gave : (file : ℕ) (F : Format) (ws : List ℕ) (k : List ℕ → Outcome) (o : List ℕ) → judged (writeFile file F ws) k ≡ give [] (o ∷ [])
     → (s : List ℕ) × (encode F ws ≡ ok s) × (k s ≡ give [] (o ∷ []))
 unfolding writeFile judged
 write-gave file F ws k o e = go (encode F ws) refl e
@@ -67,7 +67,7 @@ write-gave file F ws k o e = go (encode F ws) refl e
 
 -- ---- one file, whatever the tests after its acceptance
 
-module _ (most file : ℕ) (F : Format) (s ws : List ℕ) (k k′ : List ℕ → Answer) where
+module _ (most file : ℕ) (F : Format) (s ws : List ℕ) (k k′ : List ℕ → Outcome) where
   -- ws was read from s, so s is written from ws
   file-back : Bytes s → judged (readFile most file F s) k ≡ give [] (ws ∷ [])
       → ((o : List ℕ) → k o ≡ give [] (ws ∷ []) → length s ≤ most → (o ≡ ws) × (k′ s ≡ give [] (s ∷ [])))
@@ -87,14 +87,14 @@ module _ (most file : ℕ) (F : Format) (s ws : List ℕ) (k k′ : List ℕ →
       judged-accepted k (accepted-by (read-finds most file F s (q .1)) (encode-decode F ws s (r .1 ∙ ap ok (q .0)))) ∙ q .2
 
 -- the call on another output, beside a file that is accepted
-beside : (most file : ℕ) (F : Format) (p : List ℕ) (k k′ : List ℕ → Answer) (o o′ : List ℕ) → judged (readFile most file F p) k ≡ give [] (o ∷ [])
+beside : (most file : ℕ) (F : Format) (p : List ℕ) (k k′ : List ℕ → Outcome) (o o′ : List ℕ) → judged (readFile most file F p) k ≡ give [] (o ∷ [])
     → ((ps : List ℕ) → k ps ≡ give [] (o ∷ []) → k′ ps ≡ give [] (o′ ∷ [])) → judged (readFile most file F p) k′ ≡ give [] (o′ ∷ [])
 beside most file F p k k′ o o′ e g =
     let r = read-gave most file F p k o e in
     judged-accepted k′ (accepted-by (read-finds most file F p (r .1)) (r .2)) ∙ g (r .0) (r .3)
 
 -- the call, with the workspace
-at-withWorkspace : (words : ℕ) (a b : Answer) (o o′ : List ℕ) → withWorkspace words a ≡ give [] (o ∷ []) → (a ≡ give [] (o ∷ []) → b ≡ give [] (o′ ∷ [])) → withWorkspace words b ≡ give [] (o′ ∷ [])
+at-withWorkspace : (words : ℕ) (a b : Outcome) (o o′ : List ℕ) → withWorkspace words a ≡ give [] (o ∷ []) → (a ≡ give [] (o ∷ []) → b ≡ give [] (o′ ∷ [])) → withWorkspace words b ≡ give [] (o′ ∷ [])
 at-withWorkspace words a b o o′ e g = let p = withWorkspace-given words a o e in p .1 b ∙ g (p .0)
 
 pub fit-given : (room : ℕ) (o : List ℕ) → length o ≤ room → fit room o ≡ give [] (o ∷ [])
@@ -149,13 +149,13 @@ module _ (s ws : List ℕ) (room room′ words : ℕ) where
 -- ---- sheets beside a pattern, books beside a catalogue
 
 -- the file p is accepted as ps; beside it a file of the format F ps; then perhaps a test of the content, which a test passed once passes again
-module _ (most file : ℕ) (P : Format) (F : List ℕ → Format) (test : List ℕ → List ℕ → Answer → Answer)
-    (passes : (ps ws : List ℕ) (a : Answer) (o : List ℕ) → test ps ws a ≡ give [] (o ∷ []) → (a ≡ give [] (o ∷ [])) × ((b : Answer) → test ps ws b ≡ b))
+module _ (most file : ℕ) (P : Format) (F : List ℕ → Format) (test : List ℕ → List ℕ → Outcome → Outcome)
+    (passes : (ps ws : List ℕ) (a : Outcome) (o : List ℕ) → test ps ws a ≡ give [] (o ∷ []) → (a ≡ give [] (o ∷ [])) × ((b : Outcome) → test ps ws b ≡ b))
     (p s ws : List ℕ) (words : ℕ) where
-  abbrev reading : ℕ → List ℕ → Answer
+  abbrev reading : ℕ → List ℕ → Outcome
   reading room ps = judged (readFile 65536 4 (F ps) s) (λ o. test ps o (fit room o))
 
-  abbrev writing : ℕ → List ℕ → Answer
+  abbrev writing : ℕ → List ℕ → Outcome
   writing room ps = judged (writeFile 4 (F ps) ws) (λ o. test ps ws (fitFile room o))
 
   paired-back : (room room′ : ℕ) → Bytes s → withWorkspace words (judged (readFile most file P p) (reading room)) ≡ give [] (ws ∷ []) → length s ≤ room′

@@ -10,7 +10,7 @@ use lib.Seq.{set-at, getD-take, getD-drop, drop-drop}
 use native.Mathlib.Omega.{arith}
 use native.Mathlib.Nat.{add-zero, sub-zero}
 use Rattle.packed.specs.Contents.{edgesOf, patternSize, patternsIn, viewsOf, edgeCounts}
-use Rattle.packed.specs.ByValue.{Counted}
+use Rattle.packed.specs.ByValue.{CountTable}
 
 -- how many edges each of so many patterns has
 unfoldable pub countsIn : ℕ → List ℕ → List ℕ
@@ -82,7 +82,7 @@ stopped j number h e q = go (ltb j number) refl
     go false r = let g : number ≤ j = ltb-false j number r in omega arith
 
 pub counting-ends : (ws : List ℕ) (number : ℕ) (table : List ℕ) (i j : ℕ) → number ≡ getD ws 0 0 → j ≤ number → ltb j 16 && ltb j number ≡ false
-    → Counting ws number table i j → Counted ws table
+    → Counting ws number table i j → CountTable ws table
 unfolding edgeCounts viewsOf countsIn
 counting-ends ws number table i j e h s k =
     record {

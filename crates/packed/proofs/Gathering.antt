@@ -10,7 +10,7 @@ use lib.ListN.{length, take, drop, set, length-set, length-drop}
 use lib.Seq.{take-set-le, drop-set-add, take-suc-set, getD-set-same, getD-set-other}
 use Rattle.packed.specs.Order.{word}
 use Rattle.packed.specs.Contents.{member, insert, distinct}
-use Rattle.packed.specs.Distinct.{Below, Absorbable, Absorbed}
+use Rattle.packed.specs.Distinct.{ChunkBelow, Absorbable, Absorbed}
 use Rattle.packed.specs.Walks.{Gathers, Adds, Gathering, Different}
 use Rattle.packed.specs.declared.gather.Gather.{Gather}
 use Rattle.packed.proofs.OrderCases.{trichotomy, eq-or-ne}
@@ -38,14 +38,14 @@ pub length-distinct : (a b : List ℕ) → length (distinct a) ≤ length (disti
 length-distinct a b = rw (distinct-swap a b, distinct-append b a) (length-inserts b (distinct a))
 
 -- ---- the codes so far, where they are not too many: held of them at the front of the workspace, and a chunk, which may be full
-pub record Kept (codes : List ℕ) (held fill : ℕ) (w : List ℕ) : Type 0 where
+pub record CodesGathered (codes : List ℕ) (held fill : ℕ) (w : List ℕ) : Type 0 where
   pub can : Absorbable held fill w
   pub same : distinct codes ≡ distinct (take held w ++ take fill (drop 8192 w))
 
-pub gathers-kept : {codes : List ℕ} {g : Gather} {w : List ℕ} → Gathers codes g w → g .held ≤ 8192 → Kept codes (g .held) (g .fill) w
+pub gathers-kept : {codes : List ℕ} {g : Gather} {w : List ℕ} → Gathers codes g w → g .held ≤ 8192 → CodesGathered codes (g .held) (g .fill) w
 gathers-kept t h = record { can = t .few h; same = t .same h }
 
-pub kept-gathers : {codes w : List ℕ} (g : Gather) → Kept codes (g .held) (g .fill) w → g .fill < 4096 → Gathers codes g w
+pub kept-gathers : {codes w : List ℕ} (g : Gather) → CodesGathered codes (g .held) (g .fill) w → g .fill < 4096 → Gathers codes g w
 kept-gathers g t h =
     record { long = t .can .long; chunk = h; few = λ _. t .can; same = λ _. t .same; many = λ l. absurd (let z = t .can .most in omega arith) }
 
@@ -79,8 +79,8 @@ module _ (held fill code : ℕ) (w : List ℕ) (t : Absorbable held fill w) (roo
   unfolding word
   added-last = getD-set-same w (8192 + fill) code 0 (let z = t .long in omega arith)
 
-  added-below : Below (fill + 1) (added fill code w)
-  unfolding Below
+  added-below : ChunkBelow (fill + 1) (added fill code w)
+  unfolding ChunkBelow
   added-below j h =
       ⊎-elim
       (λ e. subst (λ (k : ℕ). word (added fill code w) 8192 k < 2 ^ 24) (sym e) (rw added-last fits))
@@ -109,20 +109,20 @@ module _ (held fill code : ℕ) (w : List ℕ) (t : Absorbable held fill w) (roo
       ∙ sym (distinct-front (take held w ++ take fill (drop 8192 w)) (code ∷ []))
       ∙ ap distinct (append-assoc (take held w) (take fill (drop 8192 w)) (code ∷ []) ∙ ap₂ (λ a b. a ++ b) (sym added-front) (sym added-chunk))
 
-pub kept-more : {codes w : List ℕ} {held fill : ℕ} (code : ℕ) → Kept codes held fill w → fill < 4096 → code < 2 ^ 24
-    → Kept (codes ++ (code ∷ [])) held (fill + 1) (added fill code w)
+pub kept-more : {codes w : List ℕ} {held fill : ℕ} (code : ℕ) → CodesGathered codes held fill w → fill < 4096 → code < 2 ^ 24
+    → CodesGathered (codes ++ (code ∷ [])) held (fill + 1) (added fill code w)
 kept-more {codes} {w} {held} {fill} code t room fits =
     record { can = can-more held fill code w (t .can) room fits; same = same-more held fill code w (t .can) room fits codes (t .same) }
 
 -- the chunk is full
 pub kept-full : {codes : List ℕ} {g : Gather} {w : List ℕ} (code : ℕ) → Gathers codes g w → g .held ≤ 8192 → 4095 ≤ g .fill → code < 2 ^ 24
-    → Kept (codes ++ (code ∷ [])) (g .held) 4096 (added (g .fill) code w)
+    → CodesGathered (codes ++ (code ∷ [])) (g .held) 4096 (added (g .fill) code w)
 kept-full {codes} {g} {w} code t h f fits =
     let e : g .fill + 1 ≡ 4096 = (let z = t .chunk in omega arith) in
-    subst (λ (n : ℕ). Kept (codes ++ (code ∷ [])) (g .held) n (added (g .fill) code w)) e (kept-more code (gathers-kept t h) (t .chunk) fits)
+    subst (λ (n : ℕ). CodesGathered (codes ++ (code ∷ [])) (g .held) n (added (g .fill) code w)) e (kept-more code (gathers-kept t h) (t .chunk) fits)
 
 -- ---- a chunk absorbed
-module _ {codes w w′ : List ℕ} {held fill : ℕ} (r : ℕ) (t : Kept codes held fill w) (a : Absorbed held fill w r w′) where
+module _ {codes w w′ : List ℕ} {held fill : ℕ} (r : ℕ) (t : CodesGathered codes held fill w) (a : Absorbed held fill w r w′) where
   absorbed-long : length w′ ≡ 16384
   absorbed-long = a .long ∙ t .can .long
 
@@ -144,7 +144,7 @@ module _ {codes w w′ : List ℕ} {held fill : ℕ} (r : ℕ) (t : Kept codes h
         most = h;
         chunk = omega arith;
         front = absorbed-held held fill r w w′ a h;
-        below = unfold Below in (λ j l. absurd (omega arith));
+        below = unfold ChunkBelow in (λ j l. absurd (omega arith));
       }
 
   absorbed-same : r ≤ 8192 → distinct codes ≡ distinct (take r w′ ++ [])
@@ -172,7 +172,7 @@ gathers-none g w h f l =
             most = omega arith;
             chunk = omega arith;
             front = record { own = rw h (unfold distinct in refl); small = λ j k. absurd (omega arith) };
-            below = unfold Below in (λ j k. absurd (omega arith));
+            below = unfold ChunkBelow in (λ j k. absurd (omega arith));
           };
       same = rw (h, f);
     })

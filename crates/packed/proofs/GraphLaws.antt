@@ -12,7 +12,7 @@ use Rattle.packed.specs.Bits.{bitsOf, bits, field, gap}
 use Rattle.packed.specs.Format.{ok, decode}
 use Rattle.packed.specs.Formats.{record′, code}
 use Rattle.packed.specs.Contents.{nodesOf, edgesOf, distinct}
-use Rattle.packed.specs.Plain.{fieldsOf, Below, fromAt, toAt, PlainEdges}
+use Rattle.packed.specs.Plain.{fieldBits, Below, fromAt, toAt, PlainEdges}
 use Rattle.packed.specs.Order.{word, Ascends, SameTo, Sorted, Repeats}
 use Rattle.packed.specs.Distinct.{BelowHead, Increasing}
 use Rattle.packed.specs.Loading.{codes}
@@ -36,24 +36,24 @@ unfolding field
 field-here s at w v p q e l h =
     rw (e, drop-at p (bitsOf w v ++ q) at l, take-at (bitsOf w v) q w (length-bitsOf w v)) (num-bitsOf-lt w v h)
 
-pub fields-length : (w : ℕ) (vs : List ℕ) → length (fieldsOf w vs) ≡ w * length vs
-unfolding fieldsOf
+pub fields-length : (w : ℕ) (vs : List ℕ) → length (fieldBits w vs) ≡ w * length vs
+unfolding fieldBits
 fields-length w [] = sym (mul-zero w)
 fields-length w (v ∷ vs) =
-    length-append (bitsOf w v) (fieldsOf w vs) ∙ omega (arith, length-bitsOf w v, fields-length w vs, mul-suc w (length vs))
+    length-append (bitsOf w v) (fieldBits w vs) ∙ omega (arith, length-bitsOf w v, fields-length w vs, mul-suc w (length vs))
 
-fields-here : (s : List ℕ) (w : ℕ) (vs : List ℕ) (at : ℕ) (p q : List Bool) → bits s ≡ p ++ (fieldsOf w vs ++ q) → length p ≡ at → Below (2 ^ w) vs
+fields-here : (s : List ℕ) (w : ℕ) (vs : List ℕ) (at : ℕ) (p q : List Bool) → bits s ≡ p ++ (fieldBits w vs ++ q) → length p ≡ at → Below (2 ^ w) vs
     → (j : ℕ) → j < length vs → field s (at + w * j) w ≡ getD vs j 0
-unfolding fieldsOf
+unfolding fieldBits
 fields-here s w [] at p q e l b j h = absurd (omega arith)
 fields-here s w (v ∷ vs) at p q e l b zero h =
-    field-here s (at + w * 0) w v p (fieldsOf w vs ++ q) (e ∙ ap (λ (t : List Bool). p ++ t) (append-assoc (bitsOf w v) (fieldsOf w vs) q)) (omega arith) (b 0 (omega arith))
+    field-here s (at + w * 0) w v p (fieldBits w vs ++ q) (e ∙ ap (λ (t : List Bool). p ++ t) (append-assoc (bitsOf w v) (fieldBits w vs) q)) (omega arith) (b 0 (omega arith))
 fields-here s w (v ∷ vs) at p q e l b (suc j) h =
     let n : length (p ++ bitsOf w v) ≡ at + w = length-append p (bitsOf w v) ∙ omega (arith, length-bitsOf w v) in
     let z : at + w * suc j ≡ (at + w) + w * j = omega (arith, mul-suc w j) in
     ap (λ (i : ℕ). field s i w) z
     ∙ fields-here s w vs (at + w) (p ++ bitsOf w v) q
-    (e ∙ ap (λ (t : List Bool). p ++ t) (append-assoc (bitsOf w v) (fieldsOf w vs) q) ∙ sym (append-assoc p (bitsOf w v) (fieldsOf w vs ++ q)))
+    (e ∙ ap (λ (t : List Bool). p ++ t) (append-assoc (bitsOf w v) (fieldBits w vs) q) ∙ sym (append-assoc p (bitsOf w v) (fieldBits w vs ++ q)))
     n (λ i g. b (suc i) (omega arith)) j (omega arith)
 
 -- ---- the places of a record's fields
@@ -64,7 +64,7 @@ record Sited (s ws : List ℕ) : Type 0 where
   ends : List ℕ
   tail : List Bool
   content : ws ≡ nodes ∷ number ∷ (labels ++ ends)
-  spread : bits s ≡ bitsOf 13 nodes ++ (bitsOf 14 number ++ (fieldsOf 32 labels ++ (fieldsOf 12 ends ++ tail)))
+  spread : bits s ≡ bitsOf 13 nodes ++ (bitsOf 14 number ++ (fieldBits 32 labels ++ (fieldBits 12 ends ++ tail)))
   most-nodes : nodes ≤ 4096
   most-edges : number ≤ 8192
   labels-each : length labels ≡ nodes
@@ -104,21 +104,21 @@ module _ {s ws : List ℕ} (g : Sited s ws) where
   front-length : length front ≡ 27
   front-length = length-append (bitsOf 13 (g .nodes)) (bitsOf 14 (g .number)) ∙ omega (arith, length-bitsOf 13 (g .nodes), length-bitsOf 14 (g .number))
 
-  from-labels : bits s ≡ front ++ (fieldsOf 32 (g .labels) ++ (fieldsOf 12 (g .ends) ++ g .tail))
+  from-labels : bits s ≡ front ++ (fieldBits 32 (g .labels) ++ (fieldBits 12 (g .ends) ++ g .tail))
   from-labels = g .spread ∙ simp append-assoc
 
-  from-ends : bits s ≡ (front ++ fieldsOf 32 (g .labels)) ++ (fieldsOf 12 (g .ends) ++ g .tail)
+  from-ends : bits s ≡ (front ++ fieldBits 32 (g .labels)) ++ (fieldBits 12 (g .ends) ++ g .tail)
   from-ends = g .spread ∙ simp append-assoc
 
-  before-ends : length (front ++ fieldsOf 32 (g .labels)) ≡ 27 + 32 * g .nodes
+  before-ends : length (front ++ fieldBits 32 (g .labels)) ≡ 27 + 32 * g .nodes
   before-ends =
-      length-append front (fieldsOf 32 (g .labels)) ∙ omega (arith, front-length, fields-length 32 (g .labels), g .labels-each)
+      length-append front (fieldBits 32 (g .labels)) ∙ omega (arith, front-length, fields-length 32 (g .labels), g .labels-each)
 
   sited-fits : 27 + 32 * nodesOf ws + 24 * edgesOf ws ≤ 8 * length s
   sited-fits =
       let l = length-bits s in
-      let a = ap length from-ends ∙ length-append (front ++ fieldsOf 32 (g .labels)) (fieldsOf 12 (g .ends) ++ g .tail) in
-      let b = length-append (fieldsOf 12 (g .ends)) (g .tail) in
+      let a = ap length from-ends ∙ length-append (front ++ fieldBits 32 (g .labels)) (fieldBits 12 (g .ends) ++ g .tail) in
+      let b = length-append (fieldBits 12 (g .ends)) (g .tail) in
       let c = fields-length 12 (g .ends) in
       let d = before-ends in
       let m = g .edges .two-each in
@@ -149,7 +149,7 @@ module _ {s ws : List ℕ} (g : Sited s ws) where
   sited-end i h =
       let k : i < length (g .ends) = omega (arith, number-is, g .edges .two-each) in
       let b : Below (2 ^ 12) (g .ends) = λ j l. let x = g .edges .are-nodes j l in let y = g .most-nodes in omega arith in
-      fields-here s 12 (g .ends) (27 + 32 * nodesOf ws) (front ++ fieldsOf 32 (g .labels)) _ from-ends (omega (arith, before-ends, nodes-is)) b i k
+      fields-here s 12 (g .ends) (27 + 32 * nodesOf ws) (front ++ fieldBits 32 (g .labels)) _ from-ends (omega (arith, before-ends, nodes-is)) b i k
 
   sited-length : length ws ≡ 2 + (nodesOf ws + 2 * edgesOf ws)
   sited-length =

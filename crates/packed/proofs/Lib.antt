@@ -1,23 +1,15 @@
+-- bits, words and tables
 pub mod Sets
 pub mod BitsLaws
 pub mod BitFields
+pub mod SetBits
 pub mod Copies
-pub mod RoundTrip
-pub mod ReadingLaws
-pub mod WritingLaws
-pub mod Lent
-pub mod Files
-pub mod Most
+pub mod ByValueLaws
 pub mod OrderCases
-pub mod Places
-pub mod Tables
-pub mod Sorts
-pub mod Repeats
-pub mod DistinctLaws
-pub mod DistinctMerge
-pub mod DistinctAbsorb
-pub mod Closing
-pub mod Sheets
+-- formats: what is read is what is written, and how long it gets
+pub mod RoundTrip
+pub mod Most
+-- formats: what each accepts, in plain rules
 pub mod AcceptedLaws
 pub mod AcceptedEdges
 pub mod AcceptedGraphs
@@ -25,22 +17,39 @@ pub mod AcceptedTurns
 pub mod AcceptedSheets
 pub mod Accepted
 pub mod AcceptedBounds
+-- the moves of a reader and of a writer
+pub mod ReadingLaws
+pub mod WritingLaws
+pub mod Times
+pub mod Closing
+pub mod Lent
+pub mod Files
+-- order: the sort, repeats, different numbers
+pub mod Places
+pub mod Tables
+pub mod Sorts
+pub mod Repeats
+pub mod DistinctLaws
+pub mod DistinctMerge
+pub mod DistinctAbsorb
+-- patterns and catalogues
+pub mod Edges
+pub mod Patterns
+pub mod EdgeCounts
+-- records
+pub mod Records
+pub mod LoadingLaws
+pub mod GraphLaws
+-- sheets and books
+pub mod Sheets
 pub mod Gathering
 pub mod Walks
 pub mod WalkLaws
 pub mod BookSheetLaws
-pub mod Records
-pub mod LoadingLaws
-pub mod Times
-pub mod Edges
-pub mod Patterns
-pub mod EdgeCounts
 pub mod SheetLaws
-pub mod SetBits
 pub mod MatchLaws
 pub mod ScatterLaws
-pub mod ByValueLaws
-pub mod CallLaws
+-- the calls
 pub mod AcceptLaws
+pub mod CallLaws
 pub mod CallRoundTrips
-pub mod GraphLaws

@@ -8,10 +8,10 @@ use lib.Seq.{sets, length-sets}
 use native.Mathlib.Omega.{arith}
 use Rattle.packed.specs.Bits.{bits, bitsOf, gap}
 use Rattle.packed.specs.Format.{Format, done, ask, test, pad, then, times, whole, bad, decode, encode}
-use Rattle.packed.specs.Formats.{count, linked, end, edges, labels, nothing, record′, code}
+use Rattle.packed.specs.Formats.{countField, linked, end, edges, labels, nothing, record′, code}
 use Rattle.packed.specs.Reading.{Reading, Refuses, Value, TwoValues, Content, Judges}
 use Rattle.packed.specs.Writing.{Writing, Rejects, Put, TwoPut, JudgesFields}
-use Rattle.packed.specs.Loading.{once, Kept, Lazily, LazyPart, Loads, LazilyWritten, LazyPartWritten, LoadsFields}
+use Rattle.packed.specs.Loading.{once, CodesKept, Lazily, LazyPart, Loads, LazilyWritten, LazyPartWritten, LoadsFields}
 use Rattle.packed.specs.declared.reply.Refusal.{Refusal}
 use Rattle.packed.specs.declared.reply.Refusal.the-variants.{DuplicateEdge}
 use Rattle.packed.specs.declared.reply.Part.{Part}
@@ -22,7 +22,7 @@ use Rattle.packed.proofs.RoundTrip.{Bytes, bits-bytesOf, whole-is}
 use Rattle.packed.proofs.ReadingLaws.{starts, same-at, left-is, goes-on, calls, refused, reads, passes, fails}
 use Rattle.packed.proofs.WritingLaws.{begins, same-to, left-to, follows, parts, rejected, writes, accepts, denies, fills}
 use Rattle.packed.proofs.Files.{judged-bad, written-whole-tail, written-whole-ok, written-bad}
-use Rattle.packed.proofs.Records.{Held, held-none, held-more, once-more, once-none}
+use Rattle.packed.proofs.Records.{RecordHeld, held-none, held-more, once-more, once-none}
 
 -- ---- what comes next
 pub labels-next : (left : ℕ) → 0 < left → times left labels ≡ ask 32 0 (2 ^ 32) 3 (λ v. times (left - 1) labels)
@@ -43,7 +43,7 @@ edges-none : (nodes : ℕ) (ends : List ℕ) → edges 12 nodes nothing 0 ends �
 unfolding edges
 edges-none nodes ends = refl
 
-pub record-is : record′ ≡ count 13 0 4096 (λ nodes. count 14 0 8192 (λ number. then (times nodes labels) (edges 12 nodes nothing number [])))
+pub record-is : record′ ≡ countField 13 0 4096 (λ nodes. countField 14 0 8192 (λ number. then (times nodes labels) (edges 12 nodes nothing number [])))
 unfolding record′
 record-is = refl
 
@@ -63,12 +63,12 @@ never h = absurd (let z : _≡_ {A = Bool} true false = sym once-none ∙ h in l
 -- a reader amid the edges, with k of them loaded and left more to come
 pub record EdgesRead (F : Format) (s : List ℕ) (at₀ : ℕ) (w₀ : List ℕ) (i₀ file nodes number : ℕ) (work₀ w work : List ℕ) (at i k left : ℕ) : Type 0 where
   pub ends : List ℕ
-  pub held : Held number work₀ ends work k left
+  pub held : RecordHeld number work₀ ends work k left
   pub lazy : Lazily F s at₀ w₀ i₀ file nodes left ends at w i
 
 module _ {F : Format} {s : List ℕ} {at₀ : ℕ} {w₀ : List ℕ} {i₀ file : ℕ} where
   -- a part that was refused, whatever was loaded
-  loads-refused : {k : ℕ} {ends work₀ w work : List ℕ} {x : Refusal} (r : Loaded) → r .edges ≡ k → r .part ≡ part-is.Refused x → Kept ends k work₀ work
+  loads-refused : {k : ℕ} {ends work₀ w work : List ℕ} {x : Refusal} (r : Loaded) → r .edges ≡ k → r .part ≡ part-is.Refused x → CodesKept ends k work₀ work
       → (once ends ≡ true → Refuses F s at₀ file x) → (once ends ≡ false → Refuses F s at₀ file (DuplicateEdge file))
       → Loads F s at₀ w₀ i₀ file work₀ r w work
   loads-refused {k} {ends} r e q h f g = record { nodes = 0; ends = ends; kept = rw e h; part = rw q (f, g) }
@@ -156,7 +156,7 @@ loads-wrong q h e = let p = rw e at (q .part) in rw e (judged-bad (p .0 h))
 
 -- a record up to its labels, its edges, and the end of its labels
 module _ {s w w₁ : List ℕ} {nodes : ℕ} (p : Value 13 0 4097 s 0 w 0 nodes w₁) where
-  pub record-nodes : Reading record′ s 0 w 0 (count 14 0 8192 (λ number. then (times nodes labels) (edges 12 nodes nothing number []))) 13 w₁ 1
+  pub record-nodes : Reading record′ s 0 w 0 (countField 14 0 8192 (λ number. then (times nodes labels) (edges 12 nodes nothing number []))) 13 w₁ 1
   record-nodes = reads (left-is record-is (starts (omega arith))) p
 
   module _ {w₂ : List ℕ} {number : ℕ} (q : Value 14 0 8193 s 13 w₁ 1 number w₂) where
@@ -171,11 +171,11 @@ module _ {s w w₁ : List ℕ} {nodes : ℕ} (p : Value 13 0 4097 s 0 w 0 nodes 
 -- a writer amid the edges
 pub record EdgesWritten (F : Format) (ws : List ℕ) (i₀ : ℕ) (b₀ : List ℕ) (at₀ file nodes number : ℕ) (work₀ b work : List ℕ) (i at k left : ℕ) : Type 0 where
   pub ends : List ℕ
-  pub held : Held number work₀ ends work k left
+  pub held : RecordHeld number work₀ ends work k left
   pub lazy : LazilyWritten F ws i₀ b₀ at₀ file nodes left ends i b at
 
 module _ {F : Format} {ws : List ℕ} {i₀ : ℕ} {b₀ : List ℕ} {at₀ file : ℕ} where
-  fields-refused : {j k : ℕ} {ends work₀ b work : List ℕ} {x : Refusal} (r : Loaded) → r .edges ≡ k → r .part ≡ part-is.Refused x → Kept ends k work₀ work
+  fields-refused : {j k : ℕ} {ends work₀ b work : List ℕ} {x : Refusal} (r : Loaded) → r .edges ≡ k → r .part ≡ part-is.Refused x → CodesKept ends k work₀ work
       → (once ends ≡ true → Rejects F ws i₀ at₀ file x) → (once ends ≡ false → Rejects F ws i₀ at₀ file (DuplicateEdge file))
       → LoadsFields F ws i₀ b₀ at₀ j file work₀ r b work
   fields-refused {k = k} {ends} r e q h f g = record { nodes = 0; ends = ends; kept = rw e h; part = rw q (f, g) }
@@ -256,7 +256,7 @@ pub fields-wrong : {F : Format} {ws b₀ : List ℕ} {k file : ℕ} {work : List
 fields-wrong q h e = let p = rw e at (q .part) in rw e (written-bad (p .0 h))
 
 module _ {ws b b₁ : List ℕ} {nodes : ℕ} (p : Put 13 0 4097 ws 0 b 0 nodes b₁) where
-  pub nodes-written : Writing record′ ws 0 b 0 (count 14 0 8192 (λ number. then (times nodes labels) (edges 12 nodes nothing number []))) 1 b₁ 13
+  pub nodes-written : Writing record′ ws 0 b 0 (countField 14 0 8192 (λ number. then (times nodes labels) (edges 12 nodes nothing number []))) 1 b₁ 13
   nodes-written = writes (left-to record-is (begins (omega arith))) p
 
   module _ {b₂ : List ℕ} {number : ℕ} (q : Put 14 0 8193 ws 1 b₁ 13 number b₂) where

@@ -14,8 +14,8 @@ use native.Mathlib.Numerals.{add-one}
 use native.Mathlib.Nat.{add-zero, zero-add}
 use Rattle.packed.specs.Bits.{bits, bitsOf, gap}
 use Rattle.packed.specs.Format.{pick}
-use Rattle.packed.specs.Matches.{marks, marked, markedFrom, anyEmpty, emptied, allOrNone, codesOf, masksOf, matchesOf, Marked, Counts, Written, Added, anyZero, sumOf, Listed, pairBits, listBits, ListsWritten}
-use Rattle.packed.specs.Contents.{total}
+use Rattle.packed.specs.Matches.{marks, marked, markedFrom, anyEmpty, emptied, allOrNone, codesOf, masksOf, matchesOf, Marked, Counts, SheetWritten, Added, anyZero, sumOf, Listed, pairBits, codedList, ListsWritten}
+use Rattle.packed.specs.Contents.{pairCount}
 use Rattle.packed.proofs.BitsLaws.{length-bits, bitsOf-zero, bits-injective}
 use Rattle.packed.proofs.OrderCases.{lt-or-ge}
 use Rattle.packed.proofs.Sets.{sets-append}
@@ -203,8 +203,8 @@ pub lists-next : (m n : ℕ) (w : List ℕ) → listsOf (suc m) n w ≡ listsOf 
 lists-next m n w =
     from-next 0 m (take n w) (take n (drop 8192 w)) ∙ ap (λ (k : ℕ). listsOf m n w ++ (under k n w ∷ [])) (zero-add m)
 
-total-next : (ls : List (List ℕ)) (l : List ℕ) → total (ls ++ (l ∷ [])) ≡ total ls + length l
-unfolding total
+total-next : (ls : List (List ℕ)) (l : List ℕ) → pairCount (ls ++ (l ∷ [])) ≡ pairCount ls + length l
+unfolding pairCount
 total-next [] l = omega arith
 total-next (x ∷ ls) l = omega (arith, total-next ls l)
 
@@ -213,8 +213,8 @@ unfolding anyEmpty
 empty-next [] l = or-false (eqb (length l) 0)
 empty-next (x ∷ ls) l = ap (λ (b : Bool). eqb (length x) 0 || b) (empty-next ls l) ∙ sym (or-assoc (eqb (length x) 0) (anyEmpty ls) (eqb (length l) 0))
 
-pub bits-next : (ls : List (List ℕ)) (l : List ℕ) → listBits (ls ++ (l ∷ [])) ≡ listBits ls ++ (bitsOf 14 (length l) ++ pairBits l)
-unfolding listBits
+pub bits-next : (ls : List (List ℕ)) (l : List ℕ) → codedList (ls ++ (l ∷ [])) ≡ codedList ls ++ (bitsOf 14 (length l) ++ pairBits l)
+unfolding codedList
 bits-next [] l = ap (λ (x : List Bool). bitsOf 14 (length l) ++ x) (append-nil (pairBits l))
 bits-next (x ∷ ls) l = rw (bits-next ls l) (simp append-assoc)
 
@@ -228,12 +228,12 @@ pub zero-next : (e : ℕ) (c : List ℕ) → anyZero (e + 1) c ≡ anyZero e c |
 unfolding anyZero
 zero-next e c = rw add-one
 
-pub sum-is : (n m : ℕ) (w c : List ℕ) → Counts n w c → m ≤ 32 → sumOf m c ≡ total (listsOf m n w)
+pub sum-is : (n m : ℕ) (w c : List ℕ) → Counts n w c → m ≤ 32 → sumOf m c ≡ pairCount (listsOf m n w)
 unfolding sumOf
-sum-is n zero w c t h = unfold total markedFrom in refl
+sum-is n zero w c t h = unfold pairCount markedFrom in refl
 sum-is n (suc m) w c t h =
     ap₂ (λ (a b : ℕ). a + b) (sum-is n m w c t (omega arith)) (t .each m (omega arith))
-    ∙ sym (ap total (lists-next m n w) ∙ total-next (listsOf m n w) (under m n w))
+    ∙ sym (ap pairCount (lists-next m n w) ∙ total-next (listsOf m n w) (under m n w))
 
 pub zero-is : (n m : ℕ) (w c : List ℕ) → Counts n w c → m ≤ 32 → anyZero m c ≡ anyEmpty (listsOf m n w)
 unfolding anyZero
@@ -269,8 +269,8 @@ listed-marked n m w k l t =
     let h : k ≤ n = listed-most n m w k l in
     record { long = t .long; most = omega (arith, t .most); small = λ i q. t .small i (omega arith); rises = λ i j p q. t .rises i j p (omega arith) }
 
-pub sum-listed : (n m : ℕ) (w : List ℕ) (k : ℕ) (c : List ℕ) → Listed n m w k → Counts k w c → m ≤ 32 → sumOf m c ≡ total (matchesOf n m w)
-sum-listed n m w k c l t h = sum-is k m w c t h ∙ ap total (l .lists)
+pub sum-listed : (n m : ℕ) (w : List ℕ) (k : ℕ) (c : List ℕ) → Listed n m w k → Counts k w c → m ≤ 32 → sumOf m c ≡ pairCount (matchesOf n m w)
+sum-listed n m w k c l t h = sum-is k m w c t h ∙ ap pairCount (l .lists)
 
 -- ---- writing
 
@@ -288,12 +288,12 @@ unfolding marks
 names-not e q h = ne-eqb (q / 2 ^ e % 2) 1 h
 
 pub sheet-written : {n m : ℕ} {w b₀ : List ℕ} {k at : ℕ} {b : List ℕ} {r : ℕ} {b′ : List ℕ} → Marked n w → Listed n m w k → ListsWritten k m w b₀ at b
-    → 8 * r ≡ at + gap at → bits b′ ≡ sets (bits b) at (bitsOf (gap at) 0) → Bytes b₀ → Bytes b′ → Written n m w b₀ r b′
+    → 8 * r ≡ at + gap at → bits b′ ≡ sets (bits b) at (bitsOf (gap at) 0) → Bytes b₀ → Bytes b′ → SheetWritten n m w b₀ r b′
 unfolding padded
 sheet-written {n} {m} {w} {b₀} {k} {at} {b} {r} {b′} t l s e q y₀ y =
     let x : Encoded m (matchesOf n m w) = matches-encode n m w t in
-    let ls : List Bool = listBits (matchesOf n m w) in
-    let f : listBits (listsOf m k w) ≡ ls = ap listBits (l .lists) in
+    let ls : List Bool = codedList (matchesOf n m w) in
+    let f : codedList (listsOf m k w) ≡ ls = ap codedList (l .lists) in
     let a : at ≡ length ls = s .next ∙ ap length f in
     let v : bits b′ ≡ sets (bits b₀) 0 (bits (x .bytes)) =
     q

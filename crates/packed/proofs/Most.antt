@@ -41,12 +41,12 @@ field-laid w low bound e f at (v ∷ ws) rest bs q =
     }
 
 -- zero bits up to a whole byte
-record Filled (f : Format) (at : ℕ) (ws rest : List ℕ) (bs : List Bool) : Type 0 where
+record MostFilled (f : Format) (at : ℕ) (ws rest : List ℕ) (bs : List Bool) : Type 0 where
   tail : List Bool
   after : lay f (at + gap at) ws ≡ got tail rest
   long : length bs ≡ gap at + length tail
 
-pad-laid : (f : Format) (at : ℕ) (ws rest : List ℕ) (bs : List Bool) → lay (pad f) at ws ≡ got bs rest → Filled f at ws rest bs
+pad-laid : (f : Format) (at : ℕ) (ws rest : List ℕ) (bs : List Bool) → lay (pad f) at ws ≡ got bs rest → MostFilled f at ws rest bs
 pad-laid f at ws rest bs q =
     let z : List Bool = replicate (gap at) false in
     let r = push-got z (lay f (at + gap at) ws) bs rest (sym (lay-pad f at ws) ∙ q) in

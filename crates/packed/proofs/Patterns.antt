@@ -5,7 +5,7 @@ use mathlib.Core.List.{List, []}
 use lib.ListN.{length}
 use native.Mathlib.Omega.{arith}
 use Rattle.packed.specs.Format.{Format, done, ask, test, pad, then, times, whole}
-use Rattle.packed.specs.Formats.{count, allEnds, label, edges, joined, pattern, catalogue}
+use Rattle.packed.specs.Formats.{countField, allEnds, label, edges, joined, pattern, catalogue}
 use Rattle.packed.specs.Reading.{Reading, Value, ReadsUpTo, ReadsBytesUpTo}
 use Rattle.packed.specs.Writing.{Writing, Put}
 use Rattle.packed.specs.declared.reply.Part.{Part}
@@ -22,24 +22,24 @@ pub joined-is : (nodes : ℕ) (ends : List ℕ) → joined nodes ends ≡ test (
 unfolding joined
 joined-is nodes ends = refl
 
-pattern-is : pattern ≡ count 5 1 16 (λ nodes. count 6 1 32 (λ number. then (times nodes label) (edges 4 nodes (joined nodes) number [])))
+pattern-is : pattern ≡ countField 5 1 16 (λ nodes. countField 6 1 32 (λ number. then (times nodes label) (edges 4 nodes (joined nodes) number [])))
 unfolding pattern
 pattern-is = refl
 
-catalogue-is : catalogue ≡ count 5 0 16 (λ number. pad (times number (whole pattern)))
+catalogue-is : catalogue ≡ countField 5 0 16 (λ number. pad (times number (whole pattern)))
 unfolding catalogue
 catalogue-is = refl
 
 -- ---- reading
 
 module _ (s : List ℕ) (at : ℕ) (w : List ℕ) (i : ℕ) (h : at ≤ 8 * length s) where
-  pub pattern-starts : Reading pattern s at w i (count 5 1 16 (λ nodes. count 6 1 32 (λ number. then (times nodes label) (edges 4 nodes (joined nodes) number [])))) at w i
+  pub pattern-starts : Reading pattern s at w i (countField 5 1 16 (λ nodes. countField 6 1 32 (λ number. then (times nodes label) (edges 4 nodes (joined nodes) number [])))) at w i
   pattern-starts = left-is pattern-is (starts h)
 
   pub whole-starts : (F : Format) → Reading (whole F) s at w i (then F (pad done)) at w i
   whole-starts F = left-is (whole-is F) (starts h)
 
-  pub catalogue-starts : Reading catalogue s at w i (count 5 0 16 (λ number. pad (times number (whole pattern)))) at w i
+  pub catalogue-starts : Reading catalogue s at w i (countField 5 0 16 (λ number. pad (times number (whole pattern)))) at w i
   catalogue-starts = left-is catalogue-is (starts h)
 
   -- the numbers of nodes and edges
@@ -63,13 +63,13 @@ module _ {F : Format} {s : List ℕ} {at₀ : ℕ} {w₀ : List ℕ} {i₀ : ℕ
 -- ---- writing
 
 module _ (ws : List ℕ) (i : ℕ) (b : List ℕ) (at : ℕ) (h : i ≤ length ws) where
-  pub pattern-begins : Writing pattern ws i b at (count 5 1 16 (λ nodes. count 6 1 32 (λ number. then (times nodes label) (edges 4 nodes (joined nodes) number [])))) i b at
+  pub pattern-begins : Writing pattern ws i b at (countField 5 1 16 (λ nodes. countField 6 1 32 (λ number. then (times nodes label) (edges 4 nodes (joined nodes) number [])))) i b at
   pattern-begins = left-to pattern-is (begins h)
 
   pub whole-begins : (F : Format) → Writing (whole F) ws i b at (then F (pad done)) i b at
   whole-begins F = left-to (whole-is F) (begins h)
 
-  pub catalogue-begins : Writing catalogue ws i b at (count 5 0 16 (λ number. pad (times number (whole pattern)))) i b at
+  pub catalogue-begins : Writing catalogue ws i b at (countField 5 0 16 (λ number. pad (times number (whole pattern)))) i b at
   catalogue-begins = left-to catalogue-is (begins h)
 
   pub pattern-counts-put : {nodes number : ℕ} {b′ b″ : List ℕ} → Put 5 1 17 ws i b at nodes b′ → Put 6 1 33 ws (i + 1) b′ (at + 5) number b″

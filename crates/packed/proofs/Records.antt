@@ -10,7 +10,7 @@ use lib.Dec.{eqb, lit<}
 use native.Mathlib.Omega.{arith}
 use borrow.Author.Tests.{eq-eqb, ne-eqb, not-true, not-false}
 use Rattle.packed.specs.Formats.{code, linked}
-use Rattle.packed.specs.Loading.{codes, once, Kept}
+use Rattle.packed.specs.Loading.{codes, once, CodesKept}
 use Rattle.packed.specs.Order.{word, allDifferent, TellsRepeat}
 use Rattle.packed.specs.Contents.{member}
 use Rattle.packed.proofs.OrderCases.{eq-or-ne}
@@ -19,16 +19,16 @@ use Rattle.packed.proofs.Sorts.{word-front}
 use Rattle.packed.proofs.Repeats.{different-snoc, repeats-told}
 
 -- the two ends of so many edges, each of 12 bits
-pub data Ends : List ℕ → Type 0 where
-  none : Ends []
-  edge : {x y : ℕ} {ends : List ℕ} → x < 4096 → y < 4096 → Ends ends → Ends (x ∷ y ∷ ends)
+pub data RecordEnds : List ℕ → Type 0 where
+  none : RecordEnds []
+  edge : {x y : ℕ} {ends : List ℕ} → x < 4096 → y < 4096 → RecordEnds ends → RecordEnds (x ∷ y ∷ ends)
 
 -- ---- one edge more
-pub ends-more : {a b : ℕ} {ends : List ℕ} → a < 4096 → b < 4096 → Ends ends → Ends (ends ++ (a ∷ b ∷ []))
+pub ends-more : {a b : ℕ} {ends : List ℕ} → a < 4096 → b < 4096 → RecordEnds ends → RecordEnds (ends ++ (a ∷ b ∷ []))
 ends-more p q none = edge p q none
 ends-more p q (edge h g e) = edge h g (ends-more p q e)
 
-pub codes-more : (a b : ℕ) {ends : List ℕ} → Ends ends → codes (ends ++ (a ∷ b ∷ [])) ≡ codes ends ++ (code a b ∷ [])
+pub codes-more : (a b : ℕ) {ends : List ℕ} → RecordEnds ends → codes (ends ++ (a ∷ b ∷ [])) ≡ codes ends ++ (code a b ∷ [])
 unfolding codes
 codes-more a b none = refl
 codes-more a b (edge {x} {y} h g e) = ap (λ (l : List ℕ). code x y ∷ l) (codes-more a b e)
@@ -44,13 +44,13 @@ same-code x y a b h g =
     (λ (p : x ≡ a → ⊥). rw (ne-eqb x a p) (sym (ne-eqb (code x y) (code a b) (λ e. p (omega arith)))))
     (eq-or-ne x a)
 
-pub linked-code : (a b : ℕ) {ends : List ℕ} → b < 4096 → Ends ends → linked a b ends ≡ member (code a b) (codes ends)
+pub linked-code : (a b : ℕ) {ends : List ℕ} → b < 4096 → RecordEnds ends → linked a b ends ≡ member (code a b) (codes ends)
 unfolding linked codes member
 linked-code a b p none = refl
 linked-code a b p (edge {x} {y} h g e) = rw (same-code x y a b g p, linked-code a b p e)
 
 -- no edge stands twice with one edge more, where none did and that edge was not among them
-pub once-more : (a b : ℕ) {ends : List ℕ} → b < 4096 → Ends ends → once (ends ++ (a ∷ b ∷ [])) ≡ (once ends && not (linked a b ends))
+pub once-more : (a b : ℕ) {ends : List ℕ} → b < 4096 → RecordEnds ends → once (ends ++ (a ∷ b ∷ [])) ≡ (once ends && not (linked a b ends))
 once-more a b {ends} p e =
     ap allDifferent (codes-more a b e)
     ∙ different-snoc (codes ends) (code a b)
@@ -61,20 +61,20 @@ unfolding codes allDifferent
 once-none = refl
 
 -- ---- the codes in the workspace
-pub codes-small : {ends : List ℕ} → Ends ends → (j : ℕ) → getD (codes ends) j 0 < 2 ^ 24
+pub codes-small : {ends : List ℕ} → RecordEnds ends → (j : ℕ) → getD (codes ends) j 0 < 2 ^ 24
 unfolding codes
 codes-small none j = lit< tt
 codes-small (edge h g e) zero = omega arith
 codes-small (edge h g e) (suc j) = codes-small e j
 
 -- k edges are loaded, and left more come
-pub record Held (number : ℕ) (work₀ : List ℕ) (ends : List ℕ) (work : List ℕ) (k left : ℕ) : Type 0 where
-  pub fine : Ends ends
-  pub kept : Kept ends k work₀ work
+pub record RecordHeld (number : ℕ) (work₀ : List ℕ) (ends : List ℕ) (work : List ℕ) (k left : ℕ) : Type 0 where
+  pub fine : RecordEnds ends
+  pub kept : CodesKept ends k work₀ work
   pub long : length work ≡ length work₀
   pub rest : k + left ≡ number
 
-pub held-none : (number : ℕ) (work : List ℕ) → Held number work [] work 0 number
+pub held-none : (number : ℕ) (work : List ℕ) → RecordHeld number work [] work 0 number
 unfolding codes
 held-none number work =
     record {
@@ -85,7 +85,7 @@ held-none number work =
     }
 
 pub held-more : {number : ℕ} {work₀ ends work : List ℕ} {k left a b : ℕ} → number ≤ 8192 → 0 < left → a < 4096 → b < 4096
-    → Held number work₀ ends work k left → Held number work₀ (ends ++ (a ∷ b ∷ [])) (set work k (code a b)) (k + 1) (left - 1)
+    → RecordHeld number work₀ ends work k left → RecordHeld number work₀ (ends ++ (a ∷ b ∷ [])) (set work k (code a b)) (k + 1) (left - 1)
 held-more {number} {work₀} {ends} {work} {k} {left} {a} {b} m l p q h =
     let e : codes (ends ++ (a ∷ b ∷ [])) ≡ codes ends ++ (code a b ∷ []) = codes-more a b (h .fine) in
     let n : k ≡ length (codes ends) = h .kept .number in
@@ -107,7 +107,7 @@ held-more {number} {work₀} {ends} {work} {k} {left} {a} {b} m l p q h =
     }
 
 -- ---- the repeat check over the codes
-module _ {ends : List ℕ} {k : ℕ} {work work′ : List ℕ} (fits : 8192 ≤ length work) (h : Kept ends k work work′) where
+module _ {ends : List ℕ} {k : ℕ} {work work′ : List ℕ} (fits : 8192 ≤ length work) (h : CodesKept ends k work work′) where
   kept-word : (j : ℕ) → j < length (codes ends) → word work′ 0 j ≡ getD (codes ends) j 0
   kept-word j l =
       word-front work′ j

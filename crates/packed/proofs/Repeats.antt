@@ -9,7 +9,7 @@ use lib.Dec.{eqb, ltb}
 use lib.ListN.{length, take, getD}
 use lib.Seq.{take-suc, take-length}
 use borrow.Author.Tests.{eqb-true, eqb-false, lt-ltb, le-ltb, not-true, not-false}
-use Rattle.packed.specs.Order.{times, word, Repeats, TellsRepeat, allDifferent}
+use Rattle.packed.specs.Order.{occurrences, word, Repeats, TellsRepeat, allDifferent}
 use Rattle.packed.specs.Contents.{member}
 use Rattle.packed.proofs.OrderCases.{eq-or-ne, eqb-sym, or-cases, or-neither, and-both, and-cases}
 use Rattle.packed.proofs.Places.{times-hit, times-miss, times-le}
@@ -38,7 +38,7 @@ module _ (codes : List ℕ) (f : ℕ → ℕ) (at : (j : ℕ) → j < length cod
   front-more : (n : ℕ) → n < length codes → take (suc n) codes ≡ take n codes ++ (f n ∷ [])
   front-more n l = take-suc codes n 0 l ∙ ap (λ x. take n codes ++ (x ∷ [])) (sym (at n l))
 
-  member-yes : (x n : ℕ) → n ≤ length codes → member x (take n codes) ≡ true → 0 < times x n f
+  member-yes : (x n : ℕ) → n ≤ length codes → member x (take n codes) ≡ true → 0 < occurrences x n f
   member-yes x zero l h = absurd (let z : _≡_ {A = ℕ} 0 1 = (unfold member in cc) in omega arith)
   member-yes x (suc n) l h =
       ⊎-elim
@@ -46,36 +46,36 @@ module _ (codes : List ℕ) (f : ℕ → ℕ) (at : (j : ℕ) → j < length cod
       (λ e. let t = times-hit f x n (eqb-true (f n) x e) in omega arith)
       (or-cases _ _ (sym (member-snoc x (take n codes) (f n)) ∙ ap (member x) (sym (front-more n l)) ∙ h))
 
-  member-no : (x n : ℕ) → n ≤ length codes → member x (take n codes) ≡ false → times x n f ≡ 0
-  member-no x zero l h = unfold times in refl
+  member-no : (x n : ℕ) → n ≤ length codes → member x (take n codes) ≡ false → occurrences x n f ≡ 0
+  member-no x zero l h = unfold occurrences in refl
   member-no x (suc n) l h =
       let b = or-neither _ _ (sym (member-snoc x (take n codes) (f n)) ∙ ap (member x) (sym (front-more n l)) ∙ h) in
       times-miss f x n (eqb-false (f n) x (b .1)) ∙ member-no x n (omega arith) (b .0)
 
   -- whether a number is in the list, by how often it stands among the words
-  pub member-count : (x : ℕ) → member x codes ≡ ltb 0 (times x (length codes) f)
+  pub member-count : (x : ℕ) → member x codes ≡ ltb 0 (occurrences x (length codes) f)
   member-count x = settle (member x codes) refl
     where
       whole : member x (take (length codes) codes) ≡ member x codes
       whole = ap (member x) (take-length codes)
 
-      settle : (b : Bool) → member x codes ≡ b → b ≡ ltb 0 (times x (length codes) f)
-      settle true e = sym (lt-ltb 0 (times x (length codes) f) (member-yes x (length codes) (omega arith) (whole ∙ e)))
-      settle false e = sym (le-ltb 0 (times x (length codes) f) (let z = member-no x (length codes) (omega arith) (whole ∙ e) in omega arith))
+      settle : (b : Bool) → member x codes ≡ b → b ≡ ltb 0 (occurrences x (length codes) f)
+      settle true e = sym (lt-ltb 0 (occurrences x (length codes) f) (member-yes x (length codes) (omega arith) (whole ∙ e)))
+      settle false e = sym (le-ltb 0 (occurrences x (length codes) f) (let z = member-no x (length codes) (omega arith) (whole ∙ e) in omega arith))
 
   front-different : (n : ℕ) → n < length codes → allDifferent (take (suc n) codes) ≡ (allDifferent (take n codes) && not (member (f n) (take n codes)))
   front-different n l = ap allDifferent (front-more n l) ∙ different-snoc (take n codes) (f n)
 
   different-yes : (n : ℕ) → n ≤ length codes → allDifferent (take n codes) ≡ true → Repeats n f → ⊥
   unfolding Repeats
-  different-yes zero l h r = let z = r .1 in unfold times in omega arith
+  different-yes zero l h r = let z = r .1 in unfold occurrences in omega arith
   different-yes (suc n) l h r =
       let b = and-both _ _ (sym (front-different n l) ∙ h) in
       ⊎-elim
       (λ (e : f n ≡ r .0).
       let z = member-no (f n) n (omega arith) (not-true _ (b .1)) in
       let t = times-hit f (f n) n refl in
-      let y = ap (λ x. times x (suc n) f) e in
+      let y = ap (λ x. occurrences x (suc n) f) e in
       let u = r .1 in
       omega arith)
       (λ e. different-yes n (omega arith) (b .0) (r .0, let t = times-miss f (r .0) n e in let u = r .1 in omega arith))

@@ -12,7 +12,7 @@ use native.Mathlib.Numerals.{add-one}
 use borrow.Author.Count.{below-more}
 use Rattle.packed.specs.Bits.{bits, bitsOf}
 use Rattle.packed.specs.Format.{pick}
-use Rattle.packed.specs.Matches.{marks, marked, markedFrom, Marked, Counts, pairBits, listBits, start, laid, scatter, scatters, CountsWritten, PairPut, ListsWritten}
+use Rattle.packed.specs.Matches.{marks, marked, markedFrom, Marked, Counts, pairBits, codedList, listStart, laid, scatter, scatters, CountsWritten, PairPut, ListsWritten}
 use Rattle.packed.proofs.BitsLaws.{length-bitsOf}
 use Rattle.packed.proofs.SetBits.{Next, no-bits, bit-low, bit-high}
 use Rattle.packed.proofs.OrderCases.{lt-or-ge, eq-or-ne}
@@ -146,13 +146,13 @@ scattering-next {i} {m} {w} {ps₀} {b₀} {ps} {b} {ps′} {b′} t h l s r p =
 
 -- ---- the counts
 
-start-most : (e : ℕ) (c : List ℕ) → ((j : ℕ) → getD c j 0 ≤ 8192) → start e c ≤ 196622 * e
-unfolding start
+start-most : (e : ℕ) (c : List ℕ) → ((j : ℕ) → getD c j 0 ≤ 8192) → listStart e c ≤ 196622 * e
+unfolding listStart
 start-most zero c h = omega arith
 start-most (suc e) c h = omega (arith, start-most e c h, h e)
 
 pub counts-begin : (c b ps : List ℕ) → ps ≡ replicate 32 0 → CountsWritten 0 c b ps 0 b
-unfolding start laid
+unfolding listStart laid
 counts-begin c b ps h =
     record {
       long = ap length h ∙ length-replicate {A = ℕ} 32 0;
@@ -165,11 +165,11 @@ counts-begin c b ps h =
 pub counts-bound : {e : ℕ} {c b₀ ps : List ℕ} {at : ℕ} {b : List ℕ} → CountsWritten e c b₀ ps at b → ((j : ℕ) → getD c j 0 ≤ 8192) → at ≤ 196622 * e
 counts-bound {e} {c} t h = omega (arith, t .next, start-most e c h)
 
-start-next : (e : ℕ) (c : List ℕ) → start (e + 1) c ≡ start e c + (14 + 24 * getD c e 0)
-unfolding start
+start-next : (e : ℕ) (c : List ℕ) → listStart (e + 1) c ≡ listStart e c + (14 + 24 * getD c e 0)
+unfolding listStart
 start-next e c = rw add-one
 
-laid-next : (e : ℕ) (c : List ℕ) (b : List Bool) → laid (e + 1) (λ j. []) c b ≡ sets (laid e (λ j. []) c b) (start e c) (bitsOf 14 (getD c e 0))
+laid-next : (e : ℕ) (c : List ℕ) (b : List Bool) → laid (e + 1) (λ j. []) c b ≡ sets (laid e (λ j. []) c b) (listStart e c) (bitsOf 14 (getD c e 0))
 unfolding laid pairBits
 laid-next e c b = rw (add-one, append-nil)
 
@@ -183,7 +183,7 @@ counts-put {e} {c} {b₀} {ps} {at} {b} b′ t l h q =
           (λ (u : j ≡ e). omega (arith, ap (λ (k : ℕ). getD (set ps e (at + 14)) k 0) u ∙ getD-set-same ps e (at + 14) 0 (omega (arith, t .long))))
           (λ (u : j ≡ e → ⊥). omega (arith, getD-set-other ps e j (at + 14) 0 u, t .most j r))
           (eq-or-ne j e);
-      places = below-more (λ j. getD (set ps e (at + 14)) j 0 ≡ start j c + 14) e
+      places = below-more (λ j. getD (set ps e (at + 14)) j 0 ≡ listStart j c + 14) e
           (λ j r. getD-set-other ps e j (at + 14) 0 (λ u. omega arith) ∙ t .places j r)
           (getD-set-same ps e (at + 14) 0 (omega (arith, t .long)) ∙ omega (arith, t .next));
       holds =
@@ -200,15 +200,15 @@ unfolding laid
 laid-same zero has has′ c b h = refl
 laid-same (suc m) has has′ c b h = rw (h m, laid-same m has has′ c b h)
 
-start-up : (i j : ℕ) (c : List ℕ) → i ≤ j → start i c ≤ start j c
-unfolding start
+start-up : (i j : ℕ) (c : List ℕ) → i ≤ j → listStart i c ≤ listStart j c
+unfolding listStart
 start-up i zero c h = let e : i ≡ 0 = omega arith in rw e (omega arith)
 start-up i (suc j) c h =
     ⊎-elim (λ (l : i < suc j). omega (arith, start-up i j c (omega arith))) (λ (l : suc j ≤ i). (let e : i ≡ suc j = omega arith in rw e (omega arith))) (lt-or-ge i (suc j))
 
 -- a list's end is no further than the next one's start
-start-room : (j e : ℕ) (c : List ℕ) → j < e → start j c + (14 + 24 * getD c j 0) ≤ start e c
-unfolding start
+start-room : (j e : ℕ) (c : List ℕ) → j < e → listStart j c + (14 + 24 * getD c j 0) ≤ listStart e c
+unfolding listStart
 start-room j e c h = start-up (suc j) e c (omega arith)
 
 grows : (e i n : ℕ) (w : List ℕ) → i ≤ n → 8192 + n ≤ length w → length (listed e i w) ≤ length (listed e n w)
@@ -246,7 +246,7 @@ listed-none e w = refl
 
 module _ (n : ℕ) (w c : List ℕ) (t : Counts n w c) (k : Marked n w) where
   -- one pair more in each list that its mask names
-  scatter-laid : (m i : ℕ) (to : ℕ → ℕ) (b : List Bool) → m ≤ 32 → i < n → ((e : ℕ) → e < m → to e ≡ start e c + 14 + 24 * length (listed e i w))
+  scatter-laid : (m i : ℕ) (to : ℕ → ℕ) (b : List Bool) → m ≤ 32 → i < n → ((e : ℕ) → e < m → to e ≡ listStart e c + 14 + 24 * length (listed e i w))
       → scatter m to (getD w (8192 + i) 0) (getD w i 0) (laid m (λ e. listed e i w) c b) ≡ laid m (λ e. listed e (i + 1) w) c b
   unfolding scatter laid
   scatter-laid zero i to b h l f = refl
@@ -256,20 +256,20 @@ module _ (n : ℕ) (w c : List ℕ) (t : Counts n w c) (k : Marked n w) where
       let q : 8192 + i < length w = omega (arith, k .long, k .most) in
       let p : List Bool = bitsOf 14 (getD c e 0) ++ pairBits (listed e i w) in
       let y : List Bool = pick (marks e x) (bitsOf 24 v) [] in
-      let g : to e ≡ start e c + length p =
+      let g : to e ≡ listStart e c + length p =
       omega (arith, f e (omega arith), length-append (bitsOf 14 (getD c e 0)) (pairBits (listed e i w)), length-bitsOf 14 (getD c e 0), length-pairBits (listed e i w)) in
       let r : p ++ y ≡ bitsOf 14 (getD c e 0) ++ pairBits (listed e (i + 1) w) =
       append-assoc (bitsOf 14 (getD c e 0)) (pairBits (listed e i w)) y
       ∙ ap (λ (z : List Bool). bitsOf 14 (getD c e 0) ++ z) (sym (ap pairBits (under-more e i w q) ∙ pairs-one (listed e i w) (marks e x) v)) in
       ap (λ (z : List Bool). sets z (to e) y)
-      (scatter-front e to x v (laid e (λ j. listed j i w) c b) (start e c) p
+      (scatter-front e to x v (laid e (λ j. listed j i w) c b) (listStart e c) p
       (λ j z. omega (arith, f j (omega arith), length-more j i w q, grows j (i + 1) n w (omega arith) (omega (arith, k .long, k .most)), t .each j (omega arith), start-room j e c z))
-      ∙ ap (λ (z : List Bool). sets z (start e c) p) (scatter-laid e i to b (omega arith) l (λ j z. f j (omega arith))))
-      ∙ ap (λ (z : ℕ). sets (sets (laid e (λ j. listed j (i + 1) w) c b) (start e c) p) z y) g
-      ∙ sets-append (laid e (λ j. listed j (i + 1) w) c b) (start e c) p y
-      ∙ ap (sets (laid e (λ j. listed j (i + 1) w) c b) (start e c)) r
+      ∙ ap (λ (z : List Bool). sets z (listStart e c) p) (scatter-laid e i to b (omega arith) l (λ j z. f j (omega arith))))
+      ∙ ap (λ (z : ℕ). sets (sets (laid e (λ j. listed j (i + 1) w) c b) (listStart e c) p) z y) g
+      ∙ sets-append (laid e (λ j. listed j (i + 1) w) c b) (listStart e c) p y
+      ∙ ap (sets (laid e (λ j. listed j (i + 1) w) c b) (listStart e c)) r
 
-  scatters-laid : (m i : ℕ) (to : ℕ → ℕ) (b : List Bool) → m ≤ 32 → i ≤ n → ((e : ℕ) → e < m → to e ≡ start e c + 14)
+  scatters-laid : (m i : ℕ) (to : ℕ → ℕ) (b : List Bool) → m ≤ 32 → i ≤ n → ((e : ℕ) → e < m → to e ≡ listStart e c + 14)
       → scatters i m w to (laid m (λ e. []) c b) ≡ laid m (λ e. listed e i w) c b
   unfolding scatters
   scatters-laid m zero to b h l f = laid-same m (λ e. []) (λ e. listed e 0 w) c b (λ e. listed-none e w)
@@ -278,15 +278,15 @@ module _ (n : ℕ) (w c : List ℕ) (t : Counts n w c) (k : Marked n w) where
       ∙ scatter-laid m i (λ e. to e + 24 * length (listed e i w)) b h l (λ e q. omega (arith, f e q))
       ∙ laid-same m (λ e. listed e (i + 1) w) (λ e. listed e (suc i) w) c b (λ e. ap (λ (z : ℕ). listed e z w) (add-one i))
 
-  lists-more : (e : ℕ) → listBits (listsOf (suc e) n w) ≡ listBits (listsOf e n w) ++ (bitsOf 14 (length (listed e n w)) ++ pairBits (listed e n w))
-  lists-more e = ap listBits (lists-next e n w) ∙ bits-next (listsOf e n w) (listed e n w)
+  lists-more : (e : ℕ) → codedList (listsOf (suc e) n w) ≡ codedList (listsOf e n w) ++ (bitsOf 14 (length (listed e n w)) ++ pairBits (listed e n w))
+  lists-more e = ap codedList (lists-next e n w) ∙ bits-next (listsOf e n w) (listed e n w)
 
-  start-is : (m : ℕ) → m ≤ 32 → start m c ≡ length (listBits (listsOf m n w))
-  unfolding start
-  start-is zero h = unfold listBits markedFrom in refl
+  start-is : (m : ℕ) → m ≤ 32 → listStart m c ≡ length (codedList (listsOf m n w))
+  unfolding listStart
+  start-is zero h = unfold codedList markedFrom in refl
   start-is (suc e) h =
       let u : List ℕ = listed e n w in
-      let ls : List Bool = listBits (listsOf e n w) in
+      let ls : List Bool = codedList (listsOf e n w) in
       omega (
         arith,
         start-is e (omega arith),
@@ -298,14 +298,14 @@ module _ (n : ℕ) (w c : List ℕ) (t : Counts n w c) (k : Marked n w) where
         length-pairBits u,
       )
 
-  laid-end : (m : ℕ) (b : List Bool) → m ≤ 32 → laid m (λ e. listed e n w) c b ≡ sets b 0 (listBits (listsOf m n w))
+  laid-end : (m : ℕ) (b : List Bool) → m ≤ 32 → laid m (λ e. listed e n w) c b ≡ sets b 0 (codedList (listsOf m n w))
   unfolding laid
-  laid-end zero b h = unfold listBits markedFrom in refl
+  laid-end zero b h = unfold codedList markedFrom in refl
   laid-end (suc e) b h =
       let u : List ℕ = listed e n w in
-      let ls : List Bool = listBits (listsOf e n w) in
+      let ls : List Bool = codedList (listsOf e n w) in
       let p : List Bool = bitsOf 14 (length u) ++ pairBits u in
-      ap (λ (z : ℕ). sets (laid e (λ j. listed j n w) c b) (start e c) (bitsOf 14 z ++ pairBits u)) (t .each e (omega arith))
+      ap (λ (z : ℕ). sets (laid e (λ j. listed j n w) c b) (listStart e c) (bitsOf 14 z ++ pairBits u)) (t .each e (omega arith))
       ∙ ap₂ (λ (l : List Bool) (z : ℕ). sets l z p) (laid-end e b (omega arith)) (start-is e (omega arith) ∙ sym (zero-add (length ls)))
       ∙ sets-append b 0 ls p
       ∙ ap (sets b 0) (sym (lists-more e))

@@ -9,19 +9,19 @@ use native.Mathlib.Nat.{zero-add, div-one, lt-of-lt-of-le}
 use native.Mathlib.Numerals.{add-one, one-add}
 use Rattle.packed.proofs.OrderCases.{lt-or-ge}
 
-record Lowest (x t : ℕ) : Type 0 where
+record LowestBit (x t : ℕ) : Type 0 where
   here : x / 2 ^ t % 2 ≡ 1
   below : (j : ℕ) → j < t → x / 2 ^ j % 2 ≡ 0
 
 halved : (x t : ℕ) → x / 2 ^ suc t ≡ x / 2 / 2 ^ t
 halved x t = ap (λ (k : ℕ). x / 2 ^ k) (sym (one-add t)) ∙ sym (shr-shr x 1 t)
 
-lowest : (d x : ℕ) → 0 < x → x < 2 ^ d → Lowest x (trailingZeros d x)
+lowest : (d x : ℕ) → 0 < x → x < 2 ^ d → LowestBit x (trailingZeros d x)
 unfolding trailingZeros
 lowest zero x p h = absurd (omega arith)
 lowest (suc d) x p h = go (x % 2) refl (λ e. lowest d (x / 2) (omega arith) (shr-lt d 1 (rw add-one h)))
   where
-    go : (r : ℕ) → x % 2 ≡ r → (x % 2 ≡ 0 → Lowest (x / 2) (trailingZeros d (x / 2))) → Lowest x (under r (trailingZeros d (x / 2)))
+    go : (r : ℕ) → x % 2 ≡ r → (x % 2 ≡ 0 → LowestBit (x / 2) (trailingZeros d (x / 2))) → LowestBit x (under r (trailingZeros d (x / 2)))
     go zero e u =
         let t : ℕ = trailingZeros d (x / 2) in
         record { here = ap (λ (y : ℕ). y % 2) (halved x t) ∙ u e .here; below = low }
@@ -50,7 +50,7 @@ bit-inside x e m h y = ⊎-elim (λ (l : e < m). l) (λ (l : m ≤ e). absurd (o
 pub next-bit : (x k left : ℕ) → x < 2 ^ 32 → left ≡ x / 2 ^ k → 0 < left → Next x k left (trailingZeros 32 left)
 next-bit x k left h e p =
     let z : ℕ = trailingZeros 32 left in
-    let u : Lowest left z = lowest 32 left p (omega (arith, shr-le x k)) in
+    let u : LowestBit left z = lowest 32 left p (omega (arith, shr-le x k)) in
     let y : x / 2 ^ (k + z) % 2 ≡ 1 = ap (λ (i : ℕ). i % 2) (sym (shr-shr x k z) ∙ ap (λ (i : ℕ). i / 2 ^ z) (sym e)) ∙ u .here in
     record {
       here = y;

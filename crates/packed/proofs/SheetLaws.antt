@@ -11,8 +11,8 @@ use borrow.Author.Tests.{le-leb}
 use Rattle.packed.specs.Bits.{bits, bitsOf, gap}
 use Rattle.packed.specs.Format.{Format, done, test, pad, then, whole, Got, got, fault, pick, push, lay, ok, ended, bytesOf, inBytes, decode, encode}
 use Rattle.packed.specs.Formats.{code, node, pairs, lists, sheet}
-use Rattle.packed.specs.Matches.{anyEmpty, emptied, allOrNone, pairBits, listBits}
-use Rattle.packed.specs.Contents.{ends, fieldsOf, total}
+use Rattle.packed.specs.Matches.{anyEmpty, emptied, allOrNone, pairBits, codedList}
+use Rattle.packed.specs.Contents.{ends, fieldsOf, pairCount}
 use Rattle.packed.proofs.BitsLaws.{length-bitsOf, bitsOf-add, bitsOf-mod}
 use Rattle.packed.proofs.RoundTrip.{Bytes, bits-bytesOf, encode-decode, lay-done, lay-ask, lay-test, lay-pad, lay-then, whole-is, pick-yes, push-push, onward}
 use Rattle.packed.proofs.ReadingLaws.{in-range}
@@ -113,15 +113,15 @@ unfolding pairBits
 length-pairBits [] = refl
 length-pairBits (c ∷ cs) = omega (arith, length-append (bitsOf 24 c) (pairBits cs), length-bitsOf 24 c, length-pairBits cs)
 
-pub length-listBits : (ls : List (List ℕ)) → length (listBits ls) ≡ 14 * length ls + 24 * total ls
-unfolding listBits total
+pub length-listBits : (ls : List (List ℕ)) → length (codedList ls) ≡ 14 * length ls + 24 * pairCount ls
+unfolding codedList pairCount
 length-listBits [] = refl
 length-listBits (l ∷ ls) =
     omega (
       arith,
-      length-append (bitsOf 14 (length l)) (pairBits l ++ listBits ls),
+      length-append (bitsOf 14 (length l)) (pairBits l ++ codedList ls),
       length-bitsOf 14 (length l),
-      length-append (pairBits l) (listBits ls),
+      length-append (pairBits l) (codedList ls),
       length-pairBits l,
       length-listBits ls,
     )
@@ -163,8 +163,8 @@ not-and true false h = refl
 not-and false b h = refl
 
 lay-lists : (none some : Bool) (at : ℕ) (ls : List (List ℕ)) → Fit ls → (none || anyEmpty ls) && (some || anyFull ls) ≡ false
-    → lay (lists (length ls) none some) at (fieldsOf ls) ≡ got (listBits ls) []
-unfolding lists fieldsOf listBits anyEmpty anyFull
+    → lay (lists (length ls) none some) at (fieldsOf ls) ≡ got (codedList ls) []
+unfolding lists fieldsOf codedList anyEmpty anyFull
 lay-lists none some at ls fit-none h =
     lay-test (not (none && some)) 8 done at [] ∙ pick-yes (not (none && some)) (lay done at []) (fault 8) (not-and none some h) ∙ lay-done at []
 lay-lists none some at ls (fit-next {l = l} {ls = rest} r s f) h =
@@ -181,7 +181,7 @@ lay-lists none some at ls (fit-next {l = l} {ls = rest} r s f) h =
     ∙ ap (λ (x : Got Bool ℕ). onward x (λ bs t. lay g (at + 14 + length bs) t)) (lay-pairs 0 (at + 14) l (fieldsOf rest) r)
     ∙ ap (push (pairBits l)) (lay-lists (none || z) (some || not z) (at + 14 + length (pairBits l)) rest f h′))
 
-pub sheet-lays : (m at : ℕ) (ls : List (List ℕ)) → length ls ≡ m → Fit ls → allOrNone ls ≡ ls → lay (sheet m) at (fieldsOf ls) ≡ got (listBits ls) []
+pub sheet-lays : (m at : ℕ) (ls : List (List ℕ)) → length ls ≡ m → Fit ls → allOrNone ls ≡ ls → lay (sheet m) at (fieldsOf ls) ≡ got (codedList ls) []
 unfolding sheet
 sheet-lays m at ls e f u = ap (λ (k : ℕ). lay (lists k false false) at (fieldsOf ls)) (sym e) ∙ lay-lists false false at ls f (not-both ls u)
 
@@ -219,12 +219,12 @@ pub record Encoded (m : ℕ) (ls : List (List ℕ)) : Type 0 where
   pub small : Bytes bytes
   pub is : encode (sheet m) (fieldsOf ls) ≡ ok bytes
   pub back : decode (sheet m) bytes ≡ ok (fieldsOf ls)
-  pub holds : bits bytes ≡ padded (listBits ls)
-  pub number : length bytes ≡ (14 * m + 24 * total ls + 7) / 8
+  pub holds : bits bytes ≡ padded (codedList ls)
+  pub number : length bytes ≡ (14 * m + 24 * pairCount ls + 7) / 8
 
 pub sheet-encodes : (m : ℕ) (ls : List (List ℕ)) → length ls ≡ m → Fit ls → allOrNone ls ≡ ls → Encoded m ls
 sheet-encodes m ls e f u =
-    let bs : List Bool = listBits ls in
+    let bs : List Bool = codedList ls in
     let k : ℕ = (length bs + 7) / 8 in
     let p : encode (sheet m) (fieldsOf ls) ≡ ok (bytesOf k (padded bs)) = whole-encodes (sheet m) (fieldsOf ls) bs (sheet-lays m 0 ls e f u) in
     record {

@@ -11,7 +11,7 @@ use native.Mathlib.Numerals.{add-one}
 use Rattle.packed.specs.Bits.{bits, bitsOf, gap}
 use Rattle.packed.specs.Format.{Format, done, ask, test, pad, then, Got, got, fault, push, within, lay}
 use Rattle.packed.specs.Refusals.{numberOf, detailOf}
-use Rattle.packed.specs.Writing.{Writing, Rejects, Writes, WritesBytes, Put}
+use Rattle.packed.specs.Writing.{Writing, Rejects, WritesPart, WritesBytes, Put}
 use Rattle.packed.specs.declared.reply.Refusal.{Refusal}
 use Rattle.packed.specs.declared.reply.Part.{Part}
 use Rattle.packed.specs.declared.reply.Part.the-variants as part-is
@@ -108,7 +108,7 @@ module _ {F : Format} {ws : List ℕ} {i₀ : ℕ} {b₀ : List ℕ} {at₀ : �
 
   -- the last part of F was written, or refused, by its own writer
   pub closes : {f : Format} {i : ℕ} {b : List ℕ} {at : ℕ} (j k file : ℕ) (p : Part) (b′ : List ℕ)
-      → Writing F ws i₀ b₀ at₀ f i b at → Writes f ws i b at j file p b′ → at + j ≤ at₀ + k → Writes F ws i₀ b₀ at₀ k file p b′
+      → Writing F ws i₀ b₀ at₀ f i b at → WritesPart f ws i b at j file p b′ → at + j ≤ at₀ + k → WritesPart F ws i₀ b₀ at₀ k file p b′
   closes j k file (part-is.Upto at i) b′ r q h = (follows r (q .0), omega arith)
   closes j k file (part-is.Refused x) b′ r q h = rejected r q
 

@@ -19,15 +19,15 @@ replyOf (part-is.Upto at n) = reply-is.Done n
 replyOf (part-is.Refused x) = reply-is.Refused x
 
 -- a file with the verdict v was accepted: its content goes to the front of the words as far as they go
-pub record Taken (v : Verdict) (n : ℕ) (w w′ : List ℕ) : Type 0 where
+pub record ContentTaken (v : Verdict) (n : ℕ) (w w′ : List ℕ) : Type 0 where
   pub fields : List ℕ
   pub is : v ≡ accepted fields
   pub number : n ≡ length fields
   pub front : w′ ≡ sets w 0 fields
 
-abbrev pub Accepts : Verdict → Reply → List ℕ → List ℕ → Type 0
-Accepts v (reply-is.Done n) w w′ = Taken v n w w′
-Accepts v (reply-is.Refused x) w w′ = v ≡ rejected (numberOf x) (detailOf x)
+abbrev pub AcceptsFile : Verdict → Reply → List ℕ → List ℕ → Type 0
+AcceptsFile v (reply-is.Done n) w w′ = ContentTaken v n w w′
+AcceptsFile v (reply-is.Refused x) w w′ = v ≡ rejected (numberOf x) (detailOf x)
 
 -- the same with its content in the first n words, and H of it
 pub record Held (H : List ℕ → Type 0) (v : Verdict) (n : ℕ) (w : List ℕ) : Type 0 where

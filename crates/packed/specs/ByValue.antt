@@ -21,7 +21,7 @@ pub record HoldsPattern (ws : List ℕ) (p : Pattern) : Type 0 where
   pub to : Spread ws (3 + nodesOf ws) 2 (edgesOf ws) 32 (p .to)
 
 -- the numbers of edges, in a table of 16
-pub record Counted (ws r : List ℕ) : Type 0 where
+pub record CountTable (ws r : List ℕ) : Type 0 where
   pub is : getD ws 0 0 ≤ 16 → r ≡ edgeCounts ws ++ replicate (16 - getD ws 0 0) 0
 
 -- a table of numbers of edges, each at most 32

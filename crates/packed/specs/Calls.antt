@@ -14,12 +14,12 @@ use Rattle.packed.specs.Refusals.{Told, told}
 -- ---- the protocol
 
 -- what a call answers, from what it is lent: values by value and its outputs in order, or a refusal's number and detail
-pub data Answer : Type 0 where
-  give : List ℕ → List (List ℕ) → Answer
-  refuse : ℕ → ℕ → Answer
+pub data Outcome : Type 0 where
+  give : List ℕ → List (List ℕ) → Outcome
+  refuse : ℕ → ℕ → Outcome
 
 -- what its result tells: the length of each output and the values; on a refusal the detail, and blank in the place of the values
-unfoldable pub toldOf : List ℕ → Answer → Told
+unfoldable pub toldOf : List ℕ → Outcome → Told
 toldOf blank (give vs outs) = told 0 (map length outs ++ vs)
 toldOf blank (refuse n d) = told n (d ∷ blank)
 
@@ -30,7 +30,7 @@ fronts (o ∷ os) [] = []
 fronts (o ∷ os) (l ∷ lent) = (o ++ drop (length o) l) ∷ fronts os lent
 
 -- what the lent outputs hold afterwards: on a refusal they are untouched
-unfoldable pub outputsOf : Answer → List (List ℕ) → List (List ℕ)
+unfoldable pub outputsOf : Outcome → List (List ℕ) → List (List ℕ)
 outputsOf (give vs outs) lent = fronts outs lent
 outputsOf (refuse n d) lent = lent
 
@@ -39,14 +39,18 @@ unfoldable pub workOf : List ℕ → List ℕ
 workOf work = pick (ltb (length work) workspace) work (replicate workspace 0 ++ drop workspace work)
 
 -- what a call settles: its result, each output and the workspace
-pub record Settled (blank : List ℕ) (a : Answer) (r : Told) (outs outs′ : List (List ℕ)) (work work′ : List ℕ) : Type 0 where
+pub record Settled (blank : List ℕ) (a : Outcome) (r : Told) (outs outs′ : List (List ℕ)) (work work′ : List ℕ) : Type 0 where
   pub result : r ≡ toldOf blank a
   pub outputs : outs′ ≡ outputsOf a outs
   pub workspace : work′ ≡ workOf work
 
 -- a call refuses with 14 where it is lent too few words to work in
-unfoldable pub withWorkspace : ℕ → Answer → Answer
+unfoldable pub withWorkspace : ℕ → Outcome → Outcome
 withWorkspace words a = pick (ltb words workspace) (refuse 14 0) a
+
+-- what a call with one output settles, by its outcome for so much room: 14 comes first
+abbrev pub OneOutput : (ℕ → Outcome) → Told → List ℕ → List ℕ → List ℕ → List ℕ → Type 0
+OneOutput outcome r out out′ work work′ = Settled [] (withWorkspace (length work) (outcome (length out))) r (out ∷ []) (out′ ∷ []) work work′
 
 -- ---- files
 
@@ -68,7 +72,7 @@ unfoldable pub writeFile : ℕ → Format → List ℕ → Verdict
 writeFile file f ws = inFile file (encode f ws)
 
 -- a refusal is handed up as it came
-unfoldable pub judged : Verdict → (List ℕ → Answer) → Answer
+unfoldable pub judged : Verdict → (List ℕ → Outcome) → Outcome
 judged (accepted ws) k = k ws
 judged (rejected n d) k = refuse n d
 
@@ -99,53 +103,53 @@ unfoldable pub pairsOf : List ℕ → List ℕ → List ℕ
 pairsOf ms ws = distinct (pairsIn (sum ms) ws)
 
 -- 10: over 8,192 different pairs stand in a book
-unfoldable pub uncrowdedBy : List ℕ → List ℕ → Answer → Answer
+unfoldable pub uncrowdedBy : List ℕ → List ℕ → Outcome → Outcome
 uncrowdedBy ms ws a = pick (ltb pairsMost (length (pairsOf ms ws))) (refuse 10 4) a
 
-abbrev pub uncrowded : List ℕ → List ℕ → Answer → Answer
+abbrev pub uncrowded : List ℕ → List ℕ → Outcome → Outcome
 uncrowded c ws a = uncrowdedBy (edgeCounts c) ws a
 
 -- 12: the output needs more than was lent
-unfoldable pub fit : ℕ → List ℕ → Answer
+unfoldable pub fit : ℕ → List ℕ → Outcome
 fit room o = pick (ltb room (length o)) (refuse 12 (length o)) (give [] (o ∷ []))
 
 -- the same for a sheet or a book, which has at most 65,536 bytes
-unfoldable pub fitFile : ℕ → List ℕ → Answer
+unfoldable pub fitFile : ℕ → List ℕ → Outcome
 fitFile room o = pick (ltb room (length o) || ltb bookMost (length o)) (refuse 12 (length o)) (give [] (o ∷ []))
 
 -- ---- the calls: what each answers with the workspace aside, and then whole, from the lengths of the output and of the workspace
 
-unfoldable pub patternRead : List ℕ → ℕ → Answer
+unfoldable pub patternRead : List ℕ → ℕ → Outcome
 patternRead s room = judged (readPattern s) (fit room)
 
-unfoldable pub catalogueRead : List ℕ → ℕ → Answer
+unfoldable pub catalogueRead : List ℕ → ℕ → Outcome
 catalogueRead s room = judged (readCatalogue s) (fit room)
 
-unfoldable pub recordRead : List ℕ → ℕ → Answer
+unfoldable pub recordRead : List ℕ → ℕ → Outcome
 recordRead s room = judged (readRecord s) (fit room)
 
-unfoldable pub sheetRead : List ℕ → List ℕ → ℕ → Answer
+unfoldable pub sheetRead : List ℕ → List ℕ → ℕ → Outcome
 sheetRead p s room = judged (readPattern p) (λ ps. judged (readSheet ps s) (fit room))
 
-unfoldable pub bookRead : List ℕ → List ℕ → ℕ → Answer
+unfoldable pub bookRead : List ℕ → List ℕ → ℕ → Outcome
 bookRead c s room = judged (readCatalogue c) (λ cs. judged (readBook cs s) (λ ws. uncrowded cs ws (fit room ws)))
 
-unfoldable pub patternWritten : List ℕ → ℕ → Answer
+unfoldable pub patternWritten : List ℕ → ℕ → Outcome
 patternWritten ws room = judged (writeFile 1 pattern ws) (fit room)
 
-unfoldable pub catalogueWritten : List ℕ → ℕ → Answer
+unfoldable pub catalogueWritten : List ℕ → ℕ → Outcome
 catalogueWritten ws room = judged (writeFile 2 catalogue ws) (fit room)
 
-unfoldable pub recordWritten : List ℕ → ℕ → Answer
+unfoldable pub recordWritten : List ℕ → ℕ → Outcome
 recordWritten ws room = judged (writeFile 3 record′ ws) (fit room)
 
-unfoldable pub sheetWritten : List ℕ → List ℕ → ℕ → Answer
+unfoldable pub sheetWritten : List ℕ → List ℕ → ℕ → Outcome
 sheetWritten p ws room = judged (readPattern p) (λ ps. judged (writeSheet ps ws) (fitFile room))
 
-unfoldable pub bookWritten : List ℕ → List ℕ → ℕ → Answer
+unfoldable pub bookWritten : List ℕ → List ℕ → ℕ → Outcome
 bookWritten c ws room = judged (readCatalogue c) (λ cs. judged (writeBook cs ws) (λ s. uncrowded cs ws (fitFile room s)))
 
 -- inner: with the workspace aside, the result and the one output
-pub record Answered (a : Answer) (r : Told) (out out′ : List ℕ) : Type 0 where
+pub record Fulfils (a : Outcome) (r : Told) (out out′ : List ℕ) : Type 0 where
   pub result : r ≡ toldOf [] a
   pub output : out′ ∷ [] ≡ outputsOf a (out ∷ [])

@@ -57,9 +57,9 @@ fieldsOf [] = []
 fieldsOf (l ∷ ls) = length l ∷ (ends l ++ fieldsOf ls)
 
 -- how many pairs lists have
-unfoldable pub total : List (List ℕ) → ℕ
-total [] = 0
-total (l ∷ ls) = length l + total ls
+unfoldable pub pairCount : List (List ℕ) → ℕ
+pairCount [] = 0
+pairCount (l ∷ ls) = length l + pairCount ls
 
 -- ---- a book
 

@@ -8,8 +8,8 @@ use Rattle.packed.specs.Limits.{patternNodesMost, patternEdgesMost, view
 use Rattle.packed.specs.Limits.{patternNodesWidth, patternEdgesWidth, labelWidth, endWidth, viewsWidth, nodesWidth, edgesWidth, labelsWidth, nodeWidth, countWidth}
 
 -- a count: w bits, low to high, else 3
-abbrev pub count : ℕ → ℕ → ℕ → (ℕ → Format) → Format
-count w low high f = ask w low (suc high) 3 f
+abbrev pub countField : ℕ → ℕ → ℕ → (ℕ → Format) → Format
+countField w low high f = ask w low (suc high) 3 f
 
 -- ---- edges ("links"), of a pattern and of a record
 
@@ -52,12 +52,12 @@ joined nodes ends = test (allEnds nodes ends) 7 done
 -- the numbers of nodes and edges, the labels, the edges
 unfoldable pub pattern : Format
 pattern =
-    count patternNodesWidth 1 patternNodesMost (λ nodes. count patternEdgesWidth 1 patternEdgesMost (λ number.
+    countField patternNodesWidth 1 patternNodesMost (λ nodes. countField patternEdgesWidth 1 patternEdgesMost (λ number.
     then (times nodes label) (edges endWidth nodes (joined nodes) number [])))
 
 -- ---- a catalogue: the number of views, and the views, each on a byte
 unfoldable pub catalogue : Format
-catalogue = count viewsWidth 0 viewsMost (λ number. pad (times number (whole pattern)))
+catalogue = countField viewsWidth 0 viewsMost (λ number. pad (times number (whole pattern)))
 
 -- ---- a record
 
@@ -70,7 +70,7 @@ nothing ends = done
 
 unfoldable pub record′ : Format
 record′ =
-    count nodesWidth 0 nodesMost (λ nodes. count edgesWidth 0 edgesMost (λ number.
+    countField nodesWidth 0 nodesMost (λ nodes. countField edgesWidth 0 edgesMost (λ number.
     then (times nodes labels) (edges nodeWidth nodes nothing number [])))
 
 -- ---- a sheet: the match sets of a pattern with m edges
@@ -91,7 +91,7 @@ pairs (suc k) least = node (λ a. node (λ b. test (leb least (code a b)) 6 (pai
 -- so many lists; none: a count was zero, some: a count was not; not both (8)
 unfoldable pub lists : ℕ → Bool → Bool → Format
 lists zero none some = test (not (none && some)) 8 done
-lists (suc m) none some = count countWidth 0 countMost (λ n. then (pairs n 0) (lists m (none || eqb n 0) (some || not (eqb n 0))))
+lists (suc m) none some = countField countWidth 0 countMost (λ n. then (pairs n 0) (lists m (none || eqb n 0) (some || not (eqb n 0))))
 
 unfoldable pub sheet : ℕ → Format
 sheet m = lists m false false

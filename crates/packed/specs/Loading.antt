@@ -26,7 +26,7 @@ abbrev pub once : List ℕ → Bool
 once ends = allDifferent (codes ends)
 
 -- the codes of the edges loaded so far stand at the front of the workspace
-pub record Kept (ends : List ℕ) (k : ℕ) (work work′ : List ℕ) : Type 0 where
+pub record CodesKept (ends : List ℕ) (k : ℕ) (work work′ : List ℕ) : Type 0 where
   pub held : work′ ≡ sets work 0 (codes ends)
   pub number : k ≡ length (codes ends)
   pub few : k ≤ 8192
@@ -48,7 +48,7 @@ LazyPart F s at₀ w₀ i₀ file nodes ends (part-is.Refused x) w =
 pub record Loads (F : Format) (s : List ℕ) (at₀ : ℕ) (w₀ : List ℕ) (i₀ file : ℕ) (work : List ℕ) (r : Loaded) (w work′ : List ℕ) : Type 0 where
   pub nodes : ℕ
   pub ends : List ℕ
-  pub kept : Kept ends (r .edges) work work′
+  pub kept : CodesKept ends (r .edges) work work′
   pub part : LazyPart F s at₀ w₀ i₀ file nodes ends (r .part) w
 
 -- the same for a writer, where F has at most k bits
@@ -65,5 +65,5 @@ LazyPartWritten F ws i₀ b₀ at₀ k file nodes ends (part-is.Refused x) b =
 pub record LoadsFields (F : Format) (ws : List ℕ) (i₀ : ℕ) (b₀ : List ℕ) (at₀ k file : ℕ) (work : List ℕ) (r : Loaded) (b work′ : List ℕ) : Type 0 where
   pub nodes : ℕ
   pub ends : List ℕ
-  pub kept : Kept ends (r .edges) work work′
+  pub kept : CodesKept ends (r .edges) work work′
   pub part : LazyPartWritten F ws i₀ b₀ at₀ k file nodes ends (r .part) b

@@ -61,7 +61,7 @@ pub record Counts (n : ℕ) (w c : List ℕ) : Type 0 where
   pub each : (e : ℕ) → e < 32 → getD c e 0 ≡ length (marked e (codesOf n w) (masksOf n w))
 
 -- the bytes of the sheet stand at the front of out as far as it goes
-pub record Written (n m : ℕ) (w out : List ℕ) (r : ℕ) (out′ : List ℕ) : Type 0 where
+pub record SheetWritten (n m : ℕ) (w out : List ℕ) (r : ℕ) (out′ : List ℕ) : Type 0 where
   pub bytes : List ℕ
   pub is : encode (sheet m) (fieldsOf (matchesOf n m w)) ≡ ok bytes
   pub number : r ≡ length bytes
@@ -93,19 +93,19 @@ unfoldable pub pairBits : List ℕ → List Bool
 pairBits [] = []
 pairBits (c ∷ cs) = bitsOf 24 c ++ pairBits cs
 
-unfoldable pub listBits : List (List ℕ) → List Bool
-listBits [] = []
-listBits (l ∷ ls) = bitsOf 14 (length l) ++ (pairBits l ++ listBits ls)
+unfoldable pub codedList : List (List ℕ) → List Bool
+codedList [] = []
+codedList (l ∷ ls) = bitsOf 14 (length l) ++ (pairBits l ++ codedList ls)
 
 -- where the list of the edge e begins, by the counts of the lists
-unfoldable pub start : ℕ → List ℕ → ℕ
-start zero c = 0
-start (suc e) c = start e c + (14 + 24 * getD c e 0)
+unfoldable pub listStart : ℕ → List ℕ → ℕ
+listStart zero c = 0
+listStart (suc e) c = listStart e c + (14 + 24 * getD c e 0)
 
 -- the first m lists, each from its start on: its count, and the codes that it has so far
 unfoldable pub laid : ℕ → (ℕ → List ℕ) → List ℕ → List Bool → List Bool
 laid zero has c b = b
-laid (suc e) has c b = sets (laid e has c b) (start e c) (bitsOf 14 (getD c e 0) ++ pairBits (has e))
+laid (suc e) has c b = sets (laid e has c b) (listStart e c) (bitsOf 14 (getD c e 0) ++ pairBits (has e))
 
 -- the code v at the place of each of the first m edges that the mask x names
 unfoldable pub scatter : ℕ → (ℕ → ℕ) → ℕ → ℕ → List Bool → List Bool
@@ -122,9 +122,9 @@ scatters (suc i) m w to b =
 pub record CountsWritten (m : ℕ) (c out ps : List ℕ) (r : ℕ) (out′ : List ℕ) : Type 0 where
   pub long : length ps ≡ 32
   pub most : (e : ℕ) → e < 32 → getD ps e 0 ≤ 2 ^ 39
-  pub places : (e : ℕ) → e < m → getD ps e 0 ≡ start e c + 14
+  pub places : (e : ℕ) → e < m → getD ps e 0 ≡ listStart e c + 14
   pub holds : bits out′ ≡ laid m (λ e. []) c (bits out)
-  pub next : r ≡ start m c
+  pub next : r ≡ listStart m c
 
 -- the code v stands in the lists that the mask x names, and their places have moved on
 pub record PairPut (x v : ℕ) (ps out ps′ out′ : List ℕ) : Type 0 where
@@ -133,6 +133,6 @@ pub record PairPut (x v : ℕ) (ps out ps′ out′ : List ℕ) : Type 0 where
   pub holds : bits out′ ≡ scatter 32 (λ e. getD ps e 0) x v (bits out)
 
 pub record ListsWritten (n m : ℕ) (w out : List ℕ) (r : ℕ) (out′ : List ℕ) : Type 0 where
-  pub holds : bits out′ ≡ sets (bits out) 0 (listBits (markedFrom 0 m (codesOf n w) (masksOf n w)))
-  pub next : r ≡ length (listBits (markedFrom 0 m (codesOf n w) (masksOf n w)))
+  pub holds : bits out′ ≡ sets (bits out) 0 (codedList (markedFrom 0 m (codesOf n w) (masksOf n w)))
+  pub next : r ≡ length (codedList (markedFrom 0 m (codesOf n w) (masksOf n w)))
   pub most : r ≤ 196622 * m

@@ -14,9 +14,9 @@ abbrev pub Laid : Type 1
 Laid = List ℕ → List Bool → Type 0
 
 -- numbers in fields of w bits, one after the other
-unfoldable pub fieldsOf : ℕ → List ℕ → List Bool
-fieldsOf w [] = []
-fieldsOf w (v ∷ vs) = bitsOf w v ++ fieldsOf w vs
+unfoldable pub fieldBits : ℕ → List ℕ → List Bool
+fieldBits w [] = []
+fieldBits w (v ∷ vs) = bitsOf w v ++ fieldBits w vs
 
 -- each number of a list is below bound
 abbrev pub Below : ℕ → List ℕ → Type 0
@@ -59,7 +59,7 @@ pub record PlainPattern (ws : List ℕ) (bs : List Bool) : Type 0 where
   pub labels : List ℕ
   pub ends : List ℕ
   pub content : ws ≡ nodes ∷ number ∷ (labels ++ ends)
-  pub layout : bs ≡ bitsOf 5 nodes ++ (bitsOf 6 number ++ (fieldsOf 5 labels ++ fieldsOf 4 ends))
+  pub layout : bs ≡ bitsOf 5 nodes ++ (bitsOf 6 number ++ (fieldBits 5 labels ++ fieldBits 4 ends))
   pub some-nodes : 1 ≤ nodes
   pub most-nodes : nodes ≤ 16
   pub some-edges : 1 ≤ number
@@ -93,7 +93,7 @@ pub record PlainRecord (ws : List ℕ) (bs : List Bool) : Type 0 where
   pub labels : List ℕ
   pub ends : List ℕ
   pub content : ws ≡ nodes ∷ number ∷ (labels ++ ends)
-  pub layout : bs ≡ bitsOf 13 nodes ++ (bitsOf 14 number ++ (fieldsOf 32 labels ++ fieldsOf 12 ends))
+  pub layout : bs ≡ bitsOf 13 nodes ++ (bitsOf 14 number ++ (fieldBits 32 labels ++ fieldBits 12 ends))
   pub most-nodes : nodes ≤ 4096
   pub most-edges : number ≤ 8192
   pub labels-each : length labels ≡ nodes
@@ -114,7 +114,7 @@ pub record PlainList (ws : List ℕ) (bs : List Bool) : Type 0 where
   pub number : ℕ
   pub ends : List ℕ
   pub content : ws ≡ number ∷ ends
-  pub layout : bs ≡ bitsOf 14 number ++ fieldsOf 12 ends
+  pub layout : bs ≡ bitsOf 14 number ++ fieldBits 12 ends
   pub most : number ≤ 8192
   pub two-each : length ends ≡ 2 * number
   pub small : Below 4096 ends

@@ -35,9 +35,9 @@ pub record Refuses (F : Format) (s : List ℕ) (at₀ file : ℕ) (x : Refusal) 
   pub detail : detailOf x ≡ file
 
 -- what a reader of F answers
-abbrev pub Reads : Format → List ℕ → ℕ → List ℕ → ℕ → ℕ → Part → List ℕ → Type 0
-Reads F s at₀ w₀ i₀ file (part-is.Upto at i) w = Reading F s at₀ w₀ i₀ done at w i
-Reads F s at₀ w₀ i₀ file (part-is.Refused x) w = Refuses F s at₀ file x
+abbrev pub ReadsPart : Format → List ℕ → ℕ → List ℕ → ℕ → ℕ → Part → List ℕ → Type 0
+ReadsPart F s at₀ w₀ i₀ file (part-is.Upto at i) w = Reading F s at₀ w₀ i₀ done at w i
+ReadsPart F s at₀ w₀ i₀ file (part-is.Refused x) w = Refuses F s at₀ file x
 
 -- the same from a byte on to a byte
 abbrev pub ReadsBytes : Format → List ℕ → ℕ → List ℕ → ℕ → ℕ → Part → List ℕ → Type 0

@@ -31,9 +31,9 @@ pub record Rejects (F : Format) (ws : List ℕ) (i₀ at₀ file : ℕ) (x : Ref
   pub detail : detailOf x ≡ file
 
 -- what a writer of F answers, where F has at most k bits
-abbrev pub Writes : Format → List ℕ → ℕ → List ℕ → ℕ → ℕ → ℕ → Part → List ℕ → Type 0
-Writes F ws i₀ b₀ at₀ k file (part-is.Upto at i) b = Writing F ws i₀ b₀ at₀ done i b at × (at ≤ at₀ + k)
-Writes F ws i₀ b₀ at₀ k file (part-is.Refused x) b = Rejects F ws i₀ at₀ file x
+abbrev pub WritesPart : Format → List ℕ → ℕ → List ℕ → ℕ → ℕ → ℕ → Part → List ℕ → Type 0
+WritesPart F ws i₀ b₀ at₀ k file (part-is.Upto at i) b = Writing F ws i₀ b₀ at₀ done i b at × (at ≤ at₀ + k)
+WritesPart F ws i₀ b₀ at₀ k file (part-is.Refused x) b = Rejects F ws i₀ at₀ file x
 
 -- the same from a byte on to a byte, with at most k bytes
 abbrev pub WritesBytes : Format → List ℕ → ℕ → List ℕ → ℕ → ℕ → ℕ → Part → List ℕ → Type 0

@@ -6,7 +6,7 @@ ghost use Rattle.packed.specs.Format.{decode};
 ghost use Rattle.packed.specs.Formats.{record′, sheet, book};
 ghost use Rattle.packed.specs.ByValue.{HoldsPattern};
 ghost use Rattle.packed.specs.Calls.{readFile, readPattern, readCatalogue, readRecord};
-ghost use Rattle.packed.specs.Accepting.{replyOf, Accepts, AcceptsWith, HoldsViews};
+ghost use Rattle.packed.specs.Accepting.{replyOf, AcceptsFile, AcceptsWith, HoldsViews};
 ghost use Rattle.packed.specs.LoadedGraph.{Orders};
 use crate::by_value;
 use crate::by_value::Pattern;
@@ -104,7 +104,7 @@ fn reply_of(p: Part) -> Reply
 // A record: its content goes to the front of the words as far as they go, and the codes of its edges to the front of the workspace.
 pub(crate) fn accept_record(s: &[u8], words: &mut [u32], work: &mut [u32]) -> Reply
     requires { ⌜ length (now work) ≡ 16384 ⌝ }
-    ensures { λ r. ⌜ Accepts (readRecord (now (s .entry))) r (now (words .entry)) (now (words .exit))
+    ensures { λ r. ⌜ AcceptsFile (readRecord (now (s .entry))) r (now (words .entry)) (now (words .exit))
         × Orders (decode record′ (now (s .entry))) r (now (work .entry)) (now (work .exit)) ⌝ }
 {
     if limits::RECORD_MOST < s.len() {
@@ -115,7 +115,7 @@ pub(crate) fn accept_record(s: &[u8], words: &mut [u32], work: &mut [u32]) -> Re
 
 // A sheet for a pattern with m edges, in the same way.
 pub(crate) fn accept_sheet(s: &[u8], m: u32, words: &mut [u32]) -> Reply
-    ensures { λ r. ⌜ Accepts (readFile 65536 4 (sheet m) (now (s .entry))) r (now (words .entry)) (now (words .exit)) ⌝ }
+    ensures { λ r. ⌜ AcceptsFile (readFile 65536 4 (sheet m) (now (s .entry))) r (now (words .entry)) (now (words .exit)) ⌝ }
 {
     if limits::BOOK_MOST < s.len() {
         return Reply::Refused(Refusal::TooLong(4));
@@ -126,7 +126,7 @@ pub(crate) fn accept_sheet(s: &[u8], m: u32, words: &mut [u32]) -> Reply
 // A book for k views with so many edges.
 pub fn accept_book(s: &[u8], edges: [u32; 16], k: usize, words: &mut [u32]) -> Reply
     requires { ⌜ k ≤ 16 ⌝ }
-    ensures { λ r. ⌜ Accepts (readFile 65536 4 (book (take k edges)) (now (s .entry))) r (now (words .entry)) (now (words .exit)) ⌝ }
+    ensures { λ r. ⌜ AcceptsFile (readFile 65536 4 (book (take k edges)) (now (s .entry))) r (now (words .entry)) (now (words .exit)) ⌝ }
 {
     if limits::BOOK_MOST < s.len() {
         return Reply::Refused(Refusal::TooLong(4));

@@ -6,7 +6,7 @@ ghost use Rattle.packed.specs.Formats.{sheet, book};
 ghost use Rattle.packed.specs.Contents.{sum};
 ghost use Rattle.packed.specs.ByValue.{Small};
 ghost use Rattle.packed.specs.Refusals.{replyTold};
-ghost use Rattle.packed.specs.Calls.{Answered, writeFile, judged, fit, fitFile, uncrowdedBy, patternRead, catalogueRead, recordRead, sheetRead, bookRead, patternWritten, catalogueWritten, recordWritten, sheetWritten, bookWritten};
+ghost use Rattle.packed.specs.Calls.{Fulfils, writeFile, judged, fit, fitFile, uncrowdedBy, patternRead, catalogueRead, recordRead, sheetRead, bookRead, patternWritten, catalogueWritten, recordWritten, sheetWritten, bookWritten};
 use crate::accept;
 use crate::accept::CatalogueFile;
 use crate::catalogue;
@@ -25,7 +25,7 @@ use crate::workspace;
 // The first n words are given as the output.
 fn give_words(words: &[u32], n: usize, out: &mut [u32]) -> Reply
     requires { ⌜ n ≤ length (now words) ⌝ }
-    ensures { λ r. ⌜ Answered (fit (length (now (out .entry))) (take n (now (words .entry)))) (replyTold r) (now (out .entry)) (now (out .exit)) ⌝ }
+    ensures { λ r. ⌜ Fulfils (fit (length (now (out .entry))) (take n (now (words .entry)))) (replyTold r) (now (out .entry)) (now (out .exit)) ⌝ }
 {
     if out.len() < n {
         return Reply::Refused(Refusal::NoRoom(n));
@@ -36,7 +36,7 @@ fn give_words(words: &[u32], n: usize, out: &mut [u32]) -> Reply
 
 pub fn read_pattern(bytes: &[u8], out: &mut [u32], words: &mut [u32]) -> Reply
     requires { ⌜ length (now words) ≡ 16384 ⌝ }
-    ensures { λ r. ⌜ Answered (patternRead (now (bytes .entry)) (length (now (out .entry)))) (replyTold r) (now (out .entry)) (now (out .exit)) ⌝ }
+    ensures { λ r. ⌜ Fulfils (patternRead (now (bytes .entry)) (length (now (out .entry)))) (replyTold r) (now (out .entry)) (now (out .exit)) ⌝ }
 {
     let f = accept::accept_pattern(bytes, words);
     let verdict = f.verdict;
@@ -48,7 +48,7 @@ pub fn read_pattern(bytes: &[u8], out: &mut [u32], words: &mut [u32]) -> Reply
 
 pub fn read_catalogue(bytes: &[u8], out: &mut [u32], words: &mut [u32]) -> Reply
     requires { ⌜ length (now words) ≡ 16384 ⌝ }
-    ensures { λ r. ⌜ Answered (catalogueRead (now (bytes .entry)) (length (now (out .entry)))) (replyTold r) (now (out .entry)) (now (out .exit)) ⌝ }
+    ensures { λ r. ⌜ Fulfils (catalogueRead (now (bytes .entry)) (length (now (out .entry)))) (replyTold r) (now (out .entry)) (now (out .exit)) ⌝ }
 {
     let f = accept::accept_catalogue(bytes, words);
     let verdict = f.verdict;
@@ -61,7 +61,7 @@ pub fn read_catalogue(bytes: &[u8], out: &mut [u32], words: &mut [u32]) -> Reply
 // A record, a sheet or a book is judged with no output at first, and once it is accepted and fits it is read again into the output.
 pub fn read_record(bytes: &[u8], out: &mut [u32], words: &mut [u32]) -> Reply
     requires { ⌜ length (now words) ≡ 16384 ⌝ }
-    ensures { λ r. ⌜ Answered (recordRead (now (bytes .entry)) (length (now (out .entry)))) (replyTold r) (now (out .entry)) (now (out .exit)) ⌝ }
+    ensures { λ r. ⌜ Fulfils (recordRead (now (bytes .entry)) (length (now (out .entry)))) (replyTold r) (now (out .entry)) (now (out .exit)) ⌝ }
 {
     let verdict = accept::accept_record(bytes, &mut out[0..0], words);
     let Reply::Done(n) = verdict else {
@@ -75,7 +75,7 @@ pub fn read_record(bytes: &[u8], out: &mut [u32], words: &mut [u32]) -> Reply
 
 pub fn read_sheet(pattern: &[u8], bytes: &[u8], out: &mut [u32], words: &mut [u32]) -> Reply
     requires { ⌜ length (now words) ≡ 16384 ⌝ }
-    ensures { λ r. ⌜ Answered (sheetRead (now (pattern .entry)) (now (bytes .entry)) (length (now (out .entry)))) (replyTold r) (now (out .entry)) (now (out .exit)) ⌝ }
+    ensures { λ r. ⌜ Fulfils (sheetRead (now (pattern .entry)) (now (bytes .entry)) (length (now (out .entry)))) (replyTold r) (now (out .entry)) (now (out .exit)) ⌝ }
 {
     let f = accept::accept_pattern(pattern, words);
     let first = f.verdict;
@@ -95,7 +95,7 @@ pub fn read_sheet(pattern: &[u8], bytes: &[u8], out: &mut [u32], words: &mut [u3
 
 pub fn read_book(catalogue: &[u8], bytes: &[u8], out: &mut [u32], words: &mut [u32]) -> Reply
     requires { ⌜ length (now words) ≡ 16384 ⌝ }
-    ensures { λ r. ⌜ Answered (bookRead (now (catalogue .entry)) (now (bytes .entry)) (length (now (out .entry)))) (replyTold r) (now (out .entry)) (now (out .exit)) ⌝ }
+    ensures { λ r. ⌜ Fulfils (bookRead (now (catalogue .entry)) (now (bytes .entry)) (length (now (out .entry)))) (replyTold r) (now (out .entry)) (now (out .exit)) ⌝ }
 {
     let CatalogueFile {
         verdict: first,
@@ -121,7 +121,7 @@ pub fn read_book(catalogue: &[u8], bytes: &[u8], out: &mut [u32], words: &mut [u
 // ---- writers
 
 pub fn write_pattern(fields: &[u32], out: &mut [u8]) -> Reply
-    ensures { λ r. ⌜ Answered (patternWritten (now (fields .entry)) (length (now (out .entry)))) (replyTold r) (now (out .entry)) (now (out .exit)) ⌝ }
+    ensures { λ r. ⌜ Fulfils (patternWritten (now (fields .entry)) (length (now (out .entry)))) (replyTold r) (now (out .entry)) (now (out .exit)) ⌝ }
 {
     let p = pattern::judge_pattern_fields(fields, &mut out[0..0]);
     match p {
@@ -137,7 +137,7 @@ pub fn write_pattern(fields: &[u32], out: &mut [u8]) -> Reply
 }
 
 pub fn write_catalogue(fields: &[u32], out: &mut [u8]) -> Reply
-    ensures { λ r. ⌜ Answered (catalogueWritten (now (fields .entry)) (length (now (out .entry)))) (replyTold r) (now (out .entry)) (now (out .exit)) ⌝ }
+    ensures { λ r. ⌜ Fulfils (catalogueWritten (now (fields .entry)) (length (now (out .entry)))) (replyTold r) (now (out .entry)) (now (out .exit)) ⌝ }
 {
     let p = catalogue::judge_catalogue_fields(fields, &mut out[0..0]);
     match p {
@@ -154,7 +154,7 @@ pub fn write_catalogue(fields: &[u32], out: &mut [u8]) -> Reply
 
 pub fn write_record(fields: &[u32], out: &mut [u8], words: &mut [u32]) -> Reply
     requires { ⌜ length (now words) ≡ 16384 ⌝ }
-    ensures { λ r. ⌜ Answered (recordWritten (now (fields .entry)) (length (now (out .entry)))) (replyTold r) (now (out .entry)) (now (out .exit)) ⌝ }
+    ensures { λ r. ⌜ Fulfils (recordWritten (now (fields .entry)) (length (now (out .entry)))) (replyTold r) (now (out .entry)) (now (out .exit)) ⌝ }
 {
     let p = record::judge_record_fields(fields, &mut out[0..0], words);
     match p {
@@ -172,7 +172,7 @@ pub fn write_record(fields: &[u32], out: &mut [u8], words: &mut [u32]) -> Reply
 // A sheet for a pattern with m edges.
 fn write_sheet_of(fields: &[u32], m: u32, out: &mut [u8]) -> Reply
     requires { ⌜ m ≤ 32 ⌝ }
-    ensures { λ r. ⌜ Answered (judged (writeFile 4 (sheet m) (now (fields .entry))) (fitFile (length (now (out .entry))))) (replyTold r) (now (out .entry)) (now (out .exit)) ⌝ }
+    ensures { λ r. ⌜ Fulfils (judged (writeFile 4 (sheet m) (now (fields .entry))) (fitFile (length (now (out .entry))))) (replyTold r) (now (out .entry)) (now (out .exit)) ⌝ }
 {
     let p = sheet::judge_sheet_fields(fields, m, &mut out[0..0]);
     match p {
@@ -189,7 +189,7 @@ fn write_sheet_of(fields: &[u32], m: u32, out: &mut [u8]) -> Reply
 
 pub fn write_sheet(pattern: &[u8], fields: &[u32], out: &mut [u8], words: &mut [u32]) -> Reply
     requires { ⌜ length (now words) ≡ 16384 ⌝ }
-    ensures { λ r. ⌜ Answered (sheetWritten (now (pattern .entry)) (now (fields .entry)) (length (now (out .entry)))) (replyTold r) (now (out .entry)) (now (out .exit)) ⌝ }
+    ensures { λ r. ⌜ Fulfils (sheetWritten (now (pattern .entry)) (now (fields .entry)) (length (now (out .entry)))) (replyTold r) (now (out .entry)) (now (out .exit)) ⌝ }
 {
     let f = accept::accept_pattern(pattern, words);
     let verdict = f.verdict;
@@ -222,7 +222,7 @@ fn write_book_of(
     words: &mut [u32],
 ) -> Reply
     requires { ⌜ (length (now words) ≡ 16384) × (k ≤ 16) × Small counts ⌝ }
-    ensures { λ r. ⌜ Answered (judged (writeFile 4 (book (take k counts)) (now (fields .entry))) (λ s. uncrowdedBy (take k counts) (now (fields .entry)) (fitFile (length (now (out .entry))) s))) (replyTold r) (now (out .entry)) (now (out .exit)) ⌝ }
+    ensures { λ r. ⌜ Fulfils (judged (writeFile 4 (book (take k counts)) (now (fields .entry))) (λ s. uncrowdedBy (take k counts) (now (fields .entry)) (fitFile (length (now (out .entry))) s))) (replyTold r) (now (out .entry)) (now (out .exit)) ⌝ }
 {
     let p = sheet::judge_book_fields(fields, counts, k, &mut out[0..0]);
     match p {
@@ -243,7 +243,7 @@ fn write_book_of(
 
 pub fn write_book(catalogue: &[u8], fields: &[u32], out: &mut [u8], words: &mut [u32]) -> Reply
     requires { ⌜ length (now words) ≡ 16384 ⌝ }
-    ensures { λ r. ⌜ Answered (bookWritten (now (catalogue .entry)) (now (fields .entry)) (length (now (out .entry)))) (replyTold r) (now (out .entry)) (now (out .exit)) ⌝ }
+    ensures { λ r. ⌜ Fulfils (bookWritten (now (catalogue .entry)) (now (fields .entry)) (length (now (out .entry)))) (replyTold r) (now (out .entry)) (now (out .exit)) ⌝ }
 {
     let CatalogueFile {
         verdict,

@@ -5,7 +5,7 @@ ghost use Prim.Native.Nat.{ℕ, _+_, _*_, _^_, _<_, _≤_};
 ghost use lib.ListN.{length, take, getD, replicate};
 ghost use Rattle.packed.specs.Format.{times, whole, decode, encode};
 ghost use Rattle.packed.specs.Formats.{pattern, catalogue};
-ghost use Rattle.packed.specs.ByValue.{Counted};
+ghost use Rattle.packed.specs.ByValue.{CountTable};
 ghost use Rattle.packed.specs.Reading.{Stands, Room, ReadsBytesUpTo, JudgesUpTo};
 ghost use Rattle.packed.specs.Writing.{WritesBytes, JudgesFields};
 use crate::bits;
@@ -155,7 +155,7 @@ pub(crate) fn no_counts() -> [u32; 16]
 
 // How many edges each view of a catalogue has, by the content at the front of the words.
 pub(crate) fn edge_counts(words: &[u32]) -> [u32; 16]
-    ensures { λ r. ⌜ Counted (now (words .entry)) r ⌝ }
+    ensures { λ r. ⌜ CountTable (now (words .entry)) r ⌝ }
 {
     let mut counts = no_counts();
     let number = word_at(words, 0);

@@ -21,16 +21,14 @@ pub mod sheet;
 mod sort;
 pub mod workspace;
 
-ghost use mathlib.Core.List.{[], _∷_};
-ghost use lib.ListN.{length};
 ghost use Rattle.packed.specs.Refusals.{replyTold};
-ghost use Rattle.packed.specs.Calls.{Settled, withWorkspace, patternRead, catalogueRead, recordRead, sheetRead, bookRead, patternWritten, catalogueWritten, recordWritten, sheetWritten, bookWritten};
+ghost use Rattle.packed.specs.Calls.{OneOutput, patternRead, catalogueRead, recordRead, sheetRead, bookRead, patternWritten, catalogueWritten, recordWritten, sheetWritten, bookWritten};
 use reply::Refusal;
 use reply::Reply;
 
 // Reads a pattern.
 pub fn read_pattern(bytes: &[u8], out: &mut [u32], work: &mut [u32]) -> Reply
-    ensures { λ r. ⌜ Settled [] (withWorkspace (length (now (work .entry))) (patternRead (now (bytes .entry)) (length (now (out .entry))))) (replyTold r) (now (out .entry) ∷ []) (now (out .exit) ∷ []) (now (work .entry)) (now (work .exit)) ⌝ }
+    ensures { λ r. ⌜ OneOutput (patternRead (now (bytes .entry))) (replyTold r) (now (out .entry)) (now (out .exit)) (now (work .entry)) (now (work .exit)) ⌝ }
 {
     if work.len() < limits::WORKSPACE {
         return Reply::Refused(Refusal::SmallWorkspace);
@@ -42,7 +40,7 @@ pub fn read_pattern(bytes: &[u8], out: &mut [u32], work: &mut [u32]) -> Reply
 
 // Reads a catalogue.
 pub fn read_catalogue(bytes: &[u8], out: &mut [u32], work: &mut [u32]) -> Reply
-    ensures { λ r. ⌜ Settled [] (withWorkspace (length (now (work .entry))) (catalogueRead (now (bytes .entry)) (length (now (out .entry))))) (replyTold r) (now (out .entry) ∷ []) (now (out .exit) ∷ []) (now (work .entry)) (now (work .exit)) ⌝ }
+    ensures { λ r. ⌜ OneOutput (catalogueRead (now (bytes .entry))) (replyTold r) (now (out .entry)) (now (out .exit)) (now (work .entry)) (now (work .exit)) ⌝ }
 {
     if work.len() < limits::WORKSPACE {
         return Reply::Refused(Refusal::SmallWorkspace);
@@ -54,7 +52,7 @@ pub fn read_catalogue(bytes: &[u8], out: &mut [u32], work: &mut [u32]) -> Reply
 
 // Reads a record.
 pub fn read_record(bytes: &[u8], out: &mut [u32], work: &mut [u32]) -> Reply
-    ensures { λ r. ⌜ Settled [] (withWorkspace (length (now (work .entry))) (recordRead (now (bytes .entry)) (length (now (out .entry))))) (replyTold r) (now (out .entry) ∷ []) (now (out .exit) ∷ []) (now (work .entry)) (now (work .exit)) ⌝ }
+    ensures { λ r. ⌜ OneOutput (recordRead (now (bytes .entry))) (replyTold r) (now (out .entry)) (now (out .exit)) (now (work .entry)) (now (work .exit)) ⌝ }
 {
     if work.len() < limits::WORKSPACE {
         return Reply::Refused(Refusal::SmallWorkspace);
@@ -66,7 +64,7 @@ pub fn read_record(bytes: &[u8], out: &mut [u32], work: &mut [u32]) -> Reply
 
 // Reads a sheet beside its pattern.
 pub fn read_sheet(pattern: &[u8], bytes: &[u8], out: &mut [u32], work: &mut [u32]) -> Reply
-    ensures { λ r. ⌜ Settled [] (withWorkspace (length (now (work .entry))) (sheetRead (now (pattern .entry)) (now (bytes .entry)) (length (now (out .entry))))) (replyTold r) (now (out .entry) ∷ []) (now (out .exit) ∷ []) (now (work .entry)) (now (work .exit)) ⌝ }
+    ensures { λ r. ⌜ OneOutput (sheetRead (now (pattern .entry)) (now (bytes .entry))) (replyTold r) (now (out .entry)) (now (out .exit)) (now (work .entry)) (now (work .exit)) ⌝ }
 {
     if work.len() < limits::WORKSPACE {
         return Reply::Refused(Refusal::SmallWorkspace);
@@ -78,7 +76,7 @@ pub fn read_sheet(pattern: &[u8], bytes: &[u8], out: &mut [u32], work: &mut [u32
 
 // Reads a book beside its catalogue.
 pub fn read_book(catalogue: &[u8], bytes: &[u8], out: &mut [u32], work: &mut [u32]) -> Reply
-    ensures { λ r. ⌜ Settled [] (withWorkspace (length (now (work .entry))) (bookRead (now (catalogue .entry)) (now (bytes .entry)) (length (now (out .entry))))) (replyTold r) (now (out .entry) ∷ []) (now (out .exit) ∷ []) (now (work .entry)) (now (work .exit)) ⌝ }
+    ensures { λ r. ⌜ OneOutput (bookRead (now (catalogue .entry)) (now (bytes .entry))) (replyTold r) (now (out .entry)) (now (out .exit)) (now (work .entry)) (now (work .exit)) ⌝ }
 {
     if work.len() < limits::WORKSPACE {
         return Reply::Refused(Refusal::SmallWorkspace);
@@ -90,7 +88,7 @@ pub fn read_book(catalogue: &[u8], bytes: &[u8], out: &mut [u32], work: &mut [u3
 
 // Writes a pattern.
 pub fn write_pattern(fields: &[u32], out: &mut [u8], work: &mut [u32]) -> Reply
-    ensures { λ r. ⌜ Settled [] (withWorkspace (length (now (work .entry))) (patternWritten (now (fields .entry)) (length (now (out .entry))))) (replyTold r) (now (out .entry) ∷ []) (now (out .exit) ∷ []) (now (work .entry)) (now (work .exit)) ⌝ }
+    ensures { λ r. ⌜ OneOutput (patternWritten (now (fields .entry))) (replyTold r) (now (out .entry)) (now (out .exit)) (now (work .entry)) (now (work .exit)) ⌝ }
 {
     if work.len() < limits::WORKSPACE {
         return Reply::Refused(Refusal::SmallWorkspace);
@@ -102,7 +100,7 @@ pub fn write_pattern(fields: &[u32], out: &mut [u8], work: &mut [u32]) -> Reply
 
 // Writes a catalogue.
 pub fn write_catalogue(fields: &[u32], out: &mut [u8], work: &mut [u32]) -> Reply
-    ensures { λ r. ⌜ Settled [] (withWorkspace (length (now (work .entry))) (catalogueWritten (now (fields .entry)) (length (now (out .entry))))) (replyTold r) (now (out .entry) ∷ []) (now (out .exit) ∷ []) (now (work .entry)) (now (work .exit)) ⌝ }
+    ensures { λ r. ⌜ OneOutput (catalogueWritten (now (fields .entry))) (replyTold r) (now (out .entry)) (now (out .exit)) (now (work .entry)) (now (work .exit)) ⌝ }
 {
     if work.len() < limits::WORKSPACE {
         return Reply::Refused(Refusal::SmallWorkspace);
@@ -114,7 +112,7 @@ pub fn write_catalogue(fields: &[u32], out: &mut [u8], work: &mut [u32]) -> Repl
 
 // Writes a record.
 pub fn write_record(fields: &[u32], out: &mut [u8], work: &mut [u32]) -> Reply
-    ensures { λ r. ⌜ Settled [] (withWorkspace (length (now (work .entry))) (recordWritten (now (fields .entry)) (length (now (out .entry))))) (replyTold r) (now (out .entry) ∷ []) (now (out .exit) ∷ []) (now (work .entry)) (now (work .exit)) ⌝ }
+    ensures { λ r. ⌜ OneOutput (recordWritten (now (fields .entry))) (replyTold r) (now (out .entry)) (now (out .exit)) (now (work .entry)) (now (work .exit)) ⌝ }
 {
     if work.len() < limits::WORKSPACE {
         return Reply::Refused(Refusal::SmallWorkspace);
@@ -126,7 +124,7 @@ pub fn write_record(fields: &[u32], out: &mut [u8], work: &mut [u32]) -> Reply
 
 // Writes a sheet beside its pattern.
 pub fn write_sheet(pattern: &[u8], fields: &[u32], out: &mut [u8], work: &mut [u32]) -> Reply
-    ensures { λ r. ⌜ Settled [] (withWorkspace (length (now (work .entry))) (sheetWritten (now (pattern .entry)) (now (fields .entry)) (length (now (out .entry))))) (replyTold r) (now (out .entry) ∷ []) (now (out .exit) ∷ []) (now (work .entry)) (now (work .exit)) ⌝ }
+    ensures { λ r. ⌜ OneOutput (sheetWritten (now (pattern .entry)) (now (fields .entry))) (replyTold r) (now (out .entry)) (now (out .exit)) (now (work .entry)) (now (work .exit)) ⌝ }
 {
     if work.len() < limits::WORKSPACE {
         return Reply::Refused(Refusal::SmallWorkspace);
@@ -138,7 +136,7 @@ pub fn write_sheet(pattern: &[u8], fields: &[u32], out: &mut [u8], work: &mut [u
 
 // Writes a book beside its catalogue.
 pub fn write_book(catalogue: &[u8], fields: &[u32], out: &mut [u8], work: &mut [u32]) -> Reply
-    ensures { λ r. ⌜ Settled [] (withWorkspace (length (now (work .entry))) (bookWritten (now (catalogue .entry)) (now (fields .entry)) (length (now (out .entry))))) (replyTold r) (now (out .entry) ∷ []) (now (out .exit) ∷ []) (now (work .entry)) (now (work .exit)) ⌝ }
+    ensures { λ r. ⌜ OneOutput (bookWritten (now (catalogue .entry)) (now (fields .entry))) (replyTold r) (now (out .entry)) (now (out .exit)) (now (work .entry)) (now (work .exit)) ⌝ }
 {
     if work.len() < limits::WORKSPACE {
         return Reply::Refused(Refusal::SmallWorkspace);

@@ -4,8 +4,8 @@ ghost use mathlib.Core.Path.{_≡_};
 ghost use Prim.Native.Nat.{ℕ, _+_, _*_, _/_, _%_, _^_, _<_, _≤_};
 ghost use lib.ListN.{length, getD, replicate};
 ghost use Rattle.packed.specs.Bits.{bits};
-ghost use Rattle.packed.specs.Matches.{matchesOf, Marked, Counts, Written, Added, CountsWritten, PairPut, scatters, ListsWritten, Listed, anyZero, sumOf};
-ghost use Rattle.packed.specs.Contents.{total};
+ghost use Rattle.packed.specs.Matches.{matchesOf, Marked, Counts, SheetWritten, Added, CountsWritten, PairPut, scatters, ListsWritten, Listed, anyZero, sumOf};
+ghost use Rattle.packed.specs.Contents.{pairCount};
 use crate::bits;
 use crate::cursor;
 use crate::field;
@@ -112,7 +112,7 @@ pub fn listed(work: &[u32], n: usize, m: u32) -> usize
 // How many bytes the sheet for m edges takes.
 pub fn sheet_size(work: &[u32], n: usize, m: u32) -> usize
     requires { ⌜ (m ≤ 32) × (n ≤ 8192) × (16384 ≤ length (now work)) ⌝ }
-    ensures { λ r. ⌜ r ≡ (14 * m + 24 * total (matchesOf n m (now (work .entry))) + 7) / 8 ⌝ }
+    ensures { λ r. ⌜ r ≡ (14 * m + 24 * pairCount (matchesOf n m (now (work .entry))) + 7) / 8 ⌝ }
 {
     let l = listing_of(work, n, m);
     let c = l.counts;
@@ -197,7 +197,7 @@ fn write_lists(work: &[u32], n: usize, c: [u32; 32], m: u32, out: &mut [u8]) -> 
 // The sheet for m edges goes to the front of out as far as it goes; the result is how many bytes it takes.
 pub fn write_sheet(work: &[u32], n: usize, m: u32, out: &mut [u8]) -> usize
     requires { ⌜ Marked n (now work) × (m ≤ 32) ⌝ }
-    ensures { λ r. ⌜ Written n m (now (work .entry)) (now (out .entry)) r (now (out .exit)) ⌝ }
+    ensures { λ r. ⌜ SheetWritten n m (now (work .entry)) (now (out .entry)) r (now (out .exit)) ⌝ }
 {
     let l = listing_of(work, n, m);
     let c = l.counts;

@@ -7,7 +7,7 @@ ghost use Rattle.packed.specs.Format.{times, whole, decode, encode};
 ghost use Rattle.packed.specs.Formats.{linked, isEnd, allEnds, label, edges, joined, pattern, catalogue};
 ghost use Rattle.packed.specs.Contents.{edgeCounts};
 ghost use Rattle.packed.specs.Reading.{Stands, Room, ReadsUpTo, ReadsBytesUpTo, JudgesUpTo};
-ghost use Rattle.packed.specs.Writing.{Writes, WritesBytes, JudgesFields};
+ghost use Rattle.packed.specs.Writing.{WritesPart, WritesBytes, JudgesFields};
 use crate::bits;
 use crate::field;
 use crate::limits;
@@ -232,7 +232,7 @@ fn write_labels(
     start: usize,
 ) -> Part
     requires { ⌜ (first ≤ length (now words)) × (start + 5 * n ≤ 2 ^ 20) ⌝ }
-    ensures { λ r. ⌜ Writes (times n label) (now (words .entry)) first (now (out .entry)) start (5 * n) file r (now (out .exit)) ⌝ }
+    ensures { λ r. ⌜ WritesPart (times n label) (now (words .entry)) first (now (out .entry)) start (5 * n) file r (now (out .exit)) ⌝ }
 {
     let mut i = first;
     let mut at = start;
@@ -274,7 +274,7 @@ fn write_edges(
     start: usize,
 ) -> Part
     requires { ⌜ (first ≤ length (now words)) × (nodes ≤ 16) × (start + 8 * number ≤ 2 ^ 20) ⌝ }
-    ensures { λ r. ⌜ Writes (edges 4 nodes (joined nodes) number []) (now (words .entry)) first (now (out .entry)) start (8 * number) file r (now (out .exit)) ⌝ }
+    ensures { λ r. ⌜ WritesPart (edges 4 nodes (joined nodes) number []) (now (words .entry)) first (now (out .entry)) start (8 * number) file r (now (out .exit)) ⌝ }
 {
     let mut i = first;
     let mut at = start;
@@ -314,7 +314,7 @@ fn write_edges(
 // The fields of a pattern.
 fn write_fields(words: &[u32], first: usize, file: u32, out: &mut [u8], start: usize) -> Part
     requires { ⌜ (first ≤ length (now words)) × (start ≤ 2 ^ 19) ⌝ }
-    ensures { λ r. ⌜ Writes pattern (now (words .entry)) first (now (out .entry)) start 347 file r (now (out .exit)) ⌝ }
+    ensures { λ r. ⌜ WritesPart pattern (now (words .entry)) first (now (out .entry)) start 347 file r (now (out .exit)) ⌝ }
 {
     let f = field::write_field(
         words,

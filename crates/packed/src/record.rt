@@ -6,8 +6,8 @@ ghost use lib.ListN.{length};
 ghost use Rattle.packed.specs.Bits.{field};
 ghost use Rattle.packed.specs.Format.{times, decode, encode};
 ghost use Rattle.packed.specs.Formats.{labels, edges, nothing, record′};
-ghost use Rattle.packed.specs.Reading.{Stands, Reads, Judges};
-ghost use Rattle.packed.specs.Writing.{Writes, JudgesFields};
+ghost use Rattle.packed.specs.Reading.{Stands, ReadsPart, Judges};
+ghost use Rattle.packed.specs.Writing.{WritesPart, JudgesFields};
 ghost use Rattle.packed.specs.Loading.{Loads, LoadsFields};
 ghost use Rattle.packed.specs.Accepting.{replyOf};
 ghost use Rattle.packed.specs.LoadedGraph.{CodesLoaded, EndsAt, Orders};
@@ -23,7 +23,7 @@ use crate::sort;
 // The labels of so many nodes.
 fn read_labels(s: &[u8], start: usize, n: u32, words: &mut [u32], first: usize) -> Part
     requires { ⌜ Stands (now s) start first ⌝ }
-    ensures { λ r. ⌜ Reads (times n labels) (now (s .entry)) start (now (words .entry)) first 3 r (now (words .exit)) × EndsAt (start + 32 * n) r ⌝ }
+    ensures { λ r. ⌜ ReadsPart (times n labels) (now (s .entry)) start (now (words .entry)) first 3 r (now (words .exit)) × EndsAt (start + 32 * n) r ⌝ }
 {
     let mut at = start;
     let mut i = first;
@@ -184,7 +184,7 @@ pub(crate) fn judge_record(s: &[u8], words: &mut [u32], work: &mut [u32]) -> Par
 // The labels of so many nodes.
 fn write_labels(words: &[u32], first: usize, n: u32, out: &mut [u8], start: usize) -> Part
     requires { ⌜ (first ≤ length (now words)) × (start + 32 * n ≤ 2 ^ 20) ⌝ }
-    ensures { λ r. ⌜ Writes (times n labels) (now (words .entry)) first (now (out .entry)) start (32 * n) 3 r (now (out .exit)) ⌝ }
+    ensures { λ r. ⌜ WritesPart (times n labels) (now (words .entry)) first (now (out .entry)) start (32 * n) 3 r (now (out .exit)) ⌝ }
 {
     let mut i = first;
     let mut at = start;

@@ -7,8 +7,8 @@ ghost use Rattle.packed.specs.Limits.{bookMost, countMost, countWidth, p
 ghost use Rattle.packed.specs.Format.{whole, decode, encode};
 ghost use Rattle.packed.specs.Formats.{pairs, sheet, book};
 ghost use Rattle.packed.specs.ByValue.{Small};
-ghost use Rattle.packed.specs.Reading.{Stands, Reads, ReadsBytes, Judges};
-ghost use Rattle.packed.specs.Writing.{Writes, WritesBytes, JudgesFields};
+ghost use Rattle.packed.specs.Reading.{Stands, ReadsPart, ReadsBytes, Judges};
+ghost use Rattle.packed.specs.Writing.{WritesPart, WritesBytes, JudgesFields};
 use crate::bits;
 use crate::cursor;
 use crate::field;
@@ -21,7 +21,7 @@ use crate::reply::Two;
 // So many pairs, ascending.
 fn read_pairs(s: &[u8], start: usize, n: u32, words: &mut [u32], first: usize) -> Part
     requires { ⌜ Stands (now s) start first ⌝ }
-    ensures { λ r. ⌜ Reads (pairs n 0) (now (s .entry)) start (now (words .entry)) first 4 r (now (words .exit)) ⌝ }
+    ensures { λ r. ⌜ ReadsPart (pairs n 0) (now (s .entry)) start (now (words .entry)) first 4 r (now (words .exit)) ⌝ }
 {
     let mut at = start;
     let mut i = first;
@@ -60,7 +60,7 @@ fn read_pairs(s: &[u8], start: usize, n: u32, words: &mut [u32], first: usize) -
 // The lists of a sheet for a pattern with m edges.
 fn read_lists(s: &[u8], start: usize, m: u32, words: &mut [u32], first: usize) -> Part
     requires { ⌜ Stands (now s) start first ⌝ }
-    ensures { λ r. ⌜ Reads (sheet m) (now (s .entry)) start (now (words .entry)) first 4 r (now (words .exit)) ⌝ }
+    ensures { λ r. ⌜ ReadsPart (sheet m) (now (s .entry)) start (now (words .entry)) first 4 r (now (words .exit)) ⌝ }
 {
     let mut at = start;
     let mut i = first;
@@ -171,7 +171,7 @@ pub fn judge_book(s: &[u8], counts: [u32; 16], k: usize, words: &mut [u32]) -> P
 // So many pairs, ascending.
 fn write_pairs(words: &[u32], first: usize, n: u32, out: &mut [u8], start: usize) -> Part
     requires { ⌜ (first ≤ length (now words)) × (n ≤ countMost) × (start ≤ 2 ^ 40) ⌝ }
-    ensures { λ r. ⌜ Writes (pairs n 0) (now (words .entry)) first (now (out .entry)) start (pairWidth * n) 4 r (now (out .exit)) ⌝ }
+    ensures { λ r. ⌜ WritesPart (pairs n 0) (now (words .entry)) first (now (out .entry)) start (pairWidth * n) 4 r (now (out .exit)) ⌝ }
 {
     let mut i = first;
     let mut at = start;
@@ -210,7 +210,7 @@ fn write_pairs(words: &[u32], first: usize, n: u32, out: &mut [u8], start: usize
 // The lists of a sheet for a pattern with m edges.
 fn write_lists(words: &[u32], first: usize, m: u32, out: &mut [u8]) -> Part
     requires { ⌜ (first ≤ length (now words)) × (m ≤ 32) ⌝ }
-    ensures { λ r. ⌜ Writes (sheet m) (now (words .entry)) first (now (out .entry)) 0 ((countWidth + pairWidth * countMost) * m) 4 r (now (out .exit)) ⌝ }
+    ensures { λ r. ⌜ WritesPart (sheet m) (now (words .entry)) first (now (out .entry)) 0 ((countWidth + pairWidth * countMost) * m) 4 r (now (out .exit)) ⌝ }
 {
     let mut i = first;
     let mut at: usize = 0;

@@ -5,7 +5,7 @@ use mathlib.Core.List.{List, [], _∷_}
 use native.Mathlib.Omega.{arith}
 use borrow.Author.Tests.{ne-eqb}
 use Rattle.packed.specs.Refusals.{Told, told, numberOf, detailOf}
-use Rattle.packed.specs.Calls.{Answer, Settled}
+use Rattle.packed.specs.Calls.{Outcome, Settled}
 use Rattle.packed.specs.declared.reply.Refusal.{Refusal}
 use Rattle.containment.specs.Quote.{quoteTold}
 use Rattle.containment.specs.declared.quote_type.Coverage.{Coverage}
@@ -15,7 +15,7 @@ use Rattle.containment.proofs.Numbered.{refusal-numbered}
 use Rattle.yuthaqim.specs.Numbered.{toldBy, numberedQuoteTold, numberedShownTold, QuoteZeros, ShownZeros}
 use Rattle.yuthaqim.specs.declared.numbered.NumberedQuote.{NumberedQuote}
 
-pub settled-as : {none : List ℕ} {a : Answer} {r r′ : Told} {outs outs′ : List (List ℕ)} {work work′ : List ℕ}
+pub settled-as : {none : List ℕ} {a : Outcome} {r r′ : Told} {outs outs′ : List (List ℕ)} {work work′ : List ℕ}
     → r′ ≡ r → Settled none a r outs outs′ work work′ → Settled none a r′ outs outs′ work work′
 settled-as e s = record { result = e ∙ s .result; outputs = s .outputs; workspace = s .workspace }
 

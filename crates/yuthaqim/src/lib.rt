@@ -3,11 +3,11 @@ mod numbered;
 
 ghost use mathlib.Core.List.{[], _∷_};
 ghost use lib.ListN.{length};
-ghost use Rattle.packed.specs.Calls.{Settled, withWorkspace, patternRead, catalogueRead, recordRead, sheetRead, bookRead, patternWritten, catalogueWritten, recordWritten, sheetWritten, bookWritten};
-ghost use Rattle.matching.specs.Search.{searchAnswer, makeBookAnswer};
-ghost use Rattle.containment.specs.Quote.{quoteAnswer, blank};
-ghost use Rattle.containment.specs.Answer.{answerAnswer};
-ghost use Rattle.containment.specs.Show.{showAnswer};
+ghost use Rattle.packed.specs.Calls.{OneOutput, Settled, withWorkspace, patternRead, catalogueRead, recordRead, sheetRead, bookRead, patternWritten, catalogueWritten, recordWritten, sheetWritten, bookWritten};
+ghost use Rattle.matching.specs.Search.{searchOutcome, makeBookOutcome};
+ghost use Rattle.containment.specs.Quote.{quoteOutcome, blank};
+ghost use Rattle.containment.specs.Answer.{answerOutcome};
+ghost use Rattle.containment.specs.Show.{showOutcome};
 ghost use Rattle.yuthaqim.specs.Numbered.{numberedReplyTold, numberedQuoteTold, numberedShownTold, QuoteZeros, ShownZeros};
 use numbered::NumberedQuote;
 use numbered::NumberedReply;
@@ -20,7 +20,7 @@ pub extern "C" fn yuthaqim_read_pattern(
     out: &mut [u32],
     work: &mut [u32],
 ) -> NumberedReply
-    ensures { λ r. ⌜ Settled [] (withWorkspace (length (now (work .entry))) (patternRead (now (bytes .entry)) (length (now (out .entry))))) (numberedReplyTold r) (now (out .entry) ∷ []) (now (out .exit) ∷ []) (now (work .entry)) (now (work .exit)) ⌝ }
+    ensures { λ r. ⌜ OneOutput (patternRead (now (bytes .entry))) (numberedReplyTold r) (now (out .entry)) (now (out .exit)) (now (work .entry)) (now (work .exit)) ⌝ }
 {
     numbered::reply(packed::read_pattern(bytes, out, work))
 }
@@ -32,7 +32,7 @@ pub extern "C" fn yuthaqim_read_catalogue(
     out: &mut [u32],
     work: &mut [u32],
 ) -> NumberedReply
-    ensures { λ r. ⌜ Settled [] (withWorkspace (length (now (work .entry))) (catalogueRead (now (bytes .entry)) (length (now (out .entry))))) (numberedReplyTold r) (now (out .entry) ∷ []) (now (out .exit) ∷ []) (now (work .entry)) (now (work .exit)) ⌝ }
+    ensures { λ r. ⌜ OneOutput (catalogueRead (now (bytes .entry))) (numberedReplyTold r) (now (out .entry)) (now (out .exit)) (now (work .entry)) (now (work .exit)) ⌝ }
 {
     numbered::reply(packed::read_catalogue(bytes, out, work))
 }
@@ -44,7 +44,7 @@ pub extern "C" fn yuthaqim_read_record(
     out: &mut [u32],
     work: &mut [u32],
 ) -> NumberedReply
-    ensures { λ r. ⌜ Settled [] (withWorkspace (length (now (work .entry))) (recordRead (now (bytes .entry)) (length (now (out .entry))))) (numberedReplyTold r) (now (out .entry) ∷ []) (now (out .exit) ∷ []) (now (work .entry)) (now (work .exit)) ⌝ }
+    ensures { λ r. ⌜ OneOutput (recordRead (now (bytes .entry))) (numberedReplyTold r) (now (out .entry)) (now (out .exit)) (now (work .entry)) (now (work .exit)) ⌝ }
 {
     numbered::reply(packed::read_record(bytes, out, work))
 }
@@ -57,7 +57,7 @@ pub extern "C" fn yuthaqim_read_sheet(
     out: &mut [u32],
     work: &mut [u32],
 ) -> NumberedReply
-    ensures { λ r. ⌜ Settled [] (withWorkspace (length (now (work .entry))) (sheetRead (now (pattern .entry)) (now (bytes .entry)) (length (now (out .entry))))) (numberedReplyTold r) (now (out .entry) ∷ []) (now (out .exit) ∷ []) (now (work .entry)) (now (work .exit)) ⌝ }
+    ensures { λ r. ⌜ OneOutput (sheetRead (now (pattern .entry)) (now (bytes .entry))) (numberedReplyTold r) (now (out .entry)) (now (out .exit)) (now (work .entry)) (now (work .exit)) ⌝ }
 {
     numbered::reply(packed::read_sheet(pattern, bytes, out, work))
 }
@@ -70,7 +70,7 @@ pub extern "C" fn yuthaqim_read_book(
     out: &mut [u32],
     work: &mut [u32],
 ) -> NumberedReply
-    ensures { λ r. ⌜ Settled [] (withWorkspace (length (now (work .entry))) (bookRead (now (catalogue .entry)) (now (bytes .entry)) (length (now (out .entry))))) (numberedReplyTold r) (now (out .entry) ∷ []) (now (out .exit) ∷ []) (now (work .entry)) (now (work .exit)) ⌝ }
+    ensures { λ r. ⌜ OneOutput (bookRead (now (catalogue .entry)) (now (bytes .entry))) (numberedReplyTold r) (now (out .entry)) (now (out .exit)) (now (work .entry)) (now (work .exit)) ⌝ }
 {
     numbered::reply(packed::read_book(catalogue, bytes, out, work))
 }
@@ -82,7 +82,7 @@ pub extern "C" fn yuthaqim_write_pattern(
     out: &mut [u8],
     work: &mut [u32],
 ) -> NumberedReply
-    ensures { λ r. ⌜ Settled [] (withWorkspace (length (now (work .entry))) (patternWritten (now (fields .entry)) (length (now (out .entry))))) (numberedReplyTold r) (now (out .entry) ∷ []) (now (out .exit) ∷ []) (now (work .entry)) (now (work .exit)) ⌝ }
+    ensures { λ r. ⌜ OneOutput (patternWritten (now (fields .entry))) (numberedReplyTold r) (now (out .entry)) (now (out .exit)) (now (work .entry)) (now (work .exit)) ⌝ }
 {
     numbered::reply(packed::write_pattern(fields, out, work))
 }
@@ -94,7 +94,7 @@ pub extern "C" fn yuthaqim_write_catalogue(
     out: &mut [u8],
     work: &mut [u32],
 ) -> NumberedReply
-    ensures { λ r. ⌜ Settled [] (withWorkspace (length (now (work .entry))) (catalogueWritten (now (fields .entry)) (length (now (out .entry))))) (numberedReplyTold r) (now (out .entry) ∷ []) (now (out .exit) ∷ []) (now (work .entry)) (now (work .exit)) ⌝ }
+    ensures { λ r. ⌜ OneOutput (catalogueWritten (now (fields .entry))) (numberedReplyTold r) (now (out .entry)) (now (out .exit)) (now (work .entry)) (now (work .exit)) ⌝ }
 {
     numbered::reply(packed::write_catalogue(fields, out, work))
 }
@@ -106,7 +106,7 @@ pub extern "C" fn yuthaqim_write_record(
     out: &mut [u8],
     work: &mut [u32],
 ) -> NumberedReply
-    ensures { λ r. ⌜ Settled [] (withWorkspace (length (now (work .entry))) (recordWritten (now (fields .entry)) (length (now (out .entry))))) (numberedReplyTold r) (now (out .entry) ∷ []) (now (out .exit) ∷ []) (now (work .entry)) (now (work .exit)) ⌝ }
+    ensures { λ r. ⌜ OneOutput (recordWritten (now (fields .entry))) (numberedReplyTold r) (now (out .entry)) (now (out .exit)) (now (work .entry)) (now (work .exit)) ⌝ }
 {
     numbered::reply(packed::write_record(fields, out, work))
 }
@@ -119,7 +119,7 @@ pub extern "C" fn yuthaqim_write_sheet(
     out: &mut [u8],
     work: &mut [u32],
 ) -> NumberedReply
-    ensures { λ r. ⌜ Settled [] (withWorkspace (length (now (work .entry))) (sheetWritten (now (pattern .entry)) (now (fields .entry)) (length (now (out .entry))))) (numberedReplyTold r) (now (out .entry) ∷ []) (now (out .exit) ∷ []) (now (work .entry)) (now (work .exit)) ⌝ }
+    ensures { λ r. ⌜ OneOutput (sheetWritten (now (pattern .entry)) (now (fields .entry))) (numberedReplyTold r) (now (out .entry)) (now (out .exit)) (now (work .entry)) (now (work .exit)) ⌝ }
 {
     numbered::reply(packed::write_sheet(pattern, fields, out, work))
 }
@@ -132,7 +132,7 @@ pub extern "C" fn yuthaqim_write_book(
     out: &mut [u8],
     work: &mut [u32],
 ) -> NumberedReply
-    ensures { λ r. ⌜ Settled [] (withWorkspace (length (now (work .entry))) (bookWritten (now (catalogue .entry)) (now (fields .entry)) (length (now (out .entry))))) (numberedReplyTold r) (now (out .entry) ∷ []) (now (out .exit) ∷ []) (now (work .entry)) (now (work .exit)) ⌝ }
+    ensures { λ r. ⌜ OneOutput (bookWritten (now (catalogue .entry)) (now (fields .entry))) (numberedReplyTold r) (now (out .entry)) (now (out .exit)) (now (work .entry)) (now (work .exit)) ⌝ }
 {
     numbered::reply(packed::write_book(catalogue, fields, out, work))
 }
@@ -145,7 +145,7 @@ pub extern "C" fn yuthaqim_search(
     out: &mut [u8],
     work: &mut [u32],
 ) -> NumberedReply
-    ensures { λ r. ⌜ Settled [] (withWorkspace (length (now (work .entry))) (searchAnswer (now (pattern .entry)) (now («record» .entry)) (length (now (out .entry))))) (numberedReplyTold r) (now (out .entry) ∷ []) (now (out .exit) ∷ []) (now (work .entry)) (now (work .exit)) ⌝ }
+    ensures { λ r. ⌜ OneOutput (searchOutcome (now (pattern .entry)) (now («record» .entry))) (numberedReplyTold r) (now (out .entry)) (now (out .exit)) (now (work .entry)) (now (work .exit)) ⌝ }
 {
     numbered::reply(matching::search(pattern, record, out, work))
 }
@@ -158,7 +158,7 @@ pub extern "C" fn yuthaqim_make_book(
     out: &mut [u8],
     work: &mut [u32],
 ) -> NumberedReply
-    ensures { λ r. ⌜ Settled [] (withWorkspace (length (now (work .entry))) (makeBookAnswer (now (catalogue .entry)) (now («record» .entry)) (length (now (out .entry))))) (numberedReplyTold r) (now (out .entry) ∷ []) (now (out .exit) ∷ []) (now (work .entry)) (now (work .exit)) ⌝ }
+    ensures { λ r. ⌜ OneOutput (makeBookOutcome (now (catalogue .entry)) (now («record» .entry))) (numberedReplyTold r) (now (out .entry)) (now (out .exit)) (now (work .entry)) (now (work .exit)) ⌝ }
 {
     numbered::reply(matching::make_book(catalogue, record, out, work))
 }
@@ -170,7 +170,7 @@ pub extern "C" fn yuthaqim_quote(
     catalogue: &[u8],
     work: &mut [u32],
 ) -> NumberedQuote
-    ensures { λ r. ⌜ Settled blank (withWorkspace (length (now (work .entry))) (quoteAnswer (now (question .entry)) (now (catalogue .entry)))) (numberedQuoteTold r) [] [] (now (work .entry)) (now (work .exit)) × QuoteZeros r ⌝ }
+    ensures { λ r. ⌜ Settled blank (withWorkspace (length (now (work .entry))) (quoteOutcome (now (question .entry)) (now (catalogue .entry)))) (numberedQuoteTold r) [] [] (now (work .entry)) (now (work .exit)) × QuoteZeros r ⌝ }
 {
     numbered::quote(containment::quote(question, catalogue, work))
 }
@@ -184,7 +184,7 @@ pub extern "C" fn yuthaqim_answer(
     out: &mut [u8],
     work: &mut [u32],
 ) -> NumberedReply
-    ensures { λ r. ⌜ Settled [] (withWorkspace (length (now (work .entry))) (answerAnswer (now (question .entry)) (now (catalogue .entry)) (now (book .entry)) (length (now (out .entry))))) (numberedReplyTold r) (now (out .entry) ∷ []) (now (out .exit) ∷ []) (now (work .entry)) (now (work .exit)) ⌝ }
+    ensures { λ r. ⌜ OneOutput (answerOutcome (now (question .entry)) (now (catalogue .entry)) (now (book .entry))) (numberedReplyTold r) (now (out .entry)) (now (out .exit)) (now (work .entry)) (now (work .exit)) ⌝ }
 {
     numbered::reply(containment::answer(question, catalogue, book, out, work))
 }
@@ -198,7 +198,7 @@ pub extern "C" fn yuthaqim_show_uncovered(
     second: &mut [u8],
     work: &mut [u32],
 ) -> NumberedShown
-    ensures { λ r. ⌜ Settled [] (withWorkspace (length (now (work .entry))) (showAnswer (now (question .entry)) (now (catalogue .entry)) (length (now (first .entry))) (length (now (second .entry))))) (numberedShownTold r) (now (first .entry) ∷ now (second .entry) ∷ []) (now (first .exit) ∷ now (second .exit) ∷ []) (now (work .entry)) (now (work .exit)) × ShownZeros r ⌝ }
+    ensures { λ r. ⌜ Settled [] (withWorkspace (length (now (work .entry))) (showOutcome (now (question .entry)) (now (catalogue .entry)) (length (now (first .entry))) (length (now (second .entry))))) (numberedShownTold r) (now (first .entry) ∷ now (second .entry) ∷ []) (now (first .exit) ∷ now (second .exit) ∷ []) (now (work .entry)) (now (work .exit)) × ShownZeros r ⌝ }
 {
     numbered::shown(containment::show_uncovered(question, catalogue, first, second, work))
 }

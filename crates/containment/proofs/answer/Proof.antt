@@ -1,15 +1,16 @@
 -- `containment::answer` meets its contract.
 use lib.ListN.{length}
 use Rattle.packed.proofs.CallLaws.{settles-small, settles-lent}
-use Rattle.containment.specs.Answer.{answerAnswer}
+use Rattle.containment.specs.Answer.{answerOutcome}
 use borrow.Author.Needs.{needs}
 use Rattle.containment.proofs.answer.Statement.{statement}
 use Rattle.containment.proofs.answer.Tie as tie
 
 returns : tie.Need-returns
 returns c =
-    let a = c .before .before .before .before .before .before .args in
-    settles-small (answerAnswer (a .question .now) (a .catalogue .now) (a .book .now) (length (a .out .now))) (a .out .now) (a .work .now) (c .if1 .taken)
+    let args = c .before .before .before .before .before .before .args in
+    let a = args in
+    settles-small (answerOutcome (a .question .now) (a .catalogue .now) (a .book .now) (length (a .out .now))) (a .out .now) (a .work .now) (c .if1 .taken)
 
 sub-answer : tie.Need-sub-answer
 sub-answer c = search needs
@@ -34,10 +35,14 @@ same-length-2 c = search needs
 
 returns-2 : tie.Need-returns-2
 returns-2 c =
-    let a = c .before .before .before .before .before .before .before .before .before .before .before .before .before .before .before .before .before .args in
-    let k = c .before .before .before .before .before .before .before .before .answer in
-    settles-lent (answerAnswer (a .question .now) (a .catalogue .now) (a .book .now) (length (a .out .now))) (a .out .now) (a .work .now) (k .last .1 .1 .1 .1 .0) (c .before .before .before .before .before .before .before .before .before .before .before .if1 .left)
-    (k .ensures) (k .kept .1 .1 .1 .1 .0) (c .before .before .clear .ensures)
+    let args = c .before .before .before .before .before .before .before .before .before .before .before .before .before .before .before .before .before .args in
+    let if1 = c .before .before .before .before .before .before .before .before .before .before .before .if1 in
+    let at-answer = c .before .before .before .before .before .before .before .before .answer in
+    let clear = c .before .before .clear in
+    let a = args in
+    let k = at-answer in
+    settles-lent (answerOutcome (a .question .now) (a .catalogue .now) (a .book .now) (length (a .out .now))) (a .out .now) (a .work .now) (k .last .1 .1 .1 .1 .0) (if1 .left)
+    (k .ensures) (k .kept .1 .1 .1 .1 .0) (clear .ensures)
 
 pub answer-spec : {M : Type 1} → statement M
 answer-spec =

@@ -1,7 +1,7 @@
 -- `containment::quote` meets its contract.
 use mathlib.Core.List.{[]}
 use Rattle.containment.proofs.AnswerLaws.{settles-small, settles-lent}
-use Rattle.containment.specs.Quote.{blank, quoteAnswer}
+use Rattle.containment.specs.Quote.{blank, quoteOutcome}
 use borrow.Author.Needs.{needs}
 use Rattle.containment.proofs.quote.Statement.{statement}
 use Rattle.containment.proofs.quote.Tie as tie
@@ -11,8 +11,10 @@ refused-requires c κs = search needs
 
 returns : tie.Need-returns
 returns c =
-    let a = c .before .before .before .before .before .args in
-    settles-small blank (quoteAnswer (a .question .now) (a .catalogue .now)) (a .work .now) [] (c .before .if1 .taken) (c .refused .ensures)
+    let args = c .before .before .before .before .before .args in
+    let if1 = c .before .if1 in
+    let a = args in
+    settles-small blank (quoteOutcome (a .question .now) (a .catalogue .now)) (a .work .now) [] (if1 .taken) (c .refused .ensures)
 
 sub-quote : tie.Need-sub-quote
 sub-quote c = search needs
@@ -34,9 +36,13 @@ same-length c = search needs
 
 returns-2 : tie.Need-returns-2
 returns-2 c =
-    let a = c .before .before .before .before .before .before .before .before .before .before .before .before .args in
-    let k = c .before .before .before .before .before .before .quote in
-    settles-lent blank (quoteAnswer (a .question .now) (a .catalogue .now)) (a .work .now) (k .last .1 .1 .0) (c .before .before .before .before .before .before .before .before .if1 .left) (k .ensures) (k .kept .1 .1 .0) (c .before .before .clear .ensures)
+    let args = c .before .before .before .before .before .before .before .before .before .before .before .before .args in
+    let if1 = c .before .before .before .before .before .before .before .before .if1 in
+    let at-quote = c .before .before .before .before .before .before .quote in
+    let clear = c .before .before .clear in
+    let a = args in
+    let k = at-quote in
+    settles-lent blank (quoteOutcome (a .question .now) (a .catalogue .now)) (a .work .now) (k .last .1 .1 .0) (if1 .left) (k .ensures) (k .kept .1 .1 .0) (clear .ensures)
 
 pub quote-spec : {M : Type 1} → statement M
 quote-spec =

@@ -3,15 +3,16 @@ use mathlib.Core.Path.{refl, _∙_}
 use mathlib.Core.List.{[], _∷_}
 use lib.ListN.{length}
 use Rattle.containment.proofs.AnswerLaws.{lent-long, settles-small, settles-lent}
-use Rattle.containment.specs.Show.{showAnswer}
+use Rattle.containment.specs.Show.{showOutcome}
 use borrow.Author.Needs.{needs}
 use Rattle.containment.proofs.show_uncovered.Statement.{statement}
 use Rattle.containment.proofs.show_uncovered.Tie as tie
 
 returns : tie.Need-returns
 returns c =
-    let a = c .before .before .before .before .before .before .args in
-    settles-small [] (showAnswer (a .question .now) (a .catalogue .now) (length (a .first .now)) (length (a .second .now))) (a .work .now) (a .first .now ∷ a .second .now ∷ []) (c .if1 .taken) refl
+    let args = c .before .before .before .before .before .before .args in
+    let a = args in
+    settles-small [] (showOutcome (a .question .now) (a .catalogue .now) (length (a .first .now)) (length (a .second .now))) (a .work .now) (a .first .now ∷ a .second .now ∷ []) (c .if1 .taken) refl
 
 sub-show : tie.Need-sub-show
 sub-show c = search needs
@@ -36,14 +37,22 @@ same-length-2 c = search needs
 
 same-length-3 : tie.Need-same-length-3
 same-length-3 c =
-    let k = c .before .before .before .before .before .before .before .before .before .before .show in
-    c .before .before .clear .kept .0 ∙ lent-long (c .before .before .before .before .before .before .before .before .before .before .before .before .before .before .before .before .before .before .before .before .args .work .now) (k .last .1 .1 .1 .1 .0) (c .before .before .before .before .before .before .before .before .before .before .before .before .before .before .if1 .left) (k .kept .1 .1 .1 .1 .0)
+    let args = c .before .before .before .before .before .before .before .before .before .before .before .before .before .before .before .before .before .before .before .before .args in
+    let if1 = c .before .before .before .before .before .before .before .before .before .before .before .before .before .before .if1 in
+    let show = c .before .before .before .before .before .before .before .before .before .before .show in
+    let clear = c .before .before .clear in
+    let k = show in
+    clear .kept .0 ∙ lent-long (args .work .now) (k .last .1 .1 .1 .1 .0) (if1 .left) (k .kept .1 .1 .1 .1 .0)
 
 returns-2 : tie.Need-returns-2
 returns-2 c =
-    let a = c .before .before .before .before .before .before .before .before .before .before .before .before .before .before .before .before .before .before .before .before .args in
-    let k = c .before .before .before .before .before .before .before .before .before .before .show in
-    settles-lent [] (showAnswer (a .question .now) (a .catalogue .now) (length (a .first .now)) (length (a .second .now))) (a .work .now) (k .last .1 .1 .1 .1 .0) (c .before .before .before .before .before .before .before .before .before .before .before .before .before .before .if1 .left) (k .ensures) (k .kept .1 .1 .1 .1 .0) (c .before .before .clear .ensures)
+    let args = c .before .before .before .before .before .before .before .before .before .before .before .before .before .before .before .before .before .before .before .before .args in
+    let if1 = c .before .before .before .before .before .before .before .before .before .before .before .before .before .before .if1 in
+    let show = c .before .before .before .before .before .before .before .before .before .before .show in
+    let clear = c .before .before .clear in
+    let a = args in
+    let k = show in
+    settles-lent [] (showOutcome (a .question .now) (a .catalogue .now) (length (a .first .now)) (length (a .second .now))) (a .work .now) (k .last .1 .1 .1 .1 .0) (if1 .left) (k .ensures) (k .kept .1 .1 .1 .1 .0) (clear .ensures)
 
 pub show-uncovered-spec : {M : Type 1} → statement M
 show-uncovered-spec =

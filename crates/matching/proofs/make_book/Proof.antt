@@ -1,15 +1,16 @@
 -- `matching::make_book` meets its contract.
 use lib.ListN.{length}
 use Rattle.packed.proofs.CallLaws.{settles-small, settles-lent}
-use Rattle.matching.specs.Search.{makeBookAnswer}
+use Rattle.matching.specs.Search.{makeBookOutcome}
 use borrow.Author.Needs.{needs}
 use Rattle.matching.proofs.make_book.Statement.{statement}
 use Rattle.matching.proofs.make_book.Tie as tie
 
 returns : tie.Need-returns
 returns c =
-    let a = c .before .before .before .before .before .args in
-    settles-small (makeBookAnswer (a .catalogue .now) (a .«record» .now) (length (a .out .now))) (a .out .now) (a .work .now) (c .if1 .taken)
+    let args = c .before .before .before .before .before .args in
+    let a = args in
+    settles-small (makeBookOutcome (a .catalogue .now) (a .«record» .now) (length (a .out .now))) (a .out .now) (a .work .now) (c .if1 .taken)
 
 sub-make-book : tie.Need-sub-make-book
 sub-make-book c = search needs
@@ -34,10 +35,14 @@ same-length-2 c = search needs
 
 returns-2 : tie.Need-returns-2
 returns-2 c =
-    let a = c .before .before .before .before .before .before .before .before .before .before .before .before .before .before .before .before .args in
-    let k = c .before .before .before .before .before .before .before .before .make-book in
-    settles-lent (makeBookAnswer (a .catalogue .now) (a .«record» .now) (length (a .out .now))) (a .out .now) (a .work .now) (k .last .1 .1 .1 .0) (c .before .before .before .before .before .before .before .before .before .before .before .if1 .left)
-    (k .ensures) (k .kept .1 .1 .1 .0) (c .before .before .clear .ensures)
+    let args = c .before .before .before .before .before .before .before .before .before .before .before .before .before .before .before .before .args in
+    let if1 = c .before .before .before .before .before .before .before .before .before .before .before .if1 in
+    let make-book = c .before .before .before .before .before .before .before .before .make-book in
+    let clear = c .before .before .clear in
+    let a = args in
+    let k = make-book in
+    settles-lent (makeBookOutcome (a .catalogue .now) (a .«record» .now) (length (a .out .now))) (a .out .now) (a .work .now) (k .last .1 .1 .1 .0) (if1 .left)
+    (k .ensures) (k .kept .1 .1 .1 .0) (clear .ensures)
 
 pub make-book-spec : {M : Type 1} → statement M
 make-book-spec =

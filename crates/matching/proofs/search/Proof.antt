@@ -1,15 +1,16 @@
 -- `matching::search` meets its contract.
 use lib.ListN.{length}
 use Rattle.packed.proofs.CallLaws.{settles-small, settles-lent}
-use Rattle.matching.specs.Search.{searchAnswer}
+use Rattle.matching.specs.Search.{searchOutcome}
 use borrow.Author.Needs.{needs}
 use Rattle.matching.proofs.search.Statement.{statement}
 use Rattle.matching.proofs.search.Tie as tie
 
 returns : tie.Need-returns
 returns c =
-    let a = c .before .before .before .before .before .args in
-    settles-small (searchAnswer (a .pattern .now) (a .«record» .now) (length (a .out .now))) (a .out .now) (a .work .now) (c .if1 .taken)
+    let args = c .before .before .before .before .before .args in
+    let a = args in
+    settles-small (searchOutcome (a .pattern .now) (a .«record» .now) (length (a .out .now))) (a .out .now) (a .work .now) (c .if1 .taken)
 
 sub-search : tie.Need-sub-search
 sub-search c = search needs
@@ -34,10 +35,14 @@ same-length-2 c = search needs
 
 returns-2 : tie.Need-returns-2
 returns-2 c =
-    let a = c .before .before .before .before .before .before .before .before .before .before .before .before .before .before .before .before .args in
-    let k = c .before .before .before .before .before .before .before .before .search in
-    settles-lent (searchAnswer (a .pattern .now) (a .«record» .now) (length (a .out .now))) (a .out .now) (a .work .now) (k .last .1 .1 .1 .0) (c .before .before .before .before .before .before .before .before .before .before .before .if1 .left)
-    (k .ensures) (k .kept .1 .1 .1 .0) (c .before .before .clear .ensures)
+    let args = c .before .before .before .before .before .before .before .before .before .before .before .before .before .before .before .before .args in
+    let if1 = c .before .before .before .before .before .before .before .before .before .before .before .if1 in
+    let at-search = c .before .before .before .before .before .before .before .before .search in
+    let clear = c .before .before .clear in
+    let a = args in
+    let k = at-search in
+    settles-lent (searchOutcome (a .pattern .now) (a .«record» .now) (length (a .out .now))) (a .out .now) (a .work .now) (k .last .1 .1 .1 .0) (if1 .left)
+    (k .ensures) (k .kept .1 .1 .1 .0) (clear .ensures)
 
 pub search-spec : {M : Type 1} → statement M
 search-spec =

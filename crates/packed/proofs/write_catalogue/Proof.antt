@@ -8,7 +8,8 @@ use Rattle.packed.proofs.write_catalogue.Tie as tie
 
 returns : tie.Need-returns
 returns c =
-    let a = c .before .before .before .before .args in
+    let args = c .before .before .before .before .args in
+    let a = args in
     settles-small (catalogueWritten (a .fields .now) (length (a .out .now))) (a .out .now) (a .work .now) (c .if1 .taken)
 
 write-catalogue-requires : tie.Need-write-catalogue-requires
@@ -25,8 +26,12 @@ same-length-2 c = search needs
 
 returns-2 : tie.Need-returns-2
 returns-2 c =
-    let a = c .before .before .before .before .before .before .before .before .before .before .before .before .args in
-    settles (catalogueWritten (a .fields .now) (length (a .out .now))) (a .out .now) (a .work .now) (c .before .before .before .before .before .before .before .before .if1 .left) (c .before .before .before .before .before .before .write-catalogue .ensures) (c .before .before .clear .ensures)
+    let args = c .before .before .before .before .before .before .before .before .before .before .before .before .args in
+    let if1 = c .before .before .before .before .before .before .before .before .if1 in
+    let write-catalogue = c .before .before .before .before .before .before .write-catalogue in
+    let clear = c .before .before .clear in
+    let a = args in
+    settles (catalogueWritten (a .fields .now) (length (a .out .now))) (a .out .now) (a .work .now) (if1 .left) (write-catalogue .ensures) (clear .ensures)
 
 pub write-catalogue-spec : {M : Type 1} → statement M
 write-catalogue-spec =

@@ -8,7 +8,8 @@ use Rattle.packed.proofs.write_pattern.Tie as tie
 
 returns : tie.Need-returns
 returns c =
-    let a = c .before .before .before .before .args in
+    let args = c .before .before .before .before .args in
+    let a = args in
     settles-small (patternWritten (a .fields .now) (length (a .out .now))) (a .out .now) (a .work .now) (c .if1 .taken)
 
 write-pattern-requires : tie.Need-write-pattern-requires
@@ -25,8 +26,12 @@ same-length-2 c = search needs
 
 returns-2 : tie.Need-returns-2
 returns-2 c =
-    let a = c .before .before .before .before .before .before .before .before .before .before .before .before .args in
-    settles (patternWritten (a .fields .now) (length (a .out .now))) (a .out .now) (a .work .now) (c .before .before .before .before .before .before .before .before .if1 .left) (c .before .before .before .before .before .before .write-pattern .ensures) (c .before .before .clear .ensures)
+    let args = c .before .before .before .before .before .before .before .before .before .before .before .before .args in
+    let if1 = c .before .before .before .before .before .before .before .before .if1 in
+    let write-pattern = c .before .before .before .before .before .before .write-pattern in
+    let clear = c .before .before .clear in
+    let a = args in
+    settles (patternWritten (a .fields .now) (length (a .out .now))) (a .out .now) (a .work .now) (if1 .left) (write-pattern .ensures) (clear .ensures)
 
 pub write-pattern-spec : {M : Type 1} → statement M
 write-pattern-spec =

@@ -17,7 +17,9 @@ same-length-2 : tie.Need-same-length-2
 same-length-2 c = search needs
 
 returns : tie.Need-returns
-returns c = settled-as (c .reply .ensures) (c .before .before .before .before .before .answer .ensures)
+returns c =
+    let answer = c .before .before .before .before .before .answer in
+    settled-as (c .reply .ensures) (answer .ensures)
 
 pub yuthaqim-answer-spec : {M : Type 1} → statement M
 yuthaqim-answer-spec = tie.close (tie.spec answer-requires reply-requires same-length same-length-2 returns)

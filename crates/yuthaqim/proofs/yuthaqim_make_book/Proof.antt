@@ -17,7 +17,9 @@ same-length-2 : tie.Need-same-length-2
 same-length-2 c = search needs
 
 returns : tie.Need-returns
-returns c = settled-as (c .reply .ensures) (c .before .before .before .before .before .make-book .ensures)
+returns c =
+    let make-book = c .before .before .before .before .before .make-book in
+    settled-as (c .reply .ensures) (make-book .ensures)
 
 pub yuthaqim-make-book-spec : {M : Type 1} → statement M
 yuthaqim-make-book-spec = tie.close (tie.spec make-book-requires reply-requires same-length same-length-2 returns)

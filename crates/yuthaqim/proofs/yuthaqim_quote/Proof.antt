@@ -14,7 +14,9 @@ same-length : tie.Need-same-length
 same-length c = search needs
 
 returns : tie.Need-returns
-returns c = (settled-as (c .quote2 .ensures .0) (c .before .before .before .quote .ensures), c .quote2 .ensures .1)
+returns c =
+    let quote = c .before .before .before .quote in
+    (settled-as (c .quote2 .ensures .0) (quote .ensures), c .quote2 .ensures .1)
 
 pub yuthaqim-quote-spec : {M : Type 1} → statement M
 yuthaqim-quote-spec = tie.close (tie.spec quote-requires quote-requires-2 same-length returns)

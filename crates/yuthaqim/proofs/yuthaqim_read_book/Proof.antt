@@ -17,7 +17,9 @@ same-length-2 : tie.Need-same-length-2
 same-length-2 c = search needs
 
 returns : tie.Need-returns
-returns c = settled-as (c .reply .ensures) (c .before .before .before .before .before .read-book .ensures)
+returns c =
+    let read-book = c .before .before .before .before .before .read-book in
+    settled-as (c .reply .ensures) (read-book .ensures)
 
 pub yuthaqim-read-book-spec : {M : Type 1} → statement M
 yuthaqim-read-book-spec = tie.close (tie.spec read-book-requires reply-requires same-length same-length-2 returns)

@@ -17,7 +17,9 @@ same-length-2 : tie.Need-same-length-2
 same-length-2 c = search needs
 
 returns : tie.Need-returns
-returns c = settled-as (c .reply .ensures) (c .before .before .before .before .before .read-catalogue .ensures)
+returns c =
+    let read-catalogue = c .before .before .before .before .before .read-catalogue in
+    settled-as (c .reply .ensures) (read-catalogue .ensures)
 
 pub yuthaqim-read-catalogue-spec : {M : Type 1} → statement M
 yuthaqim-read-catalogue-spec = tie.close (tie.spec read-catalogue-requires reply-requires same-length same-length-2 returns)

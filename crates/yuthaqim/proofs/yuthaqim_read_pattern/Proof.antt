@@ -17,7 +17,9 @@ same-length-2 : tie.Need-same-length-2
 same-length-2 c = search needs
 
 returns : tie.Need-returns
-returns c = settled-as (c .reply .ensures) (c .before .before .before .before .before .read-pattern .ensures)
+returns c =
+    let read-pattern = c .before .before .before .before .before .read-pattern in
+    settled-as (c .reply .ensures) (read-pattern .ensures)
 
 pub yuthaqim-read-pattern-spec : {M : Type 1} → statement M
 yuthaqim-read-pattern-spec = tie.close (tie.spec read-pattern-requires reply-requires same-length same-length-2 returns)

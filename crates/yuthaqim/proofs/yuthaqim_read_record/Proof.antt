@@ -17,7 +17,9 @@ same-length-2 : tie.Need-same-length-2
 same-length-2 c = search needs
 
 returns : tie.Need-returns
-returns c = settled-as (c .reply .ensures) (c .before .before .before .before .before .read-record .ensures)
+returns c =
+    let read-record = c .before .before .before .before .before .read-record in
+    settled-as (c .reply .ensures) (read-record .ensures)
 
 pub yuthaqim-read-record-spec : {M : Type 1} → statement M
 yuthaqim-read-record-spec = tie.close (tie.spec read-record-requires reply-requires same-length same-length-2 returns)

@@ -17,7 +17,9 @@ same-length-2 : tie.Need-same-length-2
 same-length-2 c = search needs
 
 returns : tie.Need-returns
-returns c = settled-as (c .reply .ensures) (c .before .before .before .before .before .read-sheet .ensures)
+returns c =
+    let read-sheet = c .before .before .before .before .before .read-sheet in
+    settled-as (c .reply .ensures) (read-sheet .ensures)
 
 pub yuthaqim-read-sheet-spec : {M : Type 1} → statement M
 yuthaqim-read-sheet-spec = tie.close (tie.spec read-sheet-requires reply-requires same-length same-length-2 returns)

@@ -17,7 +17,9 @@ same-length-2 : tie.Need-same-length-2
 same-length-2 c = search needs
 
 returns : tie.Need-returns
-returns c = settled-as (c .reply .ensures) (c .before .before .before .before .before .search .ensures)
+returns c =
+    let search = c .before .before .before .before .before .search in
+    settled-as (c .reply .ensures) (search .ensures)
 
 pub yuthaqim-search-spec : {M : Type 1} → statement M
 yuthaqim-search-spec = tie.close (tie.spec search-requires reply-requires same-length same-length-2 returns)

@@ -20,7 +20,9 @@ same-length-3 : tie.Need-same-length-3
 same-length-3 c = search needs
 
 returns : tie.Need-returns
-returns c = (settled-as (c .shown .ensures .0) (c .before .before .before .before .before .before .before .show-uncovered .ensures), c .shown .ensures .1)
+returns c =
+    let show-uncovered = c .before .before .before .before .before .before .before .show-uncovered in
+    (settled-as (c .shown .ensures .0) (show-uncovered .ensures), c .shown .ensures .1)
 
 pub yuthaqim-show-uncovered-spec : {M : Type 1} → statement M
 yuthaqim-show-uncovered-spec = tie.close (tie.spec show-uncovered-requires shown-requires same-length same-length-2 same-length-3 returns)

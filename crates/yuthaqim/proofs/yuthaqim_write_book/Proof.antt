@@ -17,7 +17,9 @@ same-length-2 : tie.Need-same-length-2
 same-length-2 c = search needs
 
 returns : tie.Need-returns
-returns c = settled-as (c .reply .ensures) (c .before .before .before .before .before .write-book .ensures)
+returns c =
+    let write-book = c .before .before .before .before .before .write-book in
+    settled-as (c .reply .ensures) (write-book .ensures)
 
 pub yuthaqim-write-book-spec : {M : Type 1} → statement M
 yuthaqim-write-book-spec = tie.close (tie.spec write-book-requires reply-requires same-length same-length-2 returns)

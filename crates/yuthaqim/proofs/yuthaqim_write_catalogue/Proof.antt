@@ -17,7 +17,9 @@ same-length-2 : tie.Need-same-length-2
 same-length-2 c = search needs
 
 returns : tie.Need-returns
-returns c = settled-as (c .reply .ensures) (c .before .before .before .before .before .write-catalogue .ensures)
+returns c =
+    let write-catalogue = c .before .before .before .before .before .write-catalogue in
+    settled-as (c .reply .ensures) (write-catalogue .ensures)
 
 pub yuthaqim-write-catalogue-spec : {M : Type 1} → statement M
 yuthaqim-write-catalogue-spec = tie.close (tie.spec write-catalogue-requires reply-requires same-length same-length-2 returns)

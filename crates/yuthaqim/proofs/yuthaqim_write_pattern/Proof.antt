@@ -17,7 +17,9 @@ same-length-2 : tie.Need-same-length-2
 same-length-2 c = search needs
 
 returns : tie.Need-returns
-returns c = settled-as (c .reply .ensures) (c .before .before .before .before .before .write-pattern .ensures)
+returns c =
+    let write-pattern = c .before .before .before .before .before .write-pattern in
+    settled-as (c .reply .ensures) (write-pattern .ensures)
 
 pub yuthaqim-write-pattern-spec : {M : Type 1} → statement M
 yuthaqim-write-pattern-spec = tie.close (tie.spec write-pattern-requires reply-requires same-length same-length-2 returns)

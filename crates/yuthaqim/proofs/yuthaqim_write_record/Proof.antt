@@ -17,7 +17,9 @@ same-length-2 : tie.Need-same-length-2
 same-length-2 c = search needs
 
 returns : tie.Need-returns
-returns c = settled-as (c .reply .ensures) (c .before .before .before .before .before .write-record .ensures)
+returns c =
+    let write-record = c .before .before .before .before .before .write-record in
+    settled-as (c .reply .ensures) (write-record .ensures)
 
 pub yuthaqim-write-record-spec : {M : Type 1} → statement M
 yuthaqim-write-record-spec = tie.close (tie.spec write-record-requires reply-requires same-length same-length-2 returns)

@@ -17,7 +17,9 @@ same-length-2 : tie.Need-same-length-2
 same-length-2 c = search needs
 
 returns : tie.Need-returns
-returns c = settled-as (c .reply .ensures) (c .before .before .before .before .before .write-sheet .ensures)
+returns c =
+    let write-sheet = c .before .before .before .before .before .write-sheet in
+    settled-as (c .reply .ensures) (write-sheet .ensures)
 
 pub yuthaqim-write-sheet-spec : {M : Type 1} → statement M
 yuthaqim-write-sheet-spec = tie.close (tie.spec write-sheet-requires reply-requires same-length same-length-2 returns)

@@ -2,7 +2,7 @@
 use mathlib.Core.Path.{refl, _∙_}
 use lib.ListN.{length}
 use Rattle.packed.proofs.CallLaws.{body-refused, body-goes-on}
-use Rattle.containment.specs.Answer.{answerBy, answerAnswer}
+use Rattle.containment.specs.Answer.{answerBy, answerOutcome}
 use Rattle.containment.proofs.AnswerLaws.{query-by}
 use Rattle.containment.proofs.AnsweringLaws.{answerOn}
 use borrow.Author.Needs.{needs}
@@ -22,16 +22,22 @@ same-length : tie.Need-same-length
 same-length c = search needs
 
 returns : tie.Need-returns
-unfolding answerAnswer answerBy
+unfolding answerOutcome answerBy
 returns c =
-    let a = c .before .before .before .before .before .before .before .before .before .before .before .args in
+    let args = c .before .before .before .before .before .before .before .before .before .before .before .args in
+    let accept-pattern = c .before .before .before .before .accept-pattern in
+    let a = args in
     let e = c .enum-told2 .given .1 in
-    rw e (body-refused (answerOn (a .catalogue .now) (a .book .now) (length (a .out .now))) (a .out .now) refl (c .enum-told2 .given .0 .0) (rw e at (c .before .before .before .before .accept-pattern .ensures)))
+    rw e (body-refused (answerOn (a .catalogue .now) (a .book .now) (length (a .out .now))) (a .out .now) refl (c .enum-told2 .given .0 .0) (rw e at (accept-pattern .ensures)))
 
 answer-for-requires : tie.Need-answer-for-requires
 answer-for-requires c κs =
-    let q = rw (c .before .before .enum-told .given .1) at (c .before .before .before .before .before .before .accept-pattern .ensures) in
-    (query-by (c .before .before .before .before .before .before .before .before .before .before .before .before .before .args .question .now) q, c .before .before .before .before .before .before .accept-pattern .kept .1 .0 ∙ c .before .before .before .before .before .before .before .before .before .before .before .before .before .pre)
+    let args = c .before .before .before .before .before .before .before .before .before .before .before .before .before .args in
+    let pre = c .before .before .before .before .before .before .before .before .before .before .before .before .before .pre in
+    let accept-pattern = c .before .before .before .before .before .before .accept-pattern in
+    let enum-told = c .before .before .enum-told in
+    let q = rw (enum-told .given .1) at (accept-pattern .ensures) in
+    (query-by (args .question .now) q, accept-pattern .kept .1 .0 ∙ pre)
 
 same-length-2 : tie.Need-same-length-2
 same-length-2 c = search needs
@@ -40,11 +46,15 @@ same-length-3 : tie.Need-same-length-3
 same-length-3 c = search needs
 
 returns-2 : tie.Need-returns-2
-unfolding answerAnswer answerBy
+unfolding answerOutcome answerBy
 returns-2 c =
-    let a = c .before .before .before .before .before .before .before .before .before .before .before .before .before .before .before .before .before .before .args in
-    let q = rw (c .before .before .before .before .before .before .before .enum-told .given .1) at (c .before .before .before .before .before .before .before .before .before .before .before .accept-pattern .ensures) in
-    body-goes-on (answerOn (a .catalogue .now) (a .book .now) (length (a .out .now))) (q .is) (c .before .before .before .before .answer-for .ensures (query-by (a .question .now) q))
+    let args = c .before .before .before .before .before .before .before .before .before .before .before .before .before .before .before .before .before .before .args in
+    let accept-pattern = c .before .before .before .before .before .before .before .before .before .before .before .accept-pattern in
+    let enum-told = c .before .before .before .before .before .before .before .enum-told in
+    let answer-for = c .before .before .before .before .answer-for in
+    let a = args in
+    let q = rw (enum-told .given .1) at (accept-pattern .ensures) in
+    body-goes-on (answerOn (a .catalogue .now) (a .book .now) (length (a .out .now))) (q .is) (answer-for .ensures (query-by (a .question .now) q))
 
 pub answer-spec : {M : Type 1} → statement M
 answer-spec =

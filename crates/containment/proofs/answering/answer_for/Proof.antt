@@ -4,7 +4,7 @@ use native.Mathlib.Omega.{arith}
 use lib.ListN.{length}
 use Rattle.packed.proofs.CallLaws.{body-refused, body-goes-on}
 use Rattle.containment.proofs.AnswerLaws.{views-read, views-by, counts-by, query-few}
-use Rattle.containment.proofs.AnsweringLaws.{bookOn, used-is}
+use Rattle.containment.proofs.AnsweringLaws.{bookMade, used-is}
 use borrow.Author.Needs.{needs}
 use Rattle.containment.proofs.answering.answer_for.Statement.{statement}
 use Rattle.containment.proofs.answering.answer_for.Tie as tie
@@ -23,15 +23,21 @@ same-length c = search needs
 
 returns : tie.Need-returns
 returns c =
-    let a = c .before .before .before .before .before .before .before .before .before .before .before .args in
+    let args = c .before .before .before .before .before .before .before .before .before .before .before .args in
+    let accept-catalogue = c .before .before .before .before .before .accept-catalogue in
+    let a = args in
     let e = c .enum-told2 .given .1 in
-    λ t. rw e (body-refused (bookOn (t .content) (a .book .now) (length (a .out .now))) (a .out .now) refl (c .enum-told2 .given .0 .0) (rw e at (c .before .before .before .before .before .accept-catalogue .ensures)))
+    λ t. rw e (body-refused (bookMade (t .content) (a .book .now) (length (a .out .now))) (a .out .now) refl (c .enum-told2 .given .0 .0) (rw e at (accept-catalogue .ensures)))
 
 map-views-requires : tie.Need-map-views-requires
 map-views-requires c κs =
-    let a = c .before .before .before .before .before .before .before .before .before .before .before .before .args in
-    let q = rw (c .before .enum-told .given .1) at (c .before .before .before .before .before .before .accept-catalogue .ensures) in
-    (c .before .before .before .before .before .before .before .before .before .before .before .before .pre .0, views-by (a .catalogue .now) q, omega (arith, views-read (a .catalogue .now) q .1), c .before .before .before .before .before .before .accept-catalogue .kept .1 .0 ∙ c .before .before .before .before .before .before .before .before .before .before .before .before .pre .1)
+    let args = c .before .before .before .before .before .before .before .before .before .before .before .before .args in
+    let pre = c .before .before .before .before .before .before .before .before .before .before .before .before .pre in
+    let accept-catalogue = c .before .before .before .before .before .before .accept-catalogue in
+    let enum-told = c .before .enum-told in
+    let a = args in
+    let q = rw (enum-told .given .1) at (accept-catalogue .ensures) in
+    (pre .0, views-by (a .catalogue .now) q, omega (arith, views-read (a .catalogue .now) q .1), accept-catalogue .kept .1 .0 ∙ pre .1)
 
 use-views-requires : tie.Need-use-views-requires
 use-views-requires c κs =
@@ -41,9 +47,14 @@ use-views-requires c κs =
 
 answer-book-requires : tie.Need-answer-book-requires
 answer-book-requires c κs =
-    let a = c .before .before .before .before .before .before .before .before .before .before .before .before .before .before .before .before .before .before .before .before .args in
-    let q = rw (c .before .before .before .before .before .before .before .before .before .enum-told .given .1) at (c .before .before .before .before .before .before .before .before .before .before .before .before .before .before .accept-catalogue .ensures) in
-    (c .before .before .before .before .before .before .before .before .before .before .before .before .before .before .before .before .before .before .before .before .pre .0, counts-by (a .catalogue .now) q, c .before .before .before .before .before .before .before .map-views .kept .1 .1 .1 .0 ∙ c .before .before .before .before .before .before .before .before .before .before .before .before .before .before .accept-catalogue .kept .1 .0 ∙ c .before .before .before .before .before .before .before .before .before .before .before .before .before .before .before .before .before .before .before .before .pre .1)
+    let args = c .before .before .before .before .before .before .before .before .before .before .before .before .before .before .before .before .before .before .before .before .args in
+    let pre = c .before .before .before .before .before .before .before .before .before .before .before .before .before .before .before .before .before .before .before .before .pre in
+    let accept-catalogue = c .before .before .before .before .before .before .before .before .before .before .before .before .before .before .accept-catalogue in
+    let enum-told = c .before .before .before .before .before .before .before .before .before .enum-told in
+    let map-views = c .before .before .before .before .before .before .before .map-views in
+    let a = args in
+    let q = rw (enum-told .given .1) at (accept-catalogue .ensures) in
+    (pre .0, counts-by (a .catalogue .now) q, map-views .kept .1 .1 .1 .0 ∙ accept-catalogue .kept .1 .0 ∙ pre .1)
 
 same-length-2 : tie.Need-same-length-2
 same-length-2 c = search needs
@@ -53,11 +64,17 @@ same-length-3 c = search needs
 
 returns-2 : tie.Need-returns-2
 returns-2 c =
-    let a = c .before .before .before .before .before .before .before .before .before .before .before .before .before .before .before .before .before .before .before .before .before .before .before .before .before .args in
-    let q = rw (c .before .before .before .before .before .before .before .before .before .before .before .before .before .before .enum-told .given .1) at (c .before .before .before .before .before .before .before .before .before .before .before .before .before .before .before .before .before .before .before .accept-catalogue .ensures) in
+    let args = c .before .before .before .before .before .before .before .before .before .before .before .before .before .before .before .before .before .before .before .before .before .before .before .before .before .args in
+    let accept-catalogue = c .before .before .before .before .before .before .before .before .before .before .before .before .before .before .before .before .before .before .before .accept-catalogue in
+    let enum-told = c .before .before .before .before .before .before .before .before .before .before .before .before .before .before .enum-told in
+    let map-views = c .before .before .before .before .before .before .before .before .before .before .before .before .map-views in
+    let use-views = c .before .before .before .before .before .before .before .before .use-views in
+    let answer-book = c .before .before .before .before .answer-book in
+    let a = args in
+    let q = rw (enum-told .given .1) at (accept-catalogue .ensures) in
     let v = counts-by (a .catalogue .now) q in
-    λ t. body-goes-on (bookOn (t .content) (a .book .now) (length (a .out .now))) (q .is)
-    (rw (used-is t {c = a .catalogue .now} (v .views) (c .before .before .before .before .before .before .before .before .before .before .before .before .map-views .ensures t (v .views)) (c .before .before .before .before .before .before .before .before .use-views .ensures)) at (c .before .before .before .before .answer-book .ensures t v (c .before .before .before .before .before .before .before .before .before .before .before .before .map-views .ensures t (v .views))))
+    λ t. body-goes-on (bookMade (t .content) (a .book .now) (length (a .out .now))) (q .is)
+    (rw (used-is t {c = a .catalogue .now} (v .views) (map-views .ensures t (v .views)) (use-views .ensures)) at (answer-book .ensures t v (map-views .ensures t (v .views))))
 
 pub answer-for-spec : {M : Type 1} → statement M
 answer-for-spec =

@@ -24,12 +24,19 @@ same-length c = search needs
 
 returns : tie.Need-returns
 returns c =
-    let a = c .before .before .before .before .before .before .before .before .before .before .before .args in
-    let j = c .before .before .before .before .before .before .join .ensures in
-    λ vs g. fitted-tight fitFile-fits (a .out .now) (sheetBytes (answerSets (patternIn (a .q)) vs)) refl refl (c .before .sheet-size .ensures ∙ answer-size j (c .before .before .before .before .before .before .before .before .before .before .before .pre .1 .pool) vs g) (c .if1 .taken)
+    let args = c .before .before .before .before .before .before .before .before .before .before .before .args in
+    let pre = c .before .before .before .before .before .before .before .before .before .before .before .pre in
+    let join = c .before .before .before .before .before .before .join in
+    let sheet-size = c .before .sheet-size in
+    let a = args in
+    let j = join .ensures in
+    λ vs g. fitted-tight fitFile-fits (a .out .now) (sheetBytes (answerSets (patternIn (a .q)) vs)) refl refl (sheet-size .ensures ∙ answer-size j (pre .1 .pool) vs g) (c .if1 .taken)
 
 write-sheet-requires : tie.Need-write-sheet-requires
-write-sheet-requires c κs = (joined-marked (c .before .before .before .before .before .before .before .before .join .ensures) (c .before .before .before .before .before .before .before .before .before .before .before .before .before .pre .1 .pool), c .before .before .before .before .before .before .before .before .before .before .before .before .before .pre .0 .edges)
+write-sheet-requires c κs =
+    let pre = c .before .before .before .before .before .before .before .before .before .before .before .before .before .pre in
+    let join = c .before .before .before .before .before .before .before .before .join in
+    (joined-marked (join .ensures) (pre .1 .pool), pre .0 .edges)
 
 same-length-2 : tie.Need-same-length-2
 same-length-2 c = search needs
@@ -39,11 +46,17 @@ same-length-3 c = search needs
 
 returns-2 : tie.Need-returns-2
 returns-2 c =
-    let a = c .before .before .before .before .before .before .before .before .before .before .before .before .before .before .before .before .args in
-    let j = c .before .before .before .before .before .before .before .before .before .before .before .join .ensures in
-    let x = c .before .before .write-sheet .ensures in
-    λ vs g. fitted-given fitFile-fits (a .out .now) (sheetBytes (answerSets (patternIn (a .q)) vs)) refl refl (c .before .before .before .before .before .before .sheet-size .ensures ∙ answer-size j (c .before .before .before .before .before .before .before .before .before .before .before .before .before .before .before .before .pre .1 .pool) vs g) (c .before .before .before .before .before .if1 .left)
-    (x .front ∙ ap (sets (a .out .now) 0) (answer-bytes j (c .before .before .before .before .before .before .before .before .before .before .before .before .before .before .before .before .pre .1 .pool) vs g x))
+    let args = c .before .before .before .before .before .before .before .before .before .before .before .before .before .before .before .before .args in
+    let pre = c .before .before .before .before .before .before .before .before .before .before .before .before .before .before .before .before .pre in
+    let join = c .before .before .before .before .before .before .before .before .before .before .before .join in
+    let sheet-size = c .before .before .before .before .before .before .sheet-size in
+    let if1 = c .before .before .before .before .before .if1 in
+    let write-sheet = c .before .before .write-sheet in
+    let a = args in
+    let j = join .ensures in
+    let x = write-sheet .ensures in
+    λ vs g. fitted-given fitFile-fits (a .out .now) (sheetBytes (answerSets (patternIn (a .q)) vs)) refl refl (sheet-size .ensures ∙ answer-size j (pre .1 .pool) vs g) (if1 .left)
+    (x .front ∙ ap (sets (a .out .now) 0) (answer-bytes j (pre .1 .pool) vs g x))
 
 pub answer-from-spec : {M : Type 1} → statement M
 answer-from-spec =

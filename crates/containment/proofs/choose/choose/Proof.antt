@@ -16,7 +16,10 @@ drop-views-requires c κs = search needs
 
 returns : tie.Need-returns
 returns c =
-    chosen-by _ _ _ _ _ _ (sym (c .before .before .before .is-cover .ensures) ∙ c .before .before .if1 .taken) (c .before .take-views .ensures) (c .drop-views .ensures)
+    let is-cover = c .before .before .before .is-cover in
+    let if1 = c .before .before .if1 in
+    let take-views = c .before .take-views in
+    chosen-by _ _ _ _ _ _ (sym (is-cover .ensures) ∙ if1 .taken) (take-views .ensures) (c .drop-views .ensures)
 
 returns-2 : tie.Need-returns-2
 returns-2 c = sym (chosen-none _ _ _ _ (sym (c .before .is-cover .ensures) ∙ c .if1 .left))

@@ -28,8 +28,11 @@ only-requires c κs = search needs
 
 sub-less : tie.Need-sub-less Inv-loop μ-loop
 sub-less c =
-    let s = c .before .before .before .before .loop .set in
-    omega (arith, bit-le s _ (sym (c .before .before .is-in .ensures) ∙ c .before .if1 .taken))
+    let loop = c .before .before .before .before .loop in
+    let is-in = c .before .before .is-in in
+    let if1 = c .before .if1 in
+    let s = loop .set in
+    omega (arith, bit-le s _ (sym (is-in .ensures) ∙ if1 .taken))
 
 is-cover-requires : tie.Need-is-cover-requires Inv-loop μ-loop
 is-cover-requires c κs = search needs

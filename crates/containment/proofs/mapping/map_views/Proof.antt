@@ -23,7 +23,10 @@ part-load-record-start : tie.Need-part-load-record-start
 part-load-record-start c = search needs
 
 part-load-record-end : tie.Need-part-load-record-end
-part-load-record-end c = omega (arith, graphed-size (c .before .before .before .before .before .before .before .before .before .before .pre .0) (c .before .before .before .before .write-graph .ensures (c .before .before .before .before .before .before .before .before .before .before .pre .0)))
+part-load-record-end c =
+    let pre = c .before .before .before .before .before .before .before .before .before .before .pre in
+    let write-graph = c .before .before .before .before .write-graph in
+    omega (arith, graphed-size (pre .0) (write-graph .ensures (pre .0)))
 
 load-record-requires : tie.Need-load-record-requires
 load-record-requires c κs = search needs
@@ -38,7 +41,10 @@ part-note-views-start : tie.Need-part-note-views-start
 part-note-views-start c = search needs
 
 part-note-views-end : tie.Need-part-note-views-end
-part-note-views-end c = omega (arith, graphed-size (c .before .before .before .before .before .before .before .before .before .before .before .before .before .before .before .before .before .before .before .pre .0) (c .before .before .before .before .before .before .before .before .before .before .before .before .before .write-graph .ensures (c .before .before .before .before .before .before .before .before .before .before .before .before .before .before .before .before .before .before .before .pre .0)))
+part-note-views-end c =
+    let pre = c .before .before .before .before .before .before .before .before .before .before .before .before .before .before .before .before .before .before .before .pre in
+    let write-graph = c .before .before .before .before .before .before .before .before .before .before .before .before .before .write-graph in
+    omega (arith, graphed-size (pre .0) (write-graph .ensures (pre .0)))
 
 note-views-requires : tie.Need-note-views-requires
 note-views-requires c κs =
@@ -69,8 +75,12 @@ same-length-2 c = search needs
 
 returns-2 : tie.Need-returns-2
 returns-2 c =
-    let q = rw (c .before .enum-told .given .1) at (c .before .before .before .before .before .load-record .ensures) in
-    λ t v. graphed-taken t (c .before .before .before .before .before .before .before .before .before .before .before .before .write-graph .ensures t) (ap length (c .before .before .before .before .before .before .before .before .before .before .before .before .before .before .before .no-bytes .ensures)) q
+    let no-bytes = c .before .before .before .before .before .before .before .before .before .before .before .before .before .before .before .no-bytes in
+    let write-graph = c .before .before .before .before .before .before .before .before .before .before .before .before .write-graph in
+    let load-record = c .before .before .before .before .before .load-record in
+    let enum-told = c .before .enum-told in
+    let q = rw (enum-told .given .1) at (load-record .ensures) in
+    λ t v. graphed-taken t (write-graph .ensures t) (ap length (no-bytes .ensures)) q
 
 pub map-views-spec : {M : Type 1} → statement M
 map-views-spec =

@@ -58,7 +58,9 @@ mul-table-2 : tie.Need-mul-table-2 Inv-loop μ-loop
 mul-table-2 c = search needs
 
 element-write-table : tie.Need-element-write-table Inv-loop μ-loop
-element-write-table c = omega (arith, c .before .before .before .before .before .before .before .pre .0 .edges)
+element-write-table c =
+    let pre = c .before .before .before .before .before .before .before .pre in
+    omega (arith, pre .0 .edges)
 
 add-e : tie.Need-add-e Inv-loop μ-loop
 add-e c = search needs

@@ -10,7 +10,7 @@ use Rattle.containment.specs.Steps.{Within}
 use Rattle.containment.proofs.QueryLaws.{fair}
 use Rattle.containment.proofs.NotingLaws.{Noted, noted-start, noted-end, noted-next, noted-long, noted-clear, noted-more, views-few, number-some, number-few, nodes-few, query-present}
 use borrow.Author.Needs.{needs}
-use Rattle.matching.specs.Starting.{Room}
+use Rattle.matching.specs.Starting.{NodeRoom}
 use lib.ListN.{length}
 use Rattle.matching.proofs.StartLaws.{room-blank}
 use Rattle.matching.proofs.RowLaws.{blank-long}
@@ -18,7 +18,7 @@ use Rattle.containment.proofs.mapping.note_views.Statement.{statement}
 use Rattle.containment.proofs.mapping.note_views.Tie as tie
 
 abbrev Inv-loop : tie.InvT-loop
-Inv-loop q s n m catalogue k work₀ mapping₀ leave₀ arrive₀ held₀ byte₀ a₀ work mapping leave arrive held byte a = (a ≤ k) × Edges work₀ work × Noted q catalogue k a byte mapping × Room n leave arrive held × (length leave ≡ 16) × (length arrive ≡ 16) × (length held ≡ 16)
+Inv-loop q s n m catalogue k work₀ mapping₀ leave₀ arrive₀ held₀ byte₀ a₀ work mapping leave arrive held byte a = (a ≤ k) × Edges work₀ work × Noted q catalogue k a byte mapping × NodeRoom n leave arrive held × (length leave ≡ 16) × (length arrive ≡ 16) × (length held ≡ 16)
 
 abbrev μ-loop : tie.MeasureT-loop
 μ-loop q s n m catalogue k work₀ mapping₀ leave₀ arrive₀ held₀ byte₀ a₀ work mapping leave arrive held byte a = k - a
@@ -44,13 +44,19 @@ view-at-requires c κs =
     record { small = c .before .before .before .before .before .before .before .before .before .pre .3; inside = omega arith; few = omega arith }
 
 slice-aggregate-match-edges : tie.Need-slice-aggregate-match-edges Inv-loop μ-loop
-slice-aggregate-match-edges c = sym (c .before .before .before .before .before .loop .inv .4)
+slice-aggregate-match-edges c =
+    let loop = c .before .before .before .before .before .loop in
+    sym (loop .inv .4)
 
 slice-aggregate-match-edges-2 : tie.Need-slice-aggregate-match-edges-2 Inv-loop μ-loop
-slice-aggregate-match-edges-2 c = sym (c .before .before .before .before .before .before .loop .inv .5)
+slice-aggregate-match-edges-2 c =
+    let loop = c .before .before .before .before .before .before .loop in
+    sym (loop .inv .5)
 
 slice-aggregate-match-edges-3 : tie.Need-slice-aggregate-match-edges-3 Inv-loop μ-loop
-slice-aggregate-match-edges-3 c = sym (c .before .before .before .before .before .before .before .loop .inv .6)
+slice-aggregate-match-edges-3 c =
+    let loop = c .before .before .before .before .before .before .before .loop in
+    sym (loop .inv .6)
 
 match-edges-requires : tie.Need-match-edges-requires Inv-loop μ-loop
 match-edges-requires c κs =
@@ -86,7 +92,10 @@ note-view-requires c κs =
     )
 
 add-a : tie.Need-add-a Inv-loop μ-loop
-add-a c = omega (arith, c .before .before .before .before .before .before .before .before .before .before .before .before .before .before .before .loop-test .taken, views-few (c .before .before .before .before .before .before .before .before .before .before .before .before .before .before .before .before .before .before .before .before .before .before .before .before .pre .1))
+add-a c =
+    let pre = c .before .before .before .before .before .before .before .before .before .before .before .before .before .before .before .before .before .before .before .before .before .before .before .before .pre in
+    let loop-test = c .before .before .before .before .before .before .before .before .before .before .before .before .before .before .before .loop-test in
+    omega (arith, loop-test .taken, views-few (pre .1))
 
 loop-less : tie.Need-loop-less Inv-loop μ-loop
 loop-less c = search needs

@@ -23,7 +23,10 @@ with-labels-requires c κs = search needs
 
 returns : tie.Need-returns
 unfolding labelFields
-returns c = c .with-labels .ensures _ (c .before .with-two .ensures [] (front-none (c .before .before .before .no-words .ensures)))
+returns c =
+    let no-words = c .before .before .before .no-words in
+    let with-two = c .before .with-two in
+    c .with-labels .ensures _ (with-two .ensures [] (front-none (no-words .ensures)))
 
 pub label-fields-spec : {M : Type 1} → statement M
 label-fields-spec =

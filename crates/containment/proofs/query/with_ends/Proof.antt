@@ -33,10 +33,16 @@ element-copy-out-with-two-2 : tie.Need-element-copy-out-with-two-2 Inv-loop μ-l
 element-copy-out-with-two-2 c = search needs
 
 with-two-requires : tie.Need-with-two-requires Inv-loop μ-loop
-with-two-requires c κs = omega (arith, c .before .before .before .before .loop .inv .1 .most, c .before .before .before .before .before .pre .nodes, c .before .before .before .before .before .pre .edges)
+with-two-requires c κs =
+    let pre = c .before .before .before .before .before .pre in
+    let loop = c .before .before .before .before .loop in
+    omega (arith, loop .inv .1 .most, pre .nodes, pre .edges)
 
 add-at-2 : tie.Need-add-at-2 Inv-loop μ-loop
-add-at-2 c = omega (arith, c .before .before .before .before .before .loop .inv .1 .most, c .before .before .before .before .before .before .pre .nodes, c .before .before .before .before .before .before .pre .edges)
+add-at-2 c =
+    let pre = c .before .before .before .before .before .before .pre in
+    let loop = c .before .before .before .before .before .loop in
+    omega (arith, loop .inv .1 .most, pre .nodes, pre .edges)
 
 add-e : tie.Need-add-e Inv-loop μ-loop
 add-e c = search needs

@@ -33,8 +33,11 @@ same-length-2 c = search needs
 
 returns : tie.Need-returns
 returns c =
-    let q = rw (c .before .r .given .1) at (c .before .before .before .before .before .before .before .judge-record-fields .ensures) in
-    λ t. graphed t _ (c .before .before .before .before .before .before .before .before .before .before .before .before .before .graph-fields .ensures) q
+    let graph-fields = c .before .before .before .before .before .before .before .before .before .before .before .before .before .graph-fields in
+    let judge-record-fields = c .before .before .before .before .before .before .before .judge-record-fields in
+    let r = c .before .r in
+    let q = rw (r .given .1) at (judge-record-fields .ensures) in
+    λ t. graphed t _ (graph-fields .ensures) q
 
 same-length-3 : tie.Need-same-length-3
 same-length-3 c = search needs
@@ -44,8 +47,10 @@ same-length-4 c = search needs
 
 returns-2 : tie.Need-returns-2
 returns-2 c =
-    let q = rw (c .enum-told .given .1) at (c .before .before .before .before .before .before .judge-record-fields .ensures) in
-    λ t. not-refused t _ (c .before .before .before .before .before .before .before .before .before .before .before .before .graph-fields .ensures) (q .0)
+    let graph-fields = c .before .before .before .before .before .before .before .before .before .before .before .before .graph-fields in
+    let judge-record-fields = c .before .before .before .before .before .before .judge-record-fields in
+    let q = rw (c .enum-told .given .1) at (judge-record-fields .ensures) in
+    λ t. not-refused t _ (graph-fields .ensures) (q .0)
 
 pub write-graph-spec : {M : Type 1} → statement M
 write-graph-spec =

@@ -25,33 +25,48 @@ same-length c = search needs
 
 returns : tie.Need-returns
 returns c =
-    let a = c .before .before .before .before .before .before .before .before .before .before .args in
-    λ t. answers-refused (λ cs. give (flat (quoteValues everyView (patternOf (t .content)) (viewPatterns cs))) []) [] (rw (c .before .before .verdict .given .1) at (c .before .before .before .before .before .before .accept-catalogue .ensures)) (c .refused .ensures)
+    let args = c .before .before .before .before .before .before .before .before .before .before .args in
+    let accept-catalogue = c .before .before .before .before .before .before .accept-catalogue in
+    let verdict = c .before .before .verdict in
+    let a = args in
+    λ t. answers-refused (λ cs. give (flat (quoteValues everyView (patternOf (t .content)) (viewPatterns cs))) []) [] (rw (verdict .given .1) at (accept-catalogue .ensures)) (c .refused .ensures)
 
 enum-told : tie.Need-enum-told
 enum-told c = search needs
 
 map-views-requires : tie.Need-map-views-requires
 map-views-requires c κs =
-    let a = c .before .before .before .before .before .before .before .before .before .args in
-    let q = rw (c .before .enum-told .given .1) at (c .before .before .before .before .before .accept-catalogue .ensures) in
-    (c .before .before .before .before .before .before .before .before .before .pre .0, views-by (a .catalogue .now) q, omega (arith, views-read (a .catalogue .now) q .1), c .before .before .before .before .before .accept-catalogue .kept .1 .0 ∙ c .before .before .before .before .before .before .before .before .before .pre .1)
+    let args = c .before .before .before .before .before .before .before .before .before .args in
+    let pre = c .before .before .before .before .before .before .before .before .before .pre in
+    let accept-catalogue = c .before .before .before .before .before .accept-catalogue in
+    let enum-told = c .before .enum-told in
+    let a = args in
+    let q = rw (enum-told .given .1) at (accept-catalogue .ensures) in
+    (pre .0, views-by (a .catalogue .now) q, omega (arith, views-read (a .catalogue .now) q .1), accept-catalogue .kept .1 .0 ∙ pre .1)
 
 quote-of-requires : tie.Need-quote-of-requires
 quote-of-requires c κs =
-    let a = c .before .before .before .before .before .before .before .before .before .before .before .before .args in
-    let q = rw (c .before .before .before .before .enum-told .given .1) at (c .before .before .before .before .before .before .before .before .accept-catalogue .ensures) in
-    (query-few (c .before .before .before .before .before .before .before .before .before .before .before .before .pre .0), q .holds .few)
+    let args = c .before .before .before .before .before .before .before .before .before .before .before .before .args in
+    let pre = c .before .before .before .before .before .before .before .before .before .before .before .before .pre in
+    let accept-catalogue = c .before .before .before .before .before .before .before .before .accept-catalogue in
+    let enum-told = c .before .before .before .before .enum-told in
+    let a = args in
+    let q = rw (enum-told .given .1) at (accept-catalogue .ensures) in
+    (query-few (pre .0), q .holds .few)
 
 same-length-2 : tie.Need-same-length-2
 same-length-2 c = search needs
 
 returns-2 : tie.Need-returns-2
 returns-2 c =
-    let a = c .before .before .before .before .before .before .before .before .before .before .before .before .before .args in
-    let q = rw (c .before .before .before .before .before .enum-told .given .1) at (c .before .before .before .before .before .before .before .before .before .accept-catalogue .ensures) in
+    let args = c .before .before .before .before .before .before .before .before .before .before .before .before .before .args in
+    let accept-catalogue = c .before .before .before .before .before .before .before .before .before .accept-catalogue in
+    let enum-told = c .before .before .before .before .before .enum-told in
+    let map-views = c .before .before .before .map-views in
+    let a = args in
+    let q = rw (enum-told .given .1) at (accept-catalogue .ensures) in
     let v = views-by (a .catalogue .now) q in
-    λ t. answers-on (λ cs. give (flat (quoteValues everyView (patternOf (t .content)) (viewPatterns cs))) []) (q .is) (quote-given v t (c .before .before .before .map-views .ensures t v) everyView (c .quote-of .ensures))
+    λ t. answers-on (λ cs. give (flat (quoteValues everyView (patternOf (t .content)) (viewPatterns cs))) []) (q .is) (quote-given v t (map-views .ensures t v) everyView (c .quote-of .ensures))
 
 pub quote-for-spec : {M : Type 1} → statement M
 quote-for-spec =

@@ -18,7 +18,10 @@ choose-requires c κs = search needs
 
 returns : tie.Need-returns
 returns c =
-    covered-told (c .before .before .before .before .before .args .t1) (c .before .before .before .before .before .args .set) (c .before .before .before .before .before .args .m) (c .before .before .before .before .before .args .k) (c .choose .result) (sym (c .before .before .before .is-cover .ensures) ∙ c .before .before .if1 .taken) (c .choose .ensures)
+    let args = c .before .before .before .before .before .args in
+    let is-cover = c .before .before .before .is-cover in
+    let if1 = c .before .before .if1 in
+    covered-told (args .t1) (args .set) (args .m) (args .k) (c .choose .result) (sym (is-cover .ensures) ∙ if1 .taken) (c .choose .ensures)
 
 cast-t15 : tie.Need-cast-t15
 cast-t15 c = search needs
@@ -28,13 +31,20 @@ lowest-unmatched-requires c κs = search needs
 
 cast-t18 : tie.Need-cast-t18
 cast-t18 c =
-    let a = c .before .before .before .before .before .args in
-    let l = lowest-below (a .t1) (a .set) (a .k) (a .m) .1 (sym (c .before .before .before .is-cover .ensures) ∙ c .before .before .if1 .left) in
-    omega (arith, l, c .lowest-unmatched .ensures, c .before .before .before .before .before .pre .0)
+    let args = c .before .before .before .before .before .args in
+    let pre = c .before .before .before .before .before .pre in
+    let is-cover = c .before .before .before .is-cover in
+    let if1 = c .before .before .if1 in
+    let a = args in
+    let l = lowest-below (a .t1) (a .set) (a .k) (a .m) .1 (sym (is-cover .ensures) ∙ if1 .left) in
+    omega (arith, l, c .lowest-unmatched .ensures, pre .0)
 
 returns-2 : tie.Need-returns-2
 returns-2 c =
-    uncovered-told (c .before .before .before .before .before .args .t1) (c .before .before .before .before .before .args .set) (c .before .before .before .before .before .args .m) (c .before .before .before .before .before .args .k) (c .lowest-unmatched .result) (sym (c .before .before .before .is-cover .ensures) ∙ c .before .before .if1 .left) (c .lowest-unmatched .ensures)
+    let args = c .before .before .before .before .before .args in
+    let is-cover = c .before .before .before .is-cover in
+    let if1 = c .before .before .if1 in
+    uncovered-told (args .t1) (args .set) (args .m) (args .k) (c .lowest-unmatched .result) (sym (is-cover .ensures) ∙ if1 .left) (c .lowest-unmatched .ensures)
 
 pub quote-of-spec : {M : Type 1} → statement M
 quote-of-spec =

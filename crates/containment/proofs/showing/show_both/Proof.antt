@@ -26,9 +26,11 @@ same-length-2 c = search needs
 
 returns : tie.Need-returns
 returns c =
-    let a = c .before .before .before .before .before .before .before .before .before .before .before .args in
-    let s = (none-lent (a .first .now) (c .before .before .before .before .before .write-graph .last .1 .1 .0) (c .before .before .before .before .before .write-graph .kept .1 .1 .0)) in
-    λ t. first-tight (a .first .now) (a .second .now) _ _ (c .before .before .before .before .before .write-graph .ensures t .number) (rw s at (c .if1 .taken)) s refl
+    let args = c .before .before .before .before .before .before .before .before .before .before .before .args in
+    let write-graph = c .before .before .before .before .before .write-graph in
+    let a = args in
+    let s = (none-lent (a .first .now) (write-graph .last .1 .1 .0) (write-graph .kept .1 .1 .0)) in
+    λ t. first-tight (a .first .now) (a .second .now) _ _ (write-graph .ensures t .number) (rw s at (c .if1 .taken)) s refl
 
 sub-write-graph-2 : tie.Need-sub-write-graph-2
 sub-write-graph-2 c = search needs
@@ -53,10 +55,14 @@ same-length-5 c = search needs
 
 returns-2 : tie.Need-returns-2
 returns-2 c =
-    let a = c .before .before .before .before .before .before .before .before .before .before .before .before .before .before .before .before .before .before .before .args in
-    let s = (none-lent (a .first .now) (c .before .before .before .before .before .before .before .before .before .before .before .before .before .write-graph .last .1 .1 .0) (c .before .before .before .before .before .before .before .before .before .before .before .before .before .write-graph .kept .1 .1 .0)) in
-    let s′ = (none-lent (a .second .now) (c .before .before .before .before .before .write-graph2 .last .1 .1 .0) (c .before .before .before .before .before .write-graph2 .kept .1 .1 .0)) in
-    λ t. second-tight (a .first .now) (a .second .now) _ _ (c .before .before .before .before .before .before .before .before .before .before .before .before .before .write-graph .ensures t .number) (c .before .before .before .before .before .write-graph2 .ensures t .number) (rw s at (c .before .before .before .before .before .before .before .before .if1 .left)) (rw s′ at (c .if2 .taken)) s s′
+    let args = c .before .before .before .before .before .before .before .before .before .before .before .before .before .before .before .before .before .before .before .args in
+    let write-graph = c .before .before .before .before .before .before .before .before .before .before .before .before .before .write-graph in
+    let if1 = c .before .before .before .before .before .before .before .before .if1 in
+    let write-graph2 = c .before .before .before .before .before .write-graph2 in
+    let a = args in
+    let s = (none-lent (a .first .now) (write-graph .last .1 .1 .0) (write-graph .kept .1 .1 .0)) in
+    let s′ = (none-lent (a .second .now) (write-graph2 .last .1 .1 .0) (write-graph2 .kept .1 .1 .0)) in
+    λ t. second-tight (a .first .now) (a .second .now) _ _ (write-graph .ensures t .number) (write-graph2 .ensures t .number) (rw s at (if1 .left)) (rw s′ at (c .if2 .taken)) s s′
 
 write-graph-requires-3 : tie.Need-write-graph-requires-3
 write-graph-requires-3 c κs = search needs
@@ -75,11 +81,18 @@ same-length-8 c = search needs
 
 returns-3 : tie.Need-returns-3
 returns-3 c =
-    let a = c .before .before .before .before .before .before .before .before .before .before .before .before .before .before .before .before .before .before .before .before .before .before .before .before .before .before .before .before .before .before .before .before .before .args in
-    let s = (none-lent (a .first .now) (c .before .before .before .before .before .before .before .before .before .before .before .before .before .before .before .before .before .before .before .before .before .before .before .before .before .before .before .write-graph .last .1 .1 .0) (c .before .before .before .before .before .before .before .before .before .before .before .before .before .before .before .before .before .before .before .before .before .before .before .before .before .before .before .write-graph .kept .1 .1 .0)) in
-    let s′ = (none-lent (a .second .now) (c .before .before .before .before .before .before .before .before .before .before .before .before .before .before .before .before .before .before .before .write-graph2 .last .1 .1 .0) (c .before .before .before .before .before .before .before .before .before .before .before .before .before .before .before .before .before .before .before .write-graph2 .kept .1 .1 .0)) in
-    λ t. both-given (a .first .now) (a .second .now) _ _ (c .before .before .before .before .before .before .before .before .before .before .before .before .before .before .before .before .before .before .before .before .before .before .before .before .before .before .before .write-graph .ensures t .number) (c .before .before .before .before .before .before .before .before .before .before .before .before .before .before .before .before .before .before .before .write-graph2 .ensures t .number) (rw s at (c .before .before .before .before .before .before .before .before .before .before .before .before .before .before .before .before .before .before .before .before .before .before .if1 .left)) (rw s′ at (c .before .before .before .before .before .before .before .before .before .before .before .before .before .before .if2 .left))
-    (rw s at (c .before .before .before .before .before .before .before .before .before .before .before .write-graph3 .ensures t .front)) (rw s′ at (c .before .before .before .before .write-graph4 .ensures t .front))
+    let args = c .before .before .before .before .before .before .before .before .before .before .before .before .before .before .before .before .before .before .before .before .before .before .before .before .before .before .before .before .before .before .before .before .before .args in
+    let write-graph = c .before .before .before .before .before .before .before .before .before .before .before .before .before .before .before .before .before .before .before .before .before .before .before .before .before .before .before .write-graph in
+    let if1 = c .before .before .before .before .before .before .before .before .before .before .before .before .before .before .before .before .before .before .before .before .before .before .if1 in
+    let write-graph2 = c .before .before .before .before .before .before .before .before .before .before .before .before .before .before .before .before .before .before .before .write-graph2 in
+    let if2 = c .before .before .before .before .before .before .before .before .before .before .before .before .before .before .if2 in
+    let write-graph3 = c .before .before .before .before .before .before .before .before .before .before .before .write-graph3 in
+    let write-graph4 = c .before .before .before .before .write-graph4 in
+    let a = args in
+    let s = (none-lent (a .first .now) (write-graph .last .1 .1 .0) (write-graph .kept .1 .1 .0)) in
+    let s′ = (none-lent (a .second .now) (write-graph2 .last .1 .1 .0) (write-graph2 .kept .1 .1 .0)) in
+    λ t. both-given (a .first .now) (a .second .now) _ _ (write-graph .ensures t .number) (write-graph2 .ensures t .number) (rw s at (if1 .left)) (rw s′ at (if2 .left))
+    (rw s at (write-graph3 .ensures t .front)) (rw s′ at (write-graph4 .ensures t .front))
 
 pub show-both-spec : {M : Type 1} → statement M
 show-both-spec =

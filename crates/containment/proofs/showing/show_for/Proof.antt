@@ -21,43 +21,67 @@ same-length c = search needs
 
 returns : tie.Need-returns
 returns c =
-    let a = c .before .before .before .before .before .before .before .before .before .before .before .args in
-    λ t. answers-refused (λ cs. showFor everyView (t .content) (viewPatterns cs) (length (a .first .now)) (length (a .second .now))) (a .first .now ∷ a .second .now ∷ []) (rw (c .before .verdict .given .1) at (c .before .before .before .before .before .accept-catalogue .ensures)) refl
+    let args = c .before .before .before .before .before .before .before .before .before .before .before .args in
+    let accept-catalogue = c .before .before .before .before .before .accept-catalogue in
+    let verdict = c .before .verdict in
+    let a = args in
+    λ t. answers-refused (λ cs. showFor everyView (t .content) (viewPatterns cs) (length (a .first .now)) (length (a .second .now))) (a .first .now ∷ a .second .now ∷ []) (rw (verdict .given .1) at (accept-catalogue .ensures)) refl
 
 enum-told : tie.Need-enum-told
 enum-told c = search needs
 
 map-views-requires : tie.Need-map-views-requires
 map-views-requires c κs =
-    let a = c .before .before .before .before .before .before .before .before .before .before .before .args in
-    let q = rw (c .before .enum-told .given .1) at (c .before .before .before .before .before .accept-catalogue .ensures) in
-    (c .before .before .before .before .before .before .before .before .before .before .before .pre .0, views-by (a .catalogue .now) q, omega (arith, views-read (a .catalogue .now) q .1), c .before .before .before .before .before .accept-catalogue .kept .1 .0 ∙ c .before .before .before .before .before .before .before .before .before .before .before .pre .1)
+    let args = c .before .before .before .before .before .before .before .before .before .before .before .args in
+    let pre = c .before .before .before .before .before .before .before .before .before .before .before .pre in
+    let accept-catalogue = c .before .before .before .before .before .accept-catalogue in
+    let enum-told = c .before .enum-told in
+    let a = args in
+    let q = rw (enum-told .given .1) at (accept-catalogue .ensures) in
+    (pre .0, views-by (a .catalogue .now) q, omega (arith, views-read (a .catalogue .now) q .1), accept-catalogue .kept .1 .0 ∙ pre .1)
 
 is-cover-requires : tie.Need-is-cover-requires
 is-cover-requires c κs =
-    let a = c .before .before .before .before .before .before .before .before .before .before .before .before .before .before .before .args in
-    let q = rw (c .before .before .before .before .before .enum-told .given .1) at (c .before .before .before .before .before .before .before .before .before .accept-catalogue .ensures) in
-    (query-few (c .before .before .before .before .before .before .before .before .before .before .before .before .before .before .before .pre .0), q .holds .few)
+    let args = c .before .before .before .before .before .before .before .before .before .before .before .before .before .before .before .args in
+    let pre = c .before .before .before .before .before .before .before .before .before .before .before .before .before .before .before .pre in
+    let accept-catalogue = c .before .before .before .before .before .before .before .before .before .accept-catalogue in
+    let enum-told = c .before .before .before .before .before .enum-told in
+    let a = args in
+    let q = rw (enum-told .given .1) at (accept-catalogue .ensures) in
+    (query-few (pre .0), q .holds .few)
 
 same-length-2 : tie.Need-same-length-2
 same-length-2 c = search needs
 
 returns-2 : tie.Need-returns-2
 returns-2 c =
-    let a = c .before .before .before .before .before .before .before .before .before .before .before .before .before .before .before .before .before .args in
-    let q = rw (c .before .before .before .before .before .before .before .enum-told .given .1) at (c .before .before .before .before .before .before .before .before .before .before .before .accept-catalogue .ensures) in
+    let args = c .before .before .before .before .before .before .before .before .before .before .before .before .before .before .before .before .before .args in
+    let accept-catalogue = c .before .before .before .before .before .before .before .before .before .before .before .accept-catalogue in
+    let enum-told = c .before .before .before .before .before .before .before .enum-told in
+    let map-views = c .before .before .before .before .before .map-views in
+    let is-cover = c .before .is-cover in
+    let a = args in
+    let q = rw (enum-told .given .1) at (accept-catalogue .ensures) in
     let v = views-by (a .catalogue .now) q in
     λ t. answers-on (λ cs. showFor everyView (t .content) (viewPatterns cs) (length (a .first .now)) (length (a .second .now))) (q .is)
-    (show-covered v t (c .before .before .before .before .before .map-views .ensures t v) everyView (length (a .first .now)) (length (a .second .now)) (a .first .now ∷ a .second .now ∷ []) (sym (c .before .is-cover .ensures) ∙ c .if1 .taken) refl)
+    (show-covered v t (map-views .ensures t v) everyView (length (a .first .now)) (length (a .second .now)) (a .first .now ∷ a .second .now ∷ []) (sym (is-cover .ensures) ∙ c .if1 .taken) refl)
 
 lowest-unmatched-requires : tie.Need-lowest-unmatched-requires
 lowest-unmatched-requires c κs =
-    let a = c .before .before .before .before .before .before .before .before .before .before .before .before .before .before .before .before .before .before .args in
-    let q = rw (c .before .before .before .before .before .before .before .before .enum-told .given .1) at (c .before .before .before .before .before .before .before .before .before .before .before .before .accept-catalogue .ensures) in
-    (query-few (c .before .before .before .before .before .before .before .before .before .before .before .before .before .before .before .before .before .before .pre .0), q .holds .few)
+    let args = c .before .before .before .before .before .before .before .before .before .before .before .before .before .before .before .before .before .before .args in
+    let pre = c .before .before .before .before .before .before .before .before .before .before .before .before .before .before .before .before .before .before .pre in
+    let accept-catalogue = c .before .before .before .before .before .before .before .before .before .before .before .before .accept-catalogue in
+    let enum-told = c .before .before .before .before .before .before .before .before .enum-told in
+    let a = args in
+    let q = rw (enum-told .given .1) at (accept-catalogue .ensures) in
+    (query-few (pre .0), q .holds .few)
 
 show-both-requires : tie.Need-show-both-requires
-show-both-requires c κs = (c .before .before .before .before .before .before .before .before .before .before .before .before .before .before .before .before .before .before .before .before .before .before .pre .0, c .before .before .before .before .before .before .before .before .before .before .map-views .kept .1 .1 .1 .0 ∙ c .before .before .before .before .before .before .before .before .before .before .before .before .before .before .before .before .accept-catalogue .kept .1 .0 ∙ c .before .before .before .before .before .before .before .before .before .before .before .before .before .before .before .before .before .before .before .before .before .before .pre .1)
+show-both-requires c κs =
+    let pre = c .before .before .before .before .before .before .before .before .before .before .before .before .before .before .before .before .before .before .before .before .before .before .pre in
+    let accept-catalogue = c .before .before .before .before .before .before .before .before .before .before .before .before .before .before .before .before .accept-catalogue in
+    let map-views = c .before .before .before .before .before .before .before .before .before .before .map-views in
+    (pre .0, map-views .kept .1 .1 .1 .0 ∙ accept-catalogue .kept .1 .0 ∙ pre .1)
 
 same-length-3 : tie.Need-same-length-3
 same-length-3 c = search needs
@@ -70,11 +94,19 @@ same-length-5 c = search needs
 
 returns-3 : tie.Need-returns-3
 returns-3 c =
-    let a = c .before .before .before .before .before .before .before .before .before .before .before .before .before .before .before .before .before .before .before .before .before .before .before .before .before .before .before .before .before .args in
-    let q = rw (c .before .before .before .before .before .before .before .before .before .before .before .before .before .before .before .before .before .before .before .enum-told .given .1) at (c .before .before .before .before .before .before .before .before .before .before .before .before .before .before .before .before .before .before .before .before .before .before .before .accept-catalogue .ensures) in
+    let args = c .before .before .before .before .before .before .before .before .before .before .before .before .before .before .before .before .before .before .before .before .before .before .before .before .before .before .before .before .before .args in
+    let accept-catalogue = c .before .before .before .before .before .before .before .before .before .before .before .before .before .before .before .before .before .before .before .before .before .before .before .accept-catalogue in
+    let enum-told = c .before .before .before .before .before .before .before .before .before .before .before .before .before .before .before .before .before .before .before .enum-told in
+    let map-views = c .before .before .before .before .before .before .before .before .before .before .before .before .before .before .before .before .before .map-views in
+    let is-cover = c .before .before .before .before .before .before .before .before .before .before .before .before .before .is-cover in
+    let if1 = c .before .before .before .before .before .before .before .before .before .before .before .before .if1 in
+    let lowest-unmatched = c .before .before .before .before .before .before .before .before .before .before .lowest-unmatched in
+    let show-both = c .before .before .before .before .before .before .show-both in
+    let a = args in
+    let q = rw (enum-told .given .1) at (accept-catalogue .ensures) in
     let v = views-by (a .catalogue .now) q in
     λ t. answers-on (λ cs. showFor everyView (t .content) (viewPatterns cs) (length (a .first .now)) (length (a .second .now))) (q .is)
-    (show-uncovered v t (c .before .before .before .before .before .before .before .before .before .before .before .before .before .before .before .before .before .map-views .ensures t v) everyView (length (a .first .now)) (length (a .second .now)) (c .before .before .before .before .before .before .before .before .before .before .lowest-unmatched .result) (sym (c .before .before .before .before .before .before .before .before .before .before .before .before .before .is-cover .ensures) ∙ c .before .before .before .before .before .before .before .before .before .before .before .before .if1 .left) (c .before .before .before .before .before .before .before .before .before .before .lowest-unmatched .ensures) (c .before .before .before .before .before .before .show-both .ensures t))
+    (show-uncovered v t (map-views .ensures t v) everyView (length (a .first .now)) (length (a .second .now)) (lowest-unmatched .result) (sym (is-cover .ensures) ∙ if1 .left) (lowest-unmatched .ensures) (show-both .ensures t))
 
 pub show-for-spec : {M : Type 1} → statement M
 show-for-spec =

@@ -24,8 +24,10 @@ same-length c = search needs
 returns : tie.Need-returns
 unfolding lineAnswer
 returns c =
-    let out = c .before .before .before .before .before .before .args .out .now in
-    let w = c .before .before .before .put-line in
+    let args = c .before .before .before .before .before .before .args in
+    let put-line = c .before .before .before .put-line in
+    let out = args .out .now in
+    let w = put-line in
     let s = none-lent out (w .last .0) (w .kept .0) in
     rw s (line-tight out _ (w .ensures .end) (rw s at (c .if1 .taken)))
 
@@ -38,10 +40,14 @@ same-length-2 c = search needs
 returns-2 : tie.Need-returns-2
 unfolding lineAnswer
 returns-2 c =
-    let out = c .before .before .before .before .before .before .before .before .before .before .args .out .now in
-    let w = c .before .before .before .before .before .before .before .put-line in
+    let args = c .before .before .before .before .before .before .before .before .before .before .args in
+    let put-line = c .before .before .before .before .before .before .before .put-line in
+    let if1 = c .before .before .before .before .if1 in
+    let put-line2 = c .before .before .put-line2 in
+    let out = args .out .now in
+    let w = put-line in
     let s = none-lent out (w .last .0) (w .kept .0) in
-    line-given out _ (w .ensures .end) (rw s at (c .before .before .before .before .if1 .left)) (rw s at (c .before .before .put-line2 .ensures .is))
+    line-given out _ (w .ensures .end) (rw s at (if1 .left)) (rw s at (put-line2 .ensures .is))
 
 pub line-spec : {M : Type 1} → statement M
 line-spec =

@@ -2,14 +2,14 @@
 use Prim.Native.Nat.{_+_, _-_, _≤_}
 use native.Mathlib.Omega.{arith}
 use lib.ListN.{length, take}
-use Rattle.listing.specs.Written.{Written}
+use Rattle.listing.specs.Written.{TextWritten}
 use Rattle.listing.proofs.WrittenLaws.{text-none, text-more, text-end, written-long}
 use borrow.Author.Needs.{needs}
 use Rattle.listing.proofs.lines.put.Statement.{statement}
 use Rattle.listing.proofs.lines.put.Tie as tie
 
 abbrev Inv-loop : tie.InvT-loop
-Inv-loop out₀ at text i₀ out i = (i ≤ length text) × (Written (take i text) out₀ at out (at + i))
+Inv-loop out₀ at text i₀ out i = (i ≤ length text) × (TextWritten (take i text) out₀ at out (at + i))
 
 abbrev μ-loop : tie.MeasureT-loop
 μ-loop out₀ at text i₀ out i = length text - i

@@ -2,7 +2,7 @@
 use Prim.Native.Nat.{_-_, _≤_}
 use native.Mathlib.Omega.{arith}
 use Rattle.containment.specs.Listing.{concat, viewText, chosenText}
-use Rattle.listing.specs.Written.{Written}
+use Rattle.listing.specs.Written.{TextWritten}
 use Rattle.containment.proofs.ListingLaws.{chosen-so-far}
 use Rattle.listing.proofs.WrittenLaws.{concat-none, concat-more, concat-end, written-long}
 use borrow.Author.Needs.{needs}
@@ -10,7 +10,7 @@ use Rattle.listing.proofs.lines.put_chosen.Statement.{statement}
 use Rattle.listing.proofs.lines.put_chosen.Tie as tie
 
 abbrev Inv-loop : tie.InvT-loop
-Inv-loop out₀ at set end₀ a₀ out end a = (a ≤ 16) × (Written (concat (viewText set) a) out₀ at out end)
+Inv-loop out₀ at set end₀ a₀ out end a = (a ≤ 16) × (TextWritten (concat (viewText set) a) out₀ at out end)
 
 abbrev μ-loop : tie.MeasureT-loop
 μ-loop out₀ at set end₀ a₀ out end a = 16 - a

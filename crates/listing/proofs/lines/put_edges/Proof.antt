@@ -2,7 +2,7 @@
 use Prim.Native.Nat.{_-_, _≤_}
 use native.Mathlib.Omega.{arith}
 use Rattle.containment.specs.Listing.{concat, edgeText, edgesText}
-use Rattle.listing.specs.Written.{Written}
+use Rattle.listing.specs.Written.{TextWritten}
 use Rattle.containment.proofs.ListingLaws.{edges-so-far}
 use Rattle.listing.proofs.WrittenLaws.{concat-none, concat-more, concat-end, written-long}
 use borrow.Author.Needs.{needs}
@@ -10,7 +10,7 @@ use Rattle.listing.proofs.lines.put_edges.Statement.{statement}
 use Rattle.listing.proofs.lines.put_edges.Tie as tie
 
 abbrev Inv-loop : tie.InvT-loop
-Inv-loop out₀ at a mask end₀ b₀ out end b = (b ≤ 32) × (Written (concat (edgeText a mask) b) out₀ at out end)
+Inv-loop out₀ at a mask end₀ b₀ out end b = (b ≤ 32) × (TextWritten (concat (edgeText a mask) b) out₀ at out end)
 
 abbrev μ-loop : tie.MeasureT-loop
 μ-loop out₀ at a mask end₀ b₀ out end b = 32 - b

@@ -20,13 +20,19 @@ same-length : tie.Need-same-length
 same-length c = search needs
 
 returns : tie.Need-returns
-returns c = rw (eq-eqb _ _ (c .before .before .before .before .before .if1 .taken)) (c .before .before .put .ensures)
+returns c =
+    let if1 = c .before .before .before .before .before .if1 in
+    let put = c .before .before .put in
+    rw (eq-eqb _ _ (if1 .taken)) (put .ensures)
 
 same-length-2 : tie.Need-same-length-2
 same-length-2 c = search needs
 
 returns-2 : tie.Need-returns-2
-returns-2 c = rw (ne-eqb _ _ (c .before .before .before .before .before .if1 .left)) (c .before .before .put2 .ensures)
+returns-2 c =
+    let if1 = c .before .before .before .before .before .if1 in
+    let put2 = c .before .before .put2 in
+    rw (ne-eqb _ _ (if1 .left)) (put2 .ensures)
 
 pub put-end-spec : {M : Type 1} → statement M
 put-end-spec =

@@ -19,7 +19,10 @@ same-length c = search needs
 
 returns : tie.Need-returns
 unfolding chosenLine
-returns c = rw (eq-eqb _ _ (c .before .before .before .before .before .if1 .taken)) (c .before .before .put .ensures)
+returns c =
+    let if1 = c .before .before .before .before .before .if1 in
+    let put = c .before .before .put in
+    rw (eq-eqb _ _ (if1 .taken)) (put .ensures)
 
 slice-aggregate-put-2 : tie.Need-slice-aggregate-put-2
 slice-aggregate-put-2 c = search needs
@@ -34,7 +37,11 @@ slice-aggregate-put-3 : tie.Need-slice-aggregate-put-3
 slice-aggregate-put-3 c = search needs
 
 put-requires-3 : tie.Need-put-requires-3
-put-requires-3 c κs = omega (arith, c .before .before .before .before .before .before .before .before .put2 .ensures .end, c .before .before .before .before .put-chosen .ensures .end, chosen-length (c .before .before .before .before .before .before .before .before .before .before .before .before .before .args .set))
+put-requires-3 c κs =
+    let args = c .before .before .before .before .before .before .before .before .before .before .before .before .before .args in
+    let put2 = c .before .before .before .before .before .before .before .before .put2 in
+    let put-chosen = c .before .before .before .before .put-chosen in
+    omega (arith, put2 .ensures .end, put-chosen .ensures .end, chosen-length (args .set))
 
 same-length-2 : tie.Need-same-length-2
 same-length-2 c = search needs
@@ -42,8 +49,12 @@ same-length-2 c = search needs
 returns-2 : tie.Need-returns-2
 unfolding chosenLine
 returns-2 c =
-    rw (ne-eqb _ _ (c .before .before .before .before .before .before .before .before .before .before .before .before .before .before .if1 .left))
-    (written-then (c .before .before .before .before .before .before .before .before .before .before .before .put2 .ensures) (written-then (c .before .before .before .before .before .before .before .put-chosen .ensures) (c .before .before .put3 .ensures)))
+    let if1 = c .before .before .before .before .before .before .before .before .before .before .before .before .before .before .if1 in
+    let put2 = c .before .before .before .before .before .before .before .before .before .before .before .put2 in
+    let put-chosen = c .before .before .before .before .before .before .before .put-chosen in
+    let put3 = c .before .before .put3 in
+    rw (ne-eqb _ _ (if1 .left))
+    (written-then (put2 .ensures) (written-then (put-chosen .ensures) (put3 .ensures)))
 
 pub put-extracts-spec : {M : Type 1} → statement M
 put-extracts-spec =

@@ -31,19 +31,28 @@ same-length : tie.Need-same-length
 same-length c = search needs
 
 returns : tie.Need-returns
-returns c = rw (c .before .before .before .before .before .enum-told .given .1) (c .before .before .put .ensures)
+returns c =
+    let enum-told = c .before .before .before .before .before .enum-told in
+    let put = c .before .before .put in
+    rw (enum-told .given .1) (put .ensures)
 
 same-length-2 : tie.Need-same-length-2
 same-length-2 c = search needs
 
 returns-2 : tie.Need-returns-2
-returns-2 c = rw (c .before .before .before .before .before .enum-told2 .given .1) (c .before .before .put2 .ensures)
+returns-2 c =
+    let enum-told2 = c .before .before .before .before .before .enum-told2 in
+    let put2 = c .before .before .put2 in
+    rw (enum-told2 .given .1) (put2 .ensures)
 
 same-length-3 : tie.Need-same-length-3
 same-length-3 c = search needs
 
 returns-3 : tie.Need-returns-3
-returns-3 c = rw (c .before .before .before .before .before .coverage .given .1) (c .before .before .put-refused .ensures)
+returns-3 c =
+    let coverage = c .before .before .before .before .before .coverage in
+    let put-refused = c .before .before .put-refused in
+    rw (coverage .given .1) (put-refused .ensures)
 
 pub put-first-spec : {M : Type 1} → statement M
 put-first-spec =

@@ -5,13 +5,13 @@ use lib.ListN.{length}
 use native.Mathlib.Omega.{arith}
 use Rattle.containment.specs.Listing.{decimal}
 use Rattle.containment.proofs.ListingLaws.{decimal-length}
-use Rattle.listing.proofs.WrittenLaws.{Numbered, number-start, number-within, number-more, number-end, written-long}
+use Rattle.listing.proofs.WrittenLaws.{NumberWritten, number-start, number-within, number-more, number-end, written-long}
 use borrow.Author.Needs.{needs}
 use Rattle.listing.proofs.lines.put_number.Statement.{statement}
 use Rattle.listing.proofs.lines.put_number.Tie as tie
 
 abbrev Inv-loop : tie.InvT-loop
-Inv-loop out₀ at n end i₀ m₀ out i m = (Numbered n m out₀ at out i) × (end ≡ at + length (decimal n))
+Inv-loop out₀ at n end i₀ m₀ out i m = (NumberWritten n m out₀ at out i) × (end ≡ at + length (decimal n))
 
 abbrev μ-loop : tie.MeasureT-loop
 μ-loop out₀ at n end i₀ m₀ out i m = m

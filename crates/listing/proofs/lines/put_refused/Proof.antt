@@ -23,19 +23,35 @@ slice-aggregate-put-2 : tie.Need-slice-aggregate-put-2
 slice-aggregate-put-2 c = search needs
 
 put-requires-2 : tie.Need-put-requires-2
-put-requires-2 c κs = omega (arith, c .before .before .before .before .before .before .before .before .before .put .ensures .end, c .before .before .before .before .put-number .ensures .end, decimal-length (c .before .before .before .before .before .number-of .result))
+put-requires-2 c κs =
+    let put = c .before .before .before .before .before .before .before .before .before .put in
+    let number-of = c .before .before .before .before .before .number-of in
+    let put-number = c .before .before .before .before .put-number in
+    omega (arith, put .ensures .end, put-number .ensures .end, decimal-length (number-of .result))
 
 detail-of-requires : tie.Need-detail-of-requires
 detail-of-requires c κs = search needs
 
 put-number-requires-2 : tie.Need-put-number-requires-2
-put-number-requires-2 c κs = omega (arith, c .before .before .before .before .before .before .before .before .before .before .before .before .before .before .put .ensures .end, c .before .before .before .before .before .before .before .before .before .put-number .ensures .end, c .before .before .before .before .put2 .ensures .end, decimal-length (c .before .before .before .before .before .before .before .before .before .before .number-of .result))
+put-number-requires-2 c κs =
+    let put = c .before .before .before .before .before .before .before .before .before .before .before .before .before .before .put in
+    let number-of = c .before .before .before .before .before .before .before .before .before .before .number-of in
+    let put-number = c .before .before .before .before .before .before .before .before .before .put-number in
+    let put2 = c .before .before .before .before .put2 in
+    omega (arith, put .ensures .end, put-number .ensures .end, put2 .ensures .end, decimal-length (number-of .result))
 
 slice-aggregate-put-3 : tie.Need-slice-aggregate-put-3
 slice-aggregate-put-3 c = search needs
 
 put-requires-3 : tie.Need-put-requires-3
-put-requires-3 c κs = omega (arith, c .before .before .before .before .before .before .before .before .before .before .before .before .before .before .before .before .before .before .before .put .ensures .end, c .before .before .before .before .before .before .before .before .before .before .before .before .before .before .put-number .ensures .end, c .before .before .before .before .before .before .before .before .before .put2 .ensures .end, c .before .before .before .before .put-number2 .ensures .end, decimal-length (c .before .before .before .before .before .before .before .before .before .before .before .before .before .before .before .number-of .result), decimal-length (c .before .before .before .before .before .detail-of .result))
+put-requires-3 c κs =
+    let put = c .before .before .before .before .before .before .before .before .before .before .before .before .before .before .before .before .before .before .before .put in
+    let number-of = c .before .before .before .before .before .before .before .before .before .before .before .before .before .before .before .number-of in
+    let put-number = c .before .before .before .before .before .before .before .before .before .before .before .before .before .before .put-number in
+    let put2 = c .before .before .before .before .before .before .before .before .before .put2 in
+    let detail-of = c .before .before .before .before .before .detail-of in
+    let put-number2 = c .before .before .before .before .put-number2 in
+    omega (arith, put .ensures .end, put-number .ensures .end, put2 .ensures .end, put-number2 .ensures .end, decimal-length (number-of .result), decimal-length (detail-of .result))
 
 same-length : tie.Need-same-length
 same-length c = search needs
@@ -43,11 +59,18 @@ same-length c = search needs
 returns : tie.Need-returns
 unfolding refusedLine
 returns c =
-    rw (← c .before .before .before .before .before .before .before .before .before .before .before .before .before .before .before .before .before .before .number-of .ensures, ← c .before .before .before .before .before .before .before .before .detail-of .ensures)
-    (written-then (c .before .before .before .before .before .before .before .before .before .before .before .before .before .before .before .before .before .before .before .before .before .before .put .ensures)
-    (written-then (c .before .before .before .before .before .before .before .before .before .before .before .before .before .before .before .before .before .put-number .ensures)
-    (written-then (c .before .before .before .before .before .before .before .before .before .before .before .before .put2 .ensures)
-    (written-then (c .before .before .before .before .before .before .before .put-number2 .ensures) (c .before .before .put3 .ensures)))))
+    let put = c .before .before .before .before .before .before .before .before .before .before .before .before .before .before .before .before .before .before .before .before .before .before .put in
+    let number-of = c .before .before .before .before .before .before .before .before .before .before .before .before .before .before .before .before .before .before .number-of in
+    let put-number = c .before .before .before .before .before .before .before .before .before .before .before .before .before .before .before .before .before .put-number in
+    let put2 = c .before .before .before .before .before .before .before .before .before .before .before .before .put2 in
+    let detail-of = c .before .before .before .before .before .before .before .before .detail-of in
+    let put-number2 = c .before .before .before .before .before .before .before .put-number2 in
+    let put3 = c .before .before .put3 in
+    rw (← number-of .ensures, ← detail-of .ensures)
+    (written-then (put .ensures)
+    (written-then (put-number .ensures)
+    (written-then (put2 .ensures)
+    (written-then (put-number2 .ensures) (put3 .ensures)))))
 
 pub put-refused-spec : {M : Type 1} → statement M
 put-refused-spec =

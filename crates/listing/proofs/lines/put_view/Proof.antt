@@ -21,14 +21,21 @@ put-requires : tie.Need-put-requires
 put-requires c κs = search needs
 
 put-number-requires : tie.Need-put-number-requires
-put-number-requires c κs = omega (arith, c .before .before .before .put .ensures .end)
+put-number-requires c κs =
+    let put = c .before .before .before .put in
+    omega (arith, put .ensures .end)
 
 same-length : tie.Need-same-length
 same-length c = search needs
 
 returns-2 : tie.Need-returns-2
 unfolding viewText
-returns-2 c = rw (← c .before .before .before .before .before .before .before .before .before .before .has .ensures, not-false (c .before .before .before .before .before .before .before .before .before .before .has .result) (c .before .before .before .before .before .before .before .before .before .if1 .left)) (written-then (c .before .before .before .before .before .before .put .ensures) (c .before .before .put-number .ensures))
+returns-2 c =
+    let has = c .before .before .before .before .before .before .before .before .before .before .has in
+    let if1 = c .before .before .before .before .before .before .before .before .before .if1 in
+    let put = c .before .before .before .before .before .before .put in
+    let put-number = c .before .before .put-number in
+    rw (← has .ensures, not-false (has .result) (if1 .left)) (written-then (put .ensures) (put-number .ensures))
 
 pub put-view-spec : {M : Type 1} → statement M
 put-view-spec =

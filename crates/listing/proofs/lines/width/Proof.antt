@@ -1,13 +1,13 @@
 -- `listing::width` meets its contract.
 use native.Mathlib.Omega.{arith}
 use Rattle.containment.proofs.ListingLaws.{decimal-length}
-use Rattle.listing.proofs.WrittenLaws.{Counted, count-more, count-end}
+use Rattle.listing.proofs.WrittenLaws.{DigitsCounted, count-more, count-end}
 use borrow.Author.Needs.{needs}
 use Rattle.listing.proofs.lines.width.Statement.{statement}
 use Rattle.listing.proofs.lines.width.Tie as tie
 
 abbrev Inv-loop : tie.InvT-loop
-Inv-loop n m₀ w₀ m w = Counted n m w
+Inv-loop n m₀ w₀ m w = DigitsCounted n m w
 
 abbrev μ-loop : tie.MeasureT-loop
 μ-loop n m₀ w₀ m w = m

@@ -4,60 +4,89 @@ use Prim.Native.Nat.{_-_}
 use Rattle.matching.proofs.BookLaws.{Keeping, turned-stands, turned-most, turn-fair, turn-ready, keeping-start, keeping-room, keeping-next, keeping-end}
 use mathlib.Core.Path.{_≡_, refl, _∙_}
 use lib.ListN.{length}
-use Rattle.matching.specs.Starting.{Room}
+use Rattle.matching.specs.Starting.{NodeRoom}
 use Rattle.matching.proofs.calls.book_size.Statement.{statement}
 use Rattle.matching.proofs.calls.book_size.Tie as tie
 
 abbrev Inv-loop : tie.InvT-loop
 Inv-loop catalogue k «record» n m sizes₀ work₀ leave₀ arrive₀ held₀ size₀ byte₀ a₀ sizes work leave arrive held size byte a =
-    Keeping catalogue «record» n m work₀ k size byte a sizes work × Room n leave arrive held × (length leave ≡ length leave₀) × (length arrive ≡ length arrive₀) × (length held ≡ length held₀)
+    Keeping catalogue «record» n m work₀ k size byte a sizes work × NodeRoom n leave arrive held × (length leave ≡ length leave₀) × (length arrive ≡ length arrive₀) × (length held ≡ length held₀)
 
 abbrev μ-loop : tie.MeasureT-loop
 μ-loop catalogue k «record» n m sizes₀ work₀ leave₀ arrive₀ held₀ size₀ byte₀ a₀ sizes work leave arrive held size byte a = k - a
 
 loop-holds : tie.Need-loop-holds Inv-loop μ-loop
-loop-holds c = (keeping-start (c .before .before .before .before .before .before .pre .0) (c .before .before .before .before .before .before .pre .1), c .before .before .before .before .before .before .pre .2, refl, refl, refl)
+loop-holds c =
+    let pre = c .before .before .before .before .before .before .pre in
+    (keeping-start (pre .0) (pre .1), pre .2, refl, refl, refl)
 
 view-at-requires : tie.Need-view-at-requires Inv-loop μ-loop
 view-at-requires c κs = turned-stands (c .before .loop .inv .0 .sizing .turn)
 
 match-edges-requires : tie.Need-match-edges-requires Inv-loop μ-loop
 match-edges-requires c κs =
-    let t = turn-ready (c .before .before .before .before .before .before .before .loop .inv .0 .sizing .turn) (omega (arith, c .before .before .before .before .before .before .loop-test)) (c .before .before .before .before .before .view-at .result) (c .before .before .before .before .before .view-at .ensures) in
-    (t .0, t .1, t .2, t .3, c .before .before .before .before .before .before .before .loop .inv .1)
+    let loop = c .before .before .before .before .before .before .before .loop in
+    let loop-test = c .before .before .before .before .before .before .loop-test in
+    let view-at = c .before .before .before .before .before .view-at in
+    let t = turn-ready (loop .inv .0 .sizing .turn) (omega (arith, loop-test)) (view-at .result) (view-at .ensures) in
+    (t .0, t .1, t .2, t .3, loop .inv .1)
 
 cast-sheet-size : tie.Need-cast-sheet-size Inv-loop μ-loop
-cast-sheet-size c = omega (arith, turn-fair (c .before .before .before .before .before .before .before .before .before .before .before .before .before .before .before .before .before .before .loop .inv .0 .sizing .turn) (omega (arith, c .before .before .before .before .before .before .before .before .before .before .before .before .before .before .before .before .before .loop-test)) (c .before .before .before .before .before .before .before .before .before .before .before .before .before .before .before .before .view-at .result) (c .before .before .before .before .before .before .before .before .before .before .before .before .before .before .before .before .view-at .ensures) .edges)
+cast-sheet-size c =
+    let loop = c .before .before .before .before .before .before .before .before .before .before .before .before .before .before .before .before .before .before .loop in
+    let loop-test = c .before .before .before .before .before .before .before .before .before .before .before .before .before .before .before .before .before .loop-test in
+    let view-at = c .before .before .before .before .before .before .before .before .before .before .before .before .before .before .before .before .view-at in
+    omega (arith, turn-fair (loop .inv .0 .sizing .turn) (omega (arith, loop-test)) (view-at .result) (view-at .ensures) .edges)
 
 sheet-size-requires : tie.Need-sheet-size-requires Inv-loop μ-loop
 sheet-size-requires c κs =
-    let q = c .before .before .before .before .before .before .before .before .before .before .match-edges .ensures .0 in
-    (turn-fair (c .before .before .before .before .before .before .before .before .before .before .before .before .before .before .before .before .before .before .loop .inv .0 .sizing .turn) (omega (arith, c .before .before .before .before .before .before .before .before .before .before .before .before .before .before .before .before .before .loop-test)) (c .before .before .before .before .before .before .before .before .before .before .before .before .before .before .before .before .view-at .result) (c .before .before .before .before .before .before .before .before .before .before .before .before .before .before .before .before .view-at .ensures) .edges, q .marked .most, q .marked .long)
+    let loop = c .before .before .before .before .before .before .before .before .before .before .before .before .before .before .before .before .before .before .loop in
+    let loop-test = c .before .before .before .before .before .before .before .before .before .before .before .before .before .before .before .before .before .loop-test in
+    let view-at = c .before .before .before .before .before .before .before .before .before .before .before .before .before .before .before .before .view-at in
+    let match-edges = c .before .before .before .before .before .before .before .before .before .before .match-edges in
+    let q = match-edges .ensures .0 in
+    (turn-fair (loop .inv .0 .sizing .turn) (omega (arith, loop-test)) (view-at .result) (view-at .ensures) .edges, q .marked .most, q .marked .long)
 
 mul-sizes : tie.Need-mul-sizes Inv-loop μ-loop
 mul-sizes c =
-    let z = keeping-room (c .before .before .before .before .before .before .before .before .before .before .before .before .before .before .before .before .before .before .before .loop .inv .0) (omega (arith, c .before .before .before .before .before .before .before .before .before .before .before .before .before .before .before .before .before .before .loop-test)) in
-    omega (arith, c .before .before .before .before .before .before .before .before .before .before .before .before .before .before .before .before .before .before .before .loop .inv .0 .long)
+    let loop = c .before .before .before .before .before .before .before .before .before .before .before .before .before .before .before .before .before .before .before .loop in
+    let loop-test = c .before .before .before .before .before .before .before .before .before .before .before .before .before .before .before .before .before .before .loop-test in
+    let z = keeping-room (loop .inv .0) (omega (arith, loop-test)) in
+    omega (arith, loop .inv .0 .long)
 
 element-write-sizes : tie.Need-element-write-sizes Inv-loop μ-loop
 element-write-sizes c =
-    let z = keeping-room (c .before .before .before .before .before .before .before .before .before .before .before .before .before .before .before .before .before .before .before .loop .inv .0) (omega (arith, c .before .before .before .before .before .before .before .before .before .before .before .before .before .before .before .before .before .before .loop-test)) in
-    omega (arith, c .before .before .before .before .before .before .before .before .before .before .before .before .before .before .before .before .before .before .before .loop .inv .0 .long)
+    let loop = c .before .before .before .before .before .before .before .before .before .before .before .before .before .before .before .before .before .before .before .loop in
+    let loop-test = c .before .before .before .before .before .before .before .before .before .before .before .before .before .before .before .before .before .before .loop-test in
+    let z = keeping-room (loop .inv .0) (omega (arith, loop-test)) in
+    omega (arith, loop .inv .0 .long)
 
 add-size : tie.Need-add-size Inv-loop μ-loop
 add-size c =
-    let z = keeping-next (c .before .before .before .before .before .before .before .before .before .before .before .before .before .before .before .before .before .before .before .loop .inv .0) (omega (arith, c .before .before .before .before .before .before .before .before .before .before .before .before .before .before .before .before .before .before .loop-test)) (c .before .before .before .before .before .before .before .before .before .before .before .before .before .before .before .before .before .view-at .result) (c .before .before .before .before .before .before .before .before .before .before .before .before .before .before .before .before .before .view-at .ensures) (c .before .before .before .before .before .before .before .before .before .before .before .match-edges .ensures .0) (c .sheet-size .result) (c .sheet-size .ensures) in
+    let loop = c .before .before .before .before .before .before .before .before .before .before .before .before .before .before .before .before .before .before .before .loop in
+    let loop-test = c .before .before .before .before .before .before .before .before .before .before .before .before .before .before .before .before .before .before .loop-test in
+    let view-at = c .before .before .before .before .before .before .before .before .before .before .before .before .before .before .before .before .before .view-at in
+    let match-edges = c .before .before .before .before .before .before .before .before .before .before .before .match-edges in
+    let z = keeping-next (loop .inv .0) (omega (arith, loop-test)) (view-at .result) (view-at .ensures) (match-edges .ensures .0) (c .sheet-size .result) (c .sheet-size .ensures) in
     omega (arith, z .sizing .most, turned-most (z .sizing .turn), z .sizing .turn .few)
 
 add-a : tie.Need-add-a Inv-loop μ-loop
-add-a c = omega (arith, c .before .before .before .before .before .before .before .before .before .before .before .before .before .before .before .before .before .before .loop-test)
+add-a c =
+    let loop-test = c .before .before .before .before .before .before .before .before .before .before .before .before .before .before .before .before .before .before .loop-test in
+    omega (arith, loop-test)
 
 loop-less : tie.Need-loop-less Inv-loop μ-loop
-loop-less c = omega (arith, c .before .before .before .before .before .before .before .before .before .before .before .before .before .before .before .before .before .before .loop-test)
+loop-less c =
+    let loop-test = c .before .before .before .before .before .before .before .before .before .before .before .before .before .before .before .before .before .before .loop-test in
+    omega (arith, loop-test)
 
 loop-again : tie.Need-loop-again Inv-loop μ-loop
 loop-again c =
-    (keeping-next (c .before .before .before .before .before .before .before .before .before .before .before .before .before .before .before .before .before .before .before .loop .inv .0) (omega (arith, c .before .before .before .before .before .before .before .before .before .before .before .before .before .before .before .before .before .before .loop-test)) (c .before .before .before .before .before .before .before .before .before .before .before .before .before .before .before .before .before .view-at .result) (c .before .before .before .before .before .before .before .before .before .before .before .before .before .before .before .before .before .view-at .ensures) (c .before .before .before .before .before .before .before .before .before .before .before .match-edges .ensures .0) (c .sheet-size .result) (c .sheet-size .ensures), c .before .before .before .before .before .before .before .before .before .before .before .match-edges .ensures .1, c .before .before .before .before .before .before .before .before .before .before .before .match-edges .kept .1 .1 .1 .1 .1 .0 ∙ c .before .before .before .before .before .before .before .before .before .before .before .before .before .before .before .before .before .before .before .loop .inv .2, c .before .before .before .before .before .before .before .before .before .before .before .match-edges .kept .1 .1 .1 .1 .1 .1 .0 ∙ c .before .before .before .before .before .before .before .before .before .before .before .before .before .before .before .before .before .before .before .loop .inv .3, c .before .before .before .before .before .before .before .before .before .before .before .match-edges .kept .1 .1 .1 .1 .1 .1 .1 .0 ∙ c .before .before .before .before .before .before .before .before .before .before .before .before .before .before .before .before .before .before .before .loop .inv .4)
+    let loop = c .before .before .before .before .before .before .before .before .before .before .before .before .before .before .before .before .before .before .before .loop in
+    let loop-test = c .before .before .before .before .before .before .before .before .before .before .before .before .before .before .before .before .before .before .loop-test in
+    let view-at = c .before .before .before .before .before .before .before .before .before .before .before .before .before .before .before .before .before .view-at in
+    let match-edges = c .before .before .before .before .before .before .before .before .before .before .before .match-edges in
+    (keeping-next (loop .inv .0) (omega (arith, loop-test)) (view-at .result) (view-at .ensures) (match-edges .ensures .0) (c .sheet-size .result) (c .sheet-size .ensures), match-edges .ensures .1, match-edges .kept .1 .1 .1 .1 .1 .0 ∙ loop .inv .2, match-edges .kept .1 .1 .1 .1 .1 .1 .0 ∙ loop .inv .3, match-edges .kept .1 .1 .1 .1 .1 .1 .1 .0 ∙ loop .inv .4)
 
 same-length : tie.Need-same-length Inv-loop μ-loop
 same-length c = c .before .loop .inv .0 .sizing .turn .edges .long

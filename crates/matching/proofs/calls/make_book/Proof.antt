@@ -4,7 +4,7 @@ use native.Mathlib.Omega.{arith}
 use lib.ListN.{length}
 use Rattle.packed.specs.Formats.{catalogue}
 use Rattle.packed.proofs.CallLaws.{read-says, body-refused, body-goes-on}
-use Rattle.matching.specs.Search.{bookFor, makeBookAnswer}
+use Rattle.matching.specs.Search.{bookFor, makeBookOutcome}
 use borrow.Author.Needs.{needs}
 use Rattle.matching.proofs.calls.make_book.Statement.{statement}
 use Rattle.matching.proofs.calls.make_book.Tie as tie
@@ -22,17 +22,23 @@ same-length : tie.Need-same-length
 same-length c = search needs
 
 returns : tie.Need-returns
-unfolding makeBookAnswer
+unfolding makeBookOutcome
 returns c =
-    let a = c .before .before .before .before .before .before .before .before .before .before .args in
+    let args = c .before .before .before .before .before .before .before .before .before .before .args in
+    let accept-catalogue = c .before .before .before .before .accept-catalogue in
+    let a = args in
     let e = c .enum-told2 .given .1 in
-    rw e (body-refused (λ cs. bookFor cs (a .«record» .now) (length (a .out .now))) (a .out .now) refl (c .enum-told2 .given .0 .0) (rw e at (c .before .before .before .before .accept-catalogue .ensures)))
+    rw e (body-refused (λ cs. bookFor cs (a .«record» .now) (length (a .out .now))) (a .out .now) refl (c .enum-told2 .given .0 .0) (rw e at (accept-catalogue .ensures)))
 
 make-book-of-requires : tie.Need-make-book-of-requires
 make-book-of-requires c κs =
-    let q = rw (c .before .before .enum-told .given .1) at (c .before .before .before .before .before .before .accept-catalogue .ensures) in
-    let d = read-says 705 2 catalogue (c .before .before .before .before .before .before .before .before .before .before .before .before .args .catalogue .now) (q .fields) (q .is) in
-    (c .before .before .before .before .before .before .accept-catalogue .kept .1 .0 ∙ c .before .before .before .before .before .before .before .before .before .before .before .before .pre, record { small = omega (arith, d .1); fields = q .fields; is = d .0; number = q .holds .number })
+    let args = c .before .before .before .before .before .before .before .before .before .before .before .before .args in
+    let pre = c .before .before .before .before .before .before .before .before .before .before .before .before .pre in
+    let accept-catalogue = c .before .before .before .before .before .before .accept-catalogue in
+    let enum-told = c .before .before .enum-told in
+    let q = rw (enum-told .given .1) at (accept-catalogue .ensures) in
+    let d = read-says 705 2 catalogue (args .catalogue .now) (q .fields) (q .is) in
+    (accept-catalogue .kept .1 .0 ∙ pre, record { small = omega (arith, d .1); fields = q .fields; is = d .0; number = q .holds .number })
 
 same-length-2 : tie.Need-same-length-2
 same-length-2 c = search needs
@@ -41,11 +47,15 @@ same-length-3 : tie.Need-same-length-3
 same-length-3 c = search needs
 
 returns-2 : tie.Need-returns-2
-unfolding makeBookAnswer
+unfolding makeBookOutcome
 returns-2 c =
-    let a = c .before .before .before .before .before .before .before .before .before .before .before .before .before .before .before .before .before .args in
-    let q = rw (c .before .before .before .before .before .before .before .enum-told .given .1) at (c .before .before .before .before .before .before .before .before .before .before .before .accept-catalogue .ensures) in
-    body-goes-on (λ cs. bookFor cs (a .«record» .now) (length (a .out .now))) (q .is) (c .before .before .before .before .make-book-of .ensures (q .fields) (read-says 705 2 catalogue (a .catalogue .now) (q .fields) (q .is) .0))
+    let args = c .before .before .before .before .before .before .before .before .before .before .before .before .before .before .before .before .before .args in
+    let accept-catalogue = c .before .before .before .before .before .before .before .before .before .before .before .accept-catalogue in
+    let enum-told = c .before .before .before .before .before .before .before .enum-told in
+    let make-book-of = c .before .before .before .before .make-book-of in
+    let a = args in
+    let q = rw (enum-told .given .1) at (accept-catalogue .ensures) in
+    body-goes-on (λ cs. bookFor cs (a .«record» .now) (length (a .out .now))) (q .is) (make-book-of .ensures (q .fields) (read-says 705 2 catalogue (a .catalogue .now) (q .fields) (q .is) .0))
 
 pub make-book-spec : {M : Type 1} → statement M
 make-book-spec =

@@ -43,18 +43,29 @@ slice-aggregate-book-size-3 c = search needs
 
 book-size-requires : tie.Need-book-size-requires
 book-size-requires c κs =
-    let h = rw (c .before .before .before .before .before .before .before .before .before .before .g .given .1) at (c .before .before .before .before .before .before .before .before .before .before .before .before .before .before .load-record .ensures) in
-    let b = bookable-by (c .before .before .before .before .before .before .before .before .before .before .before .before .before .before .before .before .before .before .before .before .pre .1) (h .0) (omega (arith, h .1)) in
-    (b, blank-long 16 (c .before .before .before .before .before .no-sizes .ensures), room-blank 4096 _ (b .ready .nodes) (c .before .before .before .before .before .before .before .before .no-words .ensures) (c .before .before .before .before .before .before .before .no-words2 .ensures) (c .before .before .before .before .before .before .no-words3 .ensures))
+    let pre = c .before .before .before .before .before .before .before .before .before .before .before .before .before .before .before .before .before .before .before .before .pre in
+    let load-record = c .before .before .before .before .before .before .before .before .before .before .before .before .before .before .load-record in
+    let g = c .before .before .before .before .before .before .before .before .before .before .g in
+    let no-words = c .before .before .before .before .before .before .before .before .no-words in
+    let no-words2 = c .before .before .before .before .before .before .before .no-words2 in
+    let no-words3 = c .before .before .before .before .before .before .no-words3 in
+    let no-sizes = c .before .before .before .before .before .no-sizes in
+    let h = rw (g .given .1) at (load-record .ensures) in
+    let b = bookable-by (pre .1) (h .0) (omega (arith, h .1)) in
+    (b, blank-long 16 (no-sizes .ensures), room-blank 4096 _ (b .ready .nodes) (no-words .ensures) (no-words2 .ensures) (no-words3 .ensures))
 
 same-length : tie.Need-same-length
 same-length c = search needs
 
 returns : tie.Need-returns
 returns c =
-    let a = c .before .before .before .before .before .before .before .before .before .before .before .before .before .before .before .before .before .before .before .before .before .before .before .before .before .before .before .args in
-    let h = rw (c .before .before .before .before .before .before .before .before .before .before .before .before .before .before .before .before .before .g .given .1) at (c .before .before .before .before .before .before .before .before .before .before .before .before .before .before .before .before .before .before .before .before .before .load-record .ensures) in
-    λ cs e. fitted-tight fitFile-fits (a .out .now) _ refl (book-found cs (length (a .out .now)) (h .1) (h .0)) (c .before .before .before .before .before .before .book-size .ensures .0 .is cs e) (c .if1 .taken)
+    let args = c .before .before .before .before .before .before .before .before .before .before .before .before .before .before .before .before .before .before .before .before .before .before .before .before .before .before .before .args in
+    let load-record = c .before .before .before .before .before .before .before .before .before .before .before .before .before .before .before .before .before .before .before .before .before .load-record in
+    let g = c .before .before .before .before .before .before .before .before .before .before .before .before .before .before .before .before .before .g in
+    let book-size = c .before .before .before .before .before .before .book-size in
+    let a = args in
+    let h = rw (g .given .1) at (load-record .ensures) in
+    λ cs e. fitted-tight fitFile-fits (a .out .now) _ refl (book-found cs (length (a .out .now)) (h .1) (h .0)) (book-size .ensures .0 .is cs e) (c .if1 .taken)
 
 slice-aggregate-write-book : tie.Need-slice-aggregate-write-book
 slice-aggregate-write-book c = search needs
@@ -67,10 +78,16 @@ slice-aggregate-write-book-3 c = search needs
 
 write-book-requires : tie.Need-write-book-requires
 write-book-requires c κs =
-    let h = rw (c .before .before .before .before .before .before .before .before .before .before .before .before .before .before .before .before .before .before .before .before .before .before .g .given .1) at (c .before .before .before .before .before .before .before .before .before .before .before .before .before .before .before .before .before .before .before .before .before .before .before .before .before .before .load-record .ensures) in
-    let z = c .before .before .before .before .before .before .before .before .before .before .before .book-size .ensures .0 in
-    let b = bookable-by (c .before .before .before .before .before .before .before .before .before .before .before .before .before .before .before .before .before .before .before .before .before .before .before .before .before .before .before .before .before .before .before .before .pre .1) (h .0) (omega (arith, h .1)) in
-    (sized-again z b, sized-sizes z (b .ready .edges), sized-fits z (b .ready .edges) (c .before .before .before .before .before .before .before .before .before .before .before .before .before .before .before .before .before .before .before .before .before .before .before .before .before .before .before .before .before .before .before .before .args .out .now) (overFile-no (length (c .before .before .before .before .before .before .before .before .before .before .before .before .before .before .before .before .before .before .before .before .before .before .before .before .before .before .before .before .before .before .before .before .args .out .now)) _ (c .before .before .before .before .before .if1 .left) .0), c .before .before .before .before .before .before .before .before .before .before .before .book-size .ensures .1)
+    let args = c .before .before .before .before .before .before .before .before .before .before .before .before .before .before .before .before .before .before .before .before .before .before .before .before .before .before .before .before .before .before .before .before .args in
+    let pre = c .before .before .before .before .before .before .before .before .before .before .before .before .before .before .before .before .before .before .before .before .before .before .before .before .before .before .before .before .before .before .before .before .pre in
+    let load-record = c .before .before .before .before .before .before .before .before .before .before .before .before .before .before .before .before .before .before .before .before .before .before .before .before .before .before .load-record in
+    let g = c .before .before .before .before .before .before .before .before .before .before .before .before .before .before .before .before .before .before .before .before .before .before .g in
+    let book-size = c .before .before .before .before .before .before .before .before .before .before .before .book-size in
+    let if1 = c .before .before .before .before .before .if1 in
+    let h = rw (g .given .1) at (load-record .ensures) in
+    let z = book-size .ensures .0 in
+    let b = bookable-by (pre .1) (h .0) (omega (arith, h .1)) in
+    (sized-again z b, sized-sizes z (b .ready .edges), sized-fits z (b .ready .edges) (args .out .now) (overFile-no (length (args .out .now)) _ (if1 .left) .0), book-size .ensures .1)
 
 enum-known-g-2 : tie.Need-enum-known-g-2
 enum-known-g-2 c = search needs
@@ -79,24 +96,38 @@ same-length-2 : tie.Need-same-length-2
 same-length-2 c = search needs
 
 same-length-3 : tie.Need-same-length-3
-same-length-3 c = c .before .before .before .before .before .before .before .write-book .kept .1 .1 .1 .1 .1 .1 .1 .0 ∙ c .before .before .before .before .before .before .before .before .before .before .before .before .before .before .before .before .before .before .before .book-size .kept .1 .1 .1 .1 .1 .1 .0 ∙ c .before .before .before .before .before .before .before .before .before .before .before .before .before .before .before .before .before .before .before .before .before .before .before .before .before .before .before .before .before .before .before .before .before .before .load-record .kept .1 .0
+same-length-3 c =
+    let load-record = c .before .before .before .before .before .before .before .before .before .before .before .before .before .before .before .before .before .before .before .before .before .before .before .before .before .before .before .before .before .before .before .before .before .before .load-record in
+    let book-size = c .before .before .before .before .before .before .before .before .before .before .before .before .before .before .before .before .before .before .before .book-size in
+    let write-book = c .before .before .before .before .before .before .before .write-book in
+    write-book .kept .1 .1 .1 .1 .1 .1 .1 .0 ∙ book-size .kept .1 .1 .1 .1 .1 .1 .0 ∙ load-record .kept .1 .0
 
 returns-2 : tie.Need-returns-2
 returns-2 c =
-    let a = c .before .before .before .before .before .before .before .before .before .before .before .before .before .before .before .before .before .before .before .before .before .before .before .before .before .before .before .before .before .before .before .before .before .before .before .before .before .before .before .before .args in
-    let h = rw (c .before .before .before .before .before .before .before .before .before .before .before .before .before .before .before .before .before .before .before .before .before .before .before .before .before .before .before .before .before .before .g .given .1) at (c .before .before .before .before .before .before .before .before .before .before .before .before .before .before .before .before .before .before .before .before .before .before .before .before .before .before .before .before .before .before .before .before .before .before .load-record .ensures) in
-    let z = c .before .before .before .before .before .before .before .before .before .before .before .before .before .before .before .before .before .before .before .book-size .ensures .0 in
-    let b = bookable-by (c .before .before .before .before .before .before .before .before .before .before .before .before .before .before .before .before .before .before .before .before .before .before .before .before .before .before .before .before .before .before .before .before .before .before .before .before .before .before .before .before .pre .1) (h .0) (omega (arith, h .1)) in
-    λ cs e. fitted-given fitFile-fits (a .out .now) _ refl (book-found cs (length (a .out .now)) (h .1) (h .0)) (z .is cs e) (c .before .before .before .before .before .before .before .before .before .before .before .before .before .if1 .left) (sized-filled z (b .ready .edges) (a .out .now) (c .before .before .before .before .before .before .before .write-book .ensures) cs e)
+    let args = c .before .before .before .before .before .before .before .before .before .before .before .before .before .before .before .before .before .before .before .before .before .before .before .before .before .before .before .before .before .before .before .before .before .before .before .before .before .before .before .before .args in
+    let pre = c .before .before .before .before .before .before .before .before .before .before .before .before .before .before .before .before .before .before .before .before .before .before .before .before .before .before .before .before .before .before .before .before .before .before .before .before .before .before .before .before .pre in
+    let load-record = c .before .before .before .before .before .before .before .before .before .before .before .before .before .before .before .before .before .before .before .before .before .before .before .before .before .before .before .before .before .before .before .before .before .before .load-record in
+    let g = c .before .before .before .before .before .before .before .before .before .before .before .before .before .before .before .before .before .before .before .before .before .before .before .before .before .before .before .before .before .before .g in
+    let book-size = c .before .before .before .before .before .before .before .before .before .before .before .before .before .before .before .before .before .before .before .book-size in
+    let if1 = c .before .before .before .before .before .before .before .before .before .before .before .before .before .if1 in
+    let write-book = c .before .before .before .before .before .before .before .write-book in
+    let a = args in
+    let h = rw (g .given .1) at (load-record .ensures) in
+    let z = book-size .ensures .0 in
+    let b = bookable-by (pre .1) (h .0) (omega (arith, h .1)) in
+    λ cs e. fitted-given fitFile-fits (a .out .now) _ refl (book-found cs (length (a .out .now)) (h .1) (h .0)) (z .is cs e) (if1 .left) (sized-filled z (b .ready .edges) (a .out .now) (write-book .ensures) cs e)
 
 same-length-4 : tie.Need-same-length-4
 same-length-4 c = search needs
 
 returns-3 : tie.Need-returns-3
 returns-3 c =
-    let a = c .before .before .before .before .before .before .before .before .before .before .before .args in
-    let q = rw (c .before .g2 .given .1) at (c .before .before .before .before .before .load-record .ensures) in
-    λ cs e. body-refused (λ rs. fitFile (length (a .out .now)) (bookBytes (viewSheets cs (graphOf rs)))) (a .out .now) refl (c .before .g2 .given .0 .0) q
+    let args = c .before .before .before .before .before .before .before .before .before .before .before .args in
+    let load-record = c .before .before .before .before .before .load-record in
+    let g2 = c .before .g2 in
+    let a = args in
+    let q = rw (g2 .given .1) at (load-record .ensures) in
+    λ cs e. body-refused (λ rs. fitFile (length (a .out .now)) (bookBytes (viewSheets cs (graphOf rs)))) (a .out .now) refl (g2 .given .0 .0) q
 
 pub make-book-of-spec : {M : Type 1} → statement M
 make-book-of-spec = tie.close (tie.spec load-record-requires enum-known-g no-words-requires no-words-requires-2 no-words-requires-3 no-sizes-requires slice-aggregate-book-size slice-aggregate-book-size-2 slice-aggregate-book-size-3 book-size-requires same-length returns slice-aggregate-write-book slice-aggregate-write-book-2 slice-aggregate-write-book-3 write-book-requires enum-known-g-2 same-length-2 same-length-3 returns-2 same-length-4 returns-3)

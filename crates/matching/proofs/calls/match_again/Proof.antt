@@ -12,7 +12,9 @@ add-if1 : tie.Need-add-if1
 add-if1 c = search needs
 
 returns : tie.Need-returns
-returns c = (sheeted-none _ _ _ _ _ (c .before .before .before .before .before .before .before .pre .2) (sym (c .if1 .taken) ∙ c .before .before .before .before .before .before .before .pre .5), c .before .before .before .before .before .before .before .pre .4)
+returns c =
+    let pre = c .before .before .before .before .before .before .before .pre in
+    (sheeted-none _ _ _ _ _ (pre .2) (sym (c .if1 .taken) ∙ pre .5), pre .4)
 
 match-edges-requires : tie.Need-match-edges-requires
 match-edges-requires c κs = search needs
@@ -30,7 +32,9 @@ same-length-4 : tie.Need-same-length-4
 same-length-4 c = search needs
 
 returns-2 : tie.Need-returns-2
-returns-2 c = (sheeted-by (c .before .before .before .before .before .before .before .before .match-edges .ensures .0), c .before .before .before .before .before .before .before .before .match-edges .ensures .1)
+returns-2 c =
+    let match-edges = c .before .before .before .before .before .before .before .before .match-edges in
+    (sheeted-by (match-edges .ensures .0), match-edges .ensures .1)
 
 pub match-again-spec : {M : Type 1} → statement M
 match-again-spec = tie.close (tie.spec mul-if1 add-if1 returns match-edges-requires same-length same-length-2 same-length-3 same-length-4 returns-2)

@@ -3,7 +3,7 @@ use mathlib.Core.Path.{refl, _∙_}
 use lib.ListN.{length}
 use Rattle.packed.proofs.CallLaws.{body-refused, body-goes-on}
 use Rattle.matching.specs.Simulation.{patternOf}
-use Rattle.matching.specs.Search.{searchFor, searchAnswer}
+use Rattle.matching.specs.Search.{searchFor, searchOutcome}
 use Rattle.matching.proofs.AnswerFits.{given-fair, given-same}
 use borrow.Author.Needs.{needs}
 use Rattle.matching.proofs.calls.search.Statement.{statement}
@@ -22,17 +22,23 @@ same-length : tie.Need-same-length
 same-length c = search needs
 
 returns : tie.Need-returns
-unfolding searchAnswer
+unfolding searchOutcome
 returns c =
-    let a = c .before .before .before .before .before .before .before .before .before .before .args in
+    let args = c .before .before .before .before .before .before .before .before .before .before .args in
+    let accept-pattern = c .before .before .before .before .accept-pattern in
+    let a = args in
     let e = c .enum-told2 .given .1 in
-    rw e (body-refused (λ ps. searchFor (patternOf ps) (a .«record» .now) (length (a .out .now))) (a .out .now) refl (c .enum-told2 .given .0 .0) (rw e at (c .before .before .before .before .accept-pattern .ensures)))
+    rw e (body-refused (λ ps. searchFor (patternOf ps) (a .«record» .now) (length (a .out .now))) (a .out .now) refl (c .enum-told2 .given .0 .0) (rw e at (accept-pattern .ensures)))
 
 search-for-requires : tie.Need-search-for-requires
 search-for-requires c κs =
-    let q = rw (c .before .before .enum-told .given .1) at (c .before .before .before .before .before .before .accept-pattern .ensures) in
-    let f = given-fair (c .before .before .before .before .before .before .before .before .before .before .before .before .args .pattern .now) q in
-    (c .before .before .before .before .before .before .accept-pattern .kept .1 .0 ∙ c .before .before .before .before .before .before .before .before .before .before .before .before .pre, f .0, f .1)
+    let args = c .before .before .before .before .before .before .before .before .before .before .before .before .args in
+    let pre = c .before .before .before .before .before .before .before .before .before .before .before .before .pre in
+    let accept-pattern = c .before .before .before .before .before .before .accept-pattern in
+    let enum-told = c .before .before .enum-told in
+    let q = rw (enum-told .given .1) at (accept-pattern .ensures) in
+    let f = given-fair (args .pattern .now) q in
+    (accept-pattern .kept .1 .0 ∙ pre, f .0, f .1)
 
 same-length-2 : tie.Need-same-length-2
 same-length-2 c = search needs
@@ -41,11 +47,15 @@ same-length-3 : tie.Need-same-length-3
 same-length-3 c = search needs
 
 returns-2 : tie.Need-returns-2
-unfolding searchAnswer
+unfolding searchOutcome
 returns-2 c =
-    let a = c .before .before .before .before .before .before .before .before .before .before .before .before .before .before .before .before .before .args in
-    let q = rw (c .before .before .before .before .before .before .before .enum-told .given .1) at (c .before .before .before .before .before .before .before .before .before .before .before .accept-pattern .ensures) in
-    body-goes-on (λ ps. searchFor (patternOf ps) (a .«record» .now) (length (a .out .now))) (q .is) (rw (given-same (a .pattern .now) q) at (c .before .before .before .before .search-for .ensures))
+    let args = c .before .before .before .before .before .before .before .before .before .before .before .before .before .before .before .before .before .args in
+    let accept-pattern = c .before .before .before .before .before .before .before .before .before .before .before .accept-pattern in
+    let enum-told = c .before .before .before .before .before .before .before .enum-told in
+    let search-for = c .before .before .before .before .search-for in
+    let a = args in
+    let q = rw (enum-told .given .1) at (accept-pattern .ensures) in
+    body-goes-on (λ ps. searchFor (patternOf ps) (a .«record» .now) (length (a .out .now))) (q .is) (rw (given-same (a .pattern .now) q) at (search-for .ensures))
 
 pub search-spec : {M : Type 1} → statement M
 search-spec =

@@ -42,9 +42,15 @@ slice-aggregate-match-edges-3 c = search needs
 
 match-edges-requires : tie.Need-match-edges-requires
 match-edges-requires c κs =
-    let h = rw (c .before .before .before .before .before .before .before .before .g .given .1) at (c .before .before .before .before .before .before .before .before .before .before .before .before .load-record .ensures) in
+    let pre = c .before .before .before .before .before .before .before .before .before .before .before .before .before .before .before .before .before .pre in
+    let load-record = c .before .before .before .before .before .before .before .before .before .before .before .before .load-record in
+    let g = c .before .before .before .before .before .before .before .before .g in
+    let no-words = c .before .before .before .before .before .before .no-words in
+    let no-words2 = c .before .before .before .before .before .no-words2 in
+    let no-words3 = c .before .before .before .before .no-words3 in
+    let h = rw (g .given .1) at (load-record .ensures) in
     let r = ready-by (h .0) (omega (arith, h .1)) in
-    (c .before .before .before .before .before .before .before .before .before .before .before .before .before .before .before .before .before .pre .1, c .before .before .before .before .before .before .before .before .before .before .before .before .before .before .before .before .before .pre .2, r, rises-by (h .0), room-blank 4096 _ (r .nodes) (c .before .before .before .before .before .before .no-words .ensures) (c .before .before .before .before .before .no-words2 .ensures) (c .before .before .before .before .no-words3 .ensures))
+    (pre .1, pre .2, r, rises-by (h .0), room-blank 4096 _ (r .nodes) (no-words .ensures) (no-words2 .ensures) (no-words3 .ensures))
 
 cast-edges : tie.Need-cast-edges
 cast-edges c = search needs
@@ -57,12 +63,20 @@ same-length c = search needs
 
 returns : tie.Need-returns
 returns c =
-    let a = c .before .before .before .before .before .before .before .before .before .before .before .before .before .before .before .before .before .before .before .before .before .before .before .before .before .before .before .args in
-    let h = rw (c .before .before .before .before .before .before .before .before .before .before .before .before .before .before .before .before .before .before .g .given .1) at (c .before .before .before .before .before .before .before .before .before .before .before .before .before .before .before .before .before .before .before .before .before .before .load-record .ensures) in
-    fitted-tight fitFile-fits (a .out .now) _ refl (search-found (patternIn (a .p)) (length (a .out .now)) (h .1) (h .0)) (c .before .sheet-size .ensures ∙ size-is (sheeted-by (c .before .before .before .before .before .before .before .before .before .match-edges .ensures .0))) (c .if1 .taken)
+    let args = c .before .before .before .before .before .before .before .before .before .before .before .before .before .before .before .before .before .before .before .before .before .before .before .before .before .before .before .args in
+    let load-record = c .before .before .before .before .before .before .before .before .before .before .before .before .before .before .before .before .before .before .before .before .before .before .load-record in
+    let g = c .before .before .before .before .before .before .before .before .before .before .before .before .before .before .before .before .before .before .g in
+    let match-edges = c .before .before .before .before .before .before .before .before .before .match-edges in
+    let sheet-size = c .before .sheet-size in
+    let a = args in
+    let h = rw (g .given .1) at (load-record .ensures) in
+    fitted-tight fitFile-fits (a .out .now) _ refl (search-found (patternIn (a .p)) (length (a .out .now)) (h .1) (h .0)) (sheet-size .ensures ∙ size-is (sheeted-by (match-edges .ensures .0))) (c .if1 .taken)
 
 write-sheet-requires : tie.Need-write-sheet-requires
-write-sheet-requires c κs = (c .before .before .before .before .before .before .before .before .before .before .before .match-edges .ensures .0 .marked, c .before .before .before .before .before .before .before .before .before .before .before .before .before .before .before .before .before .before .before .before .before .before .before .before .before .before .before .before .before .pre .1 .edges)
+write-sheet-requires c κs =
+    let pre = c .before .before .before .before .before .before .before .before .before .before .before .before .before .before .before .before .before .before .before .before .before .before .before .before .before .before .before .before .before .pre in
+    let match-edges = c .before .before .before .before .before .before .before .before .before .before .before .match-edges in
+    (match-edges .ensures .0 .marked, pre .1 .edges)
 
 enum-known-g-2 : tie.Need-enum-known-g-2
 enum-known-g-2 c = search needs
@@ -75,20 +89,30 @@ same-length-3 c = search needs
 
 returns-2 : tie.Need-returns-2
 returns-2 c =
-    let a = c .before .before .before .before .before .before .before .before .before .before .before .before .before .before .before .before .before .before .before .before .before .before .before .before .before .before .before .before .before .before .before .before .args in
-    let h = rw (c .before .before .before .before .before .before .before .before .before .before .before .before .before .before .before .before .before .before .before .before .before .before .before .g .given .1) at (c .before .before .before .before .before .before .before .before .before .before .before .before .before .before .before .before .before .before .before .before .before .before .before .before .before .before .before .load-record .ensures) in
-    let q = sheeted-by (c .before .before .before .before .before .before .before .before .before .before .before .before .before .before .match-edges .ensures .0) in
-    let x = c .before .before .write-sheet .ensures in
-    fitted-given fitFile-fits (a .out .now) _ refl (search-found (patternIn (a .p)) (length (a .out .now)) (h .1) (h .0)) (c .before .before .before .before .before .before .sheet-size .ensures ∙ size-is q) (c .before .before .before .before .before .if1 .left) (x .front ∙ ap (sets (a .out .now) 0) (bytes-are q x))
+    let args = c .before .before .before .before .before .before .before .before .before .before .before .before .before .before .before .before .before .before .before .before .before .before .before .before .before .before .before .before .before .before .before .before .args in
+    let load-record = c .before .before .before .before .before .before .before .before .before .before .before .before .before .before .before .before .before .before .before .before .before .before .before .before .before .before .before .load-record in
+    let g = c .before .before .before .before .before .before .before .before .before .before .before .before .before .before .before .before .before .before .before .before .before .before .before .g in
+    let match-edges = c .before .before .before .before .before .before .before .before .before .before .before .before .before .before .match-edges in
+    let sheet-size = c .before .before .before .before .before .before .sheet-size in
+    let if1 = c .before .before .before .before .before .if1 in
+    let write-sheet = c .before .before .write-sheet in
+    let a = args in
+    let h = rw (g .given .1) at (load-record .ensures) in
+    let q = sheeted-by (match-edges .ensures .0) in
+    let x = write-sheet .ensures in
+    fitted-given fitFile-fits (a .out .now) _ refl (search-found (patternIn (a .p)) (length (a .out .now)) (h .1) (h .0)) (sheet-size .ensures ∙ size-is q) (if1 .left) (x .front ∙ ap (sets (a .out .now) 0) (bytes-are q x))
 
 same-length-4 : tie.Need-same-length-4
 same-length-4 c = search needs
 
 returns-3 : tie.Need-returns-3
 returns-3 c =
-    let a = c .before .before .before .before .before .before .before .before .before .before .args in
-    let q = rw (c .before .g2 .given .1) at (c .before .before .before .before .before .load-record .ensures) in
-    body-refused (λ rs. fitFile (length (a .out .now)) (sheetBytes (matchSets (patternIn (a .p)) (graphOf rs)))) (a .out .now) refl (c .before .g2 .given .0 .0) q
+    let args = c .before .before .before .before .before .before .before .before .before .before .args in
+    let load-record = c .before .before .before .before .before .load-record in
+    let g2 = c .before .g2 in
+    let a = args in
+    let q = rw (g2 .given .1) at (load-record .ensures) in
+    body-refused (λ rs. fitFile (length (a .out .now)) (sheetBytes (matchSets (patternIn (a .p)) (graphOf rs)))) (a .out .now) refl (g2 .given .0 .0) q
 
 pub search-for-spec : {M : Type 1} → statement M
 search-for-spec = tie.close (tie.spec load-record-requires enum-known-g no-words-requires no-words-requires-2 no-words-requires-3 slice-aggregate-match-edges slice-aggregate-match-edges-2 slice-aggregate-match-edges-3 match-edges-requires cast-edges sheet-size-requires same-length returns write-sheet-requires enum-known-g-2 same-length-2 same-length-3 returns-2 same-length-4 returns-3)

@@ -2,39 +2,56 @@
 use native.Mathlib.Omega.{arith}
 use Prim.Native.Nat.{_-_}
 use borrow.Author.Needs.{needs}
-use Rattle.matching.proofs.BookLaws.{Filling, turned-stands, turned-most, turn-fair, turn-ready, turn-size, filling-start, filling-long, filling-inside, filling-sized, filling-next, filling-end}
+use Rattle.matching.proofs.BookLaws.{BookFilling, turned-stands, turned-most, turn-fair, turn-ready, turn-size, filling-start, filling-long, filling-inside, filling-sized, filling-next, filling-end}
 use mathlib.Core.Path.{_≡_, refl, _∙_}
 use lib.ListN.{length}
-use Rattle.matching.specs.Starting.{Room}
+use Rattle.matching.specs.Starting.{NodeRoom}
 use Rattle.matching.proofs.calls.write_book.Statement.{statement}
 use Rattle.matching.proofs.calls.write_book.Tie as tie
 
 abbrev Inv-loop : tie.InvT-loop
 Inv-loop catalogue k «record» n m out₀ work₀ leave₀ arrive₀ held₀ sizes at₀ byte₀ a₀ out work leave arrive held at byte a =
-    Filling catalogue «record» n m work₀ out₀ k at byte a out work × Room n leave arrive held × (length leave ≡ length leave₀) × (length arrive ≡ length arrive₀) × (length held ≡ length held₀)
+    BookFilling catalogue «record» n m work₀ out₀ k at byte a out work × NodeRoom n leave arrive held × (length leave ≡ length leave₀) × (length arrive ≡ length arrive₀) × (length held ≡ length held₀)
 
 abbrev μ-loop : tie.MeasureT-loop
 μ-loop catalogue k «record» n m out₀ work₀ leave₀ arrive₀ held₀ sizes at₀ byte₀ a₀ out work leave arrive held at byte a = k - a
 
 loop-holds : tie.Need-loop-holds Inv-loop μ-loop
-loop-holds c = (filling-start (c .before .before .before .before .before .before .before .pre .0) (c .before .before .before .before .before .before .before .pre .2), c .before .before .before .before .before .before .before .pre .3, refl, refl, refl)
+loop-holds c =
+    let pre = c .before .before .before .before .before .before .before .pre in
+    (filling-start (pre .0) (pre .2), pre .3, refl, refl, refl)
 
 view-at-requires : tie.Need-view-at-requires Inv-loop μ-loop
 view-at-requires c κs = turned-stands (c .before .loop .inv .0 .sizing .turn)
 
 mul-match-again : tie.Need-mul-match-again Inv-loop μ-loop
-mul-match-again c = omega (arith, c .before .before .loop-test, c .before .before .before .loop .inv .0 .sizing .turn .few)
+mul-match-again c =
+    let loop = c .before .before .before .loop in
+    let loop-test = c .before .before .loop-test in
+    omega (arith, loop-test, loop .inv .0 .sizing .turn .few)
 
 array-read-match-again : tie.Need-array-read-match-again Inv-loop μ-loop
-array-read-match-again c = omega (arith, c .before .before .loop-test, c .before .before .before .loop .inv .0 .sizing .turn .few)
+array-read-match-again c =
+    let loop = c .before .before .before .loop in
+    let loop-test = c .before .before .loop-test in
+    omega (arith, loop-test, loop .inv .0 .sizing .turn .few)
 
 match-again-requires : tie.Need-match-again-requires Inv-loop μ-loop
 match-again-requires c κs =
-    let t = turn-ready (c .before .before .before .before .before .before .before .loop .inv .0 .sizing .turn) (omega (arith, c .before .before .before .before .before .before .loop-test)) (c .before .before .before .before .before .view-at .result) (c .before .before .before .before .before .view-at .ensures) in
-    (t .0, t .1, t .2, t .3, c .before .before .before .before .before .before .before .loop .inv .1, turn-size (c .before .before .before .before .before .before .before .loop .inv .0 .sizing .turn) (omega (arith, c .before .before .before .before .before .before .loop-test)) (c .before .before .before .before .before .view-at .result) (c .before .before .before .before .before .view-at .ensures) (c .before .before .before .before .before .before .before .before .before .before .before .before .before .before .before .args .t6) (c .before .before .before .before .before .before .before .before .before .before .before .before .before .before .before .pre .1))
+    let args = c .before .before .before .before .before .before .before .before .before .before .before .before .before .before .before .args in
+    let pre = c .before .before .before .before .before .before .before .before .before .before .before .before .before .before .before .pre in
+    let loop = c .before .before .before .before .before .before .before .loop in
+    let loop-test = c .before .before .before .before .before .before .loop-test in
+    let view-at = c .before .before .before .before .before .view-at in
+    let t = turn-ready (loop .inv .0 .sizing .turn) (omega (arith, loop-test)) (view-at .result) (view-at .ensures) in
+    (t .0, t .1, t .2, t .3, loop .inv .1, turn-size (loop .inv .0 .sizing .turn) (omega (arith, loop-test)) (view-at .result) (view-at .ensures) (args .t6) (pre .1))
 
 cast-write-sheet : tie.Need-cast-write-sheet Inv-loop μ-loop
-cast-write-sheet c = omega (arith, turn-fair (c .before .before .before .before .before .before .before .before .before .before .before .before .before .before .before .before .before .before .loop .inv .0 .sizing .turn) (omega (arith, c .before .before .before .before .before .before .before .before .before .before .before .before .before .before .before .before .before .loop-test)) (c .before .before .before .before .before .before .before .before .before .before .before .before .before .before .before .before .view-at .result) (c .before .before .before .before .before .before .before .before .before .before .before .before .before .before .before .before .view-at .ensures) .edges)
+cast-write-sheet c =
+    let loop = c .before .before .before .before .before .before .before .before .before .before .before .before .before .before .before .before .before .before .loop in
+    let loop-test = c .before .before .before .before .before .before .before .before .before .before .before .before .before .before .before .before .before .loop-test in
+    let view-at = c .before .before .before .before .before .before .before .before .before .before .before .before .before .before .before .before .view-at in
+    omega (arith, turn-fair (loop .inv .0 .sizing .turn) (omega (arith, loop-test)) (view-at .result) (view-at .ensures) .edges)
 
 sub-write-sheet : tie.Need-sub-write-sheet Inv-loop μ-loop
 sub-write-sheet c =
@@ -50,22 +67,41 @@ part-write-sheet-end : tie.Need-part-write-sheet-end Inv-loop μ-loop
 part-write-sheet-end c = search needs
 
 write-sheet-requires : tie.Need-write-sheet-requires Inv-loop μ-loop
-write-sheet-requires c κs = (c .before .before .before .before .before .before .before .before .before .before .before .match-again .ensures .0 .marked, turn-fair (c .before .before .before .before .before .before .before .before .before .before .before .before .before .before .before .before .before .before .before .loop .inv .0 .sizing .turn) (omega (arith, c .before .before .before .before .before .before .before .before .before .before .before .before .before .before .before .before .before .before .loop-test)) (c .before .before .before .before .before .before .before .before .before .before .before .before .before .before .before .before .before .view-at .result) (c .before .before .before .before .before .before .before .before .before .before .before .before .before .before .before .before .before .view-at .ensures) .edges)
+write-sheet-requires c κs =
+    let loop = c .before .before .before .before .before .before .before .before .before .before .before .before .before .before .before .before .before .before .before .loop in
+    let loop-test = c .before .before .before .before .before .before .before .before .before .before .before .before .before .before .before .before .before .before .loop-test in
+    let view-at = c .before .before .before .before .before .before .before .before .before .before .before .before .before .before .before .before .before .view-at in
+    let match-again = c .before .before .before .before .before .before .before .before .before .before .before .match-again in
+    (match-again .ensures .0 .marked, turn-fair (loop .inv .0 .sizing .turn) (omega (arith, loop-test)) (view-at .result) (view-at .ensures) .edges)
 
 add-at : tie.Need-add-at Inv-loop μ-loop
 add-at c =
-    let z = filling-sized (c .before .before .before .before .before .before .before .before .before .before .before .before .before .before .before .before .before .before .before .before .before .before .loop .inv .0) (omega (arith, c .before .before .before .before .before .before .before .before .before .before .before .before .before .before .before .before .before .before .before .before .before .loop-test)) (c .before .before .before .before .before .before .before .before .before .before .before .before .before .before .before .before .before .before .before .before .view-at .result) (c .before .before .before .before .before .before .before .before .before .before .before .before .before .before .before .before .before .before .before .before .view-at .ensures) (c .before .before .before .before .before .before .before .before .before .before .before .before .before .before .match-again .ensures .0) (c .before .before .write-sheet .ensures) in
+    let loop = c .before .before .before .before .before .before .before .before .before .before .before .before .before .before .before .before .before .before .before .before .before .before .loop in
+    let loop-test = c .before .before .before .before .before .before .before .before .before .before .before .before .before .before .before .before .before .before .before .before .before .loop-test in
+    let view-at = c .before .before .before .before .before .before .before .before .before .before .before .before .before .before .before .before .before .before .before .before .view-at in
+    let match-again = c .before .before .before .before .before .before .before .before .before .before .before .before .before .before .match-again in
+    let write-sheet = c .before .before .write-sheet in
+    let z = filling-sized (loop .inv .0) (omega (arith, loop-test)) (view-at .result) (view-at .ensures) (match-again .ensures .0) (write-sheet .ensures) in
     omega (arith, z .most, turned-most (z .turn), z .turn .few)
 
 add-a : tie.Need-add-a Inv-loop μ-loop
-add-a c = omega (arith, c .before .before .before .before .before .before .before .before .before .before .before .before .before .before .before .before .before .before .before .before .before .loop-test)
+add-a c =
+    let loop-test = c .before .before .before .before .before .before .before .before .before .before .before .before .before .before .before .before .before .before .before .before .before .loop-test in
+    omega (arith, loop-test)
 
 loop-less : tie.Need-loop-less Inv-loop μ-loop
-loop-less c = omega (arith, c .before .before .before .before .before .before .before .before .before .before .before .before .before .before .before .before .before .before .before .before .before .loop-test)
+loop-less c =
+    let loop-test = c .before .before .before .before .before .before .before .before .before .before .before .before .before .before .before .before .before .before .before .before .before .loop-test in
+    omega (arith, loop-test)
 
 loop-again : tie.Need-loop-again Inv-loop μ-loop
 loop-again c =
-    (filling-next (c .before .before .before .before .before .before .before .before .before .before .before .before .before .before .before .before .before .before .before .before .before .before .loop .inv .0) (omega (arith, c .before .before .before .before .before .before .before .before .before .before .before .before .before .before .before .before .before .before .before .before .before .loop-test)) (c .before .before .before .before .before .before .before .before .before .before .before .before .before .before .before .before .before .before .before .before .view-at .result) (c .before .before .before .before .before .before .before .before .before .before .before .before .before .before .before .before .before .before .before .before .view-at .ensures) (c .before .before .before .before .before .before .before .before .before .before .before .before .before .before .match-again .ensures .0) (c .before .before .write-sheet .ensures), c .before .before .before .before .before .before .before .before .before .before .before .before .before .before .match-again .ensures .1, c .before .before .before .before .before .before .before .before .before .before .before .before .before .before .match-again .kept .1 .1 .1 .1 .1 .1 .0 ∙ c .before .before .before .before .before .before .before .before .before .before .before .before .before .before .before .before .before .before .before .before .before .before .loop .inv .2, c .before .before .before .before .before .before .before .before .before .before .before .before .before .before .match-again .kept .1 .1 .1 .1 .1 .1 .1 .0 ∙ c .before .before .before .before .before .before .before .before .before .before .before .before .before .before .before .before .before .before .before .before .before .before .loop .inv .3, c .before .before .before .before .before .before .before .before .before .before .before .before .before .before .match-again .kept .1 .1 .1 .1 .1 .1 .1 .1 .0 ∙ c .before .before .before .before .before .before .before .before .before .before .before .before .before .before .before .before .before .before .before .before .before .before .loop .inv .4)
+    let loop = c .before .before .before .before .before .before .before .before .before .before .before .before .before .before .before .before .before .before .before .before .before .before .loop in
+    let loop-test = c .before .before .before .before .before .before .before .before .before .before .before .before .before .before .before .before .before .before .before .before .before .loop-test in
+    let view-at = c .before .before .before .before .before .before .before .before .before .before .before .before .before .before .before .before .before .before .before .before .view-at in
+    let match-again = c .before .before .before .before .before .before .before .before .before .before .before .before .before .before .match-again in
+    let write-sheet = c .before .before .write-sheet in
+    (filling-next (loop .inv .0) (omega (arith, loop-test)) (view-at .result) (view-at .ensures) (match-again .ensures .0) (write-sheet .ensures), match-again .ensures .1, match-again .kept .1 .1 .1 .1 .1 .1 .0 ∙ loop .inv .2, match-again .kept .1 .1 .1 .1 .1 .1 .1 .0 ∙ loop .inv .3, match-again .kept .1 .1 .1 .1 .1 .1 .1 .1 .0 ∙ loop .inv .4)
 
 same-length : tie.Need-same-length Inv-loop μ-loop
 same-length c = filling-long (c .before .loop .inv .0)

@@ -25,7 +25,10 @@ shared-slice-read-if1 c = search needs
 
 returns : tie.Need-returns Inv-loop μ-loop
 returns c =
-    beyond-here (c .before .before .before .before .pre .0) (c .before .before .before .loop .inv .0) (c .before .before .loop-test .taken) (c .if1 .taken)
+    let pre = c .before .before .before .before .pre in
+    let loop = c .before .before .before .loop in
+    let loop-test = c .before .before .loop-test in
+    beyond-here (pre .0) (loop .inv .0) (loop-test .taken) (c .if1 .taken)
 
 add-step : tie.Need-add-step Inv-loop μ-loop
 add-step c = search needs

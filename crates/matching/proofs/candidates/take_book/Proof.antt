@@ -22,29 +22,50 @@ loop-holds : tie.Need-loop-holds Inv-loop μ-loop
 loop-holds c = book-start _ _ _ _ _ _ _ _
 
 edges-in-requires : tie.Need-edges-in-requires Inv-loop μ-loop
-edges-in-requires c κs = omega (arith, c .loop-test .taken, c .before .before .before .before .pre .1 .few)
+edges-in-requires c κs =
+    let pre = c .before .before .before .before .pre in
+    omega (arith, c .loop-test .taken, pre .1 .few)
 
 mul-take-sheet : tie.Need-mul-take-sheet Inv-loop μ-loop
-mul-take-sheet c = omega (arith, c .before .loop-test .taken, c .before .before .before .before .before .pre .1 .few)
+mul-take-sheet c =
+    let pre = c .before .before .before .before .before .pre in
+    let loop-test = c .before .loop-test in
+    omega (arith, loop-test .taken, pre .1 .few)
 
 array-read-take-sheet : tie.Need-array-read-take-sheet Inv-loop μ-loop
-array-read-take-sheet c = omega (arith, c .before .loop-test .taken, c .before .before .before .before .before .pre .1 .few)
+array-read-take-sheet c =
+    let pre = c .before .before .before .before .before .pre in
+    let loop-test = c .before .loop-test in
+    omega (arith, loop-test .taken, pre .1 .few)
 
 take-sheet-requires : tie.Need-take-sheet-requires Inv-loop μ-loop
 take-sheet-requires c κs =
-    (omega (arith, c .before .before .loop-test .taken, c .before .before .before .before .before .before .pre .1 .few), omega (arith, c .before .edges-in .ensures .0, c .before .before .before .before .before .before .pre .0), book-sheet (c .before .before .before .loop .inv) (c .before .before .before .before .before .before .pre .1) (c .before .before .loop-test .taken))
+    let pre = c .before .before .before .before .before .before .pre in
+    let loop = c .before .before .before .loop in
+    let loop-test = c .before .before .loop-test in
+    let edges-in = c .before .edges-in in
+    (omega (arith, loop-test .taken, pre .1 .few), omega (arith, edges-in .ensures .0, pre .0), book-sheet (loop .inv) (pre .1) (loop-test .taken))
 
 add-a : tie.Need-add-a Inv-loop μ-loop
-add-a c = omega (arith, c .before .before .before .before .before .loop-test .taken, c .before .before .before .before .before .before .before .before .before .pre .1 .few)
+add-a c =
+    let pre = c .before .before .before .before .before .before .before .before .before .pre in
+    let loop-test = c .before .before .before .before .before .loop-test in
+    omega (arith, loop-test .taken, pre .1 .few)
 
 loop-less : tie.Need-loop-less Inv-loop μ-loop
 loop-less c = search needs
 
 loop-again : tie.Need-loop-again Inv-loop μ-loop
 loop-again c =
-    book-more (c .before .before .before .before .before .before .loop .inv) (c .before .before .before .before .before .before .before .before .before .pre .1) (c .before .before .before .before .before .loop-test .taken)
-    (omega (arith, c .before .before .before .before .before .before .before .before .before .pre .1 .few, sixteen (c .before .before .before .before .before .before .before .before .before)))
-    (c .before .before .before .before .edges-in .ensures .1) (c .before .before .before .before .edges-in .ensures .2) (c .before .before .take-sheet .ensures .0) (c .before .before .take-sheet .ensures .1)
+    let pre = c .before .before .before .before .before .before .before .before .before .pre in
+    let before = c .before .before .before .before .before .before .before .before .before in
+    let loop = c .before .before .before .before .before .before .loop in
+    let loop-test = c .before .before .before .before .before .loop-test in
+    let edges-in = c .before .before .before .before .edges-in in
+    let take-sheet = c .before .before .take-sheet in
+    book-more (loop .inv) (pre .1) (loop-test .taken)
+    (omega (arith, pre .1 .few, sixteen before))
+    (edges-in .ensures .1) (edges-in .ensures .2) (take-sheet .ensures .0) (take-sheet .ensures .1)
 
 same-length : tie.Need-same-length Inv-loop μ-loop
 same-length c = c .before .loop .inv .taken .around .long

@@ -21,11 +21,16 @@ pair-at-requires c κs = (omega (arith, c .before .loop .inv .rest .fits, c .bef
 
 reach-requires : tie.Need-reach-requires Inv-loop μ-loop
 reach-requires c κs =
-    (c .before .before .before .loop .inv .rest .pool, taking-in (c .before .before .before .loop .inv) (c .before .before .loop-test .taken) (c .before .pair-at .ensures .0))
+    let loop = c .before .before .before .loop in
+    let loop-test = c .before .before .loop-test in
+    let pair-at = c .before .pair-at in
+    (loop .inv .rest .pool, taking-in (loop .inv) (loop-test .taken) (pair-at .ensures .0))
 
 find-requires : tie.Need-find-requires Inv-loop μ-loop
 find-requires c κs =
-    (pool-less (c .before .reach .ensures .upto) (c .before .before .before .before .before .loop .inv .rest .pool), c .before .reach .ensures .after)
+    let loop = c .before .before .before .before .before .loop in
+    let reach = c .before .reach in
+    (pool-less (reach .ensures .upto) (loop .inv .rest .pool), reach .ensures .after)
 
 add-mask : tie.Need-add-mask Inv-loop μ-loop
 add-mask c = search needs
@@ -50,7 +55,12 @@ loop-less c = search needs
 
 loop-again : tie.Need-loop-again Inv-loop μ-loop
 loop-again c =
-    taking-more (c .before .before .before .before .before .before .before .loop .inv) (c .before .before .before .before .before .before .loop-test .taken) (c .before .before .before .before .before .pair-at .ensures .0) (c .before .before .before .reach .ensures) (c .before .find .ensures)
+    let loop = c .before .before .before .before .before .before .before .loop in
+    let loop-test = c .before .before .before .before .before .before .loop-test in
+    let pair-at = c .before .before .before .before .before .pair-at in
+    let reach = c .before .before .before .reach in
+    let find = c .before .find in
+    taking-more (loop .inv) (loop-test .taken) (pair-at .ensures .0) (reach .ensures) (find .ensures)
 
 same-length : tie.Need-same-length Inv-loop μ-loop
 same-length c = search needs

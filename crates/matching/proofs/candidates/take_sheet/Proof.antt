@@ -17,13 +17,24 @@ loop-holds : tie.Need-loop-holds Inv-loop μ-loop
 loop-holds c = sheet-start _ _ _ _ _ _ _ _ (c .before .before .pre .2 .begins)
 
 list-at-requires : tie.Need-list-at-requires Inv-loop μ-loop
-list-at-requires c κs = (omega (arith, c .before .loop .inv .fits, c .before .before .before .before .pre .2 .short), c .before .before .before .before .pre .2 .short)
+list-at-requires c κs =
+    let pre = c .before .before .before .before .pre in
+    let loop = c .before .loop in
+    (omega (arith, loop .inv .fits, pre .2 .short), pre .2 .short)
 
 matched-by-requires : tie.Need-matched-by-requires Inv-loop μ-loop
-matched-by-requires c κs = (c .before .before .before .before .before .pre .0, omega (arith, c .before .loop-test .taken, c .before .before .before .before .before .pre .2 .few), c .before .before .before .before .before .pre .1)
+matched-by-requires c κs =
+    let pre = c .before .before .before .before .before .pre in
+    let loop-test = c .before .loop-test in
+    (pre .0, omega (arith, loop-test .taken, pre .2 .few), pre .1)
 
 take-list-requires : tie.Need-take-list-requires Inv-loop μ-loop
-take-list-requires c κs = sheet-list (c .before .before .before .before .before .loop .inv) (c .before .before .before .before .before .before .before .before .pre .2) (c .before .before .before .before .loop-test .taken) (c .before .before .before .list-at .ensures)
+take-list-requires c κs =
+    let pre = c .before .before .before .before .before .before .before .before .pre in
+    let loop = c .before .before .before .before .before .loop in
+    let loop-test = c .before .before .before .before .loop-test in
+    let list-at = c .before .before .before .list-at in
+    sheet-list (loop .inv) (pre .2) (loop-test .taken) (list-at .ensures)
 
 add-f : tie.Need-add-f Inv-loop μ-loop
 add-f c = search needs
@@ -33,11 +44,19 @@ loop-less c = search needs
 
 loop-again : tie.Need-loop-again Inv-loop μ-loop
 loop-again c =
-    sheet-more (c .before .before .before .before .loop .inv) (c .before .before .before .before .before .before .before .pre .2) (c .before .before .before .loop-test .taken) (c .before .before .list-at .ensures) (c .before .matched-by .ensures)
+    let pre = c .before .before .before .before .before .before .before .pre in
+    let loop = c .before .before .before .before .loop in
+    let loop-test = c .before .before .before .loop-test in
+    let list-at = c .before .before .list-at in
+    let matched-by = c .before .matched-by in
+    sheet-more (loop .inv) (pre .2) (loop-test .taken) (list-at .ensures) (matched-by .ensures)
     (⊎-elim (λ w. rw (w .5) (w .2 .ensures)) (λ w. rw (w .1) (taken-zero _ (w .0 .left))) (c .if1 .came))
 
 next-sheet-requires : tie.Need-next-sheet-requires Inv-loop μ-loop
-next-sheet-requires c κs = omega (arith, c .before .loop .inv .fits, c .before .before .before .before .pre .2 .short)
+next-sheet-requires c κs =
+    let pre = c .before .before .before .before .pre in
+    let loop = c .before .loop in
+    omega (arith, loop .inv .fits, pre .2 .short)
 
 same-length : tie.Need-same-length Inv-loop μ-loop
 same-length c = c .before .before .loop .inv .taken .around .long

@@ -16,16 +16,24 @@ loop-holds : tie.Need-loop-holds Inv-loop μ-loop
 loop-holds c = indexing-start _ _ _ _
 
 skip-requires : tie.Need-skip-requires Inv-loop μ-loop
-skip-requires c κs = (c .before .before .before .before .pre .0, c .before .before .before .before .pre .1, c .before .before .before .before .pre .2, c .before .loop .inv .before)
+skip-requires c κs =
+    let pre = c .before .before .before .before .pre in
+    let loop = c .before .loop in
+    (pre .0, pre .1, pre .2, loop .inv .before)
 
 cast-first : tie.Need-cast-first Inv-loop μ-loop
-cast-first c = omega (arith, c .skip .ensures .before .upto, c .before .before .before .before .before .pre .0)
+cast-first c =
+    let pre = c .before .before .before .before .before .pre in
+    omega (arith, c .skip .ensures .before .upto, pre .0)
 
 mul-first : tie.Need-mul-first Inv-loop μ-loop
 mul-first c = search needs
 
 slice-write-first : tie.Need-slice-write-first Inv-loop μ-loop
-slice-write-first c = omega (arith, c .before .before .loop .inv .long, c .before .before .before .before .before .pre .3)
+slice-write-first c =
+    let pre = c .before .before .before .before .before .pre in
+    let loop = c .before .before .loop in
+    omega (arith, loop .inv .long, pre .3)
 
 add-v : tie.Need-add-v Inv-loop μ-loop
 add-v c = search needs
@@ -34,7 +42,11 @@ loop-less : tie.Need-loop-less Inv-loop μ-loop
 loop-less c = search needs
 
 loop-again : tie.Need-loop-again Inv-loop μ-loop
-loop-again c = indexing-more (c .before .before .loop .inv) (c .before .before .before .before .before .pre .3) (c .before .loop-test .taken) _ (c .skip .ensures)
+loop-again c =
+    let pre = c .before .before .before .before .before .pre in
+    let loop = c .before .before .loop in
+    let loop-test = c .before .loop-test in
+    indexing-more (loop .inv) (pre .3) (loop-test .taken) _ (c .skip .ensures)
 
 same-length : tie.Need-same-length Inv-loop μ-loop
 same-length c = c .before .loop .inv .long

@@ -2,13 +2,13 @@
 use borrow.Author.Needs.{needs}
 use native.Mathlib.Omega.{arith}
 use Prim.Native.Nat.{_-_}
-use Rattle.matching.specs.Late.{Before}
+use Rattle.matching.specs.Late.{BeginsBelow}
 use Rattle.matching.proofs.IndexLaws.{before-more, before-cut, before-end}
 use Rattle.matching.proofs.index.skip.Statement.{statement}
 use Rattle.matching.proofs.index.skip.Tie as tie
 
 abbrev Inv-loop : tie.InvT-loop
-Inv-loop work start d v i₀ i = Before d work v i
+Inv-loop work start d v i₀ i = BeginsBelow d work v i
 
 abbrev μ-loop : tie.MeasureT-loop
 μ-loop work start d v i₀ i = d - i
@@ -20,13 +20,18 @@ mul-x : tie.Need-mul-x Inv-loop μ-loop
 mul-x c = search needs
 
 shared-slice-read-x : tie.Need-shared-slice-read-x Inv-loop μ-loop
-shared-slice-read-x c = omega (arith, c .before .before .before .pre .0, c .before .before .before .pre .1)
+shared-slice-read-x c =
+    let pre = c .before .before .before .pre in
+    omega (arith, pre .0, pre .1)
 
 cast-f : tie.Need-cast-f Inv-loop μ-loop
 cast-f c = omega (arith, c .shared-slice-known .given (c .before .before .loop .i) .fits)
 
 returns : tie.Need-returns Inv-loop μ-loop
-returns c = before-cut (c .before .before .before .loop .inv) (c .before .before .before .before .pre .2) (c .if1 .taken)
+returns c =
+    let pre = c .before .before .before .before .pre in
+    let loop = c .before .before .before .loop in
+    before-cut (loop .inv) (pre .2) (c .if1 .taken)
 
 add-i : tie.Need-add-i Inv-loop μ-loop
 add-i c = search needs
@@ -35,7 +40,10 @@ loop-less : tie.Need-loop-less Inv-loop μ-loop
 loop-less c = search needs
 
 loop-again : tie.Need-loop-again Inv-loop μ-loop
-loop-again c = before-more (c .before .before .before .loop .inv) (c .before .before .loop-test .taken) (omega (arith, c .if1 .left))
+loop-again c =
+    let loop = c .before .before .before .loop in
+    let loop-test = c .before .before .loop-test in
+    before-more (loop .inv) (loop-test .taken) (omega (arith, c .if1 .left))
 
 returns-2 : tie.Need-returns-2 Inv-loop μ-loop
 returns-2 c = before-end (c .before .loop .inv) (c .loop-test .left)

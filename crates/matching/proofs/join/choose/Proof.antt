@@ -27,13 +27,23 @@ slice-aggregate-rest-3 : tie.Need-slice-aggregate-rest-3
 slice-aggregate-rest-3 c = search needs
 
 rest-requires : tie.Need-rest-requires
-rest-requires c κs = (every-prepared (c .before .before .before .before .before .before .before .before .before .before .before .before .pre .0) (c .before .before .before .before .before .before .nodes .ensures .0) (c .before .before .before .before .before .before .nodes .ensures .1) refl refl refl, c .before .before .before .before .before .before .nodes .ensures .0)
+rest-requires c κs =
+    let pre = c .before .before .before .before .before .before .before .before .before .before .before .before .pre in
+    let nodes = c .before .before .before .before .before .before .nodes in
+    (every-prepared (pre .0) (nodes .ensures .0) (nodes .ensures .1) refl refl refl, nodes .ensures .0)
 
 same-length : tie.Need-same-length
 same-length c = search needs
 
 returns : tie.Need-returns
-returns c = chosen-by (c .before .before .before .before .before .before .before .before .before .before .before .before .before .before .before .before .before .before .pre .0) (c .before .before .before .before .before .before .before .before .before .before .before .before .nodes .ensures .0) (c .before .before .before .before .before .before .before .before .before .before .before .before .nodes .ensures .1) refl refl refl (c .before .before .before .before .before .before .before .before .before .before .before .before .before .before .before .before .table .ensures) (c .before .before .before .before .before .before .before .before .before .before .before .before .before .before .before .table2 .ensures) (c .before .before .before .before .before .before .before .before .before .before .before .before .before .before .all .ensures) (c .before .before .before .before .before .rest .ensures)
+returns c =
+    let pre = c .before .before .before .before .before .before .before .before .before .before .before .before .before .before .before .before .before .before .pre in
+    let table = c .before .before .before .before .before .before .before .before .before .before .before .before .before .before .before .before .table in
+    let table2 = c .before .before .before .before .before .before .before .before .before .before .before .before .before .before .before .table2 in
+    let all = c .before .before .before .before .before .before .before .before .before .before .before .before .before .before .all in
+    let nodes = c .before .before .before .before .before .before .before .before .before .before .before .before .nodes in
+    let rest = c .before .before .before .before .before .rest in
+    chosen-by (pre .0) (nodes .ensures .0) (nodes .ensures .1) refl refl refl (table .ensures) (table2 .ensures) (all .ensures) (rest .ensures)
 
 pub choose-spec : {M : Type 1} → statement M
 choose-spec =

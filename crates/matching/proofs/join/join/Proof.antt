@@ -10,16 +10,28 @@ clear-masks-requires : tie.Need-clear-masks-requires
 clear-masks-requires c κs = search needs
 
 take-book-requires : tie.Need-take-book-requires
-take-book-requires c κs = (c .before .before .before .before .before .before .before .pre .0 .edges, booked-keep (c .before .before .before .before .before .before .before .pre .1) (c .before .before .before .clear-masks .ensures .around))
+take-book-requires c κs =
+    let pre = c .before .before .before .before .before .before .before .pre in
+    let clear-masks = c .before .before .before .clear-masks in
+    (pre .0 .edges, booked-keep (pre .1) (clear-masks .ensures .around))
 
 choose-requires : tie.Need-choose-requires
-choose-requires c κs = (pool-keep (pool-keep (c .before .before .before .before .before .before .before .before .before .before .before .before .before .before .before .pre .1 .pool) (c .before .before .before .before .before .before .before .before .before .before .before .clear-masks .ensures .around)) (c .before .before .before .before .before .before .before .take-book .ensures .around), c .before .before .before .before .before .before .before .before .before .before .before .before .before .before .before .pre .0 .edges)
+choose-requires c κs =
+    let pre = c .before .before .before .before .before .before .before .before .before .before .before .before .before .before .before .pre in
+    let clear-masks = c .before .before .before .before .before .before .before .before .before .before .before .clear-masks in
+    let take-book = c .before .before .before .before .before .before .before .take-book in
+    (pool-keep (pool-keep (pre .1 .pool) (clear-masks .ensures .around)) (take-book .ensures .around), pre .0 .edges)
 
 same-length : tie.Need-same-length
 same-length c = search needs
 
 returns : tie.Need-returns
-returns c = joined-by _ _ _ (c .before .before .before .before .before .before .before .before .before .before .before .before .before .before .before .before .before .before .pre .0) (c .before .before .before .before .before .before .before .before .before .before .before .before .before .before .before .before .before .before .pre .1) (c .before .before .before .before .before .before .before .before .before .before .before .before .before .before .clear-masks .ensures) (c .before .before .before .before .before .before .before .before .before .before .take-book .ensures) (c .before .before .choose .ensures)
+returns c =
+    let pre = c .before .before .before .before .before .before .before .before .before .before .before .before .before .before .before .before .before .before .pre in
+    let clear-masks = c .before .before .before .before .before .before .before .before .before .before .before .before .before .before .clear-masks in
+    let take-book = c .before .before .before .before .before .before .before .before .before .before .take-book in
+    let choose = c .before .before .choose in
+    joined-by _ _ _ (pre .0) (pre .1) (clear-masks .ensures) (take-book .ensures) (choose .ensures)
 
 pub join-spec : {M : Type 1} → statement M
 join-spec =

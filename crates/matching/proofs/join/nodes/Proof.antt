@@ -14,10 +14,14 @@ mul-f : tie.Need-mul-f
 mul-f c = search needs
 
 shared-slice-read-f : tie.Need-shared-slice-read-f
-shared-slice-read-f c = omega (arith, c .before .before .before .pre .most, c .before .before .before .pre .long)
+shared-slice-read-f c =
+    let pre = c .before .before .before .pre in
+    omega (arith, pre .most, pre .long)
 
 last-end-requires : tie.Need-last-end-requires
-last-end-requires c κs = omega (arith, c .before .before .before .pre .most, c .before .before .before .pre .long)
+last-end-requires c κs =
+    let pre = c .before .before .before .pre in
+    omega (arith, pre .most, pre .long)
 
 greater-requires : tie.Need-greater-requires
 greater-requires c κs = search needs

@@ -45,7 +45,12 @@ loop-less : tie.Need-loop-less Inv-loop μ-loop
 loop-less c = search needs
 
 loop-again : tie.Need-loop-again Inv-loop μ-loop
-loop-again c = filling-more _ _ _ (c .before .before .before .loop .inv) _ _ (c .before .before .loop-test .taken) (omega (arith, blank-long 32 (c .before .before .before .before .no-rows .ensures), c .before .before .before .before .before .pre)) (sym (zero-add _)) (c .row .ensures)
+loop-again c =
+    let pre = c .before .before .before .before .before .pre in
+    let no-rows = c .before .before .before .before .no-rows in
+    let loop = c .before .before .before .loop in
+    let loop-test = c .before .before .loop-test in
+    filling-more _ _ _ (loop .inv) _ _ (loop-test .taken) (omega (arith, blank-long 32 (no-rows .ensures), pre)) (sym (zero-add _)) (c .row .ensures)
 
 returns : tie.Need-returns Inv-loop μ-loop
 returns c = rows-of _ _ _ (c .before .before .no-rows .ensures) (c .before .loop .inv) (c .loop-test .left)

@@ -47,10 +47,19 @@ loop-less : tie.Need-loop-less Inv-loop μ-loop
 loop-less c = search needs
 
 loop-again : tie.Need-loop-again Inv-loop μ-loop
-loop-again c = filling-more _ _ _ (c .before .before .before .loop .inv) _ _ (c .before .before .loop-test .taken) (omega (arith, blank-long 128 (c .before .before .before .before .no-table .ensures))) (sym (zero-add _)) (c .word .ensures)
+loop-again c =
+    let no-table = c .before .before .before .before .no-table in
+    let loop = c .before .before .before .loop in
+    let loop-test = c .before .before .loop-test in
+    filling-more _ _ _ (loop .inv) _ _ (loop-test .taken) (omega (arith, blank-long 128 (no-table .ensures))) (sym (zero-add _)) (c .word .ensures)
 
 returns : tie.Need-returns Inv-loop μ-loop
-returns c = tabled _ _ _ _ _ (c .before .before .before .before .pre) (c .before .before .before .rows .ensures) (λ i l. words-of _ _ _ _ refl (c .before .before .before .rows .ensures) (c .before .before .no-table .ensures) (c .before .loop .inv) (c .loop-test .left) i)
+returns c =
+    let pre = c .before .before .before .before .pre in
+    let rows = c .before .before .before .rows in
+    let no-table = c .before .before .no-table in
+    let loop = c .before .loop in
+    tabled _ _ _ _ _ pre (rows .ensures) (λ i l. words-of _ _ _ _ refl (rows .ensures) (no-table .ensures) (loop .inv) (c .loop-test .left) i)
 
 pub table-spec : {M : Type 1} → statement M
 table-spec =

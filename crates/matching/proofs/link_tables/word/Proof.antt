@@ -54,7 +54,13 @@ pick-requires-4 : tie.Need-pick-requires-4
 pick-requires-4 c κs = search needs
 
 returns : tie.Need-returns
-returns c = word-of (now (c .before .before .before .before .before .before .before .before .args .t)) _ (c .before .before .before .before .before .before .before .before .pre) _ _ _ _ _ refl (c .before .before .before .before .before .before .pick .ensures) (c .before .before .before .before .pick2 .ensures) (c .before .before .pick3 .ensures) (c .pick4 .ensures)
+returns c =
+    let args = c .before .before .before .before .before .before .before .before .args in
+    let pre = c .before .before .before .before .before .before .before .before .pre in
+    let pick = c .before .before .before .before .before .before .pick in
+    let pick2 = c .before .before .before .before .pick2 in
+    let pick3 = c .before .before .pick3 in
+    word-of (now (args .t)) _ pre _ _ _ _ _ refl (pick .ensures) (pick2 .ensures) (pick3 .ensures) (c .pick4 .ensures)
 
 pub word-spec : {M : Type 1} → statement M
 word-spec =

@@ -24,7 +24,9 @@ shared-slice-read-if1 : tie.Need-shared-slice-read-if1 Inv-loop μ-loop
 shared-slice-read-if1 c = search needs
 
 returns : tie.Need-returns Inv-loop μ-loop
-returns c = record { upto = c .before .before .before .loop .inv .0; passed = c .before .before .before .loop .inv .1; here = λ l. c .if1 .taken }
+returns c =
+    let loop = c .before .before .before .loop in
+    record { upto = loop .inv .0; passed = loop .inv .1; here = λ l. c .if1 .taken }
 
 add-i : tie.Need-add-i Inv-loop μ-loop
 add-i c = search needs

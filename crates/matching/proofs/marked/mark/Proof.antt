@@ -28,19 +28,30 @@ wide-requires-2 : tie.Need-wide-requires-2
 wide-requires-2 c κs = search needs
 
 add-if1 : tie.Need-add-if1
-add-if1 c = omega (arith, c .before .before .wide .ensures, c .before .before .before .shared-slice-known2 .given (c .before .before .before .before .before .before .args .v) .fits)
+add-if1 c =
+    let args = c .before .before .before .before .before .before .args in
+    let shared-slice-known2 = c .before .before .before .shared-slice-known2 in
+    let wide = c .before .before .wide in
+    omega (arith, wide .ensures, shared-slice-known2 .given (args .v) .fits)
 
 add-x : tie.Need-add-x
 add-x c = search needs
 
 add-requires : tie.Need-add-requires
-add-requires c κs = (c .before .before .before .before .before .before .before .before .pre .2, ⊎-elim (λ w. omega (arith, c .before .before .before .before .before .before .before .before .pre .0, w .1)) (λ w. omega (arith, c .before .before .before .before .before .before .before .before .pre .0, w .1)) (c .before .if1 .came))
+add-requires c κs =
+    let pre = c .before .before .before .before .before .before .before .before .pre in
+    let if1 = c .before .if1 in
+    (pre .2, ⊎-elim (λ w. omega (arith, pre .0, w .1)) (λ w. omega (arith, pre .0, w .1)) (if1 .came))
 
 same-length : tie.Need-same-length
 same-length c = search needs
 
 returns : tie.Need-returns
-returns c = added-marks (c .before .before .before .before .before .before .before .before .before .before .before .pre .0) (⊎-elim (λ w. inl (w .1)) (λ w. inr (w .1)) (c .before .before .before .before .if1 .came)) (c .before .before .add .ensures)
+returns c =
+    let pre = c .before .before .before .before .before .before .before .before .before .before .before .pre in
+    let if1 = c .before .before .before .before .if1 in
+    let add = c .before .before .add in
+    added-marks (pre .0) (⊎-elim (λ w. inl (w .1)) (λ w. inr (w .1)) (if1 .came)) (add .ensures)
 
 pub mark-spec : {M : Type 1} → statement M
 mark-spec =

@@ -11,13 +11,17 @@ same-length : tie.Need-same-length
 same-length c = search needs
 
 returns : tie.Need-returns
-returns c = drawn-first (c .before .before .before .draw .ensures) (c .if1 .taken)
+returns c =
+    let draw = c .before .before .before .draw in
+    drawn-first (draw .ensures) (c .if1 .taken)
 
 same-length-2 : tie.Need-same-length-2
 same-length-2 c = search needs
 
 returns-2 : tie.Need-returns-2
-returns-2 c = drawn-second (c .before .before .before .draw .ensures) (c .if1 .left)
+returns-2 c =
+    let draw = c .before .before .before .draw in
+    drawn-second (draw .ensures) (c .if1 .left)
 
 pub take-spec : {M : Type 1} → statement M
 take-spec =

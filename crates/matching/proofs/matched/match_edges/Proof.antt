@@ -6,37 +6,72 @@ use Rattle.matching.proofs.matched.match_edges.Statement.{statement}
 use Rattle.matching.proofs.matched.match_edges.Tie as tie
 
 all-requires : tie.Need-all-requires
-all-requires c κs = c .before .before .before .before .before .before .before .pre .0 .edges
+all-requires c κs =
+    let pre = c .before .before .before .before .before .before .before .pre in
+    pre .0 .edges
 
 hold-requires : tie.Need-hold-requires
-hold-requires c κs = (c .before .before .before .before .before .before .before .before .before .pre .2 .edges, c .before .before .before .before .before .before .before .before .before .pre .2 .long)
+hold-requires c κs =
+    let pre = c .before .before .before .before .before .before .before .before .before .pre in
+    (pre .2 .edges, pre .2 .long)
 
 spread-requires : tie.Need-spread-requires
-spread-requires c κs = (c .before .before .before .before .before .before .before .before .before .before .before .before .before .before .before .pre .0, c .before .before .before .before .before .before .before .before .before .before .before .before .before .before .before .pre .2 .small, c .before .before .before .before .before .before .before .before .before .before .before .before .before .before .before .pre .2 .labels, c .before .before .before .before .before .before .before .before .before .before .before .before .before .before .before .pre .4)
+spread-requires c κs =
+    let pre = c .before .before .before .before .before .before .before .before .before .before .before .before .before .before .before .pre in
+    (pre .0, pre .2 .small, pre .2 .labels, pre .4)
 
 table-requires : tie.Need-table-requires
-table-requires c κs = c .before .before .before .before .before .before .before .before .before .before .before .before .before .before .before .before .before .before .before .before .before .before .before .before .pre .0 .edges
+table-requires c κs =
+    let pre = c .before .before .before .before .before .before .before .before .before .before .before .before .before .before .before .before .before .before .before .before .before .before .before .before .pre in
+    pre .0 .edges
 
 table-requires-2 : tie.Need-table-requires-2
-table-requires-2 c κs = c .before .before .before .before .before .before .before .before .before .before .before .before .before .before .before .before .before .before .before .before .before .before .before .before .before .before .before .pre .0 .edges
+table-requires-2 c κs =
+    let pre = c .before .before .before .before .before .before .before .before .before .before .before .before .before .before .before .before .before .before .before .before .before .before .before .before .before .before .before .pre in
+    pre .0 .edges
 
 rest-requires : tie.Need-rest-requires
-rest-requires c κs = (started (c .before .before .before .before .before .before .before .before .before .before .before .before .before .before .before .before .before .before .before .before .before .before .before .before .before .before .before .before .before .before .before .before .before .before .pre .0) (c .before .before .before .before .before .before .before .before .before .before .before .before .before .before .before .before .before .before .before .before .before .before .before .before .before .before .before .before .before .before .before .before .before .before .pre .2) (c .before .before .before .before .before .before .before .before .before .before .before .before .before .before .before .before .before .before .before .before .before .before .before .before .before .before .before .before .before .before .before .before .before .before .pre .3) (c .before .before .before .before .before .before .before .before .before .before .before .before .before .before .before .before .before .before .before .before .before .before .before .before .before .before .all .ensures) (c .before .before .before .before .before .before .before .before .before .before .before .before .before .before .before .before .before .before .before .before .before .before .before .before .before .before .before .before .before .before .before .before .before .before .pre .4) (c .before .before .before .before .before .before .before .before .before .before .before .before .before .before .before .before .before .before .before .before .before .before .before .before .hold .ensures) (c .before .before .before .before .before .before .before .before .before .before .before .before .before .before .before .before .before .before .spread .ensures), c .before .before .before .before .before .before .before .before .before .before .before .before .before .before .before .before .before .before .before .before .before .before .before .before .before .before .before .before .before .before .before .before .before .before .pre .2 .nodes)
+rest-requires c κs =
+    let pre = c .before .before .before .before .before .before .before .before .before .before .before .before .before .before .before .before .before .before .before .before .before .before .before .before .before .before .before .before .before .before .before .before .before .before .pre in
+    let all = c .before .before .before .before .before .before .before .before .before .before .before .before .before .before .before .before .before .before .before .before .before .before .before .before .before .before .all in
+    let hold = c .before .before .before .before .before .before .before .before .before .before .before .before .before .before .before .before .before .before .before .before .before .before .before .before .hold in
+    let spread = c .before .before .before .before .before .before .before .before .before .before .before .before .before .before .before .before .before .before .spread in
+    (started (pre .0) (pre .2) (pre .3) (all .ensures) (pre .4) (hold .ensures) (spread .ensures), pre .2 .nodes)
 
 same-length : tie.Need-same-length
-same-length c = c .before .before .before .before .before .before .before .before .rest .ensures .falls .long ∙ c .before .before .before .before .before .before .before .before .before .before .before .before .before .before .before .before .before .before .before .before .before .before .before .before .before .before .before .before .before .before .before .before .before .hold .ensures .around .long
+same-length c =
+    let hold = c .before .before .before .before .before .before .before .before .before .before .before .before .before .before .before .before .before .before .before .before .before .before .before .before .before .before .before .before .before .before .before .before .before .hold in
+    let rest = c .before .before .before .before .before .before .before .before .rest in
+    rest .ensures .falls .long ∙ hold .ensures .around .long
 
 same-length-2 : tie.Need-same-length-2
-same-length-2 c = c .before .before .before .before .before .before .before .before .rest .ensures .leave-long ∙ c .before .before .before .before .before .before .before .before .before .before .before .before .before .before .before .before .before .before .before .before .before .before .before .before .before .before .before .spread .ensures .leaves .long
+same-length-2 c =
+    let spread = c .before .before .before .before .before .before .before .before .before .before .before .before .before .before .before .before .before .before .before .before .before .before .before .before .before .before .before .spread in
+    let rest = c .before .before .before .before .before .before .before .before .rest in
+    rest .ensures .leave-long ∙ spread .ensures .leaves .long
 
 same-length-3 : tie.Need-same-length-3
-same-length-3 c = c .before .before .before .before .before .before .before .before .rest .ensures .arrive-long ∙ c .before .before .before .before .before .before .before .before .before .before .before .before .before .before .before .before .before .before .before .before .before .before .before .before .before .before .before .spread .ensures .arrives .long
+same-length-3 c =
+    let spread = c .before .before .before .before .before .before .before .before .before .before .before .before .before .before .before .before .before .before .before .before .before .before .before .before .before .before .before .spread in
+    let rest = c .before .before .before .before .before .before .before .before .rest in
+    rest .ensures .arrive-long ∙ spread .ensures .arrives .long
 
 same-length-4 : tie.Need-same-length-4
-same-length-4 c = c .before .before .before .before .before .before .before .before .rest .ensures .out-long ∙ c .before .before .before .before .before .before .before .before .before .before .before .before .before .before .before .before .before .before .before .before .before .before .before .before .before .before .before .spread .ensures .outs .long
+same-length-4 c =
+    let spread = c .before .before .before .before .before .before .before .before .before .before .before .before .before .before .before .before .before .before .before .before .before .before .before .before .before .before .before .spread in
+    let rest = c .before .before .before .before .before .before .before .before .rest in
+    rest .ensures .out-long ∙ spread .ensures .outs .long
 
 returns : tie.Need-returns
-returns c = (matches (c .before .before .before .before .before .before .before .before .before .before .before .before .before .before .before .before .before .before .before .before .before .before .before .before .before .before .before .before .before .before .before .before .before .before .before .before .before .before .before .before .before .before .before .pre .2) (found (c .before .before .before .before .before .before .before .before .before .before .before .before .before .before .before .before .before .before .before .before .before .before .before .before .before .before .before .before .before .before .before .before .before .before .before .before .before .before .before .before .before .before .before .pre .0) (c .before .before .before .before .before .before .before .before .before .before .before .before .before .before .before .before .before .before .before .before .before .before .before .before .before .before .before .before .before .before .before .before .before .before .before .before .before .before .before .before .before .before .before .pre .2) (c .before .before .before .before .before .before .before .before .before .before .before .before .before .before .before .before .before .before .before .before .before .before .before .before .before .before .before .before .before .before .before .before .before .before .before .before .before .before .before .before .before .before .before .pre .3) (c .before .before .before .before .before .before .before .before .before .before .before .before .before .before .before .before .before .before .before .before .before .before .before .before .before .before .before .before .before .before .before .before .before .before .before .all .ensures) (c .before .before .before .before .before .before .before .before .before .before .before .before .before .before .before .before .before .before .before .before .before .before .before .before .before .before .before .before .before .before .before .before .before .before .before .before .before .before .before .before .before .before .before .pre .4) (c .before .before .before .before .before .before .before .before .before .before .before .before .before .before .before .before .before .before .before .before .before .before .before .before .before .before .before .before .before .before .before .before .before .hold .ensures) (c .before .before .before .before .before .before .before .before .before .before .before .before .before .before .before .before .before .before .before .before .before .before .before .before .before .before .before .spread .ensures) (c .before .before .before .before .before .before .before .before .before .before .before .before .before .before .before .before .before .before .table .ensures) (c .before .before .before .before .before .before .before .before .before .before .before .before .before .before .before .table2 .ensures) (c .before .before .before .before .before .before .before .before .rest .ensures)) (c .before .before .before .before .before .before .before .before .before .before .before .before .before .before .before .before .before .before .before .before .before .before .before .before .before .before .before .before .before .before .before .before .before .before .before .before .before .before .before .before .before .before .before .pre .1) (c .before .before .before .before .before .before .before .before .before .before .before .before .before .before .before .before .before .before .before .before .before .before .before .before .before .before .before .before .before .before .before .before .before .before .before .before .before .before .before .before .before .before .before .pre .3), room-again (c .before .before .before .before .before .before .before .before .before .before .before .before .before .before .before .before .before .before .before .before .before .before .before .before .before .before .before .before .before .before .before .before .before .before .before .before .before .before .before .before .before .before .before .pre .0) (c .before .before .before .before .before .before .before .before .before .before .before .before .before .before .before .before .before .before .before .before .before .before .before .before .before .before .before .before .before .before .before .before .before .before .before .before .before .before .before .before .before .before .before .pre .2) (c .before .before .before .before .before .before .before .before .before .before .before .before .before .before .before .before .before .before .before .before .before .before .before .before .before .before .before .before .before .before .before .before .before .before .before .before .before .before .before .before .before .before .before .pre .3) (c .before .before .before .before .before .before .before .before .before .before .before .before .before .before .before .before .before .before .before .before .before .before .before .before .before .before .before .before .before .before .before .before .before .before .before .all .ensures) (c .before .before .before .before .before .before .before .before .before .before .before .before .before .before .before .before .before .before .before .before .before .before .before .before .before .before .before .before .before .before .before .before .before .before .before .before .before .before .before .before .before .before .before .pre .4) (c .before .before .before .before .before .before .before .before .before .before .before .before .before .before .before .before .before .before .before .before .before .before .before .before .before .before .before .before .before .before .before .before .before .hold .ensures) (c .before .before .before .before .before .before .before .before .before .before .before .before .before .before .before .before .before .before .before .before .before .before .before .before .before .before .before .spread .ensures) (c .before .before .before .before .before .before .before .before .before .before .before .before .before .before .before .before .before .before .table .ensures) (c .before .before .before .before .before .before .before .before .before .before .before .before .before .before .before .table2 .ensures) (c .before .before .before .before .before .before .before .before .rest .ensures))
+returns c =
+    let pre = c .before .before .before .before .before .before .before .before .before .before .before .before .before .before .before .before .before .before .before .before .before .before .before .before .before .before .before .before .before .before .before .before .before .before .before .before .before .before .before .before .before .before .before .pre in
+    let all = c .before .before .before .before .before .before .before .before .before .before .before .before .before .before .before .before .before .before .before .before .before .before .before .before .before .before .before .before .before .before .before .before .before .before .before .all in
+    let hold = c .before .before .before .before .before .before .before .before .before .before .before .before .before .before .before .before .before .before .before .before .before .before .before .before .before .before .before .before .before .before .before .before .before .hold in
+    let spread = c .before .before .before .before .before .before .before .before .before .before .before .before .before .before .before .before .before .before .before .before .before .before .before .before .before .before .before .spread in
+    let table = c .before .before .before .before .before .before .before .before .before .before .before .before .before .before .before .before .before .before .table in
+    let table2 = c .before .before .before .before .before .before .before .before .before .before .before .before .before .before .before .table2 in
+    let rest = c .before .before .before .before .before .before .before .before .rest in
+    (matches (pre .2) (found (pre .0) (pre .2) (pre .3) (all .ensures) (pre .4) (hold .ensures) (spread .ensures) (table .ensures) (table2 .ensures) (rest .ensures)) (pre .1) (pre .3), room-again (pre .0) (pre .2) (pre .3) (all .ensures) (pre .4) (hold .ensures) (spread .ensures) (table .ensures) (table2 .ensures) (rest .ensures))
 
 pub match-edges-spec : {M : Type 1} → statement M
 match-edges-spec = tie.close (tie.spec all-requires hold-requires spread-requires table-requires table-requires-2 rest-requires same-length same-length-2 same-length-3 same-length-4 returns)

@@ -26,31 +26,63 @@ element-copy-out-u : tie.Need-element-copy-out-u Inv-loop μ-loop
 element-copy-out-u c = search needs
 
 cast-u : tie.Need-cast-u Inv-loop μ-loop
-cast-u c = omega (arith, c .before .before .before .before .pre .1 (c .before .before .loop .e) (c .before .loop-test .taken))
+cast-u c =
+    let pre = c .before .before .before .before .pre in
+    let loop = c .before .before .loop in
+    let loop-test = c .before .loop-test in
+    omega (arith, pre .1 (loop .e) (loop-test .taken))
 
 mul-l : tie.Need-mul-l Inv-loop μ-loop
-mul-l c = omega (arith, c .before .before .before .before .pre .1 (c .before .before .loop .e) (c .before .loop-test .taken))
+mul-l c =
+    let pre = c .before .before .before .before .pre in
+    let loop = c .before .before .loop in
+    let loop-test = c .before .loop-test in
+    omega (arith, pre .1 (loop .e) (loop-test .taken))
 
 element-copy-out-l : tie.Need-element-copy-out-l Inv-loop μ-loop
-element-copy-out-l c = omega (arith, c .before .before .before .before .pre .1 (c .before .before .loop .e) (c .before .loop-test .taken))
+element-copy-out-l c =
+    let pre = c .before .before .before .before .pre in
+    let loop = c .before .before .loop in
+    let loop-test = c .before .loop-test in
+    omega (arith, pre .1 (loop .e) (loop-test .taken))
 
 cast-l : tie.Need-cast-l Inv-loop μ-loop
-cast-l c = omega (arith, c .before .before .before .before .before .pre .2 (c .before .before .before .loop .e) (c .before .before .loop-test .taken))
+cast-l c =
+    let pre = c .before .before .before .before .before .pre in
+    let loop = c .before .before .before .loop in
+    let loop-test = c .before .before .loop-test in
+    omega (arith, pre .2 (loop .e) (loop-test .taken))
 
 mul-old : tie.Need-mul-old Inv-loop μ-loop
-mul-old c = omega (arith, c .before .before .before .before .before .pre .2 (c .before .before .before .loop .e) (c .before .before .loop-test .taken))
+mul-old c =
+    let pre = c .before .before .before .before .before .pre in
+    let loop = c .before .before .before .loop in
+    let loop-test = c .before .before .loop-test in
+    omega (arith, pre .2 (loop .e) (loop-test .taken))
 
 array-read-old : tie.Need-array-read-old Inv-loop μ-loop
-array-read-old c = omega (arith, c .before .before .before .before .before .pre .2 (c .before .before .before .loop .e) (c .before .before .loop-test .taken), c .before .before .before .loop .inv .1 .long)
+array-read-old c =
+    let pre = c .before .before .before .before .before .pre in
+    let loop = c .before .before .before .loop in
+    let loop-test = c .before .before .loop-test in
+    omega (arith, pre .2 (loop .e) (loop-test .taken), loop .inv .1 .long)
 
 one-requires : tie.Need-one-requires Inv-loop μ-loop
 one-requires c κs = search needs
 
 mul-t : tie.Need-mul-t Inv-loop μ-loop
-mul-t c = omega (arith, c .before .before .before .before .before .before .pre .2 (c .before .before .before .before .loop .e) (c .before .before .before .loop-test .taken))
+mul-t c =
+    let pre = c .before .before .before .before .before .before .pre in
+    let loop = c .before .before .before .before .loop in
+    let loop-test = c .before .before .before .loop-test in
+    omega (arith, pre .2 (loop .e) (loop-test .taken))
 
 array-write-t : tie.Need-array-write-t Inv-loop μ-loop
-array-write-t c = omega (arith, c .before .before .before .before .before .before .pre .2 (c .before .before .before .before .loop .e) (c .before .before .before .loop-test .taken), c .before .before .before .before .loop .inv .1 .long)
+array-write-t c =
+    let pre = c .before .before .before .before .before .before .pre in
+    let loop = c .before .before .before .before .loop in
+    let loop-test = c .before .before .before .loop-test in
+    omega (arith, pre .2 (loop .e) (loop-test .taken), loop .inv .1 .long)
 
 add-e : tie.Need-add-e Inv-loop μ-loop
 add-e c = search needs

@@ -25,10 +25,18 @@ element-copy-out-one : tie.Need-element-copy-out-one Inv-loop μ-loop
 element-copy-out-one c = search needs
 
 cast-one : tie.Need-cast-one Inv-loop μ-loop
-cast-one c = omega (arith, c .before .before .before .pre .1 (c .before .before .loop .u) (c .before .loop-test .taken))
+cast-one c =
+    let pre = c .before .before .before .pre in
+    let loop = c .before .before .loop in
+    let loop-test = c .before .loop-test in
+    omega (arith, pre .1 (loop .u) (loop-test .taken))
 
 one-requires : tie.Need-one-requires Inv-loop μ-loop
-one-requires c κs = omega (arith, c .before .before .before .pre .1 (c .before .before .loop .u) (c .before .loop-test .taken))
+one-requires c κs =
+    let pre = c .before .before .before .pre in
+    let loop = c .before .before .loop in
+    let loop-test = c .before .loop-test in
+    omega (arith, pre .1 (loop .u) (loop-test .taken))
 
 add-u : tie.Need-add-u Inv-loop μ-loop
 add-u c = search needs

@@ -39,10 +39,17 @@ one-requires : tie.Need-one-requires Inv-loop μ-loop
 one-requires c κs = c .before .before .lowest .ensures .0
 
 loop-less : tie.Need-loop-less Inv-loop μ-loop
-loop-less c = minus-lt (c .before .before .before .before .before .loop .left) (c .one .result) (c .before .before .before .lowest .result) (c .before .before .before .lowest .ensures .1) (subst (λ (y : ℕ). Has y (c .before .before .before .lowest .result)) (sym (c .one .ensures)) (bit-self (c .before .before .before .lowest .result)))
+loop-less c =
+    let loop = c .before .before .before .before .before .loop in
+    let lowest = c .before .before .before .lowest in
+    minus-lt (loop .left) (c .one .result) (lowest .result) (lowest .ensures .1) (subst (λ (y : ℕ). Has y (lowest .result)) (sym (c .one .ensures)) (bit-self (lowest .result)))
 
 loop-again : tie.Need-loop-again Inv-loop μ-loop
-loop-again c = ((λ l h. c .before .before .before .before .before .loop .inv .0 l (minus-say (c .before .before .before .before .before .loop .left) (c .one .result) l h .0)), taken-more (now (c .before .before .before .before .before .before .args .leaving)) _ (c .before .before .before .before .before .loop .left) (c .before .before .before .before .before .loop .inv .1) (c .before .before .before .before .before .loop .inv .0) (c .before .before .before .lowest .result) (c .before .before .before .lowest .ensures .0) (c .before .before .before .lowest .ensures .1) (c .one .result) (c .one .ensures), taken-more (now (c .before .before .before .before .before .before .args .arriving)) _ (c .before .before .before .before .before .loop .left) (c .before .before .before .before .before .loop .inv .2) (c .before .before .before .before .before .loop .inv .0) (c .before .before .before .lowest .result) (c .before .before .before .lowest .ensures .0) (c .before .before .before .lowest .ensures .1) (c .one .result) (c .one .ensures))
+loop-again c =
+    let args = c .before .before .before .before .before .before .args in
+    let loop = c .before .before .before .before .before .loop in
+    let lowest = c .before .before .before .lowest in
+    ((λ l h. loop .inv .0 l (minus-say (loop .left) (c .one .result) l h .0)), taken-more (now (args .leaving)) _ (loop .left) (loop .inv .1) (loop .inv .0) (lowest .result) (lowest .ensures .0) (lowest .ensures .1) (c .one .result) (c .one .ensures), taken-more (now (args .arriving)) _ (loop .left) (loop .inv .2) (loop .inv .0) (lowest .result) (lowest .ensures .0) (lowest .ensures .1) (c .one .result) (c .one .ensures))
 
 returns : tie.Need-returns Inv-loop μ-loop
 returns c = (taken-end (now (c .before .before .args .leaving)) _ (c .before .loop .left) (c .before .loop .inv .1) (c .loop-test .left), taken-end (now (c .before .before .args .arriving)) _ (c .before .loop .left) (c .before .loop .inv .2) (c .loop-test .left))

@@ -13,40 +13,68 @@ abbrev μ-loop : tie.MeasureT-loop
 μ-loop s n leave₀ arrive₀ out₀ leaving arriving used v₀ leave arrive out v = n - v
 
 by-label-requires : tie.Need-by-label-requires Inv-loop μ-loop
-by-label-requires c κs = (c .before .before .before .before .before .before .before .before .before .pre .0 .edges, ends-few (c .before .before .before .before .before .before .before .before .before .pre .0) (c .before .before .before .before .before .before .before .before .before .args .p .from) (c .before .before .before .before .before .before .before .before .before .pre .0 .from), labels-few (c .before .before .before .before .before .before .before .before .before .pre .0) (c .before .before .before .before .before .before .before .before .before .args .p .from) (c .before .before .before .before .before .before .before .before .before .pre .0 .from))
+by-label-requires c κs =
+    let args = c .before .before .before .before .before .before .before .before .before .args in
+    let pre = c .before .before .before .before .before .before .before .before .before .pre in
+    (pre .0 .edges, ends-few (pre .0) (args .p .from) (pre .0 .from), labels-few (pre .0) (args .p .from) (pre .0 .from))
 
 by-label-requires-2 : tie.Need-by-label-requires-2 Inv-loop μ-loop
-by-label-requires-2 c κs = (c .before .before .before .before .before .before .before .before .before .before .before .before .pre .0 .edges, ends-few (c .before .before .before .before .before .before .before .before .before .before .before .before .pre .0) (c .before .before .before .before .before .before .before .before .before .before .before .before .args .p .to) (c .before .before .before .before .before .before .before .before .before .before .before .before .pre .0 .to), labels-few (c .before .before .before .before .before .before .before .before .before .before .before .before .pre .0) (c .before .before .before .before .before .before .before .before .before .before .before .before .args .p .to) (c .before .before .before .before .before .before .before .before .before .before .before .before .pre .0 .to))
+by-label-requires-2 c κs =
+    let args = c .before .before .before .before .before .before .before .before .before .before .before .before .args in
+    let pre = c .before .before .before .before .before .before .before .before .before .before .before .before .pre in
+    (pre .0 .edges, ends-few (pre .0) (args .p .to) (pre .0 .to), labels-few (pre .0) (args .p .to) (pre .0 .to))
 
 labels-used-requires : tie.Need-labels-used-requires Inv-loop μ-loop
-labels-used-requires c κs = (c .before .before .before .before .before .before .before .before .before .before .before .before .before .before .pre .0 .nodes, c .before .before .before .before .before .before .before .before .before .before .before .before .before .before .pre .0 .labels)
+labels-used-requires c κs =
+    let pre = c .before .before .before .before .before .before .before .before .before .before .before .before .before .before .pre in
+    (pre .0 .nodes, pre .0 .labels)
 
 loop-holds : tie.Need-loop-holds Inv-loop μ-loop
 loop-holds c = spreading-start _ _ _ _ _ _ _ _
 
 labels-at-requires : tie.Need-labels-at-requires Inv-loop μ-loop
-labels-at-requires c κs = (c .before .before .before .before .before .before .before .before .before .before .before .before .before .before .before .before .before .pre .1, omega (arith, c .before .before .before .before .before .before .before .before .before .before .before .before .before .before .before .before .before .pre .2, c .loop-test .taken))
+labels-at-requires c κs =
+    let pre = c .before .before .before .before .before .before .before .before .before .before .before .before .before .before .before .before .before .pre in
+    (pre .1, omega (arith, pre .2, c .loop-test .taken))
 
 links-of-requires : tie.Need-links-of-requires Inv-loop μ-loop
 links-of-requires c κs = search needs
 
 mul-leave : tie.Need-mul-leave Inv-loop μ-loop
-mul-leave c = omega (arith, c .before .before .before .before .before .loop .inv .leaves .long, c .before .before .before .before .before .before .before .before .before .before .before .before .before .before .before .before .before .before .before .before .before .pre .3 .nodes, c .before .before .before .before .before .before .before .before .before .before .before .before .before .before .before .before .before .before .before .before .before .pre .3 .leave-long)
+mul-leave c =
+    let pre = c .before .before .before .before .before .before .before .before .before .before .before .before .before .before .before .before .before .before .before .before .before .pre in
+    let loop = c .before .before .before .before .before .loop in
+    omega (arith, loop .inv .leaves .long, pre .3 .nodes, pre .3 .leave-long)
 
 slice-write-leave : tie.Need-slice-write-leave Inv-loop μ-loop
-slice-write-leave c = omega (arith, c .before .before .before .before .before .loop .inv .leaves .long, c .before .before .before .before .before .before .before .before .before .before .before .before .before .before .before .before .before .before .before .before .before .pre .3 .nodes, c .before .before .before .before .before .before .before .before .before .before .before .before .before .before .before .before .before .before .before .before .before .pre .3 .leave-long)
+slice-write-leave c =
+    let pre = c .before .before .before .before .before .before .before .before .before .before .before .before .before .before .before .before .before .before .before .before .before .pre in
+    let loop = c .before .before .before .before .before .loop in
+    omega (arith, loop .inv .leaves .long, pre .3 .nodes, pre .3 .leave-long)
 
 mul-arrive : tie.Need-mul-arrive Inv-loop μ-loop
-mul-arrive c = omega (arith, c .before .before .before .before .before .loop .inv .arrives .long, c .before .before .before .before .before .before .before .before .before .before .before .before .before .before .before .before .before .before .before .before .before .pre .3 .nodes, c .before .before .before .before .before .before .before .before .before .before .before .before .before .before .before .before .before .before .before .before .before .pre .3 .arrive-long)
+mul-arrive c =
+    let pre = c .before .before .before .before .before .before .before .before .before .before .before .before .before .before .before .before .before .before .before .before .before .pre in
+    let loop = c .before .before .before .before .before .loop in
+    omega (arith, loop .inv .arrives .long, pre .3 .nodes, pre .3 .arrive-long)
 
 slice-write-arrive : tie.Need-slice-write-arrive Inv-loop μ-loop
-slice-write-arrive c = omega (arith, c .before .before .before .before .before .loop .inv .arrives .long, c .before .before .before .before .before .before .before .before .before .before .before .before .before .before .before .before .before .before .before .before .before .pre .3 .nodes, c .before .before .before .before .before .before .before .before .before .before .before .before .before .before .before .before .before .before .before .before .before .pre .3 .arrive-long)
+slice-write-arrive c =
+    let pre = c .before .before .before .before .before .before .before .before .before .before .before .before .before .before .before .before .before .before .before .before .before .pre in
+    let loop = c .before .before .before .before .before .loop in
+    omega (arith, loop .inv .arrives .long, pre .3 .nodes, pre .3 .arrive-long)
 
 mul-out : tie.Need-mul-out Inv-loop μ-loop
-mul-out c = omega (arith, c .before .before .before .before .before .loop .inv .outs .long, c .before .before .before .before .before .before .before .before .before .before .before .before .before .before .before .before .before .before .before .before .before .pre .3 .nodes)
+mul-out c =
+    let pre = c .before .before .before .before .before .before .before .before .before .before .before .before .before .before .before .before .before .before .before .before .before .pre in
+    let loop = c .before .before .before .before .before .loop in
+    omega (arith, loop .inv .outs .long, pre .3 .nodes)
 
 slice-write-out : tie.Need-slice-write-out Inv-loop μ-loop
-slice-write-out c = omega (arith, c .before .before .before .before .before .loop .inv .outs .long, c .before .before .before .before .before .before .before .before .before .before .before .before .before .before .before .before .before .before .before .before .before .pre .3 .nodes)
+slice-write-out c =
+    let pre = c .before .before .before .before .before .before .before .before .before .before .before .before .before .before .before .before .before .before .before .before .before .pre in
+    let loop = c .before .before .before .before .before .loop in
+    omega (arith, loop .inv .outs .long, pre .3 .nodes)
 
 add-v : tie.Need-add-v Inv-loop μ-loop
 add-v c = search needs
@@ -55,7 +83,12 @@ loop-less : tie.Need-loop-less Inv-loop μ-loop
 loop-less c = search needs
 
 loop-again : tie.Need-loop-again Inv-loop μ-loop
-loop-again c = spreading-more _ _ _ _ _ (c .before .before .before .before .before .loop .inv) (c .before .before .before .before .before .before .before .before .before .before .before .before .before .before .before .before .before .before .before .before .before .pre .3) (c .before .before .before .before .loop-test .taken) (c .before .before .before .labels-at .ensures) _ _ (c .links-of .ensures .0) (c .links-of .ensures .1)
+loop-again c =
+    let pre = c .before .before .before .before .before .before .before .before .before .before .before .before .before .before .before .before .before .before .before .before .before .pre in
+    let loop = c .before .before .before .before .before .loop in
+    let loop-test = c .before .before .before .before .loop-test in
+    let labels-at = c .before .before .before .labels-at in
+    spreading-more _ _ _ _ _ (loop .inv) (pre .3) (loop-test .taken) (labels-at .ensures) _ _ (c .links-of .ensures .0) (c .links-of .ensures .1)
 
 same-length : tie.Need-same-length Inv-loop μ-loop
 same-length c = c .before .loop .inv .leaves .long
@@ -67,7 +100,13 @@ same-length-3 : tie.Need-same-length-3 Inv-loop μ-loop
 same-length-3 c = c .before .loop .inv .outs .long
 
 returns : tie.Need-returns Inv-loop μ-loop
-returns c = spreading-end _ _ _ _ _ (c .before .loop .inv) (c .before .before .before .before .before .before .before .before .before .before .before .before .before .before .before .before .before .pre .0) (c .before .before .before .before .before .before .before .by-label .ensures) (c .before .before .before .before .by-label2 .ensures) (c .before .before .labels-used .ensures) (c .loop-test .left)
+returns c =
+    let pre = c .before .before .before .before .before .before .before .before .before .before .before .before .before .before .before .before .before .pre in
+    let by-label = c .before .before .before .before .before .before .before .by-label in
+    let by-label2 = c .before .before .before .before .by-label2 in
+    let labels-used = c .before .before .labels-used in
+    let loop = c .before .loop in
+    spreading-end _ _ _ _ _ (loop .inv) (pre .0) (by-label .ensures) (by-label2 .ensures) (labels-used .ensures) (c .loop-test .left)
 
 pub spread-spec : {M : Type 1} → statement M
 spread-spec = tie.close (tie.spec Inv-loop μ-loop by-label-requires by-label-requires-2 labels-used-requires loop-holds labels-at-requires links-of-requires mul-leave slice-write-leave mul-arrive slice-write-arrive mul-out slice-write-out add-v loop-less loop-again same-length same-length-2 same-length-3 returns)

@@ -18,22 +18,40 @@ loop-holds : tie.Need-loop-holds Inv-loop μ-loop
 loop-holds c = fixed-none 1 (λ z. omega arith) (c .before .before .before .before .pre)
 
 round-requires : tie.Need-round-requires Inv-loop μ-loop
-round-requires c κs = fixed-prepared (c .before .before .before .before .before .loop .inv) (c .before .before .before .before .before .before .before .before .before .before .pre)
+round-requires c κs =
+    let pre = c .before .before .before .before .before .before .before .before .before .before .pre in
+    let loop = c .before .before .before .before .before .loop in
+    fixed-prepared (loop .inv) pre
 
 same-length : tie.Need-same-length Inv-loop μ-loop
-same-length c = c .before .before .before .before .before .before .before .before .before .round .ensures .falls .long ∙ c .before .before .before .before .before .before .before .before .before .before .before .before .before .before .before .loop .inv .falls .long
+same-length c =
+    let loop = c .before .before .before .before .before .before .before .before .before .before .before .before .before .before .before .loop in
+    let round = c .before .before .before .before .before .before .before .before .before .round in
+    round .ensures .falls .long ∙ loop .inv .falls .long
 
 same-length-2 : tie.Need-same-length-2 Inv-loop μ-loop
-same-length-2 c = c .before .before .before .before .before .before .before .before .before .round .ensures .leave-long ∙ c .before .before .before .before .before .before .before .before .before .before .before .before .before .before .before .loop .inv .leave-long
+same-length-2 c =
+    let loop = c .before .before .before .before .before .before .before .before .before .before .before .before .before .before .before .loop in
+    let round = c .before .before .before .before .before .before .before .before .before .round in
+    round .ensures .leave-long ∙ loop .inv .leave-long
 
 same-length-3 : tie.Need-same-length-3 Inv-loop μ-loop
-same-length-3 c = c .before .before .before .before .before .before .before .before .before .round .ensures .arrive-long ∙ c .before .before .before .before .before .before .before .before .before .before .before .before .before .before .before .loop .inv .arrive-long
+same-length-3 c =
+    let loop = c .before .before .before .before .before .before .before .before .before .before .before .before .before .before .before .loop in
+    let round = c .before .before .before .before .before .before .before .before .before .round in
+    round .ensures .arrive-long ∙ loop .inv .arrive-long
 
 same-length-4 : tie.Need-same-length-4 Inv-loop μ-loop
-same-length-4 c = c .before .before .before .before .before .before .before .before .before .round .ensures .out-long ∙ c .before .before .before .before .before .before .before .before .before .before .before .before .before .before .before .loop .inv .out-long
+same-length-4 c =
+    let loop = c .before .before .before .before .before .before .before .before .before .before .before .before .before .before .before .loop in
+    let round = c .before .before .before .before .before .before .before .before .before .round in
+    round .ensures .out-long ∙ loop .inv .out-long
 
 returns : tie.Need-returns Inv-loop μ-loop
-returns c = fixed-told (fixed-then (c .before .before .before .before .before .before .before .before .before .before .before .before .before .before .before .loop .inv) (c .before .before .before .before .before .before .before .before .before .round .ensures)) 0 (λ z. c .if1 .taken)
+returns c =
+    let loop = c .before .before .before .before .before .before .before .before .before .before .before .before .before .before .before .loop in
+    let round = c .before .before .before .before .before .before .before .before .before .round in
+    fixed-told (fixed-then (loop .inv) (round .ensures)) 0 (λ z. c .if1 .taken)
 
 sub-left : tie.Need-sub-left Inv-loop μ-loop
 sub-left c = search needs

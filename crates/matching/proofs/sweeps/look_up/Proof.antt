@@ -97,7 +97,16 @@ element-copy-out-high-4 : tie.Need-element-copy-out-high-4
 element-copy-out-high-4 c = search needs
 
 returns : tie.Need-returns
-returns c = looked-up _ _ _ _ _ _ _ _ _ _ (c .before .before .before .before .before .before .before .before .before .before .before .before .before .before .before .wide .ensures) (c .before .before .before .before .before .before .before .before .before .before .before .before .before .before .wide2 .ensures) (c .before .before .before .before .before .before .before .before .before .before .before .before .before .wide3 .ensures) (c .before .before .before .before .before .before .before .before .before .before .before .before .wide4 .ensures) (c .before .before .before .before .before .before .before .before .before .before .before .wide5 .ensures) (c .before .before .before .before .before .before .before .before .before .before .wide6 .ensures) (c .before .before .before .before .before .before .before .before .before .wide7 .ensures) (c .before .before .before .before .before .before .before .before .wide8 .ensures)
+returns c =
+    let wide = c .before .before .before .before .before .before .before .before .before .before .before .before .before .before .before .wide in
+    let wide2 = c .before .before .before .before .before .before .before .before .before .before .before .before .before .before .wide2 in
+    let wide3 = c .before .before .before .before .before .before .before .before .before .before .before .before .before .wide3 in
+    let wide4 = c .before .before .before .before .before .before .before .before .before .before .before .before .wide4 in
+    let wide5 = c .before .before .before .before .before .before .before .before .before .before .before .wide5 in
+    let wide6 = c .before .before .before .before .before .before .before .before .before .before .wide6 in
+    let wide7 = c .before .before .before .before .before .before .before .before .before .wide7 in
+    let wide8 = c .before .before .before .before .before .before .before .before .wide8 in
+    looked-up _ _ _ _ _ _ _ _ _ _ (wide .ensures) (wide2 .ensures) (wide3 .ensures) (wide4 .ensures) (wide5 .ensures) (wide6 .ensures) (wide7 .ensures) (wide8 .ensures)
 
 pub look-up-spec : {M : Type 1} → statement M
 look-up-spec =

@@ -4,7 +4,9 @@ use Rattle.matching.proofs.sweeps.round.Statement.{statement}
 use Rattle.matching.proofs.sweeps.round.Tie as tie
 
 sweep-requires : tie.Need-sweep-requires
-sweep-requires c κs = (prepared-ends (c .before .before .before .before .before .before .before .before .pre), c .before .before .before .before .before .before .before .before .pre .leave-long, c .before .before .before .before .before .before .before .before .pre .arrive-long, prepared-starts (c .before .before .before .before .before .before .before .before .pre))
+sweep-requires c κs =
+    let pre = c .before .before .before .before .before .before .before .before .pre in
+    (prepared-ends pre, pre .leave-long, pre .arrive-long, prepared-starts pre)
 
 settle-requires : tie.Need-settle-requires
 settle-requires c κs = search needs
@@ -22,7 +24,11 @@ same-length-4 : tie.Need-same-length-4
 same-length-4 c = search needs
 
 returns : tie.Need-returns
-returns c = round-fixed (c .before .before .before .before .before .before .before .before .before .before .before .before .before .before .before .before .before .before .before .before .before .before .before .pre) (c .before .before .before .before .before .before .before .before .before .before .before .before .before .before .sweep .ensures) (c .before .before .before .before .before .before .settle .ensures)
+returns c =
+    let pre = c .before .before .before .before .before .before .before .before .before .before .before .before .before .before .before .before .before .before .before .before .before .before .before .pre in
+    let sweep = c .before .before .before .before .before .before .before .before .before .before .before .before .before .before .sweep in
+    let settle = c .before .before .before .before .before .before .settle in
+    round-fixed pre (sweep .ensures) (settle .ensures)
 
 pub round-spec : {M : Type 1} → statement M
 round-spec =

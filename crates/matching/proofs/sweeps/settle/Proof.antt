@@ -17,46 +17,82 @@ loop-holds : tie.Need-loop-holds Inv-loop μ-loop
 loop-holds c = settling-start _ _ _ _ _ _ _
 
 mul-a : tie.Need-mul-a Inv-loop μ-loop
-mul-a c = omega (arith, c .before .loop .inv .leaves .long, c .before .before .before .before .before .pre .0)
+mul-a c =
+    let pre = c .before .before .before .before .before .pre in
+    let loop = c .before .loop in
+    omega (arith, loop .inv .leaves .long, pre .0)
 
 slice-read-a : tie.Need-slice-read-a Inv-loop μ-loop
-slice-read-a c = omega (arith, c .before .before .loop .inv .leaves .long, c .before .before .before .before .before .before .pre .0)
+slice-read-a c =
+    let pre = c .before .before .before .before .before .before .pre in
+    let loop = c .before .before .loop in
+    omega (arith, loop .inv .leaves .long, pre .0)
 
 mul-b : tie.Need-mul-b Inv-loop μ-loop
-mul-b c = omega (arith, c .before .before .loop .inv .arrives .long, c .before .before .before .before .before .before .pre .1)
+mul-b c =
+    let pre = c .before .before .before .before .before .before .pre in
+    let loop = c .before .before .loop in
+    omega (arith, loop .inv .arrives .long, pre .1)
 
 slice-read-b : tie.Need-slice-read-b Inv-loop μ-loop
-slice-read-b c = omega (arith, c .before .before .before .loop .inv .arrives .long, c .before .before .before .before .before .before .before .pre .1)
+slice-read-b c =
+    let pre = c .before .before .before .before .before .before .before .pre in
+    let loop = c .before .before .before .loop in
+    omega (arith, loop .inv .arrives .long, pre .1)
 
 mul-miss : tie.Need-mul-miss Inv-loop μ-loop
-mul-miss c = omega (arith, c .before .before .before .loop .inv .outs .long, c .before .before .before .before .before .before .before .pre .2)
+mul-miss c =
+    let pre = c .before .before .before .before .before .before .before .pre in
+    let loop = c .before .before .before .loop in
+    omega (arith, loop .inv .outs .long, pre .2)
 
 slice-read-miss : tie.Need-slice-read-miss Inv-loop μ-loop
-slice-read-miss c = omega (arith, c .before .before .before .before .loop .inv .outs .long, c .before .before .before .before .before .before .before .before .pre .2)
+slice-read-miss c =
+    let pre = c .before .before .before .before .before .before .before .before .pre in
+    let loop = c .before .before .before .before .loop in
+    omega (arith, loop .inv .outs .long, pre .2)
 
 mul-out : tie.Need-mul-out Inv-loop μ-loop
-mul-out c = omega (arith, c .before .before .before .before .loop .inv .outs .long, c .before .before .before .before .before .before .before .before .pre .2)
+mul-out c =
+    let pre = c .before .before .before .before .before .before .before .before .pre in
+    let loop = c .before .before .before .before .loop in
+    omega (arith, loop .inv .outs .long, pre .2)
 
 slice-write-out : tie.Need-slice-write-out Inv-loop μ-loop
-slice-write-out c = omega (arith, c .before .before .before .before .loop .inv .outs .long, c .before .before .before .before .before .before .before .before .pre .2)
+slice-write-out c =
+    let pre = c .before .before .before .before .before .before .before .before .pre in
+    let loop = c .before .before .before .before .loop in
+    omega (arith, loop .inv .outs .long, pre .2)
 
 without-requires : tie.Need-without-requires Inv-loop μ-loop
 without-requires c κs = search needs
 
 mul-leave : tie.Need-mul-leave Inv-loop μ-loop
-mul-leave c = omega (arith, c .before .before .before .before .before .loop .inv .leaves .long, c .before .before .before .before .before .before .before .before .before .pre .0)
+mul-leave c =
+    let pre = c .before .before .before .before .before .before .before .before .before .pre in
+    let loop = c .before .before .before .before .before .loop in
+    omega (arith, loop .inv .leaves .long, pre .0)
 
 slice-write-leave : tie.Need-slice-write-leave Inv-loop μ-loop
-slice-write-leave c = omega (arith, c .before .before .before .before .before .loop .inv .leaves .long, c .before .before .before .before .before .before .before .before .before .pre .0)
+slice-write-leave c =
+    let pre = c .before .before .before .before .before .before .before .before .before .pre in
+    let loop = c .before .before .before .before .before .loop in
+    omega (arith, loop .inv .leaves .long, pre .0)
 
 without-requires-2 : tie.Need-without-requires-2 Inv-loop μ-loop
 without-requires-2 c κs = search needs
 
 mul-arrive : tie.Need-mul-arrive Inv-loop μ-loop
-mul-arrive c = omega (arith, c .before .before .before .before .before .before .loop .inv .arrives .long, c .before .before .before .before .before .before .before .before .before .before .pre .1)
+mul-arrive c =
+    let pre = c .before .before .before .before .before .before .before .before .before .before .pre in
+    let loop = c .before .before .before .before .before .before .loop in
+    omega (arith, loop .inv .arrives .long, pre .1)
 
 slice-write-arrive : tie.Need-slice-write-arrive Inv-loop μ-loop
-slice-write-arrive c = omega (arith, c .before .before .before .before .before .before .loop .inv .arrives .long, c .before .before .before .before .before .before .before .before .before .before .pre .1)
+slice-write-arrive c =
+    let pre = c .before .before .before .before .before .before .before .before .before .before .pre in
+    let loop = c .before .before .before .before .before .before .loop in
+    omega (arith, loop .inv .arrives .long, pre .1)
 
 add-v : tie.Need-add-v Inv-loop μ-loop
 add-v c = search needs
@@ -66,7 +102,13 @@ loop-less c = search needs
 
 loop-again : tie.Need-loop-again Inv-loop μ-loop
 unfolding missing
-loop-again c = settling-more _ _ _ _ (c .before .before .before .before .before .before .loop .inv) (c .before .before .before .before .before .loop-test .taken) (c .before .before .before .before .before .before .before .before .before .before .pre .0) (c .before .before .before .before .before .before .before .before .before .before .pre .1) (c .before .before .before .before .before .before .before .before .before .before .pre .2) (c .before .before .slice-known6 .given (c .before .before .before .before .before .before .loop .v) .fits) _ _ (c .before .without .ensures) (c .without2 .ensures)
+loop-again c =
+    let pre = c .before .before .before .before .before .before .before .before .before .before .pre in
+    let loop = c .before .before .before .before .before .before .loop in
+    let loop-test = c .before .before .before .before .before .loop-test in
+    let slice-known6 = c .before .before .slice-known6 in
+    let without = c .before .without in
+    settling-more _ _ _ _ (loop .inv) (loop-test .taken) (pre .0) (pre .1) (pre .2) (slice-known6 .given (loop .v) .fits) _ _ (without .ensures) (c .without2 .ensures)
 
 same-length : tie.Need-same-length Inv-loop μ-loop
 same-length c = c .before .loop .inv .leaves .long

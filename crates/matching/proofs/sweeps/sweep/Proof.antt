@@ -2,7 +2,7 @@ use borrow.Author.Needs.{needs}
 use borrow.Author.Needs.{needs}
 use Prim.Native.Nat.{_-_}
 use native.Mathlib.Omega.{arith}
-use Rattle.matching.specs.Sweeping.{kept}
+use Rattle.matching.specs.Sweeping.{heldAfter}
 use Rattle.matching.proofs.SweepingLaws.{Running, running-start, sweeping-from, sweeping-to, running-more, sweeping-end}
 use Rattle.matching.proofs.sweeps.sweep.Statement.{statement}
 use Rattle.matching.proofs.sweeps.sweep.Tie as tie
@@ -14,16 +14,28 @@ abbrev μ-loop : tie.MeasureT-loop
 μ-loop work₀ d leave arrive free out₀ last₀ run₀ i₀ work out last run i = d - i
 
 loop-holds : tie.Need-loop-holds Inv-loop μ-loop
-loop-holds c = running-start _ _ _ _ _ _ (c .before .before .before .before .pre .3)
+loop-holds c =
+    let pre = c .before .before .before .before .pre in
+    running-start _ _ _ _ _ _ (pre .3)
 
 mul-x : tie.Need-mul-x Inv-loop μ-loop
-mul-x c = omega (arith, c .before .loop .inv .sweeping .fill .long, c .before .before .before .before .before .before .pre .0 .long, c .before .before .before .before .before .before .pre .0 .most)
+mul-x c =
+    let pre = c .before .before .before .before .before .before .pre in
+    let loop = c .before .loop in
+    omega (arith, loop .inv .sweeping .fill .long, pre .0 .long, pre .0 .most)
 
 slice-read-x : tie.Need-slice-read-x Inv-loop μ-loop
-slice-read-x c = omega (arith, c .before .before .loop .inv .sweeping .fill .long, c .before .before .before .before .before .before .before .pre .0 .long, c .before .before .before .before .before .before .before .pre .0 .most)
+slice-read-x c =
+    let pre = c .before .before .before .before .before .before .before .pre in
+    let loop = c .before .before .loop in
+    omega (arith, loop .inv .sweeping .fill .long, pre .0 .long, pre .0 .most)
 
 cast-f : tie.Need-cast-f Inv-loop μ-loop
-cast-f c = omega (arith, sweeping-from _ _ _ _ _ _ _ _ _ (c .before .before .before .before .before .before .before .pre .0) (c .before .before .loop .inv .sweeping) (c .before .loop-test .taken))
+cast-f c =
+    let pre = c .before .before .before .before .before .before .before .pre in
+    let loop = c .before .before .loop in
+    let loop-test = c .before .loop-test in
+    omega (arith, sweeping-from _ _ _ _ _ _ _ _ _ (pre .0) (loop .inv .sweeping) (loop-test .taken))
 
 cast-t : tie.Need-cast-t Inv-loop μ-loop
 cast-t c = search needs
@@ -32,37 +44,67 @@ add-at : tie.Need-add-at Inv-loop μ-loop
 add-at c = search needs
 
 mul-both : tie.Need-mul-both Inv-loop μ-loop
-mul-both c = omega (arith, sweeping-from _ _ _ _ _ _ _ _ _ (c .before .before .before .before .before .before .before .pre .0) (c .before .before .loop .inv .sweeping) (c .before .loop-test .taken), c .before .before .before .before .before .before .before .pre .1)
+mul-both c =
+    let pre = c .before .before .before .before .before .before .before .pre in
+    let loop = c .before .before .loop in
+    let loop-test = c .before .loop-test in
+    omega (arith, sweeping-from _ _ _ _ _ _ _ _ _ (pre .0) (loop .inv .sweeping) (loop-test .taken), pre .1)
 
 shared-slice-read-both : tie.Need-shared-slice-read-both Inv-loop μ-loop
-shared-slice-read-both c = omega (arith, sweeping-from _ _ _ _ _ _ _ _ _ (c .before .before .before .before .before .before .before .before .pre .0) (c .before .before .before .loop .inv .sweeping) (c .before .before .loop-test .taken), c .before .before .before .before .before .before .before .before .pre .1)
+shared-slice-read-both c =
+    let pre = c .before .before .before .before .before .before .before .before .pre in
+    let loop = c .before .before .before .loop in
+    let loop-test = c .before .before .loop-test in
+    omega (arith, sweeping-from _ _ _ _ _ _ _ _ _ (pre .0) (loop .inv .sweeping) (loop-test .taken), pre .1)
 
 mul-both-2 : tie.Need-mul-both-2 Inv-loop μ-loop
-mul-both-2 c = omega (arith, sweeping-to _ _ _ _ _ _ _ _ _ (c .before .before .before .before .before .before .before .before .pre .0) (c .before .before .before .loop .inv .sweeping) (c .before .before .loop-test .taken), c .before .before .before .before .before .before .before .before .pre .2)
+mul-both-2 c =
+    let pre = c .before .before .before .before .before .before .before .before .pre in
+    let loop = c .before .before .before .loop in
+    let loop-test = c .before .before .loop-test in
+    omega (arith, sweeping-to _ _ _ _ _ _ _ _ _ (pre .0) (loop .inv .sweeping) (loop-test .taken), pre .2)
 
 shared-slice-read-both-2 : tie.Need-shared-slice-read-both-2 Inv-loop μ-loop
-shared-slice-read-both-2 c = omega (arith, sweeping-to _ _ _ _ _ _ _ _ _ (c .before .before .before .before .before .before .before .before .before .pre .0) (c .before .before .before .before .loop .inv .sweeping) (c .before .before .before .loop-test .taken), c .before .before .before .before .before .before .before .before .before .pre .2)
+shared-slice-read-both-2 c =
+    let pre = c .before .before .before .before .before .before .before .before .before .pre in
+    let loop = c .before .before .before .before .loop in
+    let loop-test = c .before .before .before .loop-test in
+    omega (arith, sweeping-to _ _ _ _ _ _ _ _ _ (pre .0) (loop .inv .sweeping) (loop-test .taken), pre .2)
 
 mul-old : tie.Need-mul-old Inv-loop μ-loop
 mul-old c = search needs
 
 slice-read-old : tie.Need-slice-read-old Inv-loop μ-loop
-slice-read-old c = omega (arith, c .before .before .before .before .before .loop .inv .sweeping .fill .long, c .before .before .before .before .before .before .before .before .before .before .pre .0 .long, c .before .before .before .before .before .before .before .before .before .before .pre .0 .most)
+slice-read-old c =
+    let pre = c .before .before .before .before .before .before .before .before .before .before .pre in
+    let loop = c .before .before .before .before .before .loop in
+    omega (arith, loop .inv .sweeping .fill .long, pre .0 .long, pre .0 .most)
 
 mul-work : tie.Need-mul-work Inv-loop μ-loop
 mul-work c = search needs
 
 slice-write-work : tie.Need-slice-write-work Inv-loop μ-loop
-slice-write-work c = omega (arith, c .before .before .before .before .before .loop .inv .sweeping .fill .long, c .before .before .before .before .before .before .before .before .before .before .pre .0 .long, c .before .before .before .before .before .before .before .before .before .before .pre .0 .most)
+slice-write-work c =
+    let pre = c .before .before .before .before .before .before .before .before .before .before .pre in
+    let loop = c .before .before .before .before .before .loop in
+    omega (arith, loop .inv .sweeping .fill .long, pre .0 .long, pre .0 .most)
 
 carried-requires : tie.Need-carried-requires Inv-loop μ-loop
 carried-requires c κs = search needs
 
 mul-out : tie.Need-mul-out Inv-loop μ-loop
-mul-out c = omega (arith, sweeping-from _ _ _ _ _ _ _ _ _ (c .before .before .before .before .before .before .before .before .before .before .before .pre .0) (c .before .before .before .before .before .before .loop .inv .sweeping) (c .before .before .before .before .before .loop-test .taken), c .before .before .before .before .before .before .loop .inv .sweeping .long)
+mul-out c =
+    let pre = c .before .before .before .before .before .before .before .before .before .before .before .pre in
+    let loop = c .before .before .before .before .before .before .loop in
+    let loop-test = c .before .before .before .before .before .loop-test in
+    omega (arith, sweeping-from _ _ _ _ _ _ _ _ _ (pre .0) (loop .inv .sweeping) (loop-test .taken), loop .inv .sweeping .long)
 
 slice-write-out : tie.Need-slice-write-out Inv-loop μ-loop
-slice-write-out c = omega (arith, sweeping-from _ _ _ _ _ _ _ _ _ (c .before .before .before .before .before .before .before .before .before .before .before .pre .0) (c .before .before .before .before .before .before .loop .inv .sweeping) (c .before .before .before .before .before .loop-test .taken), c .before .before .before .before .before .before .loop .inv .sweeping .long)
+slice-write-out c =
+    let pre = c .before .before .before .before .before .before .before .before .before .before .before .pre in
+    let loop = c .before .before .before .before .before .before .loop in
+    let loop-test = c .before .before .before .before .before .loop-test in
+    omega (arith, sweeping-from _ _ _ _ _ _ _ _ _ (pre .0) (loop .inv .sweeping) (loop-test .taken), loop .inv .sweeping .long)
 
 add-i : tie.Need-add-i Inv-loop μ-loop
 add-i c = search needs
@@ -71,8 +113,12 @@ loop-less : tie.Need-loop-less Inv-loop μ-loop
 loop-less c = search needs
 
 loop-again : tie.Need-loop-again Inv-loop μ-loop
-unfolding kept
-loop-again c = running-more _ _ _ _ _ _ _ _ _ _ _ (c .before .before .before .before .before .before .before .before .before .before .before .pre .0) (c .before .before .before .before .before .before .before .before .before .before .before .pre .3) (c .before .before .before .before .before .before .loop .inv) (c .before .before .before .before .before .loop-test .taken) _ (c .carried .ensures)
+unfolding heldAfter
+loop-again c =
+    let pre = c .before .before .before .before .before .before .before .before .before .before .before .pre in
+    let loop = c .before .before .before .before .before .before .loop in
+    let loop-test = c .before .before .before .before .before .loop-test in
+    running-more _ _ _ _ _ _ _ _ _ _ _ (pre .0) (pre .3) (loop .inv) (loop-test .taken) _ (c .carried .ensures)
 
 same-length : tie.Need-same-length Inv-loop μ-loop
 same-length c = c .before .loop .inv .sweeping .fill .long

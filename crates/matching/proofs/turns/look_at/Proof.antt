@@ -14,7 +14,9 @@ mul-wide : tie.Need-mul-wide
 mul-wide c = search needs
 
 shared-slice-read-wide : tie.Need-shared-slice-read-wide
-shared-slice-read-wide c = omega (arith, c .before .before .before .before .before .before .before .before .pre .3, c .before .before .before .before .before .before .before .before .pre .4, c .before .before .before .before .before .before .before .before .pre .5)
+shared-slice-read-wide c =
+    let pre = c .before .before .before .before .before .before .before .before .pre in
+    omega (arith, pre .3, pre .4, pre .5)
 
 wide-requires : tie.Need-wide-requires
 wide-requires c κs = search needs
@@ -23,7 +25,9 @@ mul-wide-2 : tie.Need-mul-wide-2
 mul-wide-2 c = search needs
 
 shared-slice-read-wide-2 : tie.Need-shared-slice-read-wide-2
-shared-slice-read-wide-2 c = omega (arith, c .before .before .before .before .before .before .before .before .before .before .pre .3, c .before .before .before .before .before .before .before .before .before .before .pre .4, c .before .before .before .before .before .before .before .before .before .before .pre .5)
+shared-slice-read-wide-2 c =
+    let pre = c .before .before .before .before .before .before .before .before .before .before .pre in
+    omega (arith, pre .3, pre .4, pre .5)
 
 wide-requires-2 : tie.Need-wide-requires-2
 wide-requires-2 c κs = search needs
@@ -32,18 +36,29 @@ mul-here : tie.Need-mul-here
 mul-here c = search needs
 
 slice-read-here : tie.Need-slice-read-here
-slice-read-here c = omega (arith, c .before .before .before .before .before .before .before .before .before .before .before .before .pre .3, c .before .before .before .before .before .before .before .before .before .before .before .before .pre .6)
+slice-read-here c =
+    let pre = c .before .before .before .before .before .before .before .before .before .before .before .before .pre in
+    omega (arith, pre .3, pre .6)
 
 look-requires : tie.Need-look-requires
 look-requires c κs =
-    let r = range-rises (c .before .before .before .before .before .before .before .before .before .before .before .before .before .pre .1) (c .before .before .before .before .before .before .before .before .before .before .before .before .before .args .v) (c .before .before .before .before .before .before .before .before .before .before .before .before .before .pre .3) in
-    (omega (arith, r .0, c .before .before .before .before .wide .ensures, c .before .before .wide2 .ensures), ends-part (c .before .before .before .before .before .before .before .before .before .before .before .before .before .pre .0) (c .before .before .before .before .before .before .before .before .before .before .before .before .before .pre .7) (omega (arith, r .1, c .before .before .wide2 .ensures)))
+    let args = c .before .before .before .before .before .before .before .before .before .before .before .before .before .args in
+    let pre = c .before .before .before .before .before .before .before .before .before .before .before .before .before .pre in
+    let wide = c .before .before .before .before .wide in
+    let wide2 = c .before .before .wide2 in
+    let r = range-rises (pre .1) (args .v) (pre .3) in
+    (omega (arith, r .0, wide .ensures, wide2 .ensures), ends-part (pre .0) (pre .7) (omega (arith, r .1, wide2 .ensures)))
 
 same-length : tie.Need-same-length
 same-length c = search needs
 
 returns : tie.Need-returns
-returns c = turned-none _ _ _ _ _ _ (c .before .before .before .before .before .before .before .before .before .before .before .before .before .before .before .pre .1) (c .before .before .before .before .before .before .before .before .before .before .before .before .before .before .before .pre .3) (looked-cast (c .before .before .before .before .before .before .wide .ensures) (c .before .before .before .before .wide2 .ensures) (c .before .look .ensures)) (c .if1 .taken)
+returns c =
+    let pre = c .before .before .before .before .before .before .before .before .before .before .before .before .before .before .before .pre in
+    let wide = c .before .before .before .before .before .before .wide in
+    let wide2 = c .before .before .before .before .wide2 in
+    let look = c .before .look in
+    turned-none _ _ _ _ _ _ (pre .1) (pre .3) (looked-cast (wide .ensures) (wide2 .ensures) (look .ensures)) (c .if1 .taken)
 
 look-up-requires : tie.Need-look-up-requires
 look-up-requires c κs = search needs
@@ -55,22 +70,30 @@ mul-there : tie.Need-mul-there
 mul-there c = search needs
 
 slice-read-there : tie.Need-slice-read-there
-slice-read-there c = omega (arith, c .before .before .before .before .before .before .before .before .before .before .before .before .before .before .before .before .before .before .pre .3, c .before .before .before .before .before .before .before .before .before .before .before .before .before .before .before .before .before .before .pre .7)
+slice-read-there c =
+    let pre = c .before .before .before .before .before .before .before .before .before .before .before .before .before .before .before .before .before .before .pre in
+    omega (arith, pre .3, pre .7)
 
 mul-leave : tie.Need-mul-leave
 mul-leave c = search needs
 
 slice-write-leave : tie.Need-slice-write-leave
-slice-write-leave c = omega (arith, c .before .before .before .before .before .before .before .before .before .before .before .before .before .before .before .before .before .before .pre .3, c .before .before .before .before .before .before .before .before .before .before .before .before .before .before .before .before .before .before .pre .6)
+slice-write-leave c =
+    let pre = c .before .before .before .before .before .before .before .before .before .before .before .before .before .before .before .before .before .before .pre in
+    omega (arith, pre .3, pre .6)
 
 mul-arrive : tie.Need-mul-arrive
 mul-arrive c = search needs
 
 slice-write-arrive : tie.Need-slice-write-arrive
-slice-write-arrive c = omega (arith, c .before .before .before .before .before .before .before .before .before .before .before .before .before .before .before .before .before .before .pre .3, c .before .before .before .before .before .before .before .before .before .before .before .before .before .before .before .before .before .before .pre .7)
+slice-write-arrive c =
+    let pre = c .before .before .before .before .before .before .before .before .before .before .before .before .before .before .before .before .before .before .pre in
+    omega (arith, pre .3, pre .7)
 
 mark-before-requires : tie.Need-mark-before-requires
-mark-before-requires c κs = (c .before .before .before .before .before .before .before .before .before .before .before .before .before .before .before .before .before .before .before .before .pre .0, c .before .before .before .before .before .before .before .before .before .before .before .before .before .before .before .before .before .before .before .before .pre .2, c .before .before .before .before .before .before .before .before .before .before .before .before .before .before .before .before .before .before .before .before .pre .3, c .before .before .before .before .before .before .before .before .before .before .before .before .before .before .before .before .before .before .before .before .pre .4, simp length-set (c .before .before .before .before .before .before .before .before .before .before .before .before .before .before .before .before .before .before .before .before .pre .6), c .before .before .before .before .before .before .before .before .before .before .before .before .before .before .before .before .before .before .before .before .pre .5, c .before .before .before .before .before .before .before .before .before .before .before .before .before .before .before .before .before .before .before .before .pre .8)
+mark-before-requires c κs =
+    let pre = c .before .before .before .before .before .before .before .before .before .before .before .before .before .before .before .before .before .before .before .before .pre in
+    (pre .0, pre .2, pre .3, pre .4, simp length-set (pre .6), pre .5, pre .8)
 
 same-length-2 : tie.Need-same-length-2
 same-length-2 c = search needs
@@ -82,7 +105,16 @@ same-length-4 : tie.Need-same-length-4
 same-length-4 c = search needs
 
 returns-2 : tie.Need-returns-2
-returns-2 c = turned-some _ _ _ _ _ _ (c .before .before .before .before .before .before .before .before .before .before .before .before .before .before .before .before .before .before .before .before .before .before .before .pre .1) (c .before .before .before .before .before .before .before .before .before .before .before .before .before .before .before .before .before .before .before .before .before .before .before .pre .3) (looked-cast (c .before .before .before .before .before .before .before .before .before .before .before .before .before .before .wide .ensures) (c .before .before .before .before .before .before .before .before .before .before .before .before .wide2 .ensures) (c .before .before .before .before .before .before .before .before .before .look .ensures)) (c .before .before .before .before .before .before .before .before .before .before .before .before .before .before .before .before .before .before .before .before .before .before .before .pre .0) (c .before .before .before .before .before .before .before .look-up .ensures) (c .before .before .before .before .before .before .look-up2 .ensures) (c .before .before .before .before .before .before .before .before .before .before .before .before .before .before .before .before .before .before .before .before .before .before .before .pre .6) (c .before .before .before .before .before .before .before .before .before .before .before .before .before .before .before .before .before .before .before .before .before .before .before .pre .7) (c .before .before .before .before .before .before .before .before .if1 .left) (c .before .before .mark-before .ensures)
+returns-2 c =
+    let pre = c .before .before .before .before .before .before .before .before .before .before .before .before .before .before .before .before .before .before .before .before .before .before .before .pre in
+    let wide = c .before .before .before .before .before .before .before .before .before .before .before .before .before .before .wide in
+    let wide2 = c .before .before .before .before .before .before .before .before .before .before .before .before .wide2 in
+    let look = c .before .before .before .before .before .before .before .before .before .look in
+    let if1 = c .before .before .before .before .before .before .before .before .if1 in
+    let look-up = c .before .before .before .before .before .before .before .look-up in
+    let look-up2 = c .before .before .before .before .before .before .look-up2 in
+    let mark-before = c .before .before .mark-before in
+    turned-some _ _ _ _ _ _ (pre .1) (pre .3) (looked-cast (wide .ensures) (wide2 .ensures) (look .ensures)) (pre .0) (look-up .ensures) (look-up2 .ensures) (pre .6) (pre .7) (if1 .left) (mark-before .ensures)
 
 pub look-at-spec : {M : Type 1} → statement M
 look-at-spec =

@@ -22,7 +22,9 @@ mul-wide : tie.Need-mul-wide Inv-loop μ-loop
 mul-wide c = search needs
 
 shared-slice-read-wide : tie.Need-shared-slice-read-wide Inv-loop μ-loop
-shared-slice-read-wide c = omega (arith, c .before .before .before .before .before .before .before .pre .1 .long, c .before .before .before .before .before .before .before .pre .2, c .before .before .before .before .before .before .before .pre .3)
+shared-slice-read-wide c =
+    let pre = c .before .before .before .before .before .before .before .pre in
+    omega (arith, pre .1 .long, pre .2, pre .3)
 
 wide-requires : tie.Need-wide-requires Inv-loop μ-loop
 wide-requires c κs = search needs
@@ -31,31 +33,51 @@ mul-wide-2 : tie.Need-mul-wide-2 Inv-loop μ-loop
 mul-wide-2 c = search needs
 
 shared-slice-read-wide-2 : tie.Need-shared-slice-read-wide-2 Inv-loop μ-loop
-shared-slice-read-wide-2 c = omega (arith, c .before .before .before .before .before .before .before .before .before .pre .1 .long, c .before .before .before .before .before .before .before .before .before .pre .2, c .before .before .before .before .before .before .before .before .before .pre .3)
+shared-slice-read-wide-2 c =
+    let pre = c .before .before .before .before .before .before .before .before .before .pre in
+    omega (arith, pre .1 .long, pre .2, pre .3)
 
 wide-requires-2 : tie.Need-wide-requires-2 Inv-loop μ-loop
 wide-requires-2 c κs = search needs
 
 loop-holds : tie.Need-loop-holds Inv-loop μ-loop
 loop-holds c =
-    let r = ends-rise (c .before .before .before .before .before .before .before .before .before .before .pre .1) (c .before .before .before .before .before .before .before .before .before .before .args .v) (c .before .before .before .before .before .before .before .before .before .before .pre .2) in
-    (omega (arith, c .wide2 .ensures), omega (arith, r .0, c .before .before .wide .ensures, c .wide2 .ensures), range-start _ _ _ _ _ _ _ (c .wide2 .ensures))
+    let args = c .before .before .before .before .before .before .before .before .before .before .args in
+    let pre = c .before .before .before .before .before .before .before .before .before .before .pre in
+    let wide = c .before .before .wide in
+    let r = ends-rise (pre .1) (args .v) (pre .2) in
+    (omega (arith, c .wide2 .ensures), omega (arith, r .0, wide .ensures, c .wide2 .ensures), range-start _ _ _ _ _ _ _ (c .wide2 .ensures))
 
 mul-wide-3 : tie.Need-mul-wide-3 Inv-loop μ-loop
-mul-wide-3 c = omega (arith, c .before .before .before .before .before .before .before .before .before .before .before .before .pre .0 .most, c .before .before .before .before .wide .ensures, c .loop-test .taken, ends-rise (c .before .before .before .before .before .before .before .before .before .before .before .before .pre .1) (c .before .before .before .before .before .before .before .before .before .before .before .before .args .v) (c .before .before .before .before .before .before .before .before .before .before .before .before .pre .2) .1)
+mul-wide-3 c =
+    let args = c .before .before .before .before .before .before .before .before .before .before .before .before .args in
+    let pre = c .before .before .before .before .before .before .before .before .before .before .before .before .pre in
+    let wide = c .before .before .before .before .wide in
+    omega (arith, pre .0 .most, wide .ensures, c .loop-test .taken, ends-rise (pre .1) (args .v) (pre .2) .1)
 
 shared-slice-read-wide-3 : tie.Need-shared-slice-read-wide-3 Inv-loop μ-loop
-shared-slice-read-wide-3 c = omega (arith, c .before .before .before .before .before .before .before .before .before .before .before .before .before .pre .1 .room, c .before .before .before .before .before .wide .ensures, c .before .loop-test .taken, ends-rise (c .before .before .before .before .before .before .before .before .before .before .before .before .before .pre .1) (c .before .before .before .before .before .before .before .before .before .before .before .before .before .args .v) (c .before .before .before .before .before .before .before .before .before .before .before .before .before .pre .2) .1)
+shared-slice-read-wide-3 c =
+    let args = c .before .before .before .before .before .before .before .before .before .before .before .before .before .args in
+    let pre = c .before .before .before .before .before .before .before .before .before .before .before .before .before .pre in
+    let wide = c .before .before .before .before .before .wide in
+    let loop-test = c .before .loop-test in
+    omega (arith, pre .1 .room, wide .ensures, loop-test .taken, ends-rise (pre .1) (args .v) (pre .2) .1)
 
 wide-requires-3 : tie.Need-wide-requires-3 Inv-loop μ-loop
 wide-requires-3 c κs = search needs
 
 mark-start-requires : tie.Need-mark-start-requires Inv-loop μ-loop
 mark-start-requires c κs =
-    let l : c .before .before .before .before .loop .k < getD (c .before .before .before .before .before .before .before .before .before .before .before .before .before .before .before .args .back .now) (c .before .before .before .before .before .before .before .before .before .before .before .before .before .before .before .args .v + 1) 0 = omega (arith, c .before .before .before .before .before .before .before .wide .ensures, c .before .before .before .loop-test .taken) in
-    let o = ends-of (c .before .before .before .before .before .before .before .before .before .before .before .before .before .before .before .pre .1) (c .before .before .before .before .before .before .before .before .before .before .before .before .before .before .before .args .v) (c .before .before .before .before .before .before .before .before .before .before .before .before .before .before .before .pre .2) (c .before .before .before .before .loop .k) (c .before .before .before .before .loop .inv .0) l in
-    let f = c .before .before .before .before .before .before .before .before .before .before .before .before .before .before .before .pre .0 .from (c .before .wide3 .result) (omega (arith, c .before .wide3 .ensures, o .0)) in
-    (omega (arith, c .before .wide3 .ensures, o .0, c .before .before .before .before .before .before .before .before .before .before .before .before .before .before .before .pre .0 .most), c .before .before .before .before .before .before .before .before .before .before .before .before .before .before .before .pre .0 .long, omega (arith, f, c .before .before .before .before .before .before .before .before .before .before .before .before .before .before .before .pre .3), omega (arith, f, c .before .before .before .before .before .before .before .before .before .before .before .before .before .before .before .pre .4), c .before .before .before .before .before .before .before .before .before .before .before .before .before .before .before .pre .5, c .before .before .before .before .loop .inv .2 .long ∙ c .before .before .before .before .before .before .before .before .before .before .before .before .before .before .before .pre .6)
+    let args = c .before .before .before .before .before .before .before .before .before .before .before .before .before .before .before .args in
+    let pre = c .before .before .before .before .before .before .before .before .before .before .before .before .before .before .before .pre in
+    let wide = c .before .before .before .before .before .before .before .wide in
+    let loop = c .before .before .before .before .loop in
+    let loop-test = c .before .before .before .loop-test in
+    let wide3 = c .before .wide3 in
+    let l : loop .k < getD (args .back .now) (args .v + 1) 0 = omega (arith, wide .ensures, loop-test .taken) in
+    let o = ends-of (pre .1) (args .v) (pre .2) (loop .k) (loop .inv .0) l in
+    let f = pre .0 .from (wide3 .result) (omega (arith, wide3 .ensures, o .0)) in
+    (omega (arith, wide3 .ensures, o .0, pre .0 .most), pre .0 .long, omega (arith, f, pre .3), omega (arith, f, pre .4), pre .5, loop .inv .2 .long ∙ pre .6)
 
 add-k : tie.Need-add-k Inv-loop μ-loop
 add-k c = search needs
@@ -64,13 +86,22 @@ loop-less : tie.Need-loop-less Inv-loop μ-loop
 loop-less c = search needs
 
 loop-again : tie.Need-loop-again Inv-loop μ-loop
-loop-again c = (omega (arith, c .before .before .before .before .before .before .before .loop .inv .0), omega (arith, c .before .before .before .before .before .before .loop-test .taken), range-next _ _ _ (c .before .before .before .before .before .before .before .loop .inv .2) (c .before .before .before .before .before .before .before .loop .inv .0) (c .before .before .before .before .wide3 .ensures) (c .before .before .mark-start .ensures))
+loop-again c =
+    let loop = c .before .before .before .before .before .before .before .loop in
+    let loop-test = c .before .before .before .before .before .before .loop-test in
+    let wide3 = c .before .before .before .before .wide3 in
+    let mark-start = c .before .before .mark-start in
+    (omega (arith, loop .inv .0), omega (arith, loop-test .taken), range-next _ _ _ (loop .inv .2) (loop .inv .0) (wide3 .ensures) (mark-start .ensures))
 
 same-length : tie.Need-same-length Inv-loop μ-loop
 same-length c = c .before .loop .inv .2 .long
 
 returns : tie.Need-returns Inv-loop μ-loop
-returns c = range-end _ _ _ (c .before .before .before .before .before .before .before .before .before .before .before .before .pre .1) (c .before .before .before .before .before .before .before .before .before .before .before .before .pre .2) (c .before .loop .inv .2) (omega (arith, c .before .loop .inv .1, c .loop-test .left, c .before .before .before .before .wide .ensures))
+returns c =
+    let pre = c .before .before .before .before .before .before .before .before .before .before .before .before .pre in
+    let wide = c .before .before .before .before .wide in
+    let loop = c .before .loop in
+    range-end _ _ _ (pre .1) (pre .2) (loop .inv .2) (omega (arith, loop .inv .1, c .loop-test .left, wide .ensures))
 
 pub mark-before-spec : {M : Type 1} → statement M
 mark-before-spec =

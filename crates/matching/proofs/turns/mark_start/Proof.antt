@@ -12,7 +12,9 @@ shared-slice-read-f : tie.Need-shared-slice-read-f
 shared-slice-read-f c = search needs
 
 cast-f : tie.Need-cast-f
-cast-f c = omega (arith, c .before .before .before .before .before .pre .2)
+cast-f c =
+    let pre = c .before .before .before .before .before .pre in
+    omega (arith, pre .2)
 
 add-at : tie.Need-add-at
 add-at c = search needs
@@ -27,13 +29,17 @@ mul-hurt-2 : tie.Need-mul-hurt-2
 mul-hurt-2 c = search needs
 
 shared-slice-read-hurt-2 : tie.Need-shared-slice-read-hurt-2
-shared-slice-read-hurt-2 c = omega (arith, c .before .before .before .before .before .before .before .pre .3)
+shared-slice-read-hurt-2 c =
+    let pre = c .before .before .before .before .before .before .before .pre in
+    omega (arith, pre .3)
 
 returns : tie.Need-returns
 returns c = start-whole _ _ _ _ _ (c .if1 .taken)
 
 mark-requires : tie.Need-mark-requires
-mark-requires c κs = (c .before .before .before .before .before .before .before .before .before .pre .2, c .before .before .before .before .before .before .before .before .before .pre .4, c .before .before .before .before .before .before .before .before .before .pre .5)
+mark-requires c κs =
+    let pre = c .before .before .before .before .before .before .before .before .before .pre in
+    (pre .2, pre .4, pre .5)
 
 same-length : tie.Need-same-length
 same-length c = search needs

@@ -12,31 +12,61 @@ abbrev μ-loop : tie.MeasureT-loop
 μ-loop work n d first back rev due leaving arriving leave₀ arrive₀ set₀ leave arrive set = measure n leave set
 
 loop-holds : tie.Need-loop-holds Inv-loop μ-loop
-loop-holds c = turning-start _ _ _ _ _ _ _ _ _ (c .before .before .before .before .before .before .before .pre .7)
+loop-holds c =
+    let pre = c .before .before .before .before .before .before .before .pre in
+    turning-start _ _ _ _ _ _ _ _ _ (pre .7)
 
 take-requires : tie.Need-take-requires Inv-loop μ-loop
 take-requires c κs = c .before .loop .inv .long
 
 look-at-requires : tie.Need-look-at-requires Inv-loop μ-loop
-look-at-requires c κs = (c .before .before .before .before .before .before .before .before .before .before .before .before .before .before .before .before .pre .0, c .before .before .before .before .before .before .before .before .before .before .before .before .before .before .before .before .pre .1, c .before .before .before .before .before .before .before .before .before .before .before .before .before .before .before .before .pre .2, turning-node (c .before .before .before .before .before .before .before .before .loop .inv) (c .before .before .before .before .before .before .take .ensures) (omega (arith, c .before .before .before .if1 .left)), c .before .before .before .before .before .before .before .before .before .before .before .before .before .before .before .before .pre .3, c .before .before .before .before .before .before .before .before .before .before .before .before .before .before .before .before .pre .4, omega (arith, c .before .before .before .before .before .before .before .before .loop .inv .leave-long, c .before .before .before .before .before .before .before .before .before .before .before .before .before .before .before .before .pre .5), omega (arith, c .before .before .before .before .before .before .before .before .loop .inv .arrive-long, c .before .before .before .before .before .before .before .before .before .before .before .before .before .before .before .before .pre .6), c .before .before .before .before .before .before .take .ensures .long ∙ c .before .before .before .before .before .before .before .before .loop .inv .long)
+look-at-requires c κs =
+    let pre = c .before .before .before .before .before .before .before .before .before .before .before .before .before .before .before .before .pre in
+    let loop = c .before .before .before .before .before .before .before .before .loop in
+    let take = c .before .before .before .before .before .before .take in
+    let if1 = c .before .before .before .if1 in
+    (pre .0, pre .1, pre .2, turning-node (loop .inv) (take .ensures) (omega (arith, if1 .left)), pre .3, pre .4, omega (arith, loop .inv .leave-long, pre .5), omega (arith, loop .inv .arrive-long, pre .6), take .ensures .long ∙ loop .inv .long)
 
 loop-less : tie.Need-loop-less Inv-loop μ-loop
-loop-less c = turning-less (c .before .before .before .before .before .before .before .before .before .before .before .before .before .before .before .loop .inv) (c .before .before .before .before .before .before .before .before .before .before .before .before .before .take .ensures) (c .before .before .before .before .before .before .look-at .ensures) (c .before .before .before .before .before .before .before .before .before .before .before .before .before .before .before .before .before .before .before .before .before .before .before .pre .3) (omega (arith, c .before .before .before .before .before .before .before .before .before .before .if1 .left)) (λ k. c .slice-known7 .given k .fits)
+loop-less c =
+    let pre = c .before .before .before .before .before .before .before .before .before .before .before .before .before .before .before .before .before .before .before .before .before .before .before .pre in
+    let loop = c .before .before .before .before .before .before .before .before .before .before .before .before .before .before .before .loop in
+    let take = c .before .before .before .before .before .before .before .before .before .before .before .before .before .take in
+    let if1 = c .before .before .before .before .before .before .before .before .before .before .if1 in
+    let look-at = c .before .before .before .before .before .before .look-at in
+    turning-less (loop .inv) (take .ensures) (look-at .ensures) (pre .3) (omega (arith, if1 .left)) (λ k. c .slice-known7 .given k .fits)
 
 loop-again : tie.Need-loop-again Inv-loop μ-loop
-loop-again c = turning-more (c .before .before .before .before .before .before .before .before .before .before .before .before .before .before .before .loop .inv) (c .before .before .before .before .before .before .before .before .before .before .before .before .before .take .ensures) (c .before .before .before .before .before .before .look-at .ensures) (c .before .before .before .before .before .before .before .before .before .before .before .before .before .before .before .before .before .before .before .before .before .before .before .pre .3)
+loop-again c =
+    let pre = c .before .before .before .before .before .before .before .before .before .before .before .before .before .before .before .before .before .before .before .before .before .before .before .pre in
+    let loop = c .before .before .before .before .before .before .before .before .before .before .before .before .before .before .before .loop in
+    let take = c .before .before .before .before .before .before .before .before .before .before .before .before .before .take in
+    let look-at = c .before .before .before .before .before .before .look-at in
+    turning-more (loop .inv) (take .ensures) (look-at .ensures) (pre .3)
 
 same-length : tie.Need-same-length Inv-loop μ-loop
-same-length c = c .before .before .before .before .before .loop .inv .leave-long
+same-length c =
+    let loop = c .before .before .before .before .before .loop in
+    loop .inv .leave-long
 
 same-length-2 : tie.Need-same-length-2 Inv-loop μ-loop
-same-length-2 c = c .before .before .before .before .before .loop .inv .arrive-long
+same-length-2 c =
+    let loop = c .before .before .before .before .before .loop in
+    loop .inv .arrive-long
 
 same-length-3 : tie.Need-same-length-3 Inv-loop μ-loop
-same-length-3 c = c .before .before .before .take .ensures .long ∙ c .before .before .before .before .before .loop .inv .long ∙ sym (c .before .before .before .before .before .before .before .before .before .before .before .before .before .pre .7 .long)
+same-length-3 c =
+    let pre = c .before .before .before .before .before .before .before .before .before .before .before .before .before .pre in
+    let loop = c .before .before .before .before .before .loop in
+    let take = c .before .before .before .take in
+    take .ensures .long ∙ loop .inv .long ∙ sym (pre .7 .long)
 
 returns : tie.Need-returns Inv-loop μ-loop
-returns c = turning-end (c .before .before .before .before .before .loop .inv) (c .before .before .before .take .ensures) (c .before .before .before .before .before .before .before .before .before .before .before .before .before .pre .3) (omega (arith, c .if1 .taken))
+returns c =
+    let pre = c .before .before .before .before .before .before .before .before .before .before .before .before .before .pre in
+    let loop = c .before .before .before .before .before .loop in
+    let take = c .before .before .before .take in
+    turning-end (loop .inv) (take .ensures) (pre .3) (omega (arith, c .if1 .taken))
 
 pub settle-spec : {M : Type 1} → statement M
 settle-spec =

@@ -25,7 +25,9 @@ part-pattern-of-start c = search needs
 
 part-pattern-of-end : tie.Need-part-pattern-of-end
 part-pattern-of-end c =
-    let q = rw (c .before .before .p .given .1) at (c .before .before .before .before .before .read-pattern .ensures) in
+    let read-pattern = c .before .before .before .before .before .read-pattern in
+    let p = c .before .before .p in
+    let q = rw (p .given .1) at (read-pattern .ensures) in
     omega (arith, q .1)
 
 pattern-of-requires : tie.Need-pattern-of-requires
@@ -41,12 +43,16 @@ no-pattern-requires c κs = search needs
 
 returns : tie.Need-returns
 returns c =
-    let q = rw (c .before .before .before .before .p .given .1) at (c .before .before .before .before .before .before .before .read-pattern .ensures) in
+    let read-pattern = c .before .before .before .before .before .before .before .read-pattern in
+    let p = c .before .before .before .before .p in
+    let q = rw (p .given .1) at (read-pattern .ensures) in
     view-held (q .0) (omega (arith, q .1)) (c .pattern-of .ensures)
 
 returns-2 : tie.Need-returns-2
 returns-2 c =
-    λ ws end e l. view-refused (rw (c .before .enum-told .given .1) at (c .before .before .before .before .read-pattern .ensures)) ws end e
+    let read-pattern = c .before .before .before .before .read-pattern in
+    let enum-told = c .before .enum-told in
+    λ ws end e l. view-refused (rw (enum-told .given .1) at (read-pattern .ensures)) ws end e
 
 pub view-at-spec : {M : Type 1} → statement M
 view-at-spec =

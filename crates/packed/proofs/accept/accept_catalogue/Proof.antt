@@ -11,7 +11,10 @@ refused-catalogue-requires : tie.Need-refused-catalogue-requires
 refused-catalogue-requires c κs = search needs
 
 returns : tie.Need-returns
-returns c = rw (c .refused-catalogue .ensures) (read-long 705 2 catalogue (c .before .before .before .before .args .s .now) (c .before .if1 .taken))
+returns c =
+    let args = c .before .before .before .before .args in
+    let if1 = c .before .if1 in
+    rw (c .refused-catalogue .ensures) (read-long 705 2 catalogue (args .s .now) (if1 .taken))
 
 judge-catalogue-requires : tie.Need-judge-catalogue-requires
 judge-catalogue-requires c κs = search needs
@@ -27,9 +30,12 @@ part-content-start c = search needs
 
 part-content-end : tie.Need-part-content-end
 part-content-end c =
-    let j = c .before .before .before .before .before .before .judge-catalogue in
-    let q = rw (c .before .before .p .given .1) at (j .ensures) in
-    omega (arith, q .1, c .before .before .before .before .before .before .before .before .before .before .before .pre, j .kept .1 .0)
+    let pre = c .before .before .before .before .before .before .before .before .before .before .before .pre in
+    let judge-catalogue = c .before .before .before .before .before .before .judge-catalogue in
+    let p = c .before .before .p in
+    let j = judge-catalogue in
+    let q = rw (p .given .1) at (j .ensures) in
+    omega (arith, q .1, pre, j .kept .1 .0)
 
 word-at-requires : tie.Need-word-at-requires
 word-at-requires c κs = search needs
@@ -51,17 +57,27 @@ same-length c = search needs
 
 returns-2 : tie.Need-returns-2
 returns-2 c =
-    let j = c .before .before .before .before .before .before .before .before .before .judge-catalogue in
-    let q = rw (c .before .before .before .before .before .p .given .1) at (j .ensures) in
-    catalogue-held (c .before .before .before .before .before .before .before .before .before .before .before .before .before .before .args .s .now) (q .0) (omega (arith, q .1, c .before .before .before .before .before .before .before .before .before .before .before .before .before .before .pre)) (read-finds 705 2 catalogue (c .before .before .before .before .before .before .before .before .before .before .before .before .before .before .args .s .now) (c .before .before .before .before .before .before .before .before .before .before .before .if1 .left)) (j .kept .1 .0) (c .before .word-at .ensures) (c .edge-counts .ensures)
+    let args = c .before .before .before .before .before .before .before .before .before .before .before .before .before .before .args in
+    let pre = c .before .before .before .before .before .before .before .before .before .before .before .before .before .before .pre in
+    let if1 = c .before .before .before .before .before .before .before .before .before .before .before .if1 in
+    let judge-catalogue = c .before .before .before .before .before .before .before .before .before .judge-catalogue in
+    let p = c .before .before .before .before .before .p in
+    let word-at = c .before .word-at in
+    let j = judge-catalogue in
+    let q = rw (p .given .1) at (j .ensures) in
+    catalogue-held (args .s .now) (q .0) (omega (arith, q .1, pre)) (read-finds 705 2 catalogue (args .s .now) (if1 .left)) (j .kept .1 .0) (word-at .ensures) (c .edge-counts .ensures)
 
 same-length-2 : tie.Need-same-length-2
 same-length-2 c = search needs
 
 returns-3 : tie.Need-returns-3
 returns-3 c =
-    let x = c .before .before .p2 .given .0 .0 in
-    rw (c .refused-catalogue2 .ensures) (refused-by (read-finds 705 2 catalogue (c .before .before .before .before .before .before .before .before .before .before .before .args .s .now) (c .before .before .before .before .before .before .before .before .if1 .left)) x (rw (c .before .before .p2 .given .1) at (c .before .before .before .before .before .before .judge-catalogue .ensures)))
+    let args = c .before .before .before .before .before .before .before .before .before .before .before .args in
+    let if1 = c .before .before .before .before .before .before .before .before .if1 in
+    let judge-catalogue = c .before .before .before .before .before .before .judge-catalogue in
+    let p2 = c .before .before .p2 in
+    let x = p2 .given .0 .0 in
+    rw (c .refused-catalogue2 .ensures) (refused-by (read-finds 705 2 catalogue (args .s .now) (if1 .left)) x (rw (p2 .given .1) at (judge-catalogue .ensures)))
 
 pub accept-catalogue-spec : {M : Type 1} → statement M
 accept-catalogue-spec =

@@ -11,7 +11,10 @@ refused-pattern-requires : tie.Need-refused-pattern-requires
 refused-pattern-requires c κs = search needs
 
 returns : tie.Need-returns
-returns c = rw (c .refused-pattern .ensures) (read-long 44 1 pattern (c .before .before .before .before .args .s .now) (c .before .if1 .taken))
+returns c =
+    let args = c .before .before .before .before .args in
+    let if1 = c .before .if1 in
+    rw (c .refused-pattern .ensures) (read-long 44 1 pattern (args .s .now) (if1 .taken))
 
 judge-pattern-requires : tie.Need-judge-pattern-requires
 judge-pattern-requires c κs = search needs
@@ -27,14 +30,21 @@ part-pattern-of-start c = search needs
 
 part-pattern-of-end : tie.Need-part-pattern-of-end
 part-pattern-of-end c =
-    let j = c .before .before .before .before .before .before .judge-pattern in
-    let q = rw (c .before .before .p .given .1) at (j .ensures) in
-    omega (arith, q .1, c .before .before .before .before .before .before .before .before .before .before .before .pre, j .kept .1 .0)
+    let pre = c .before .before .before .before .before .before .before .before .before .before .before .pre in
+    let judge-pattern = c .before .before .before .before .before .before .judge-pattern in
+    let p = c .before .before .p in
+    let j = judge-pattern in
+    let q = rw (p .given .1) at (j .ensures) in
+    omega (arith, q .1, pre, j .kept .1 .0)
 
 pattern-of-requires : tie.Need-pattern-of-requires
 pattern-of-requires c κs =
-    let q = rw (c .before .before .before .p .given .1) at (c .before .before .before .before .before .before .before .judge-pattern .ensures) in
-    pattern-fits (c .before .before .before .before .before .before .before .before .before .before .before .before .args .s .now) (q .0) (omega (arith, q .1, c .before .before .before .before .before .before .before .before .before .before .before .before .pre))
+    let args = c .before .before .before .before .before .before .before .before .before .before .before .before .args in
+    let pre = c .before .before .before .before .before .before .before .before .before .before .before .before .pre in
+    let judge-pattern = c .before .before .before .before .before .before .before .judge-pattern in
+    let p = c .before .before .before .p in
+    let q = rw (p .given .1) at (judge-pattern .ensures) in
+    pattern-fits (args .s .now) (q .0) (omega (arith, q .1, pre))
 
 enum-known-p-2 : tie.Need-enum-known-p-2
 enum-known-p-2 c = search needs
@@ -47,17 +57,26 @@ same-length c = search needs
 
 returns-2 : tie.Need-returns-2
 returns-2 c =
-    let j = c .before .before .before .before .before .before .before .before .judge-pattern in
-    let q = rw (c .before .before .before .before .p .given .1) at (j .ensures) in
-    pattern-held (c .before .before .before .before .before .before .before .before .before .before .before .before .before .args .s .now) (q .0) (omega (arith, q .1, c .before .before .before .before .before .before .before .before .before .before .before .before .before .pre)) (read-finds 44 1 pattern (c .before .before .before .before .before .before .before .before .before .before .before .before .before .args .s .now) (c .before .before .before .before .before .before .before .before .before .before .if1 .left)) (j .kept .1 .0) (c .pattern-of .ensures)
+    let args = c .before .before .before .before .before .before .before .before .before .before .before .before .before .args in
+    let pre = c .before .before .before .before .before .before .before .before .before .before .before .before .before .pre in
+    let if1 = c .before .before .before .before .before .before .before .before .before .before .if1 in
+    let judge-pattern = c .before .before .before .before .before .before .before .before .judge-pattern in
+    let p = c .before .before .before .before .p in
+    let j = judge-pattern in
+    let q = rw (p .given .1) at (j .ensures) in
+    pattern-held (args .s .now) (q .0) (omega (arith, q .1, pre)) (read-finds 44 1 pattern (args .s .now) (if1 .left)) (j .kept .1 .0) (c .pattern-of .ensures)
 
 same-length-2 : tie.Need-same-length-2
 same-length-2 c = search needs
 
 returns-3 : tie.Need-returns-3
 returns-3 c =
-    let x = c .before .before .p2 .given .0 .0 in
-    rw (c .refused-pattern2 .ensures) (refused-by (read-finds 44 1 pattern (c .before .before .before .before .before .before .before .before .before .before .before .args .s .now) (c .before .before .before .before .before .before .before .before .if1 .left)) x (rw (c .before .before .p2 .given .1) at (c .before .before .before .before .before .before .judge-pattern .ensures)))
+    let args = c .before .before .before .before .before .before .before .before .before .before .before .args in
+    let if1 = c .before .before .before .before .before .before .before .before .if1 in
+    let judge-pattern = c .before .before .before .before .before .before .judge-pattern in
+    let p2 = c .before .before .p2 in
+    let x = p2 .given .0 .0 in
+    rw (c .refused-pattern2 .ensures) (refused-by (read-finds 44 1 pattern (args .s .now) (if1 .left)) x (rw (p2 .given .1) at (judge-pattern .ensures)))
 
 pub accept-pattern-spec : {M : Type 1} → statement M
 accept-pattern-spec =

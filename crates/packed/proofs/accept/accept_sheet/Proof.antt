@@ -6,7 +6,9 @@ use Rattle.packed.proofs.accept.accept_sheet.Statement.{statement}
 use Rattle.packed.proofs.accept.accept_sheet.Tie as tie
 
 returns : tie.Need-returns
-returns c = let a = c .before .before .before .args in read-long 65536 4 (sheet (a .m)) (a .s .now) (c .if1 .taken)
+returns c =
+    let args = c .before .before .before .args in
+    let a = args in read-long 65536 4 (sheet (a .m)) (a .s .now) (c .if1 .taken)
 
 judge-sheet-requires : tie.Need-judge-sheet-requires
 judge-sheet-requires c κs = search needs
@@ -19,8 +21,11 @@ same-length c = search needs
 
 returns-2 : tie.Need-returns-2
 returns-2 c =
-    let a = c .before .before .before .before .before .before .before .before .args in
-    rw (c .reply-of .ensures) (accepts-by (read-finds 65536 4 (sheet (a .m)) (a .s .now) (c .before .before .before .before .before .if1 .left)) (c .before .before .before .judge-sheet .result) _ _ (c .before .before .before .judge-sheet .ensures))
+    let args = c .before .before .before .before .before .before .before .before .args in
+    let if1 = c .before .before .before .before .before .if1 in
+    let judge-sheet = c .before .before .before .judge-sheet in
+    let a = args in
+    rw (c .reply-of .ensures) (accepts-by (read-finds 65536 4 (sheet (a .m)) (a .s .now) (if1 .left)) (judge-sheet .result) _ _ (judge-sheet .ensures))
 
 pub accept-sheet-spec : {M : Type 1} → statement M
 accept-sheet-spec =

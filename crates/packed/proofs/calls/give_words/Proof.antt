@@ -10,8 +10,10 @@ use Rattle.packed.proofs.calls.give_words.Tie as tie
 
 returns : tie.Need-returns
 returns c =
-    let a = c .before .before .before .args in
-    fitted-tight fit-fits (a .out .now) (take (a .n) (a .words .now)) refl refl (simp length-take (omega (arith, c .before .before .before .pre))) (lt-ltb _ _ (c .if1 .taken))
+    let args = c .before .before .before .args in
+    let pre = c .before .before .before .pre in
+    let a = args in
+    fitted-tight fit-fits (a .out .now) (take (a .n) (a .words .now)) refl refl (simp length-take (omega (arith, pre))) (lt-ltb _ _ (c .if1 .taken))
 
 sub-copy-words : tie.Need-sub-copy-words
 sub-copy-words c = search needs
@@ -30,9 +32,13 @@ same-length c = search needs
 
 returns-2 : tie.Need-returns-2
 returns-2 c =
-    let a = c .before .before .before .before .before .before .before .before .args in
-    fitted-given fit-fits (a .out .now) (take (a .n) (a .words .now)) refl refl (simp length-take (omega (arith, c .before .before .before .before .before .before .before .before .pre))) (le-ltb _ _ (c .before .before .before .before .before .if1 .left))
-    (copied (a .words .now) (a .out .now) (c .before .before .before .before .before .before .before .before .pre) (c .before .before .before .before .before .if1 .left) (c .before .before .copy-words .ensures))
+    let args = c .before .before .before .before .before .before .before .before .args in
+    let pre = c .before .before .before .before .before .before .before .before .pre in
+    let if1 = c .before .before .before .before .before .if1 in
+    let copy-words = c .before .before .copy-words in
+    let a = args in
+    fitted-given fit-fits (a .out .now) (take (a .n) (a .words .now)) refl refl (simp length-take (omega (arith, pre))) (le-ltb _ _ (if1 .left))
+    (copied (a .words .now) (a .out .now) pre (if1 .left) (copy-words .ensures))
 
 pub give-words-spec : {M : Type 1} → statement M
 give-words-spec =

@@ -35,8 +35,10 @@ same-length-2 c = search needs
 returns : tie.Need-returns
 unfolding recordRead
 returns c =
-    let a = c .before .before .before .before .before .before .before .before .before .before .before .before .args in
-    let j = c .before .before .before .before .before .before .accept-record in
+    let args = c .before .before .before .before .before .before .before .before .before .before .before .before .args in
+    let accept-record = c .before .before .before .before .before .before .accept-record in
+    let a = args in
+    let j = accept-record in
     let e = c .enum-told .given .1 in
     rw e (body-refused (fit (length (a .out .now))) (a .out .now) (none-lent (a .out .now) (j .last .1 .0) (j .kept .1 .0)) (c .enum-told .given .0 .0) (rw e at (j .ensures .0)))
 
@@ -49,9 +51,12 @@ same-length-4 c = search needs
 returns-2 : tie.Need-returns-2
 unfolding recordRead
 returns-2 c =
-    let a = c .before .before .before .before .before .before .before .before .before .before .before .before .before .before .args in
-    let j = c .before .before .before .before .before .before .before .before .accept-record in
-    let t = rw (c .before .before .verdict .given .1) at (j .ensures .0) in
+    let args = c .before .before .before .before .before .before .before .before .before .before .before .before .before .before .args in
+    let accept-record = c .before .before .before .before .before .before .before .before .accept-record in
+    let verdict = c .before .before .verdict in
+    let a = args in
+    let j = accept-record in
+    let t = rw (verdict .given .1) at (j .ensures .0) in
     body-goes-on (fit (length (a .out .now))) (t .is) (fitted-tight fit-fits (a .out .now) (t .fields) (none-lent (a .out .now) (j .last .1 .0) (j .kept .1 .0)) refl (t .number) (lt-ltb _ _ (c .if1 .taken)))
 
 accept-record-requires-2 : tie.Need-accept-record-requires-2
@@ -66,11 +71,16 @@ same-length-6 c = search needs
 returns-3 : tie.Need-returns-3
 unfolding recordRead
 returns-3 c =
-    let a = c .before .before .before .before .before .before .before .before .before .before .before .before .before .before .before .before .before .before .before .before .before .args in
-    let j = c .before .before .before .before .before .before .before .before .before .before .before .before .before .before .before .accept-record in
-    let t = rw (c .before .before .before .before .before .before .before .before .before .verdict .given .1) at (j .ensures .0) in
+    let args = c .before .before .before .before .before .before .before .before .before .before .before .before .before .before .before .before .before .before .before .before .before .args in
+    let accept-record = c .before .before .before .before .before .before .before .before .before .before .before .before .before .before .before .accept-record in
+    let verdict = c .before .before .before .before .before .before .before .before .before .verdict in
+    let if1 = c .before .before .before .before .before .before .before .if1 in
+    let accept-record2 = c .before .before .before .before .accept-record2 in
+    let a = args in
+    let j = accept-record in
+    let t = rw (verdict .given .1) at (j .ensures .0) in
     body-goes-on (fit (length (a .out .now))) (t .is)
-    (fitted-again fit-fits (a .out .now) (t .fields) (none-lent (a .out .now) (j .last .1 .0) (j .kept .1 .0)) refl (t .number) (c .before .before .before .before .accept-record2 .result) _ (le-ltb _ _ (c .before .before .before .before .before .before .before .if1 .left)) (t .is) (c .before .before .before .before .accept-record2 .ensures .0))
+    (fitted-again fit-fits (a .out .now) (t .fields) (none-lent (a .out .now) (j .last .1 .0) (j .kept .1 .0)) refl (t .number) (accept-record2 .result) _ (le-ltb _ _ (if1 .left)) (t .is) (accept-record2 .ensures .0))
 
 pub read-record-spec : {M : Type 1} → statement M
 read-record-spec =

@@ -25,14 +25,19 @@ same-length c = search needs
 returns : tie.Need-returns
 unfolding sheetRead
 returns c =
-    let a = c .before .before .before .before .before .before .before .before .before .before .args in
+    let args = c .before .before .before .before .before .before .before .before .before .before .args in
+    let accept-pattern = c .before .before .before .before .accept-pattern in
+    let a = args in
     let e = c .enum-told2 .given .1 in
-    rw e (body-refused (λ ps. judged (readSheet ps (a .bytes .now)) (fit (length (a .out .now)))) (a .out .now) refl (c .enum-told2 .given .0 .0) (rw e at (c .before .before .before .before .accept-pattern .ensures)))
+    rw e (body-refused (λ ps. judged (readSheet ps (a .bytes .now)) (fit (length (a .out .now)))) (a .out .now) refl (c .enum-told2 .given .0 .0) (rw e at (accept-pattern .ensures)))
 
 cast-m : tie.Need-cast-m
 cast-m c =
-    let q = rw (c .before .enum-told .given .1) at (c .before .before .before .before .before .accept-pattern .ensures) in
-    omega (arith, pattern-few (c .before .before .before .before .before .before .before .before .before .before .before .args .pattern .now) q)
+    let args = c .before .before .before .before .before .before .before .before .before .before .before .args in
+    let accept-pattern = c .before .before .before .before .before .accept-pattern in
+    let enum-told = c .before .enum-told in
+    let q = rw (enum-told .given .1) at (accept-pattern .ensures) in
+    omega (arith, pattern-few (args .pattern .now) q)
 
 sub-accept-sheet : tie.Need-sub-accept-sheet
 sub-accept-sheet c = search needs
@@ -61,9 +66,13 @@ same-length-3 c = search needs
 returns-2 : tie.Need-returns-2
 unfolding sheetRead
 returns-2 c =
-    let a = c .before .before .before .before .before .before .before .before .before .before .before .before .before .before .before .before .before .args in
-    let j = c .before .before .before .before .accept-sheet in
-    let q = rw (c .before .before .before .before .before .before .before .enum-told .given .1) at (c .before .before .before .before .before .before .before .before .before .before .before .accept-pattern .ensures) in
+    let args = c .before .before .before .before .before .before .before .before .before .before .before .before .before .before .before .before .before .args in
+    let accept-pattern = c .before .before .before .before .before .before .before .before .before .before .before .accept-pattern in
+    let enum-told = c .before .before .before .before .before .before .before .enum-told in
+    let accept-sheet = c .before .before .before .before .accept-sheet in
+    let a = args in
+    let j = accept-sheet in
+    let q = rw (enum-told .given .1) at (accept-pattern .ensures) in
     let e = c .enum-told3 .given .1 in
     rw e (body-goes-on (λ ps. judged (readSheet ps (a .bytes .now)) (fit (length (a .out .now)))) (q .is)
     (body-refused (fit (length (a .out .now))) (a .out .now) (none-lent (a .out .now) (j .last .1 .1 .0) (j .kept .1 .1 .0)) (c .enum-told3 .given .0 .0) (rw (q .holds .edges) at (rw e at (j .ensures)))))
@@ -77,10 +86,15 @@ same-length-5 c = search needs
 returns-3 : tie.Need-returns-3
 unfolding sheetRead
 returns-3 c =
-    let a = c .before .before .before .before .before .before .before .before .before .before .before .before .before .before .before .before .before .before .before .args in
-    let j = c .before .before .before .before .before .before .accept-sheet in
-    let q = rw (c .before .before .before .before .before .before .before .before .before .enum-told .given .1) at (c .before .before .before .before .before .before .before .before .before .before .before .before .before .accept-pattern .ensures) in
-    let t = rw (q .holds .edges) at (rw (c .before .before .verdict .given .1) at (j .ensures)) in
+    let args = c .before .before .before .before .before .before .before .before .before .before .before .before .before .before .before .before .before .before .before .args in
+    let accept-pattern = c .before .before .before .before .before .before .before .before .before .before .before .before .before .accept-pattern in
+    let enum-told = c .before .before .before .before .before .before .before .before .before .enum-told in
+    let accept-sheet = c .before .before .before .before .before .before .accept-sheet in
+    let verdict = c .before .before .verdict in
+    let a = args in
+    let j = accept-sheet in
+    let q = rw (enum-told .given .1) at (accept-pattern .ensures) in
+    let t = rw (q .holds .edges) at (rw (verdict .given .1) at (j .ensures)) in
     body-goes-on (λ ps. judged (readSheet ps (a .bytes .now)) (fit (length (a .out .now)))) (q .is)
     (body-goes-on (fit (length (a .out .now))) (t .is)
     (fitted-tight fit-fits (a .out .now) (t .fields) (none-lent (a .out .now) (j .last .1 .1 .0) (j .kept .1 .1 .0)) refl (t .number) (lt-ltb _ _ (c .if1 .taken))))
@@ -97,13 +111,20 @@ same-length-7 c = search needs
 returns-4 : tie.Need-returns-4
 unfolding sheetRead
 returns-4 c =
-    let a = c .before .before .before .before .before .before .before .before .before .before .before .before .before .before .before .before .before .before .before .before .before .before .before .args in
-    let j = c .before .before .before .before .before .before .before .before .before .before .accept-sheet in
-    let q = rw (c .before .before .before .before .before .before .before .before .before .before .before .before .before .enum-told .given .1) at (c .before .before .before .before .before .before .before .before .before .before .before .before .before .before .before .before .before .accept-pattern .ensures) in
-    let t = rw (q .holds .edges) at (rw (c .before .before .before .before .before .before .verdict .given .1) at (j .ensures)) in
+    let args = c .before .before .before .before .before .before .before .before .before .before .before .before .before .before .before .before .before .before .before .before .before .before .before .args in
+    let accept-pattern = c .before .before .before .before .before .before .before .before .before .before .before .before .before .before .before .before .before .accept-pattern in
+    let enum-told = c .before .before .before .before .before .before .before .before .before .before .before .before .before .enum-told in
+    let accept-sheet = c .before .before .before .before .before .before .before .before .before .before .accept-sheet in
+    let verdict = c .before .before .before .before .before .before .verdict in
+    let if1 = c .before .before .before .before .if1 in
+    let accept-sheet2 = c .before .before .accept-sheet2 in
+    let a = args in
+    let j = accept-sheet in
+    let q = rw (enum-told .given .1) at (accept-pattern .ensures) in
+    let t = rw (q .holds .edges) at (rw (verdict .given .1) at (j .ensures)) in
     body-goes-on (λ ps. judged (readSheet ps (a .bytes .now)) (fit (length (a .out .now)))) (q .is)
     (body-goes-on (fit (length (a .out .now))) (t .is)
-    (fitted-again fit-fits (a .out .now) (t .fields) (none-lent (a .out .now) (j .last .1 .1 .0) (j .kept .1 .1 .0)) refl (t .number) (c .before .before .accept-sheet2 .result) _ (le-ltb _ _ (c .before .before .before .before .if1 .left)) (t .is) (rw (q .holds .edges) at (c .before .before .accept-sheet2 .ensures))))
+    (fitted-again fit-fits (a .out .now) (t .fields) (none-lent (a .out .now) (j .last .1 .1 .0) (j .kept .1 .1 .0)) refl (t .number) (accept-sheet2 .result) _ (le-ltb _ _ (if1 .left)) (t .is) (rw (q .holds .edges) at (accept-sheet2 .ensures))))
 
 pub read-sheet-spec : {M : Type 1} → statement M
 read-sheet-spec =

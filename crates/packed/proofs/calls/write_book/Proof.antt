@@ -22,14 +22,19 @@ same-length c = search needs
 returns : tie.Need-returns
 unfolding bookWritten
 returns c =
-    let a = c .before .before .before .before .before .before .before .before .before .before .before .args in
+    let args = c .before .before .before .before .before .before .before .before .before .before .before .args in
+    let accept-catalogue = c .before .before .before .before .before .accept-catalogue in
+    let a = args in
     let e = c .enum-told2 .given .1 in
-    rw e (body-refused (λ cs. judged (writeBook cs (a .fields .now)) (λ s. uncrowded cs (a .fields .now) (fitFile (length (a .out .now)) s))) (a .out .now) refl (c .enum-told2 .given .0 .0) (rw e at (c .before .before .before .before .before .accept-catalogue .ensures)))
+    rw e (body-refused (λ cs. judged (writeBook cs (a .fields .now)) (λ s. uncrowded cs (a .fields .now) (fitFile (length (a .out .now)) s))) (a .out .now) refl (c .enum-told2 .given .0 .0) (rw e at (accept-catalogue .ensures)))
 
 write-book-of-requires : tie.Need-write-book-of-requires
 write-book-of-requires c κs =
-    let q = rw (c .before .before .enum-told .given .1) at (c .before .before .before .before .before .before .before .accept-catalogue .ensures) in
-    (c .before .before .before .before .before .before .before .accept-catalogue .kept .1 .0 ∙ c .before .before .before .before .before .before .before .before .before .before .before .before .before .pre, q .holds .few, q .holds .small)
+    let pre = c .before .before .before .before .before .before .before .before .before .before .before .before .before .pre in
+    let accept-catalogue = c .before .before .before .before .before .before .before .accept-catalogue in
+    let enum-told = c .before .before .enum-told in
+    let q = rw (enum-told .given .1) at (accept-catalogue .ensures) in
+    (accept-catalogue .kept .1 .0 ∙ pre, q .holds .few, q .holds .small)
 
 same-length-2 : tie.Need-same-length-2
 same-length-2 c = search needs
@@ -40,9 +45,13 @@ same-length-3 c = search needs
 returns-2 : tie.Need-returns-2
 unfolding bookWritten
 returns-2 c =
-    let a = c .before .before .before .before .before .before .before .before .before .before .before .before .before .before .before .before .before .before .args in
-    let q = rw (c .before .before .before .before .before .before .before .enum-told .given .1) at (c .before .before .before .before .before .before .before .before .before .before .before .before .accept-catalogue .ensures) in
-    body-goes-on (λ cs. judged (writeBook cs (a .fields .now)) (λ s. uncrowded cs (a .fields .now) (fitFile (length (a .out .now)) s))) (q .is) (rw (q .holds .are) at (c .before .before .before .before .write-book-of .ensures))
+    let args = c .before .before .before .before .before .before .before .before .before .before .before .before .before .before .before .before .before .before .args in
+    let accept-catalogue = c .before .before .before .before .before .before .before .before .before .before .before .before .accept-catalogue in
+    let enum-told = c .before .before .before .before .before .before .before .enum-told in
+    let write-book-of = c .before .before .before .before .write-book-of in
+    let a = args in
+    let q = rw (enum-told .given .1) at (accept-catalogue .ensures) in
+    body-goes-on (λ cs. judged (writeBook cs (a .fields .now)) (λ s. uncrowded cs (a .fields .now) (fitFile (length (a .out .now)) s))) (q .is) (rw (q .holds .are) at (write-book-of .ensures))
 
 pub write-book-spec : {M : Type 1} → statement M
 write-book-spec =

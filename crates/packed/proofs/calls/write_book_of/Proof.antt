@@ -41,11 +41,16 @@ same-length-2 c = search needs
 
 returns : tie.Need-returns
 returns c =
-    let a = c .before .before .before .before .before .before .before .before .before .before .before .before .before .before .before .before .args in
-    let j = c .before .before .before .before .before .before .before .before .before .before .before .judge-book-fields in
+    let args = c .before .before .before .before .before .before .before .before .before .before .before .before .before .before .before .before .args in
+    let judge-book-fields = c .before .before .before .before .before .before .before .before .before .before .before .judge-book-fields in
+    let p = c .before .before .before .before .before .before .before .p in
+    let list-count = c .before .before .before .before .before .list-count in
+    let gather-fields = c .before .before .before .gather-fields in
+    let a = args in
+    let j = judge-book-fields in
     let ms = take (a .k) (a .counts) in
-    let q = rw (c .before .before .before .before .before .before .before .p .given .1) at (j .ensures) in
-    body-declined (λ o. uncrowdedBy ms (a .fields .now) (fitFile (length (a .out .now)) o)) (accepted-by (write-finds 4 (book ms) (a .fields .now)) (q .is)) (a .out .now) (none-lent (a .out .now) (j .last .1 .1 .1 .0) (j .kept .1 .1 .1 .0)) (TooManyPairs 4) (gathered-many ms (a .fields .now) (c .before .before .before .gather-fields .ensures) (ap (pairsFrom (a .fields .now) 0) (c .before .before .before .before .before .list-count .ensures .0) ∙ field-pairs ms (a .fields .now) (q .fields) (q .is)) (fitFile (length (a .out .now)) (q .fields)) (c .if1 .taken))
+    let q = rw (p .given .1) at (j .ensures) in
+    body-declined (λ o. uncrowdedBy ms (a .fields .now) (fitFile (length (a .out .now)) o)) (accepted-by (write-finds 4 (book ms) (a .fields .now)) (q .is)) (a .out .now) (none-lent (a .out .now) (j .last .1 .1 .1 .0) (j .kept .1 .1 .1 .0)) (TooManyPairs 4) (gathered-many ms (a .fields .now) (gather-fields .ensures) (ap (pairsFrom (a .fields .now) 0) (list-count .ensures .0) ∙ field-pairs ms (a .fields .now) (q .fields) (q .is)) (fitFile (length (a .out .now)) (q .fields)) (c .if1 .taken))
 
 same-length-3 : tie.Need-same-length-3
 same-length-3 c = search needs
@@ -55,12 +60,18 @@ same-length-4 c = search needs
 
 returns-2 : tie.Need-returns-2
 returns-2 c =
-    let a = c .before .before .before .before .before .before .before .before .before .before .before .before .before .before .before .before .before .args in
-    let j = c .before .before .before .before .before .before .before .before .before .before .before .before .judge-book-fields in
+    let args = c .before .before .before .before .before .before .before .before .before .before .before .before .before .before .before .before .before .args in
+    let judge-book-fields = c .before .before .before .before .before .before .before .before .before .before .before .before .judge-book-fields in
+    let p = c .before .before .before .before .before .before .before .before .p in
+    let list-count = c .before .before .before .before .before .before .list-count in
+    let gather-fields = c .before .before .before .before .gather-fields in
+    let if1 = c .before .if1 in
+    let a = args in
+    let j = judge-book-fields in
     let ms = take (a .k) (a .counts) in
-    let q = rw (c .before .before .before .before .before .before .before .before .p .given .1) at (j .ensures) in
+    let q = rw (p .given .1) at (j .ensures) in
     body-goes-on (λ o. uncrowdedBy ms (a .fields .now) (fitFile (length (a .out .now)) o)) (accepted-by (write-finds 4 (book ms) (a .fields .now)) (q .is))
-    (fitted-tight fitFile-fits (a .out .now) (q .fields) (none-lent (a .out .now) (j .last .1 .1 .1 .0) (j .kept .1 .1 .1 .0)) (gathered-few ms (a .fields .now) (c .before .before .before .before .gather-fields .ensures) (ap (pairsFrom (a .fields .now) 0) (c .before .before .before .before .before .before .list-count .ensures .0) ∙ field-pairs ms (a .fields .now) (q .fields) (q .is)) (fitFile (length (a .out .now)) (q .fields)) (c .before .if1 .left)) (q .number) (c .if2 .taken))
+    (fitted-tight fitFile-fits (a .out .now) (q .fields) (none-lent (a .out .now) (j .last .1 .1 .1 .0) (j .kept .1 .1 .1 .0)) (gathered-few ms (a .fields .now) (gather-fields .ensures) (ap (pairsFrom (a .fields .now) 0) (list-count .ensures .0) ∙ field-pairs ms (a .fields .now) (q .fields) (q .is)) (fitFile (length (a .out .now)) (q .fields)) (if1 .left)) (q .number) (c .if2 .taken))
 
 judge-book-fields-requires-2 : tie.Need-judge-book-fields-requires-2
 judge-book-fields-requires-2 c κs = search needs
@@ -76,24 +87,35 @@ same-length-6 c = search needs
 
 returns-3 : tie.Need-returns-3
 returns-3 c =
-    let a = c .before .before .before .before .before .before .before .before .before .before .before .before .before .before .before .before .before .before .before .before .before .args in
-    let j = c .before .before .before .before .before .before .before .before .before .before .before .before .before .before .before .before .judge-book-fields in
+    let args = c .before .before .before .before .before .before .before .before .before .before .before .before .before .before .before .before .before .before .before .before .before .args in
+    let judge-book-fields = c .before .before .before .before .before .before .before .before .before .before .before .before .before .before .before .before .judge-book-fields in
+    let p = c .before .before .before .before .before .before .before .before .before .before .before .before .p in
+    let list-count = c .before .before .before .before .before .before .before .before .before .before .list-count in
+    let gather-fields = c .before .before .before .before .before .before .before .before .gather-fields in
+    let if1 = c .before .before .before .before .before .if1 in
+    let if2 = c .before .before .before .before .if2 in
+    let judge-book-fields2 = c .before .before .judge-book-fields2 in
+    let a = args in
+    let j = judge-book-fields in
     let ms = take (a .k) (a .counts) in
-    let q = rw (c .before .before .before .before .before .before .before .before .before .before .before .before .p .given .1) at (j .ensures) in
+    let q = rw (p .given .1) at (j .ensures) in
     body-goes-on (λ o. uncrowdedBy ms (a .fields .now) (fitFile (length (a .out .now)) o)) (accepted-by (write-finds 4 (book ms) (a .fields .now)) (q .is))
-    (fitted-given fitFile-fits (a .out .now) (q .fields) (none-lent (a .out .now) (j .last .1 .1 .1 .0) (j .kept .1 .1 .1 .0)) (gathered-few ms (a .fields .now) (c .before .before .before .before .before .before .before .before .gather-fields .ensures) (ap (pairsFrom (a .fields .now) 0) (c .before .before .before .before .before .before .before .before .before .before .list-count .ensures .0) ∙ field-pairs ms (a .fields .now) (q .fields) (q .is)) (fitFile (length (a .out .now)) (q .fields)) (c .before .before .before .before .before .if1 .left)) (q .number) (c .before .before .before .before .if2 .left)
-    (judges-fields-front (encode (book ms) (a .fields .now)) 4 (c .before .before .judge-book-fields2 .result) (q .fields) _ _ (c .before .before .judge-book-fields2 .ensures) (q .is)))
+    (fitted-given fitFile-fits (a .out .now) (q .fields) (none-lent (a .out .now) (j .last .1 .1 .1 .0) (j .kept .1 .1 .1 .0)) (gathered-few ms (a .fields .now) (gather-fields .ensures) (ap (pairsFrom (a .fields .now) 0) (list-count .ensures .0) ∙ field-pairs ms (a .fields .now) (q .fields) (q .is)) (fitFile (length (a .out .now)) (q .fields)) (if1 .left)) (q .number) (if2 .left)
+    (judges-fields-front (encode (book ms) (a .fields .now)) 4 (judge-book-fields2 .result) (q .fields) _ _ (judge-book-fields2 .ensures) (q .is)))
 
 same-length-7 : tie.Need-same-length-7
 same-length-7 c = search needs
 
 returns-4 : tie.Need-returns-4
 returns-4 c =
-    let a = c .before .before .before .before .before .before .before .before .before .before .args in
-    let j = c .before .before .before .before .before .judge-book-fields in
+    let args = c .before .before .before .before .before .before .before .before .before .before .args in
+    let judge-book-fields = c .before .before .before .before .before .judge-book-fields in
+    let p2 = c .before .p2 in
+    let a = args in
+    let j = judge-book-fields in
     let ms = take (a .k) (a .counts) in
-    let q = rw (c .before .p2 .given .1) at (j .ensures) in
-    body-refused (λ o. uncrowdedBy ms (a .fields .now) (fitFile (length (a .out .now)) o)) (a .out .now) (none-lent (a .out .now) (j .last .1 .1 .1 .0) (j .kept .1 .1 .1 .0)) (c .before .p2 .given .0 .0) (refused-by (write-finds 4 (book ms) (a .fields .now)) (c .before .p2 .given .0 .0) q)
+    let q = rw (p2 .given .1) at (j .ensures) in
+    body-refused (λ o. uncrowdedBy ms (a .fields .now) (fitFile (length (a .out .now)) o)) (a .out .now) (none-lent (a .out .now) (j .last .1 .1 .1 .0) (j .kept .1 .1 .1 .0)) (p2 .given .0 .0) (refused-by (write-finds 4 (book ms) (a .fields .now)) (p2 .given .0 .0) q)
 
 pub write-book-of-spec : {M : Type 1} → statement M
 write-book-of-spec =

@@ -24,19 +24,27 @@ same-length c = search needs
 returns : tie.Need-returns
 unfolding sheetWritten
 returns c =
-    let a = c .before .before .before .before .before .before .before .before .before .before .args in
+    let args = c .before .before .before .before .before .before .before .before .before .before .args in
+    let accept-pattern = c .before .before .before .before .accept-pattern in
+    let a = args in
     let e = c .enum-told2 .given .1 in
-    rw e (body-refused (λ ps. judged (writeSheet ps (a .fields .now)) (fitFile (length (a .out .now)))) (a .out .now) refl (c .enum-told2 .given .0 .0) (rw e at (c .before .before .before .before .accept-pattern .ensures)))
+    rw e (body-refused (λ ps. judged (writeSheet ps (a .fields .now)) (fitFile (length (a .out .now)))) (a .out .now) refl (c .enum-told2 .given .0 .0) (rw e at (accept-pattern .ensures)))
 
 cast-write-sheet-of : tie.Need-cast-write-sheet-of
 cast-write-sheet-of c =
-    let q = rw (c .before .enum-told .given .1) at (c .before .before .before .before .before .accept-pattern .ensures) in
-    omega (arith, pattern-few (c .before .before .before .before .before .before .before .before .before .before .before .args .pattern .now) q)
+    let args = c .before .before .before .before .before .before .before .before .before .before .before .args in
+    let accept-pattern = c .before .before .before .before .before .accept-pattern in
+    let enum-told = c .before .enum-told in
+    let q = rw (enum-told .given .1) at (accept-pattern .ensures) in
+    omega (arith, pattern-few (args .pattern .now) q)
 
 write-sheet-of-requires : tie.Need-write-sheet-of-requires
 write-sheet-of-requires c κs =
-    let q = rw (c .before .before .enum-told .given .1) at (c .before .before .before .before .before .before .accept-pattern .ensures) in
-    pattern-few (c .before .before .before .before .before .before .before .before .before .before .before .before .args .pattern .now) q
+    let args = c .before .before .before .before .before .before .before .before .before .before .before .before .args in
+    let accept-pattern = c .before .before .before .before .before .before .accept-pattern in
+    let enum-told = c .before .before .enum-told in
+    let q = rw (enum-told .given .1) at (accept-pattern .ensures) in
+    pattern-few (args .pattern .now) q
 
 same-length-2 : tie.Need-same-length-2
 same-length-2 c = search needs
@@ -47,9 +55,13 @@ same-length-3 c = search needs
 returns-2 : tie.Need-returns-2
 unfolding sheetWritten
 returns-2 c =
-    let a = c .before .before .before .before .before .before .before .before .before .before .before .before .before .before .before .args in
-    let q = rw (c .before .before .before .before .before .enum-told .given .1) at (c .before .before .before .before .before .before .before .before .before .accept-pattern .ensures) in
-    body-goes-on (λ ps. judged (writeSheet ps (a .fields .now)) (fitFile (length (a .out .now)))) (q .is) (rw (q .holds .edges) at (c .before .before .write-sheet-of .ensures))
+    let args = c .before .before .before .before .before .before .before .before .before .before .before .before .before .before .before .args in
+    let accept-pattern = c .before .before .before .before .before .before .before .before .before .accept-pattern in
+    let enum-told = c .before .before .before .before .before .enum-told in
+    let write-sheet-of = c .before .before .write-sheet-of in
+    let a = args in
+    let q = rw (enum-told .given .1) at (accept-pattern .ensures) in
+    body-goes-on (λ ps. judged (writeSheet ps (a .fields .now)) (fitFile (length (a .out .now)))) (q .is) (rw (q .holds .edges) at (write-sheet-of .ensures))
 
 pub write-sheet-spec : {M : Type 1} → statement M
 write-sheet-spec =

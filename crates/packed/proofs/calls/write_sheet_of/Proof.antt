@@ -29,9 +29,12 @@ same-length c = search needs
 
 returns : tie.Need-returns
 returns c =
-    let j = c .before .before .before .before .before .before .judge-sheet-fields in
-    let a = c .before .before .before .before .before .before .before .before .before .before .args in
-    let q = rw (c .before .before .p .given .1) at (j .ensures) in
+    let args = c .before .before .before .before .before .before .before .before .before .before .args in
+    let judge-sheet-fields = c .before .before .before .before .before .before .judge-sheet-fields in
+    let p = c .before .before .p in
+    let j = judge-sheet-fields in
+    let a = args in
+    let q = rw (p .given .1) at (j .ensures) in
     body-goes-on (fitFile (length (a .out .now))) (accepted-by (write-finds 4 (sheet (a .m)) (a .fields .now)) (q .is))
     (fitted-tight fitFile-fits (a .out .now) (q .fields) (none-lent (a .out .now) (j .last .1 .1 .0) (j .kept .1 .1 .0)) refl (q .number) (c .if1 .taken))
 
@@ -46,22 +49,30 @@ same-length-2 c = search needs
 
 returns-2 : tie.Need-returns-2
 returns-2 c =
-    let j = c .before .before .before .before .before .before .before .before .before .before .judge-sheet-fields in
-    let a = c .before .before .before .before .before .before .before .before .before .before .before .before .before .before .args in
-    let q = rw (c .before .before .before .before .before .before .p .given .1) at (j .ensures) in
+    let args = c .before .before .before .before .before .before .before .before .before .before .before .before .before .before .args in
+    let judge-sheet-fields = c .before .before .before .before .before .before .before .before .before .before .judge-sheet-fields in
+    let p = c .before .before .before .before .before .before .p in
+    let if1 = c .before .before .before .before .if1 in
+    let judge-sheet-fields2 = c .before .before .judge-sheet-fields2 in
+    let j = judge-sheet-fields in
+    let a = args in
+    let q = rw (p .given .1) at (j .ensures) in
     body-goes-on (fitFile (length (a .out .now))) (accepted-by (write-finds 4 (sheet (a .m)) (a .fields .now)) (q .is))
-    (fitted-given fitFile-fits (a .out .now) (q .fields) (none-lent (a .out .now) (j .last .1 .1 .0) (j .kept .1 .1 .0)) refl (q .number) (c .before .before .before .before .if1 .left)
-    (judges-fields-front (encode (sheet (a .m)) (a .fields .now)) 4 (c .before .before .judge-sheet-fields2 .result) (q .fields) _ _ (c .before .before .judge-sheet-fields2 .ensures) (q .is)))
+    (fitted-given fitFile-fits (a .out .now) (q .fields) (none-lent (a .out .now) (j .last .1 .1 .0) (j .kept .1 .1 .0)) refl (q .number) (if1 .left)
+    (judges-fields-front (encode (sheet (a .m)) (a .fields .now)) 4 (judge-sheet-fields2 .result) (q .fields) _ _ (judge-sheet-fields2 .ensures) (q .is)))
 
 same-length-3 : tie.Need-same-length-3
 same-length-3 c = search needs
 
 returns-3 : tie.Need-returns-3
 returns-3 c =
-    let j = c .before .before .before .before .before .judge-sheet-fields in
-    let a = c .before .before .before .before .before .before .before .before .before .args in
-    let q = rw (c .before .p2 .given .1) at (j .ensures) in
-    body-refused (fitFile (length (a .out .now))) (a .out .now) (none-lent (a .out .now) (j .last .1 .1 .0) (j .kept .1 .1 .0)) (c .before .p2 .given .0 .0) (refused-by (write-finds 4 (sheet (a .m)) (a .fields .now)) (c .before .p2 .given .0 .0) q)
+    let args = c .before .before .before .before .before .before .before .before .before .args in
+    let judge-sheet-fields = c .before .before .before .before .before .judge-sheet-fields in
+    let p2 = c .before .p2 in
+    let j = judge-sheet-fields in
+    let a = args in
+    let q = rw (p2 .given .1) at (j .ensures) in
+    body-refused (fitFile (length (a .out .now))) (a .out .now) (none-lent (a .out .now) (j .last .1 .1 .0) (j .kept .1 .1 .0)) (p2 .given .0 .0) (refused-by (write-finds 4 (sheet (a .m)) (a .fields .now)) (p2 .given .0 .0) q)
 
 pub write-sheet-of-spec : {M : Type 1} → statement M
 write-sheet-of-spec =

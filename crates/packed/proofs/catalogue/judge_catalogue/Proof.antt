@@ -20,8 +20,9 @@ same-length c = search needs
 
 returns : tie.Need-returns
 returns c =
+    let read-views = c .before .before .before .before .read-views in
     let e = c .enum-told .given .1 in
-    rw e (judged-bad (rw e at (c .before .before .before .before .read-views .ensures)))
+    rw e (judged-bad (rw e at (read-views .ensures)))
 
 same-length-2 : tie.Need-same-length-2
 same-length-2 c = search needs

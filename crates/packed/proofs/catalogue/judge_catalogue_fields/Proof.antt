@@ -20,8 +20,9 @@ same-length c = search needs
 
 returns : tie.Need-returns
 returns c =
+    let write-views = c .before .before .before .before .write-views in
     let e = c .enum-told .given .1 in
-    rw e (written-bad (rw e at (c .before .before .before .before .write-views .ensures)))
+    rw e (written-bad (rw e at (write-views .ensures)))
 
 same-length-2 : tie.Need-same-length-2
 same-length-2 c = search needs

@@ -38,7 +38,9 @@ part-write-pattern-end : tie.Need-part-write-pattern-end Inv-loop μ-loop
 part-write-pattern-end c = search needs
 
 write-pattern-requires : tie.Need-write-pattern-requires Inv-loop μ-loop
-write-pattern-requires c κs = c .before .before .before .loop .inv .2 .inside
+write-pattern-requires c κs =
+    let loop = c .before .before .before .loop in
+    loop .inv .2 .inside
 
 enum-known-p : tie.Need-enum-known-p Inv-loop μ-loop
 enum-known-p c = search needs
@@ -57,8 +59,12 @@ returns c =
 
 add-byte : tie.Need-add-byte Inv-loop μ-loop
 add-byte c =
-    let p = rw (c .before .p .given .1) at (c .before .before .before .before .before .write-pattern .ensures) in
-    omega (arith, p .1, c .before .before .before .before .before .before .before .before .before .loop .inv, c .before .before .before .before .before .before .before .before .before .before .before .before .pre)
+    let pre = c .before .before .before .before .before .before .before .before .before .before .before .before .pre in
+    let loop = c .before .before .before .before .before .before .before .before .before .loop in
+    let write-pattern = c .before .before .before .before .before .write-pattern in
+    let at-p = c .before .p in
+    let p = rw (at-p .given .1) at (write-pattern .ensures) in
+    omega (arith, p .1, loop .inv, pre)
 
 sub-left : tie.Need-sub-left Inv-loop μ-loop
 sub-left c = search needs

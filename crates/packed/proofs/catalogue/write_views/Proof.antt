@@ -32,8 +32,11 @@ write-padding-requires c κs = search needs
 
 write-patterns-requires : tie.Need-write-patterns-requires
 write-patterns-requires c κs =
-    let p = rw (c .before .before .before .before .before .before .f .given .1) at (c .before .before .before .before .before .before .before .before .before .before .write-field .ensures) in
-    (omega (arith, p .there), omega (arith, p .most), omega (arith, next-byte 5, c .before .before .before .write-padding .ensures .0))
+    let write-field = c .before .before .before .before .before .before .before .before .before .before .write-field in
+    let f = c .before .before .before .before .before .before .f in
+    let write-padding = c .before .before .before .write-padding in
+    let p = rw (f .given .1) at (write-field .ensures) in
+    (omega (arith, p .there), omega (arith, p .most), omega (arith, next-byte 5, write-padding .ensures .0))
 
 same-length-2 : tie.Need-same-length-2
 same-length-2 c = search needs

@@ -29,7 +29,9 @@ returns-2 c =
 
 cast-if3 : tie.Need-cast-if3
 cast-if3 c =
-    omega (arith, c .before .shared-slice-known2 .given (c .before .before .before .before .before .args .i))
+    let args = c .before .before .before .before .before .args in
+    let shared-slice-known2 = c .before .shared-slice-known2 in
+    omega (arith, shared-slice-known2 .given (args .i))
 
 returns-3 : tie.Need-returns-3
 returns-3 c =

@@ -25,7 +25,9 @@ same-length c = search needs
 
 returns : tie.Need-returns
 returns c =
-    (next-byte (c .before .before .before .before .before .args .at), c .before .before .put-bits .ensures ∙ gap-bits _ (c .before .before .before .before .before .args .at))
+    let args = c .before .before .before .before .before .args in
+    let put-bits = c .before .before .put-bits in
+    (next-byte (args .at), put-bits .ensures ∙ gap-bits _ (args .at))
 
 pub write-padding-spec : {M : Type 1} → statement M
 write-padding-spec =

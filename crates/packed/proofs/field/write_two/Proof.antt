@@ -18,7 +18,9 @@ same-length c = search needs
 
 returns : tie.Need-returns
 returns c =
-    let p = rw (c .before .f2 .given .1) at (c .before .before .before .before .before .write-field .ensures) in
+    let write-field = c .before .before .before .before .before .write-field in
+    let f2 = c .before .f2 in
+    let p = rw (f2 .given .1) at (write-field .ensures) in
     λ f. p _
 
 add-write-field : tie.Need-add-write-field
@@ -41,8 +43,12 @@ same-length-2 c = search needs
 
 returns-2 : tie.Need-returns-2
 returns-2 c =
-    let p = rw (c .before .before .before .before .before .before .before .before .f .given .1) at (c .before .before .before .before .before .before .before .before .before .before .before .before .write-field .ensures) in
-    let q = rw (c .before .g .given .1) at (c .before .before .before .before .before .write-field2 .ensures) in
+    let write-field = c .before .before .before .before .before .before .before .before .before .before .before .before .write-field in
+    let f = c .before .before .before .before .before .before .before .before .f in
+    let write-field2 = c .before .before .before .before .before .write-field2 in
+    let g = c .before .g in
+    let p = rw (f .given .1) at (write-field .ensures) in
+    let q = rw (g .given .1) at (write-field2 .ensures) in
     record { between = _; first = p; second = q }
 
 same-length-3 : tie.Need-same-length-3
@@ -50,9 +56,14 @@ same-length-3 c = search needs
 
 returns-3 : tie.Need-returns-3
 returns-3 c =
-    let p = rw (c .before .before .before .before .before .before .before .before .f .given .1) at (c .before .before .before .before .before .before .before .before .before .before .before .before .write-field .ensures) in
-    let q = rw (c .before .g2 .given .1) at (c .before .before .before .before .before .write-field2 .ensures) in
-    λ f. rejected (writes (begins (c .before .before .before .before .before .before .before .before .before .before .before .before .before .before .before .before .pre .0)) p) (q _)
+    let pre = c .before .before .before .before .before .before .before .before .before .before .before .before .before .before .before .before .pre in
+    let write-field = c .before .before .before .before .before .before .before .before .before .before .before .before .write-field in
+    let at-f = c .before .before .before .before .before .before .before .before .f in
+    let write-field2 = c .before .before .before .before .before .write-field2 in
+    let g2 = c .before .g2 in
+    let p = rw (at-f .given .1) at (write-field .ensures) in
+    let q = rw (g2 .given .1) at (write-field2 .ensures) in
+    λ f. rejected (writes (begins (pre .0)) p) (q _)
 
 pub write-two-spec : {M : Type 1} → statement M
 write-two-spec =

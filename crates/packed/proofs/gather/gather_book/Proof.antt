@@ -60,10 +60,17 @@ finish-requires : tie.Need-finish-requires Inv-loop μ-loop
 finish-requires c κs = walked-gathering (c .before .before .loop .inv .1) ([], c .before .before .loop .inv .0)
 
 same-length : tie.Need-same-length Inv-loop μ-loop
-same-length c = c .before .before .finish .kept .0 ∙ walked-long (c .before .before .before .before .before .loop .inv .1) ([], c .before .before .before .before .before .loop .inv .0)
+same-length c =
+    let loop = c .before .before .before .before .before .loop in
+    let finish = c .before .before .finish in
+    finish .kept .0 ∙ walked-long (loop .inv .1) ([], loop .inv .0)
 
 returns : tie.Need-returns Inv-loop μ-loop
-returns c = c .before .before .finish .ensures _ (walked-end (c .before .before .before .before .before .loop .inv .1) (book-none _ _ _ _ _ (c .before .before .before .before .loop-test .left)) [] (c .before .before .before .before .before .loop .inv .0))
+returns c =
+    let loop = c .before .before .before .before .before .loop in
+    let loop-test = c .before .before .before .before .loop-test in
+    let finish = c .before .before .finish in
+    finish .ensures _ (walked-end (loop .inv .1) (book-none _ _ _ _ _ (loop-test .left)) [] (loop .inv .0))
 
 pub gather-book-spec : {M : Type 1} → statement M
 gather-book-spec =

@@ -52,18 +52,29 @@ loop-less c = search needs
 
 loop-again : tie.Need-loop-again Inv-loop μ-loop
 loop-again c =
-    let l = c .before .before .before .before .before .before .loop in
-    let e = c .before .before .before .before .low-at .ensures in
-    (l .inv .0, walked-more _ _ _ _ (l .inv .1) (pairs-from-more _ _ _ _ (c .before .before .before .before .before .loop-test .taken) (e .0)) (c .before .before .gather-pair-fields .ensures), omega (arith, l .inv .2, e .1))
+    let loop = c .before .before .before .before .before .before .loop in
+    let loop-test = c .before .before .before .before .before .loop-test in
+    let low-at = c .before .before .before .before .low-at in
+    let gather-pair-fields = c .before .before .gather-pair-fields in
+    let l = loop in
+    let e = low-at .ensures in
+    (l .inv .0, walked-more _ _ _ _ (l .inv .1) (pairs-from-more _ _ _ _ (loop-test .taken) (e .0)) (gather-pair-fields .ensures), omega (arith, l .inv .2, e .1))
 
 finish-requires : tie.Need-finish-requires Inv-loop μ-loop
 finish-requires c κs = walked-gathering (c .before .before .loop .inv .1) ([], c .before .before .loop .inv .0)
 
 same-length : tie.Need-same-length Inv-loop μ-loop
-same-length c = c .before .before .finish .kept .0 ∙ walked-long (c .before .before .before .before .before .loop .inv .1) ([], c .before .before .before .before .before .loop .inv .0)
+same-length c =
+    let loop = c .before .before .before .before .before .loop in
+    let finish = c .before .before .finish in
+    finish .kept .0 ∙ walked-long (loop .inv .1) ([], loop .inv .0)
 
 returns : tie.Need-returns Inv-loop μ-loop
-returns c = c .before .before .finish .ensures _ (walked-end (c .before .before .before .before .before .loop .inv .1) (pairs-from-none _ _ _ (c .before .before .before .before .loop-test .left)) [] (c .before .before .before .before .before .loop .inv .0))
+returns c =
+    let loop = c .before .before .before .before .before .loop in
+    let loop-test = c .before .before .before .before .loop-test in
+    let finish = c .before .before .finish in
+    finish .ensures _ (walked-end (loop .inv .1) (pairs-from-none _ _ _ (loop-test .left)) [] (loop .inv .0))
 
 pub gather-fields-spec : {M : Type 1} → statement M
 gather-fields-spec =

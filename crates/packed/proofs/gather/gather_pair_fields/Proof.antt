@@ -35,7 +35,12 @@ add-push : tie.Need-add-push Inv-loop μ-loop
 add-push c = search needs
 
 push-requires : tie.Need-push-requires Inv-loop μ-loop
-push-requires c κs = (walked-gathering (c .before .before .before .before .loop .inv .0) (c .before .before .before .before .before .before .before .pre .2), omega (arith, c .before .before .low-at .ensures .1, c .before .low-at2 .ensures .1))
+push-requires c κs =
+    let pre = c .before .before .before .before .before .before .before .pre in
+    let loop = c .before .before .before .before .loop in
+    let low-at = c .before .before .low-at in
+    let low-at2 = c .before .low-at2 in
+    (walked-gathering (loop .inv .0) (pre .2), omega (arith, low-at .ensures .1, low-at2 .ensures .1))
 
 add-i : tie.Need-add-i Inv-loop μ-loop
 add-i c = search needs
@@ -48,11 +53,19 @@ loop-less c = search needs
 
 loop-again : tie.Need-loop-again Inv-loop μ-loop
 loop-again c =
-    let l = c .before .before .before .before .before .before .before .loop in
-    (walked-more _ _ _ _ (l .inv .0) (codes-from-more _ _ _ _ _ (c .before .before .before .before .before .before .loop-test .taken) (c .before .before .before .before .before .low-at .ensures .0) (c .before .before .before .before .low-at2 .ensures .0)) (c .before .before .push .ensures), omega (arith, l .inv .1))
+    let loop = c .before .before .before .before .before .before .before .loop in
+    let loop-test = c .before .before .before .before .before .before .loop-test in
+    let low-at = c .before .before .before .before .before .low-at in
+    let low-at2 = c .before .before .before .before .low-at2 in
+    let push = c .before .before .push in
+    let l = loop in
+    (walked-more _ _ _ _ (l .inv .0) (codes-from-more _ _ _ _ _ (loop-test .taken) (low-at .ensures .0) (low-at2 .ensures .0)) (push .ensures), omega (arith, l .inv .1))
 
 same-length : tie.Need-same-length Inv-loop μ-loop
-same-length c = walked-long (c .before .loop .inv .0) (c .before .before .before .before .pre .2)
+same-length c =
+    let pre = c .before .before .before .before .pre in
+    let loop = c .before .loop in
+    walked-long (loop .inv .0) (pre .2)
 
 returns : tie.Need-returns Inv-loop μ-loop
 returns c = walked-end (c .before .loop .inv .0) (codes-from-none _ _ _ (c .loop-test .left))

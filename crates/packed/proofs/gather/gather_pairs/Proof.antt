@@ -21,7 +21,11 @@ pair-at-requires : tie.Need-pair-at-requires Inv-loop μ-loop
 pair-at-requires c κs = search needs
 
 push-requires : tie.Need-push-requires Inv-loop μ-loop
-push-requires c κs = (walked-gathering (c .before .before .before .loop .inv .0) (c .before .before .before .before .before .before .pre .3), c .before .pair-at .ensures .1)
+push-requires c κs =
+    let pre = c .before .before .before .before .before .before .pre in
+    let loop = c .before .before .before .loop in
+    let pair-at = c .before .pair-at in
+    (walked-gathering (loop .inv .0) (pre .3), pair-at .ensures .1)
 
 add-i : tie.Need-add-i Inv-loop μ-loop
 add-i c = search needs
@@ -34,7 +38,10 @@ loop-again c =
     (walked-more _ _ _ _ (c .before .before .before .before .before .before .loop .inv .0) (codes-more _ _ _ _ _ (c .before .before .before .before .before .loop-test .taken) (c .before .before .before .before .pair-at .ensures .0)) (c .before .before .push .ensures), omega arith)
 
 same-length : tie.Need-same-length Inv-loop μ-loop
-same-length c = walked-long (c .before .loop .inv .0) (c .before .before .before .before .pre .3)
+same-length c =
+    let pre = c .before .before .before .before .pre in
+    let loop = c .before .loop in
+    walked-long (loop .inv .0) (pre .3)
 
 returns : tie.Need-returns Inv-loop μ-loop
 returns c =

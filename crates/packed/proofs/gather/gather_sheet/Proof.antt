@@ -38,16 +38,23 @@ loop-less c = search needs
 
 loop-again : tie.Need-loop-again Inv-loop μ-loop
 loop-again c =
-    let l = c .before .before .before .before .before .before .loop in
-    let p = c .before .before .before .before .list-at .ensures in
-    let h = c .before .before .before .before .before .loop-test .taken in
-    (walked-more _ _ _ _ (l .inv .0) (pairs-more p _ h) (c .before .before .gather-pairs .ensures), l .inv .1 ∙ ends-more p _ h, omega (arith, l .inv .2, p .near))
+    let loop = c .before .before .before .before .before .before .loop in
+    let loop-test = c .before .before .before .before .before .loop-test in
+    let list-at = c .before .before .before .before .list-at in
+    let gather-pairs = c .before .before .gather-pairs in
+    let l = loop in
+    let p = list-at .ensures in
+    let h = loop-test .taken in
+    (walked-more _ _ _ _ (l .inv .0) (pairs-more p _ h) (gather-pairs .ensures), l .inv .1 ∙ ends-more p _ h, omega (arith, l .inv .2, p .near))
 
 next-sheet-requires : tie.Need-next-sheet-requires Inv-loop μ-loop
 next-sheet-requires c κs = omega (arith, c .before .loop .inv .2)
 
 same-length : tie.Need-same-length Inv-loop μ-loop
-same-length c = walked-long (c .before .before .loop .inv .0) (c .before .before .before .before .before .pre .3)
+same-length c =
+    let pre = c .before .before .before .before .before .pre in
+    let loop = c .before .before .loop in
+    walked-long (loop .inv .0) (pre .3)
 
 returns : tie.Need-returns Inv-loop μ-loop
 returns c =

@@ -29,13 +29,22 @@ returns-2 : tie.Need-returns-2
 returns-2 c = λ codes t. kept-gathers _ (kept-more _ (gathers-kept t (c .before .if1 .left)) (t .chunk) (c .before .before .before .pre .1)) (let z = c .if2 .taken in omega arith)
 
 absorb-requires : tie.Need-absorb-requires
-absorb-requires c κs = kept-full _ (c .before .before .before .before .pre .0 .1) (c .before .before .if1 .left) (c .before .if2 .left) (c .before .before .before .before .pre .1) .can
+absorb-requires c κs =
+    let pre = c .before .before .before .before .pre in
+    let if1 = c .before .before .if1 in
+    let if2 = c .before .if2 in
+    kept-full _ (pre .0 .1) (if1 .left) (if2 .left) (pre .1) .can
 
 same-length-2 : tie.Need-same-length-2
 same-length-2 c = c .before .before .absorb .ensures .long ∙ simp length-set
 
 returns-3 : tie.Need-returns-3
-returns-3 c = λ codes t. absorbed-gathers _ (kept-full _ t (c .before .before .before .before .before .if1 .left) (c .before .before .before .before .if2 .left) (c .before .before .before .before .before .before .before .pre .1)) (c .before .before .absorb .ensures)
+returns-3 c =
+    let pre = c .before .before .before .before .before .before .before .pre in
+    let if1 = c .before .before .before .before .before .if1 in
+    let if2 = c .before .before .before .before .if2 in
+    let absorb = c .before .before .absorb in
+    λ codes t. absorbed-gathers _ (kept-full _ t (if1 .left) (if2 .left) (pre .1)) (absorb .ensures)
 
 pub push-spec : {M : Type 1} → statement M
 push-spec =

@@ -55,16 +55,25 @@ same-length c = search needs
 
 returns : tie.Need-returns
 returns c =
-    let o = rw (c .before .before .enum-told .given .1) at (c .before .before .before .before .before .before .before .accept-record .ensures .1) in
-    let d = rw (c .before .before .enum-told .given .1) at (c .before .before .before .before .before .before .before .accept-record .ensures .0) in
-    let l = read-says 40964 3 record′ (c .before .before .before .before .before .before .before .before .before .before .before .before .before .before .before .before .args .s .now) (d .fields) (d .is) .1 in
-    (holds-by _ (c .before .before .before .before .before .before .before .before .before .before .before .before .before .before .before .before .args .work .now) (c .before .before .before .before .before .before .before .before .before .before .before .before .before .before .before .before .pre) (rw (c .before .before .before .before .before .before .before .before .before .before .before .before .clear .ensures) at o) (c .before .get-bits .ensures) (c .get-bits2 .ensures), l)
+    let args = c .before .before .before .before .before .before .before .before .before .before .before .before .before .before .before .before .args in
+    let pre = c .before .before .before .before .before .before .before .before .before .before .before .before .before .before .before .before .pre in
+    let clear = c .before .before .before .before .before .before .before .before .before .before .before .before .clear in
+    let accept-record = c .before .before .before .before .before .before .before .accept-record in
+    let enum-told = c .before .before .enum-told in
+    let get-bits = c .before .get-bits in
+    let o = rw (enum-told .given .1) at (accept-record .ensures .1) in
+    let d = rw (enum-told .given .1) at (accept-record .ensures .0) in
+    let l = read-says 40964 3 record′ (args .s .now) (d .fields) (d .is) .1 in
+    (holds-by _ (args .work .now) pre (rw (clear .ensures) at o) (get-bits .ensures) (c .get-bits2 .ensures), l)
 
 same-length-2 : tie.Need-same-length-2
 same-length-2 c = search needs
 
 returns-2 : tie.Need-returns-2
-returns-2 c = rw (c .before .verdict .given .1) at (c .before .before .before .before .before .before .accept-record .ensures .0)
+returns-2 c =
+    let accept-record = c .before .before .before .before .before .before .accept-record in
+    let verdict = c .before .verdict in
+    rw (verdict .given .1) at (accept-record .ensures .0)
 
 pub load-record-spec : {M : Type 1} → statement M
 load-record-spec =

@@ -31,8 +31,11 @@ shared-slice-read-add-bits c = search needs
 
 add-bits-requires : tie.Need-add-bits-requires Inv-loop μ-loop
 add-bits-requires c κs =
-    let t = c .before .before .before .loop .inv .1 in
-    (t .long, λ e l. (let q = counts-most _ _ _ t e l in omega (arith, c .before .before .loop-test .taken, c .before .before .before .before .before .before .pre .0)))
+    let pre = c .before .before .before .before .before .before .pre in
+    let loop = c .before .before .before .loop in
+    let loop-test = c .before .before .loop-test in
+    let t = loop .inv .1 in
+    (t .long, λ e l. (let q = counts-most _ _ _ t e l in omega (arith, loop-test .taken, pre .0)))
 
 add-i : tie.Need-add-i Inv-loop μ-loop
 add-i c = search needs

@@ -16,16 +16,25 @@ no-counts-requires c κs = search needs
 
 returns : tie.Need-returns
 returns c =
-    let a = c .before .before .before .before .before .args in
-    let z = zero-is _ _ _ _ (c .before .before .before .counts .ensures) (c .before .before .before .before .before .pre .0) in
-    (listed-none (a .n) (a .m) (a .work .now) (sym z ∙ sym (c .before .before .is-none .ensures) ∙ c .before .if1 .taken), counts-start _ _ (c .no-counts .ensures))
+    let args = c .before .before .before .before .before .args in
+    let pre = c .before .before .before .before .before .pre in
+    let counts = c .before .before .before .counts in
+    let is-none = c .before .before .is-none in
+    let if1 = c .before .if1 in
+    let a = args in
+    let z = zero-is _ _ _ _ (counts .ensures) (pre .0) in
+    (listed-none (a .n) (a .m) (a .work .now) (sym z ∙ sym (is-none .ensures) ∙ if1 .taken), counts-start _ _ (c .no-counts .ensures))
 
 returns-2 : tie.Need-returns-2
 returns-2 c =
-    let a = c .before .before .before .before .args in
-    let t = c .before .before .counts .ensures in
-    let z = zero-is _ _ _ _ t (c .before .before .before .before .pre .0) in
-    (listed-all (a .n) (a .m) (a .work .now) (sym z ∙ sym (c .before .is-none .ensures) ∙ c .if1 .left), t)
+    let args = c .before .before .before .before .args in
+    let pre = c .before .before .before .before .pre in
+    let counts = c .before .before .counts in
+    let is-none = c .before .is-none in
+    let a = args in
+    let t = counts .ensures in
+    let z = zero-is _ _ _ _ t (pre .0) in
+    (listed-all (a .n) (a .m) (a .work .now) (sym z ∙ sym (is-none .ensures) ∙ c .if1 .left), t)
 
 pub listing-of-spec : {M : Type 1} → statement M
 listing-of-spec =

@@ -12,9 +12,11 @@ listing-of-requires c κs = search needs
 
 sum-requires : tie.Need-sum-requires
 sum-requires c κs =
-    let l = c .before .listing-of .ensures in
+    let pre = c .before .before .before .pre in
+    let listing-of = c .before .listing-of in
+    let l = listing-of .ensures in
     let h = listed-most _ _ _ _ (l .0) in
-    (c .before .before .before .pre .0, counts-few _ _ _ (l .1) (omega (arith, h)))
+    (pre .0, counts-few _ _ _ (l .1) (omega (arith, h)))
 
 mul-byte-after : tie.Need-mul-byte-after
 mul-byte-after c = search needs
@@ -33,9 +35,13 @@ byte-after-requires c κs = search needs
 
 returns : tie.Need-returns
 returns c =
-    let m = c .before .before .before .before .before .args .m in
-    let l = c .before .before .before .listing-of .ensures in
-    c .byte-after .ensures ∙ ap (λ (t : ℕ). (14 * m + 24 * t + 7) / 8) (c .before .sum .ensures .0 ∙ sum-listed _ _ _ _ _ (l .0) (l .1) (c .before .before .before .before .before .pre .0))
+    let args = c .before .before .before .before .before .args in
+    let pre = c .before .before .before .before .before .pre in
+    let listing-of = c .before .before .before .listing-of in
+    let sum = c .before .sum in
+    let m = args .m in
+    let l = listing-of .ensures in
+    c .byte-after .ensures ∙ ap (λ (t : ℕ). (14 * m + 24 * t + 7) / 8) (sum .ensures .0 ∙ sum-listed _ _ _ _ _ (l .0) (l .1) (pre .0))
 
 pub sheet-size-spec : {M : Type 1} → statement M
 sheet-size-spec =

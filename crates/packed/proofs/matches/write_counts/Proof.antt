@@ -28,25 +28,40 @@ put-bits-requires : tie.Need-put-bits-requires Inv-loop μ-loop
 put-bits-requires c κs = (omega arith, omega (arith, counts-bound (c .before .before .loop .inv .2) (c .before .before .before .before .pre .1)), omega (arith, c .before .before .before .before .pre .1 (c .before .before .loop .e)))
 
 add-places : tie.Need-add-places Inv-loop μ-loop
-add-places c = omega (arith, counts-bound (c .before .before .before .before .before .loop .inv .2) (c .before .before .before .before .before .before .before .pre .1))
+add-places c =
+    let pre = c .before .before .before .before .before .before .before .pre in
+    let loop = c .before .before .before .before .before .loop in
+    omega (arith, counts-bound (loop .inv .2) (pre .1))
 
 mul-places : tie.Need-mul-places Inv-loop μ-loop
 mul-places c = search needs
 
 element-write-places : tie.Need-element-write-places Inv-loop μ-loop
-element-write-places c = omega (arith, c .before .before .before .before .before .loop .inv .2 .long, c .before .before .before .before .before .before .before .pre .0)
+element-write-places c =
+    let pre = c .before .before .before .before .before .before .before .pre in
+    let loop = c .before .before .before .before .before .loop in
+    omega (arith, loop .inv .2 .long, pre .0)
 
 cast-at : tie.Need-cast-at Inv-loop μ-loop
 cast-at c = search needs
 
 mul-at : tie.Need-mul-at Inv-loop μ-loop
-mul-at c = omega (arith, c .before .before .before .before .before .before .before .pre .1 (c .before .before .before .before .before .loop .e))
+mul-at c =
+    let pre = c .before .before .before .before .before .before .before .pre in
+    let loop = c .before .before .before .before .before .loop in
+    omega (arith, pre .1 (loop .e))
 
 add-at : tie.Need-add-at Inv-loop μ-loop
-add-at c = omega (arith, c .before .before .before .before .before .before .before .pre .1 (c .before .before .before .before .before .loop .e))
+add-at c =
+    let pre = c .before .before .before .before .before .before .before .pre in
+    let loop = c .before .before .before .before .before .loop in
+    omega (arith, pre .1 (loop .e))
 
 add-at-2 : tie.Need-add-at-2 Inv-loop μ-loop
-add-at-2 c = omega (arith, c .before .before .before .before .before .before .before .pre .1 (c .before .before .before .before .before .loop .e), counts-bound (c .before .before .before .before .before .loop .inv .2) (c .before .before .before .before .before .before .before .pre .1))
+add-at-2 c =
+    let pre = c .before .before .before .before .before .before .before .pre in
+    let loop = c .before .before .before .before .before .loop in
+    omega (arith, pre .1 (loop .e), counts-bound (loop .inv .2) (pre .1))
 
 add-e : tie.Need-add-e Inv-loop μ-loop
 add-e c = search needs

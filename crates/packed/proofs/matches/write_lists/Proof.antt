@@ -9,7 +9,10 @@ no-places-requires : tie.Need-no-places-requires
 no-places-requires c κs = search needs
 
 write-counts-requires : tie.Need-write-counts-requires
-write-counts-requires c κs = (c .before .before .before .before .before .pre .2, counts-few _ _ _ (c .before .before .before .before .before .pre .1) (c .before .before .before .before .before .pre .0 .most), c .before .before .no-places .ensures)
+write-counts-requires c κs =
+    let pre = c .before .before .before .before .before .pre in
+    let no-places = c .before .before .no-places in
+    (pre .2, counts-few _ _ _ (pre .1) (pre .0 .most), no-places .ensures)
 
 write-pairs-requires : tie.Need-write-pairs-requires
 write-pairs-requires c κs = search needs
@@ -18,7 +21,11 @@ same-length : tie.Need-same-length
 same-length c = search needs
 
 returns : tie.Need-returns
-returns c = lists-written _ _ _ (c .before .before .before .before .before .before .before .before .before .before .before .before .before .pre .1) (c .before .before .before .before .before .before .before .before .before .before .before .before .before .pre .0) (c .before .before .before .before .before .before .before .before .before .before .before .before .before .pre .2) (c .before .before .before .before .before .before .before .write-counts .ensures) (c .before .before .write-pairs .ensures)
+returns c =
+    let pre = c .before .before .before .before .before .before .before .before .before .before .before .before .before .pre in
+    let write-counts = c .before .before .before .before .before .before .before .write-counts in
+    let write-pairs = c .before .before .write-pairs in
+    lists-written _ _ _ (pre .1) (pre .0) (pre .2) (write-counts .ensures) (write-pairs .ensures)
 
 pub write-lists-spec : {M : Type 1} → statement M
 write-lists-spec =

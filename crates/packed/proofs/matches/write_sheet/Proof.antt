@@ -10,8 +10,10 @@ listing-of-requires c κs = search needs
 
 write-lists-requires : tie.Need-write-lists-requires
 write-lists-requires c κs =
-    let p = c .before .before .before .before .before .pre in
-    let l = c .before .before .listing-of .ensures in
+    let pre = c .before .before .before .before .before .pre in
+    let listing-of = c .before .before .listing-of in
+    let p = pre in
+    let l = listing-of .ensures in
     (listed-marked _ _ _ _ (l .0) (p .0), l .1, p .1)
 
 write-padding-requires : tie.Need-write-padding-requires
@@ -22,9 +24,14 @@ same-length c = search needs
 
 returns : tie.Need-returns
 returns c =
-    let p = c .before .before .write-padding .ensures in
-    sheet-written (c .before .before .before .before .before .before .before .before .before .before .before .before .pre .0) (c .before .before .before .before .before .before .before .before .before .listing-of .ensures .0) (c .before .before .before .before .before .before .write-lists .ensures) (p .0) (p .1)
-    (λ j. omega (arith, c .before .before .before .before .before .before .before .before .before .before .slice-known .given j)) (λ j. omega (arith, c .slice-known3 .given j))
+    let pre = c .before .before .before .before .before .before .before .before .before .before .before .before .pre in
+    let slice-known = c .before .before .before .before .before .before .before .before .before .before .slice-known in
+    let listing-of = c .before .before .before .before .before .before .before .before .before .listing-of in
+    let write-lists = c .before .before .before .before .before .before .write-lists in
+    let write-padding = c .before .before .write-padding in
+    let p = write-padding .ensures in
+    sheet-written (pre .0) (listing-of .ensures .0) (write-lists .ensures) (p .0) (p .1)
+    (λ j. omega (arith, slice-known .given j)) (λ j. omega (arith, c .slice-known3 .given j))
 
 pub write-sheet-spec : {M : Type 1} → statement M
 write-sheet-spec =

@@ -21,8 +21,9 @@ same-length c = search needs
 
 returns : tie.Need-returns
 returns c =
+    let read-pattern = c .before .before .before .before .read-pattern in
     let e = c .enum-told .given .1 in
-    rw e (judged-whole-bad pattern (rw e at (c .before .before .before .before .read-pattern .ensures)))
+    rw e (judged-whole-bad pattern (rw e at (read-pattern .ensures)))
 
 same-length-2 : tie.Need-same-length-2
 same-length-2 c = search needs

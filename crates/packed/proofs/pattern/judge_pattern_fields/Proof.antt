@@ -21,8 +21,9 @@ same-length c = search needs
 
 returns : tie.Need-returns
 returns c =
+    let write-pattern = c .before .before .before .before .write-pattern in
     let e = c .enum-told .given .1 in
-    rw e (written-whole-bad pattern (rw e at (c .before .before .before .before .write-pattern .ensures)))
+    rw e (written-whole-bad pattern (rw e at (write-pattern .ensures)))
 
 same-length-2 : tie.Need-same-length-2
 same-length-2 c = search needs

@@ -25,9 +25,13 @@ same-length c = search needs
 
 returns : tie.Need-returns
 returns c =
-    let a = c .before .before .before .before .before .before .before .before .before .args in
-    let p = rw (c .before .f2 .given .1) at (c .before .before .before .before .before .read-field .ensures) in
-    refused (pattern-starts (a .s .now) (a .start) (a .words .now) (a .first) (c .before .before .before .before .before .before .before .before .before .pre .0 .inside)) (p _)
+    let args = c .before .before .before .before .before .before .before .before .before .args in
+    let pre = c .before .before .before .before .before .before .before .before .before .pre in
+    let read-field = c .before .before .before .before .before .read-field in
+    let f2 = c .before .f2 in
+    let a = args in
+    let p = rw (f2 .given .1) at (read-field .ensures) in
+    refused (pattern-starts (a .s .now) (a .start) (a .words .now) (a .first) (pre .0 .inside)) (p _)
 
 add-read-field : tie.Need-add-read-field
 add-read-field c = search needs
@@ -51,10 +55,16 @@ same-length-2 c = search needs
 
 returns-2 : tie.Need-returns-2
 returns-2 c =
-    let a = c .before .before .before .before .before .before .before .before .before .before .before .before .before .before .before .before .args in
-    let p = rw (c .before .before .before .before .before .before .before .before .f .given .1) at (c .before .before .before .before .before .before .before .before .before .before .before .before .read-field .ensures) in
-    let q = rw (c .before .g2 .given .1) at (c .before .before .before .before .before .read-field2 .ensures) in
-    refused (reads (pattern-starts (a .s .now) (a .start) (a .words .now) (a .first) (c .before .before .before .before .before .before .before .before .before .before .before .before .before .before .before .before .pre .0 .inside)) p) (q _)
+    let args = c .before .before .before .before .before .before .before .before .before .before .before .before .before .before .before .before .args in
+    let pre = c .before .before .before .before .before .before .before .before .before .before .before .before .before .before .before .before .pre in
+    let read-field = c .before .before .before .before .before .before .before .before .before .before .before .before .read-field in
+    let f = c .before .before .before .before .before .before .before .before .f in
+    let read-field2 = c .before .before .before .before .before .read-field2 in
+    let g2 = c .before .g2 in
+    let a = args in
+    let p = rw (f .given .1) at (read-field .ensures) in
+    let q = rw (g2 .given .1) at (read-field2 .ensures) in
+    refused (reads (pattern-starts (a .s .now) (a .start) (a .words .now) (a .first) (pre .0 .inside)) p) (q _)
 
 add-read-labels : tie.Need-add-read-labels
 add-read-labels c = search needs
@@ -78,25 +88,39 @@ same-length-3 c = search needs
 
 returns-3 : tie.Need-returns-3
 returns-3 c =
-    let a = c .before .before .before .before .before .before .before .before .before .before .before .before .before .before .before .before .before .before .before .before .before .before .args in
-    let p = rw (c .before .before .before .before .before .before .before .before .before .before .before .before .before .before .f .given .1) at (c .before .before .before .before .before .before .before .before .before .before .before .before .before .before .before .before .before .before .read-field .ensures) in
-    let q = rw (c .before .before .before .before .before .before .before .g .given .1) at (c .before .before .before .before .before .before .before .before .before .before .before .read-field2 .ensures) in
-    let nodes = c .before .before .before .before .before .before .before .before .before .before .before .before .before .before .f .given .0 .0 in
-    let number = c .before .before .before .before .before .before .before .g .given .0 .0 in
+    let args = c .before .before .before .before .before .before .before .before .before .before .before .before .before .before .before .before .before .before .before .before .before .before .args in
+    let pre = c .before .before .before .before .before .before .before .before .before .before .before .before .before .before .before .before .before .before .before .before .before .before .pre in
+    let read-field = c .before .before .before .before .before .before .before .before .before .before .before .before .before .before .before .before .before .before .read-field in
+    let f = c .before .before .before .before .before .before .before .before .before .before .before .before .before .before .f in
+    let read-field2 = c .before .before .before .before .before .before .before .before .before .before .before .read-field2 in
+    let g = c .before .before .before .before .before .before .before .g in
+    let read-labels = c .before .before .before .before .read-labels in
+    let a = args in
+    let p = rw (f .given .1) at (read-field .ensures) in
+    let q = rw (g .given .1) at (read-field2 .ensures) in
+    let nodes = f .given .0 .0 in
+    let number = g .given .0 .0 in
     let e = c .enum-told .given .1 in
-    let r = pattern-counts (a .s .now) (a .start) (a .words .now) (a .first) (c .before .before .before .before .before .before .before .before .before .before .before .before .before .before .before .before .before .before .before .before .before .before .pre .0 .inside) p q in
-    rw e (calls-refused (times nodes label) (edges 4 nodes (joined nodes) number []) r (rw e at (c .before .before .before .before .read-labels .ensures)))
+    let r = pattern-counts (a .s .now) (a .start) (a .words .now) (a .first) (pre .0 .inside) p q in
+    rw e (calls-refused (times nodes label) (edges 4 nodes (joined nodes) number []) r (rw e at (read-labels .ensures)))
 
 read-edges-requires : tie.Need-read-edges-requires
 read-edges-requires c κs =
-    let p = rw (c .before .before .before .before .before .before .before .before .before .before .before .before .before .before .before .before .f .given .1) at (c .before .before .before .before .before .before .before .before .before .before .before .before .before .before .before .before .before .before .before .before .read-field .ensures) in
-    let q = rw (c .before .before .before .before .before .before .before .before .before .g .given .1) at (c .before .before .before .before .before .before .before .before .before .before .before .before .before .read-field2 .ensures) in
-    let t = rw (c .before .before .p .given .1) at (c .before .before .before .before .before .before .read-labels .ensures) in
-    let h = c .before .before .before .before .before .before .before .before .before .before .before .before .before .before .before .before .before .before .before .before .before .before .before .before .pre in (
+    let pre = c .before .before .before .before .before .before .before .before .before .before .before .before .before .before .before .before .before .before .before .before .before .before .before .before .pre in
+    let read-field = c .before .before .before .before .before .before .before .before .before .before .before .before .before .before .before .before .before .before .before .before .read-field in
+    let f = c .before .before .before .before .before .before .before .before .before .before .before .before .before .before .before .before .f in
+    let read-field2 = c .before .before .before .before .before .before .before .before .before .before .before .before .before .read-field2 in
+    let g = c .before .before .before .before .before .before .before .before .before .g in
+    let read-labels = c .before .before .before .before .before .before .read-labels in
+    let at-p = c .before .before .p in
+    let p = rw (f .given .1) at (read-field .ensures) in
+    let q = rw (g .given .1) at (read-field2 .ensures) in
+    let t = rw (at-p .given .1) at (read-labels .ensures) in
+    let h = pre in (
       record { small = h .0 .small; inside = t .0 .inside; few = omega (arith, t .0 .paced, h .0 .few) },
       record {
-        fits = omega (arith, t .1, p .most, q .most, c .before .before .before .before .before .before .read-labels .kept, c .before .before .before .before .before .before .before .before .before .before .before .before .before .read-field2 .kept, c .before .before .before .before .before .before .before .before .before .before .before .before .before .before .before .before .before .before .before .before .read-field .kept, h .1 .fits);
-        small = omega (arith, c .before .before .before .before .before .before .read-labels .kept, c .before .before .before .before .before .before .before .before .before .before .before .before .before .read-field2 .kept, c .before .before .before .before .before .before .before .before .before .before .before .before .before .before .before .before .before .before .before .before .read-field .kept, h .1 .small);
+        fits = omega (arith, t .1, p .most, q .most, read-labels .kept, read-field2 .kept, read-field .kept, h .1 .fits);
+        small = omega (arith, read-labels .kept, read-field2 .kept, read-field .kept, h .1 .small);
       },
     )
 
@@ -105,14 +129,23 @@ same-length-4 c = search needs
 
 returns-4 : tie.Need-returns-4
 returns-4 c =
-    let a = c .before .before .before .before .before .before .before .before .before .before .before .before .before .before .before .before .before .before .before .before .before .before .before .before .before .before .before .args in
-    let p = rw (c .before .before .before .before .before .before .before .before .before .before .before .before .before .before .before .before .before .before .before .f .given .1) at (c .before .before .before .before .before .before .before .before .before .before .before .before .before .before .before .before .before .before .before .before .before .before .before .read-field .ensures) in
-    let q = rw (c .before .before .before .before .before .before .before .before .before .before .before .before .g .given .1) at (c .before .before .before .before .before .before .before .before .before .before .before .before .before .before .before .before .read-field2 .ensures) in
-    let t = rw (c .before .before .before .before .before .p .given .1) at (c .before .before .before .before .before .before .before .before .before .read-labels .ensures) in
-    let nodes = c .before .before .before .before .before .before .before .before .before .before .before .before .before .before .before .before .before .before .before .f .given .0 .0 in
-    let number = c .before .before .before .before .before .before .before .before .before .before .before .before .g .given .0 .0 in
-    let r = pattern-counts (a .s .now) (a .start) (a .words .now) (a .first) (c .before .before .before .before .before .before .before .before .before .before .before .before .before .before .before .before .before .before .before .before .before .before .before .before .before .before .before .pre .0 .inside) p q in
-    tails-up-to (2 * number) 82 _ (c .before .before .read-edges .result) _ (calls (times nodes label) (edges 4 nodes (joined nodes) number []) r (t .0)) (c .before .before .read-edges .ensures)
+    let args = c .before .before .before .before .before .before .before .before .before .before .before .before .before .before .before .before .before .before .before .before .before .before .before .before .before .before .before .args in
+    let pre = c .before .before .before .before .before .before .before .before .before .before .before .before .before .before .before .before .before .before .before .before .before .before .before .before .before .before .before .pre in
+    let read-field = c .before .before .before .before .before .before .before .before .before .before .before .before .before .before .before .before .before .before .before .before .before .before .before .read-field in
+    let f = c .before .before .before .before .before .before .before .before .before .before .before .before .before .before .before .before .before .before .before .f in
+    let read-field2 = c .before .before .before .before .before .before .before .before .before .before .before .before .before .before .before .before .read-field2 in
+    let g = c .before .before .before .before .before .before .before .before .before .before .before .before .g in
+    let read-labels = c .before .before .before .before .before .before .before .before .before .read-labels in
+    let at-p = c .before .before .before .before .before .p in
+    let read-edges = c .before .before .read-edges in
+    let a = args in
+    let p = rw (f .given .1) at (read-field .ensures) in
+    let q = rw (g .given .1) at (read-field2 .ensures) in
+    let t = rw (at-p .given .1) at (read-labels .ensures) in
+    let nodes = f .given .0 .0 in
+    let number = g .given .0 .0 in
+    let r = pattern-counts (a .s .now) (a .start) (a .words .now) (a .first) (pre .0 .inside) p q in
+    tails-up-to (2 * number) 82 _ (read-edges .result) _ (calls (times nodes label) (edges 4 nodes (joined nodes) number []) r (t .0)) (read-edges .ensures)
     (omega (arith, t .1, p .most, q .most))
 
 pub read-fields-spec : {M : Type 1} → statement M

@@ -28,9 +28,12 @@ same-length c = search needs
 
 returns : tie.Need-returns
 returns c =
-    let a = c .before .before .before .before .before .before .before .before .args in
+    let args = c .before .before .before .before .before .before .before .before .args in
+    let pre = c .before .before .before .before .before .before .before .before .pre in
+    let read-fields = c .before .before .before .before .read-fields in
+    let a = args in
     let e = c .enum-told .given .1 in
-    rw e (calls-refused pattern (pad done) (whole-starts (a .s .now) _ (a .words .now) (a .first) (c .before .before .before .before .before .before .before .before .pre .0 .inside) pattern) (rw e at (c .before .before .before .before .read-fields .ensures)))
+    rw e (calls-refused pattern (pad done) (whole-starts (a .s .now) _ (a .words .now) (a .first) (pre .0 .inside) pattern) (rw e at (read-fields .ensures)))
 
 is-clear-requires : tie.Need-is-clear-requires
 is-clear-requires c κs =
@@ -39,28 +42,41 @@ is-clear-requires c κs =
 
 add-t14 : tie.Need-add-t14
 add-t14 c =
-    let q = rw (c .before .before .before .p .given .1) at (c .before .before .before .before .before .before .before .read-fields .ensures) in
-    omega (arith, q .0 .inside, c .before .before .before .before .before .before .before .before .before .before .before .pre .0 .small)
+    let pre = c .before .before .before .before .before .before .before .before .before .before .before .pre in
+    let read-fields = c .before .before .before .before .before .before .before .read-fields in
+    let p = c .before .before .before .p in
+    let q = rw (p .given .1) at (read-fields .ensures) in
+    omega (arith, q .0 .inside, pre .0 .small)
 
 same-length-2 : tie.Need-same-length-2
 same-length-2 c = search needs
 
 returns-2 : tie.Need-returns-2
 returns-2 c =
-    let a = c .before .before .before .before .before .before .before .before .before .before .before .args in
-    let q = rw (c .before .before .before .p .given .1) at (c .before .before .before .before .before .before .before .read-fields .ensures) in
-    let r = calls pattern (pad done) (whole-starts (a .s .now) _ (a .words .now) (a .first) (c .before .before .before .before .before .before .before .before .before .before .before .pre .0 .inside) pattern) (q .0) in
-    (same-at (sym (next-byte _)) refl (pads (sym (c .before .is-clear .ensures) ∙ c .if1 .taken) r), q .1)
+    let args = c .before .before .before .before .before .before .before .before .before .before .before .args in
+    let pre = c .before .before .before .before .before .before .before .before .before .before .before .pre in
+    let read-fields = c .before .before .before .before .before .before .before .read-fields in
+    let p = c .before .before .before .p in
+    let is-clear = c .before .is-clear in
+    let a = args in
+    let q = rw (p .given .1) at (read-fields .ensures) in
+    let r = calls pattern (pad done) (whole-starts (a .s .now) _ (a .words .now) (a .first) (pre .0 .inside) pattern) (q .0) in
+    (same-at (sym (next-byte _)) refl (pads (sym (is-clear .ensures) ∙ c .if1 .taken) r), q .1)
 
 same-length-3 : tie.Need-same-length-3
 same-length-3 c = search needs
 
 returns-3 : tie.Need-returns-3
 returns-3 c =
-    let a = c .before .before .before .before .before .before .before .before .before .before .before .args in
-    let q = rw (c .before .before .before .p .given .1) at (c .before .before .before .before .before .before .before .read-fields .ensures) in
-    let r = calls pattern (pad done) (whole-starts (a .s .now) _ (a .words .now) (a .first) (c .before .before .before .before .before .before .before .before .before .before .before .pre .0 .inside) pattern) (q .0) in
-    ends-dirty (Trailing (a .file)) (sym (c .before .is-clear .ensures) ∙ c .if1 .left) refl r
+    let args = c .before .before .before .before .before .before .before .before .before .before .before .args in
+    let pre = c .before .before .before .before .before .before .before .before .before .before .before .pre in
+    let read-fields = c .before .before .before .before .before .before .before .read-fields in
+    let p = c .before .before .before .p in
+    let is-clear = c .before .is-clear in
+    let a = args in
+    let q = rw (p .given .1) at (read-fields .ensures) in
+    let r = calls pattern (pad done) (whole-starts (a .s .now) _ (a .words .now) (a .first) (pre .0 .inside) pattern) (q .0) in
+    ends-dirty (Trailing (a .file)) (sym (is-clear .ensures) ∙ c .if1 .left) refl r
 
 pub read-pattern-spec : {M : Type 1} → statement M
 read-pattern-spec =

@@ -24,9 +24,13 @@ same-length c = search needs
 
 returns : tie.Need-returns
 returns c =
-    let a = c .before .before .before .before .before .before .before .before .before .args in
-    let p = rw (c .before .f2 .given .1) at (c .before .before .before .before .before .write-field .ensures) in
-    rejected (pattern-begins (a .words .now) (a .first) (a .out .now) (a .start) (c .before .before .before .before .before .before .before .before .before .pre .0)) (p _)
+    let args = c .before .before .before .before .before .before .before .before .before .args in
+    let pre = c .before .before .before .before .before .before .before .before .before .pre in
+    let write-field = c .before .before .before .before .before .write-field in
+    let f2 = c .before .f2 in
+    let a = args in
+    let p = rw (f2 .given .1) at (write-field .ensures) in
+    rejected (pattern-begins (a .words .now) (a .first) (a .out .now) (a .start) (pre .0)) (p _)
 
 add-write-field : tie.Need-add-write-field
 add-write-field c = search needs
@@ -48,10 +52,16 @@ same-length-2 c = search needs
 
 returns-2 : tie.Need-returns-2
 returns-2 c =
-    let a = c .before .before .before .before .before .before .before .before .before .before .before .before .before .before .before .before .args in
-    let p = rw (c .before .before .before .before .before .before .before .before .f .given .1) at (c .before .before .before .before .before .before .before .before .before .before .before .before .write-field .ensures) in
-    let q = rw (c .before .g2 .given .1) at (c .before .before .before .before .before .write-field2 .ensures) in
-    rejected (writes (pattern-begins (a .words .now) (a .first) (a .out .now) (a .start) (c .before .before .before .before .before .before .before .before .before .before .before .before .before .before .before .before .pre .0)) p) (q _)
+    let args = c .before .before .before .before .before .before .before .before .before .before .before .before .before .before .before .before .args in
+    let pre = c .before .before .before .before .before .before .before .before .before .before .before .before .before .before .before .before .pre in
+    let write-field = c .before .before .before .before .before .before .before .before .before .before .before .before .write-field in
+    let f = c .before .before .before .before .before .before .before .before .f in
+    let write-field2 = c .before .before .before .before .before .write-field2 in
+    let g2 = c .before .g2 in
+    let a = args in
+    let p = rw (f .given .1) at (write-field .ensures) in
+    let q = rw (g2 .given .1) at (write-field2 .ensures) in
+    rejected (writes (pattern-begins (a .words .now) (a .first) (a .out .now) (a .start) (pre .0)) p) (q _)
 
 add-write-labels : tie.Need-add-write-labels
 add-write-labels c = search needs
@@ -61,9 +71,14 @@ add-write-labels-2 c = search needs
 
 write-labels-requires : tie.Need-write-labels-requires
 write-labels-requires c κs =
-    let p = rw (c .before .before .before .before .before .before .before .before .before .f .given .1) at (c .before .before .before .before .before .before .before .before .before .before .before .before .before .write-field .ensures) in
-    let q = rw (c .before .before .g .given .1) at (c .before .before .before .before .before .before .write-field2 .ensures) in
-    (omega (arith, q .there), omega (arith, p .most, c .before .before .before .before .before .before .before .before .before .before .before .before .before .before .before .before .before .pre .1))
+    let pre = c .before .before .before .before .before .before .before .before .before .before .before .before .before .before .before .before .before .pre in
+    let write-field = c .before .before .before .before .before .before .before .before .before .before .before .before .before .write-field in
+    let f = c .before .before .before .before .before .before .before .before .before .f in
+    let write-field2 = c .before .before .before .before .before .before .write-field2 in
+    let g = c .before .before .g in
+    let p = rw (f .given .1) at (write-field .ensures) in
+    let q = rw (g .given .1) at (write-field2 .ensures) in
+    (omega (arith, q .there), omega (arith, p .most, pre .1))
 
 enum-known-p : tie.Need-enum-known-p
 enum-known-p c = search needs
@@ -76,35 +91,58 @@ same-length-3 c = search needs
 
 returns-3 : tie.Need-returns-3
 returns-3 c =
-    let a = c .before .before .before .before .before .before .before .before .before .before .before .before .before .before .before .before .before .before .before .before .before .before .args in
-    let p = rw (c .before .before .before .before .before .before .before .before .before .before .before .before .before .before .f .given .1) at (c .before .before .before .before .before .before .before .before .before .before .before .before .before .before .before .before .before .before .write-field .ensures) in
-    let q = rw (c .before .before .before .before .before .before .before .g .given .1) at (c .before .before .before .before .before .before .before .before .before .before .before .write-field2 .ensures) in
-    let nodes = c .before .before .before .before .before .before .before .before .before .before .before .before .before .before .f .given .0 .0 in
-    let number = c .before .before .before .before .before .before .before .g .given .0 .0 in
+    let args = c .before .before .before .before .before .before .before .before .before .before .before .before .before .before .before .before .before .before .before .before .before .before .args in
+    let pre = c .before .before .before .before .before .before .before .before .before .before .before .before .before .before .before .before .before .before .before .before .before .before .pre in
+    let write-field = c .before .before .before .before .before .before .before .before .before .before .before .before .before .before .before .before .before .before .write-field in
+    let f = c .before .before .before .before .before .before .before .before .before .before .before .before .before .before .f in
+    let write-field2 = c .before .before .before .before .before .before .before .before .before .before .before .write-field2 in
+    let g = c .before .before .before .before .before .before .before .g in
+    let write-labels = c .before .before .before .before .write-labels in
+    let a = args in
+    let p = rw (f .given .1) at (write-field .ensures) in
+    let q = rw (g .given .1) at (write-field2 .ensures) in
+    let nodes = f .given .0 .0 in
+    let number = g .given .0 .0 in
     let e = c .enum-told .given .1 in
-    let r = pattern-counts-put (a .words .now) (a .first) (a .out .now) (a .start) (c .before .before .before .before .before .before .before .before .before .before .before .before .before .before .before .before .before .before .before .before .before .before .pre .0) p q in
-    rw e (parts-rejected (times nodes label) (edges 4 nodes (joined nodes) number []) r (rw e at (c .before .before .before .before .write-labels .ensures)))
+    let r = pattern-counts-put (a .words .now) (a .first) (a .out .now) (a .start) (pre .0) p q in
+    rw e (parts-rejected (times nodes label) (edges 4 nodes (joined nodes) number []) r (rw e at (write-labels .ensures)))
 
 write-edges-requires : tie.Need-write-edges-requires
 write-edges-requires c κs =
-    let p = rw (c .before .before .before .before .before .before .before .before .before .before .before .before .before .before .before .before .f .given .1) at (c .before .before .before .before .before .before .before .before .before .before .before .before .before .before .before .before .before .before .before .before .write-field .ensures) in
-    let q = rw (c .before .before .before .before .before .before .before .before .before .g .given .1) at (c .before .before .before .before .before .before .before .before .before .before .before .before .before .write-field2 .ensures) in
-    let t = rw (c .before .before .p .given .1) at (c .before .before .before .before .before .before .write-labels .ensures) in
-    (t .0 .inside, omega (arith, p .most), omega (arith, t .1, p .most, q .most, c .before .before .before .before .before .before .before .before .before .before .before .before .before .before .before .before .before .before .before .before .before .before .before .before .pre .1))
+    let pre = c .before .before .before .before .before .before .before .before .before .before .before .before .before .before .before .before .before .before .before .before .before .before .before .before .pre in
+    let write-field = c .before .before .before .before .before .before .before .before .before .before .before .before .before .before .before .before .before .before .before .before .write-field in
+    let f = c .before .before .before .before .before .before .before .before .before .before .before .before .before .before .before .before .f in
+    let write-field2 = c .before .before .before .before .before .before .before .before .before .before .before .before .before .write-field2 in
+    let g = c .before .before .before .before .before .before .before .before .before .g in
+    let write-labels = c .before .before .before .before .before .before .write-labels in
+    let at-p = c .before .before .p in
+    let p = rw (f .given .1) at (write-field .ensures) in
+    let q = rw (g .given .1) at (write-field2 .ensures) in
+    let t = rw (at-p .given .1) at (write-labels .ensures) in
+    (t .0 .inside, omega (arith, p .most), omega (arith, t .1, p .most, q .most, pre .1))
 
 same-length-4 : tie.Need-same-length-4
 same-length-4 c = search needs
 
 returns-4 : tie.Need-returns-4
 returns-4 c =
-    let a = c .before .before .before .before .before .before .before .before .before .before .before .before .before .before .before .before .before .before .before .before .before .before .before .before .before .before .before .args in
-    let p = rw (c .before .before .before .before .before .before .before .before .before .before .before .before .before .before .before .before .before .before .before .f .given .1) at (c .before .before .before .before .before .before .before .before .before .before .before .before .before .before .before .before .before .before .before .before .before .before .before .write-field .ensures) in
-    let q = rw (c .before .before .before .before .before .before .before .before .before .before .before .before .g .given .1) at (c .before .before .before .before .before .before .before .before .before .before .before .before .before .before .before .before .write-field2 .ensures) in
-    let t = rw (c .before .before .before .before .before .p .given .1) at (c .before .before .before .before .before .before .before .before .before .write-labels .ensures) in
-    let nodes = c .before .before .before .before .before .before .before .before .before .before .before .before .before .before .before .before .before .before .before .f .given .0 .0 in
-    let number = c .before .before .before .before .before .before .before .before .before .before .before .before .g .given .0 .0 in
-    let r = pattern-counts-put (a .words .now) (a .first) (a .out .now) (a .start) (c .before .before .before .before .before .before .before .before .before .before .before .before .before .before .before .before .before .before .before .before .before .before .before .before .before .before .before .pre .0) p q in
-    closes (8 * number) 347 _ (c .before .before .write-edges .result) _ (parts (times nodes label) (edges 4 nodes (joined nodes) number []) r (t .0)) (c .before .before .write-edges .ensures)
+    let args = c .before .before .before .before .before .before .before .before .before .before .before .before .before .before .before .before .before .before .before .before .before .before .before .before .before .before .before .args in
+    let pre = c .before .before .before .before .before .before .before .before .before .before .before .before .before .before .before .before .before .before .before .before .before .before .before .before .before .before .before .pre in
+    let write-field = c .before .before .before .before .before .before .before .before .before .before .before .before .before .before .before .before .before .before .before .before .before .before .before .write-field in
+    let f = c .before .before .before .before .before .before .before .before .before .before .before .before .before .before .before .before .before .before .before .f in
+    let write-field2 = c .before .before .before .before .before .before .before .before .before .before .before .before .before .before .before .before .write-field2 in
+    let g = c .before .before .before .before .before .before .before .before .before .before .before .before .g in
+    let write-labels = c .before .before .before .before .before .before .before .before .before .write-labels in
+    let at-p = c .before .before .before .before .before .p in
+    let write-edges = c .before .before .write-edges in
+    let a = args in
+    let p = rw (f .given .1) at (write-field .ensures) in
+    let q = rw (g .given .1) at (write-field2 .ensures) in
+    let t = rw (at-p .given .1) at (write-labels .ensures) in
+    let nodes = f .given .0 .0 in
+    let number = g .given .0 .0 in
+    let r = pattern-counts-put (a .words .now) (a .first) (a .out .now) (a .start) (pre .0) p q in
+    closes (8 * number) 347 _ (write-edges .result) _ (parts (times nodes label) (edges 4 nodes (joined nodes) number []) r (t .0)) (write-edges .ensures)
     (omega (arith, t .1, p .most, q .most))
 
 pub write-fields-spec : {M : Type 1} → statement M

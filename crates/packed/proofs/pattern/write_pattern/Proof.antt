@@ -24,13 +24,18 @@ same-length c = search needs
 
 returns : tie.Need-returns
 returns c =
-    let a = c .before .before .before .before .before .before .before .before .args in
+    let args = c .before .before .before .before .before .before .before .before .args in
+    let pre = c .before .before .before .before .before .before .before .before .pre in
+    let write-fields = c .before .before .before .before .write-fields in
+    let a = args in
     let e = c .enum-told .given .1 in
-    rw e (parts-rejected pattern (pad done) (whole-begins (a .words .now) (a .first) (a .out .now) 0 (c .before .before .before .before .before .before .before .before .pre) pattern) (rw e at (c .before .before .before .before .write-fields .ensures)))
+    rw e (parts-rejected pattern (pad done) (whole-begins (a .words .now) (a .first) (a .out .now) 0 pre pattern) (rw e at (write-fields .ensures)))
 
 write-padding-requires : tie.Need-write-padding-requires
 write-padding-requires c κs =
-    let q = rw (c .before .before .p .given .1) at (c .before .before .before .before .before .before .write-fields .ensures) in
+    let write-fields = c .before .before .before .before .before .before .write-fields in
+    let p = c .before .before .p in
+    let q = rw (p .given .1) at (write-fields .ensures) in
     omega (arith, q .1)
 
 same-length-2 : tie.Need-same-length-2
@@ -38,10 +43,15 @@ same-length-2 c = search needs
 
 returns-2 : tie.Need-returns-2
 returns-2 c =
-    let a = c .before .before .before .before .before .before .before .before .before .before .before .before .before .args in
-    let q = rw (c .before .before .before .before .before .p .given .1) at (c .before .before .before .before .before .before .before .before .before .write-fields .ensures) in
-    let r = parts pattern (pad done) (whole-begins (a .words .now) (a .first) (a .out .now) 0 (c .before .before .before .before .before .before .before .before .before .before .before .before .before .pre) pattern) (q .0) in
-    (same-to refl (sym (c .before .before .write-padding .ensures .0)) (fills (c .before .before .write-padding .ensures .1) r), omega (arith, q .1, c .before .before .write-padding .ensures .0, next-byte (c .before .before .before .before .before .p .given .0 .0)))
+    let args = c .before .before .before .before .before .before .before .before .before .before .before .before .before .args in
+    let pre = c .before .before .before .before .before .before .before .before .before .before .before .before .before .pre in
+    let write-fields = c .before .before .before .before .before .before .before .before .before .write-fields in
+    let p = c .before .before .before .before .before .p in
+    let write-padding = c .before .before .write-padding in
+    let a = args in
+    let q = rw (p .given .1) at (write-fields .ensures) in
+    let r = parts pattern (pad done) (whole-begins (a .words .now) (a .first) (a .out .now) 0 pre pattern) (q .0) in
+    (same-to refl (sym (write-padding .ensures .0)) (fills (write-padding .ensures .1) r), omega (arith, q .1, write-padding .ensures .0, next-byte (p .given .0 .0)))
 
 pub write-pattern-spec : {M : Type 1} → statement M
 write-pattern-spec =

@@ -24,8 +24,11 @@ same-length-2 c = search needs
 
 returns : tie.Need-returns
 returns c =
-    let l = c .before .before .before .before .before .before .before .before .before .read-fields .ensures .0 in
-    (loads-repeat l (kept-twice (omega (arith, c .before .before .before .before .before .before .before .before .before .before .before .before .before .before .before .pre .1)) (l .kept) (c .before .before .before .repeats .ensures .0) (c .if1 .taken)), tt)
+    let pre = c .before .before .before .before .before .before .before .before .before .before .before .before .before .before .before .pre in
+    let read-fields = c .before .before .before .before .before .before .before .before .before .read-fields in
+    let repeats = c .before .before .before .repeats in
+    let l = read-fields .ensures .0 in
+    (loads-repeat l (kept-twice (omega (arith, pre .1)) (l .kept) (repeats .ensures .0) (c .if1 .taken)), tt)
 
 enum-known-p : tie.Need-enum-known-p
 enum-known-p c = search needs
@@ -41,14 +44,21 @@ same-length-4 c = search needs
 
 returns-2 : tie.Need-returns-2
 returns-2 c =
-    let l = c .before .before .before .before .before .before .before .before .before .before .before .read-fields .ensures .0 in
-    (loads-wrong l (kept-once (omega (arith, c .before .before .before .before .before .before .before .before .before .before .before .before .before .before .before .before .before .pre .1)) (l .kept) (c .before .before .before .before .before .repeats .ensures .0) (c .before .before .if1 .left)) (c .enum-told .given .1), rw (c .enum-told .given .1) tt)
+    let pre = c .before .before .before .before .before .before .before .before .before .before .before .before .before .before .before .before .before .pre in
+    let read-fields = c .before .before .before .before .before .before .before .before .before .before .before .read-fields in
+    let repeats = c .before .before .before .before .before .repeats in
+    let if1 = c .before .before .if1 in
+    let l = read-fields .ensures .0 in
+    (loads-wrong l (kept-once (omega (arith, pre .1)) (l .kept) (repeats .ensures .0) (if1 .left)) (c .enum-told .given .1), rw (c .enum-told .given .1) tt)
 
 close-file-requires : tie.Need-close-file-requires
 close-file-requires c κs =
-    let l = c .before .before .before .before .before .before .before .before .before .before .before .before .read-fields .ensures .0 in
-    let q = rw (c .before .p .given .1) at (l .part) in
-    record { small = c .before .before .before .before .before .before .before .before .before .before .before .before .before .before .before .before .before .before .pre .0; inside = q .inside; few = q .few }
+    let pre = c .before .before .before .before .before .before .before .before .before .before .before .before .before .before .before .before .before .before .pre in
+    let read-fields = c .before .before .before .before .before .before .before .before .before .before .before .before .read-fields in
+    let p = c .before .p in
+    let l = read-fields .ensures .0 in
+    let q = rw (p .given .1) at (l .part) in
+    record { small = pre .0; inside = q .inside; few = q .few }
 
 same-length-5 : tie.Need-same-length-5
 same-length-5 c = search needs
@@ -58,15 +68,21 @@ same-length-6 c = search needs
 
 returns-3 : tie.Need-returns-3
 returns-3 c =
-    let a = c .before .before .before .before .before .before .before .before .before .before .before .before .before .before .before .before .before .before .before .args in
-    let e = c .before .before .before .before .before .before .before .before .before .before .before .before .before .read-fields .ensures in
+    let args = c .before .before .before .before .before .before .before .before .before .before .before .before .before .before .before .before .before .before .before .args in
+    let pre = c .before .before .before .before .before .before .before .before .before .before .before .before .before .before .before .before .before .before .before .pre in
+    let read-fields = c .before .before .before .before .before .before .before .before .before .before .before .before .before .read-fields in
+    let repeats = c .before .before .before .before .before .before .before .repeats in
+    let if1 = c .before .before .before .before .if1 in
+    let p = c .before .before .p in
+    let a = args in
+    let e = read-fields .ensures in
     let l = e .0 in
-    let q = rw (c .before .before .p .given .1) at (l .part) in
-    let d = rw (c .before .before .p .given .1) at (e .1) in
-    let t = c .before .before .before .before .before .before .before .repeats .ensures in
+    let q = rw (p .given .1) at (l .part) in
+    let d = rw (p .given .1) at (e .1) in
+    let t = repeats .ensures in
     let j = c .close-file .ensures record′ _ _
-    (lazy-ends (kept-once (omega (arith, c .before .before .before .before .before .before .before .before .before .before .before .before .before .before .before .before .before .before .before .pre .1)) (l .kept) (t .0) (c .before .before .before .before .if1 .left)) q) in
-    (j, orders-by (c .close-file .result) (a .s .now) (a .words .now) (c .before .before .before .before .before .before .before .before .before .before .before .before .before .read-fields .last .1 .0) 3 j (omega (arith, c .before .before .before .before .before .before .before .before .before .before .before .before .before .before .before .before .before .before .before .pre .1)) d (t .1))
+    (lazy-ends (kept-once (omega (arith, pre .1)) (l .kept) (t .0) (if1 .left)) q) in
+    (j, orders-by (c .close-file .result) (a .s .now) (a .words .now) (read-fields .last .1 .0) 3 j (omega (arith, pre .1)) d (t .1))
 
 pub judge-record-spec : {M : Type 1} → statement M
 judge-record-spec =

@@ -24,8 +24,11 @@ same-length-2 c = search needs
 
 returns : tie.Need-returns
 returns c =
-    let l = c .before .before .before .before .before .before .before .before .before .write-fields .ensures in
-    fields-repeat l (kept-twice (omega (arith, c .before .before .before .before .before .before .before .before .before .before .before .before .before .before .before .pre)) (l .kept) (c .before .before .before .repeats .ensures .0) (c .if1 .taken))
+    let pre = c .before .before .before .before .before .before .before .before .before .before .before .before .before .before .before .pre in
+    let write-fields = c .before .before .before .before .before .before .before .before .before .write-fields in
+    let repeats = c .before .before .before .repeats in
+    let l = write-fields .ensures in
+    fields-repeat l (kept-twice (omega (arith, pre)) (l .kept) (repeats .ensures .0) (c .if1 .taken))
 
 enum-known-p : tie.Need-enum-known-p
 enum-known-p c = search needs
@@ -41,8 +44,12 @@ same-length-4 c = search needs
 
 returns-2 : tie.Need-returns-2
 returns-2 c =
-    let l = c .before .before .before .before .before .before .before .before .before .before .before .write-fields .ensures in
-    fields-wrong l (kept-once (omega (arith, c .before .before .before .before .before .before .before .before .before .before .before .before .before .before .before .before .before .pre)) (l .kept) (c .before .before .before .before .before .repeats .ensures .0) (c .before .before .if1 .left)) (c .enum-told .given .1)
+    let pre = c .before .before .before .before .before .before .before .before .before .before .before .before .before .before .before .before .before .pre in
+    let write-fields = c .before .before .before .before .before .before .before .before .before .before .before .write-fields in
+    let repeats = c .before .before .before .before .before .repeats in
+    let if1 = c .before .before .if1 in
+    let l = write-fields .ensures in
+    fields-wrong l (kept-once (omega (arith, pre)) (l .kept) (repeats .ensures .0) (if1 .left)) (c .enum-told .given .1)
 
 same-length-5 : tie.Need-same-length-5
 same-length-5 c = search needs
@@ -52,14 +59,21 @@ same-length-6 c = search needs
 
 returns-3 : tie.Need-returns-3
 returns-3 c =
-    let l = c .before .before .before .before .before .before .before .before .before .before .before .before .before .write-fields .ensures in
-    let q = rw (c .before .before .p .given .1) at (l .part) in
-    let h = kept-once (omega (arith, c .before .before .before .before .before .before .before .before .before .before .before .before .before .before .before .before .before .before .before .pre)) (l .kept) (c .before .before .before .before .before .before .before .repeats .ensures .0) (c .before .before .before .before .if1 .left) in
+    let pre = c .before .before .before .before .before .before .before .before .before .before .before .before .before .before .before .before .before .before .before .pre in
+    let write-fields = c .before .before .before .before .before .before .before .before .before .before .before .before .before .write-fields in
+    let repeats = c .before .before .before .before .before .before .before .repeats in
+    let if1 = c .before .before .before .before .if1 in
+    let p = c .before .before .p in
+    let l = write-fields .ensures in
+    let q = rw (p .given .1) at (l .part) in
+    let h = kept-once (omega (arith, pre)) (l .kept) (repeats .ensures .0) (if1 .left) in
     (filled-tail _ (next-byte _) (lazy-written h (q .0)) (c .if2 .taken), refl)
 
 write-padding-requires : tie.Need-write-padding-requires
 write-padding-requires c κs =
-    let q = rw (c .before .before .before .p .given .1) at (c .before .before .before .before .before .before .before .before .before .before .before .before .before .before .write-fields .ensures .part) in
+    let write-fields = c .before .before .before .before .before .before .before .before .before .before .before .before .before .before .write-fields in
+    let p = c .before .before .before .p in
+    let q = rw (p .given .1) at (write-fields .ensures .part) in
     omega (arith, q .1)
 
 same-length-7 : tie.Need-same-length-7
@@ -70,10 +84,18 @@ same-length-8 c = search needs
 
 returns-4 : tie.Need-returns-4
 returns-4 c =
-    let l = c .before .before .before .before .before .before .before .before .before .before .before .before .before .before .before .before .before .write-fields .ensures in
-    let q = rw (c .before .before .before .before .before .before .p .given .1) at (l .part) in
-    let h = kept-once (omega (arith, c .before .before .before .before .before .before .before .before .before .before .before .before .before .before .before .before .before .before .before .before .before .before .before .pre)) (l .kept) (c .before .before .before .before .before .before .before .before .before .before .before .repeats .ensures .0) (c .before .before .before .before .before .before .before .before .if1 .left) in
-    filled-ok _ (c .before .before .write-padding .ensures .0) (lazy-written h (q .0)) (c .before .before .write-padding .ensures .1) (c .before .before .before .before .if2 .left) (λ j. c .before .before .before .before .before .before .before .before .before .before .before .before .before .before .before .before .before .before .before .before .before .slice-known .given j .fits) (λ j. c .slice-known6 .given j .fits)
+    let pre = c .before .before .before .before .before .before .before .before .before .before .before .before .before .before .before .before .before .before .before .before .before .before .before .pre in
+    let slice-known = c .before .before .before .before .before .before .before .before .before .before .before .before .before .before .before .before .before .before .before .before .before .slice-known in
+    let write-fields = c .before .before .before .before .before .before .before .before .before .before .before .before .before .before .before .before .before .write-fields in
+    let repeats = c .before .before .before .before .before .before .before .before .before .before .before .repeats in
+    let if1 = c .before .before .before .before .before .before .before .before .if1 in
+    let p = c .before .before .before .before .before .before .p in
+    let if2 = c .before .before .before .before .if2 in
+    let write-padding = c .before .before .write-padding in
+    let l = write-fields .ensures in
+    let q = rw (p .given .1) at (l .part) in
+    let h = kept-once (omega (arith, pre)) (l .kept) (repeats .ensures .0) (if1 .left) in
+    filled-ok _ (write-padding .ensures .0) (lazy-written h (q .0)) (write-padding .ensures .1) (if2 .left) (λ j. slice-known .given j .fits) (λ j. c .slice-known6 .given j .fits)
 
 pub judge-record-fields-spec : {M : Type 1} → statement M
 judge-record-fields-spec =

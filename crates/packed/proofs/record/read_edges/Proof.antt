@@ -34,12 +34,16 @@ enum-known-f c = search needs
 
 mul-work : tie.Need-mul-work Inv-loop μ-loop
 mul-work c =
-    let p = rw (c .before .f .given .1) at (c .before .before .before .before .before .read-two .ensures) in
+    let read-two = c .before .before .before .before .before .read-two in
+    let f = c .before .f in
+    let p = rw (f .given .1) at (read-two .ensures) in
     omega (arith, p .first .most, p .second .most)
 
 add-work : tie.Need-add-work Inv-loop μ-loop
 add-work c =
-    let p = rw (c .before .f .given .1) at (c .before .before .before .before .before .read-two .ensures) in
+    let read-two = c .before .before .before .before .before .read-two in
+    let f = c .before .f in
+    let p = rw (f .given .1) at (read-two .ensures) in
     omega (arith, p .first .most, p .second .most)
 
 mul-work-2 : tie.Need-mul-work-2 Inv-loop μ-loop
@@ -79,8 +83,12 @@ same-length-2 c = search needs
 
 returns : tie.Need-returns Inv-loop μ-loop
 returns c =
-    let p = rw (c .before .f2 .given .1) at (c .before .before .before .before .before .read-two .ensures) in
-    (edges-refused _ refl refl (c .before .before .before .before .before .before .before .loop-test .taken) (c .before .before .before .before .before .before .before .before .loop .inv .1) p, tt)
+    let at-loop = c .before .before .before .before .before .before .before .before .loop in
+    let loop-test = c .before .before .before .before .before .before .before .loop-test in
+    let read-two = c .before .before .before .before .before .read-two in
+    let f2 = c .before .f2 in
+    let p = rw (f2 .given .1) at (read-two .ensures) in
+    (edges-refused _ refl refl (loop-test .taken) (at-loop .inv .1) p, tt)
 
 same-length-3 : tie.Need-same-length-3 Inv-loop μ-loop
 same-length-3 c = search needs
@@ -90,8 +98,10 @@ same-length-4 c = search needs
 
 returns-2 : tie.Need-returns-2 Inv-loop μ-loop
 returns-2 c =
-    let i = c .before .loop .inv in
-    let e : c .before .loop .k ≡ c .before .before .before .before .before .args .number = omega (arith, i .1 .held .rest) in
+    let args = c .before .before .before .before .before .args in
+    let at-loop = c .before .loop in
+    let i = at-loop .inv in
+    let e : at-loop .k ≡ args .number = omega (arith, i .1 .held .rest) in
     (edges-ended _ refl refl (c .loop-test .left) (i .1), (e, rw e at (i .3)))
 
 pub read-edges-spec : {M : Type 1} → statement M

@@ -26,7 +26,9 @@ same-length c = search needs
 
 returns : tie.Need-returns
 returns c =
-    let p = rw (c .before .before .f2 .given .1) at (c .before .before .before .before .before .before .read-field .ensures) in
+    let read-field = c .before .before .before .before .before .before .read-field in
+    let f2 = c .before .before .f2 in
+    let p = rw (f2 .given .1) at (read-field .ensures) in
     (loads-stopped _ (c .stopped .ensures .1) (c .stopped .ensures .0) (rw record-is (p _)), rw (c .stopped .ensures .0) tt)
 
 read-field-requires-2 : tie.Need-read-field-requires-2
@@ -48,8 +50,12 @@ same-length-2 c = search needs
 
 returns-2 : tie.Need-returns-2
 returns-2 c =
-    let p = rw (c .before .before .before .before .before .before .before .before .before .f .given .1) at (c .before .before .before .before .before .before .before .before .before .before .before .before .before .read-field .ensures) in
-    let q = rw (c .before .before .g2 .given .1) at (c .before .before .before .before .before .before .read-field2 .ensures) in
+    let read-field = c .before .before .before .before .before .before .before .before .before .before .before .before .before .read-field in
+    let f = c .before .before .before .before .before .before .before .before .before .f in
+    let read-field2 = c .before .before .before .before .before .before .read-field2 in
+    let g2 = c .before .before .g2 in
+    let p = rw (f .given .1) at (read-field .ensures) in
+    let q = rw (g2 .given .1) at (read-field2 .ensures) in
     (loads-stopped _ (c .stopped2 .ensures .1) (c .stopped2 .ensures .0) (refused (record-nodes p) (q _)), rw (c .stopped2 .ensures .0) tt)
 
 read-labels-requires : tie.Need-read-labels-requires
@@ -62,10 +68,17 @@ enum-known-p c = search needs
 
 read-edges-requires : tie.Need-read-edges-requires
 read-edges-requires c κs =
-    let p = rw (c .before .before .before .before .before .before .before .before .before .before .before .before .before .before .before .before .before .f .given .1) at (c .before .before .before .before .before .before .before .before .before .before .before .before .before .before .before .before .before .before .before .before .before .read-field .ensures) in
-    let q = rw (c .before .before .before .before .before .before .before .before .before .before .g .given .1) at (c .before .before .before .before .before .before .before .before .before .before .before .before .before .before .read-field2 .ensures) in
-    let r = rw (c .before .before .before .p .given .1) at (c .before .before .before .before .before .before .before .read-labels .ensures .0) in
-    (record { small = c .before .before .before .before .before .before .before .before .before .before .before .before .before .before .before .before .before .before .before .before .before .before .before .before .before .before .pre .0; inside = r .inside; few = omega (arith, r .paced) }, omega (arith, p .most), omega (arith, q .most), c .before .before .before .before .before .before .before .before .before .before .before .before .before .before .before .before .before .before .before .before .before .before .before .before .before .before .pre .1)
+    let pre = c .before .before .before .before .before .before .before .before .before .before .before .before .before .before .before .before .before .before .before .before .before .before .before .before .before .before .pre in
+    let read-field = c .before .before .before .before .before .before .before .before .before .before .before .before .before .before .before .before .before .before .before .before .before .read-field in
+    let f = c .before .before .before .before .before .before .before .before .before .before .before .before .before .before .before .before .before .f in
+    let read-field2 = c .before .before .before .before .before .before .before .before .before .before .before .before .before .before .read-field2 in
+    let g = c .before .before .before .before .before .before .before .before .before .before .g in
+    let read-labels = c .before .before .before .before .before .before .before .read-labels in
+    let at-p = c .before .before .before .p in
+    let p = rw (f .given .1) at (read-field .ensures) in
+    let q = rw (g .given .1) at (read-field2 .ensures) in
+    let r = rw (at-p .given .1) at (read-labels .ensures .0) in
+    (record { small = pre .0; inside = r .inside; few = omega (arith, r .paced) }, omega (arith, p .most), omega (arith, q .most), pre .1)
 
 enum-known-p-2 : tie.Need-enum-known-p-2
 enum-known-p-2 c = search needs
@@ -81,12 +94,20 @@ same-length-4 c = search needs
 
 returns-3 : tie.Need-returns-3
 returns-3 c =
-    let p = rw (c .before .before .before .before .before .before .before .before .before .before .before .before .before .before .before .before .before .before .before .before .before .before .f .given .1) at (c .before .before .before .before .before .before .before .before .before .before .before .before .before .before .before .before .before .before .before .before .before .before .before .before .before .before .read-field .ensures) in
-    let q = rw (c .before .before .before .before .before .before .before .before .before .before .before .before .before .before .before .g .given .1) at (c .before .before .before .before .before .before .before .before .before .before .before .before .before .before .before .before .before .before .before .read-field2 .ensures) in
-    let r = rw (c .before .before .before .before .before .before .before .before .p .given .1) at (c .before .before .before .before .before .before .before .before .before .before .before .before .read-labels .ensures .0) in
-    let d = rw (c .before .before .before .before .before .before .before .before .p .given .1) at (c .before .before .before .before .before .before .before .before .before .before .before .before .read-labels .ensures .1) in
-    let a = c .before .before .before .before .before .before .before .before .before .before .before .before .before .before .before .before .before .before .before .before .before .before .before .before .before .before .before .before .before .before .before .args in
-    let k = c .before .before .before .before .read-edges in
+    let args = c .before .before .before .before .before .before .before .before .before .before .before .before .before .before .before .before .before .before .before .before .before .before .before .before .before .before .before .before .before .before .before .args in
+    let read-field = c .before .before .before .before .before .before .before .before .before .before .before .before .before .before .before .before .before .before .before .before .before .before .before .before .before .before .read-field in
+    let f = c .before .before .before .before .before .before .before .before .before .before .before .before .before .before .before .before .before .before .before .before .before .before .f in
+    let read-field2 = c .before .before .before .before .before .before .before .before .before .before .before .before .before .before .before .before .before .before .before .read-field2 in
+    let g = c .before .before .before .before .before .before .before .before .before .before .before .before .before .before .before .g in
+    let read-labels = c .before .before .before .before .before .before .before .before .before .before .before .before .read-labels in
+    let at-p = c .before .before .before .before .before .before .before .before .p in
+    let read-edges = c .before .before .before .before .read-edges in
+    let p = rw (f .given .1) at (read-field .ensures) in
+    let q = rw (g .given .1) at (read-field2 .ensures) in
+    let r = rw (at-p .given .1) at (read-labels .ensures .0) in
+    let d = rw (at-p .given .1) at (read-labels .ensures .1) in
+    let a = args in
+    let k = read-edges in
     (loads-tail (record-labels p q r) (k .ensures .0), loaded-same (a .s .now) (a .work .now) (k .result .part) (k .result .edges) (k .last .1 .1 .1 .1 .1 .1 .0) (d ∙ ap (λ (n : ℕ). 27 + 32 * n) (p .is)) (q .is) (k .ensures .1))
 
 same-length-5 : tie.Need-same-length-5
@@ -94,9 +115,15 @@ same-length-5 c = search needs
 
 returns-4 : tie.Need-returns-4
 returns-4 c =
-    let p = rw (c .before .before .before .before .before .before .before .before .before .before .before .before .before .before .before .before .f .given .1) at (c .before .before .before .before .before .before .before .before .before .before .before .before .before .before .before .before .before .before .before .before .read-field .ensures) in
-    let q = rw (c .before .before .before .before .before .before .before .before .before .g .given .1) at (c .before .before .before .before .before .before .before .before .before .before .before .before .before .read-field2 .ensures) in
-    let r = rw (c .before .before .p2 .given .1) at (c .before .before .before .before .before .before .read-labels .ensures .0) in
+    let read-field = c .before .before .before .before .before .before .before .before .before .before .before .before .before .before .before .before .before .before .before .before .read-field in
+    let f = c .before .before .before .before .before .before .before .before .before .before .before .before .before .before .before .before .f in
+    let read-field2 = c .before .before .before .before .before .before .before .before .before .before .before .before .before .read-field2 in
+    let g = c .before .before .before .before .before .before .before .before .before .g in
+    let read-labels = c .before .before .before .before .before .before .read-labels in
+    let p2 = c .before .before .p2 in
+    let p = rw (f .given .1) at (read-field .ensures) in
+    let q = rw (g .given .1) at (read-field2 .ensures) in
+    let r = rw (p2 .given .1) at (read-labels .ensures .0) in
     (loads-stopped _ (c .stopped3 .ensures .1) (c .stopped3 .ensures .0) (calls-refused _ _ (record-number p q) r), rw (c .stopped3 .ensures .0) tt)
 
 pub read-fields-spec : {M : Type 1} → statement M

@@ -53,8 +53,12 @@ same-length c = search needs
 
 returns : tie.Need-returns Inv-loop μ-loop
 returns c =
-    let p = rw (c .before .f .given .1) at (c .before .before .before .before .before .read-field .ensures) in
-    (refused (left-is (labels-next _ (c .before .before .before .before .before .before .before .loop-test .taken)) (c .before .before .before .before .before .before .before .before .loop .inv .1)) (p _), tt)
+    let at-loop = c .before .before .before .before .before .before .before .before .loop in
+    let loop-test = c .before .before .before .before .before .before .before .loop-test in
+    let read-field = c .before .before .before .before .before .read-field in
+    let f = c .before .f in
+    let p = rw (f .given .1) at (read-field .ensures) in
+    (refused (left-is (labels-next _ (loop-test .taken)) (at-loop .inv .1)) (p _), tt)
 
 same-length-2 : tie.Need-same-length-2 Inv-loop μ-loop
 same-length-2 c = search needs

@@ -21,7 +21,10 @@ abbrev μ-loop : tie.MeasureT-loop
 μ-loop words first nodes number out₀ start work₀ i₀ at₀ k₀ left₀ out work i at k left = left
 
 loop-holds : tie.Need-loop-holds Inv-loop μ-loop
-loop-holds c = (refl, refl, edges-begin (c .before .before .before .args .number) (begins (c .before .before .before .pre .0)))
+loop-holds c =
+    let args = c .before .before .before .args in
+    let pre = c .before .before .before .pre in
+    (refl, refl, edges-begin (args .number) (begins (pre .0)))
 
 write-two-requires : tie.Need-write-two-requires Inv-loop μ-loop
 write-two-requires c κs = search needs
@@ -31,12 +34,16 @@ enum-known-f c = search needs
 
 mul-work : tie.Need-mul-work Inv-loop μ-loop
 mul-work c =
-    let p = rw (c .before .f .given .1) at (c .before .before .before .before .before .write-two .ensures) in
+    let write-two = c .before .before .before .before .before .write-two in
+    let f = c .before .f in
+    let p = rw (f .given .1) at (write-two .ensures) in
     omega (arith, p .first .most, p .second .most)
 
 add-work : tie.Need-add-work Inv-loop μ-loop
 add-work c =
-    let p = rw (c .before .f .given .1) at (c .before .before .before .before .before .write-two .ensures) in
+    let write-two = c .before .before .before .before .before .write-two in
+    let f = c .before .f in
+    let p = rw (f .given .1) at (write-two .ensures) in
     omega (arith, p .first .most, p .second .most)
 
 mul-work-2 : tie.Need-mul-work-2 Inv-loop μ-loop
@@ -76,8 +83,12 @@ same-length-2 c = search needs
 
 returns : tie.Need-returns Inv-loop μ-loop
 returns c =
-    let p = rw (c .before .f2 .given .1) at (c .before .before .before .before .before .write-two .ensures) in
-    edges-rejected _ refl refl (c .before .before .before .before .before .before .before .loop-test .taken) (c .before .before .before .before .before .before .before .before .loop .inv .2) p
+    let at-loop = c .before .before .before .before .before .before .before .before .loop in
+    let loop-test = c .before .before .before .before .before .before .before .loop-test in
+    let write-two = c .before .before .before .before .before .write-two in
+    let f2 = c .before .f2 in
+    let p = rw (f2 .given .1) at (write-two .ensures) in
+    edges-rejected _ refl refl (loop-test .taken) (at-loop .inv .2) p
 
 same-length-3 : tie.Need-same-length-3 Inv-loop μ-loop
 same-length-3 c = search needs

@@ -20,8 +20,9 @@ same-length c = search needs
 
 returns : tie.Need-returns
 returns c =
+    let read-sheets = c .before .before .before .before .read-sheets in
     let e = c .enum-told .given .1 in
-    rw e (judged-bad (rw e at (c .before .before .before .before .read-sheets .ensures)))
+    rw e (judged-bad (rw e at (read-sheets .ensures)))
 
 same-length-2 : tie.Need-same-length-2
 same-length-2 c = search needs

@@ -20,8 +20,9 @@ same-length c = search needs
 
 returns : tie.Need-returns
 returns c =
+    let write-sheets = c .before .before .before .before .write-sheets in
     let e = c .enum-told .given .1 in
-    rw e (written-bad (rw e at (c .before .before .before .before .write-sheets .ensures)))
+    rw e (written-bad (rw e at (write-sheets .ensures)))
 
 same-length-2 : tie.Need-same-length-2
 same-length-2 c = search needs

@@ -21,8 +21,10 @@ same-length c = search needs
 
 returns : tie.Need-returns
 returns c =
+    let args = c .before .before .before .before .before .before .before .before .args in
+    let read-sheet = c .before .before .before .before .read-sheet in
     let e = c .enum-told .given .1 in
-    rw e (judged-whole-bad (sheet (c .before .before .before .before .before .before .before .before .args .m)) (rw e at (c .before .before .before .before .read-sheet .ensures)))
+    rw e (judged-whole-bad (sheet (args .m)) (rw e at (read-sheet .ensures)))
 
 same-length-2 : tie.Need-same-length-2
 same-length-2 c = search needs

@@ -21,8 +21,10 @@ same-length c = search needs
 
 returns : tie.Need-returns
 returns c =
+    let args = c .before .before .before .before .before .before .before .before .args in
+    let write-sheet = c .before .before .before .before .write-sheet in
     let e = c .enum-told .given .1 in
-    rw e (written-whole-bad (sheet (c .before .before .before .before .before .before .before .before .args .m)) (rw e at (c .before .before .before .before .write-sheet .ensures)))
+    rw e (written-whole-bad (sheet (args .m)) (rw e at (write-sheet .ensures)))
 
 same-length-2 : tie.Need-same-length-2
 same-length-2 c = search needs

@@ -37,25 +37,38 @@ same-length c = search needs
 
 returns : tie.Need-returns Inv-loop μ-loop
 returns c =
-    let l = c .before .before .before .before .before .before .before .before .loop in
-    let p = rw (c .before .f2 .given .1) at (c .before .before .before .before .before .read-field .ensures) in
-    count-refused (l .left) (l .none) (l .some) (omega (arith, c .before .before .before .before .before .before .before .loop-test)) (l .inv .1) p
+    let loop = c .before .before .before .before .before .before .before .before .loop in
+    let loop-test = c .before .before .before .before .before .before .before .loop-test in
+    let read-field = c .before .before .before .before .before .read-field in
+    let f2 = c .before .f2 in
+    let l = loop in
+    let p = rw (f2 .given .1) at (read-field .ensures) in
+    count-refused (l .left) (l .none) (l .some) (omega (arith, loop-test)) (l .inv .1) p
 
 add-read-pairs : tie.Need-add-read-pairs Inv-loop μ-loop
 add-read-pairs c =
-    let p = rw (c .before .f .given .1) at (c .before .before .before .before .before .read-field .ensures) in
-    omega (arith, p .fits, c .before .before .before .before .before .before .before .before .before .before .before .pre .small)
+    let pre = c .before .before .before .before .before .before .before .before .before .before .before .pre in
+    let read-field = c .before .before .before .before .before .read-field in
+    let f = c .before .f in
+    let p = rw (f .given .1) at (read-field .ensures) in
+    omega (arith, p .fits, pre .small)
 
 add-read-pairs-2 : tie.Need-add-read-pairs-2 Inv-loop μ-loop
 add-read-pairs-2 c =
-    let l = c .before .before .before .before .before .before .before .before .before .loop in
-    omega (arith, c .before .before .before .before .before .before .before .before .before .before .before .before .pre, l .inv .1 .paced, l .inv .1 .inside)
+    let pre = c .before .before .before .before .before .before .before .before .before .before .before .before .pre in
+    let loop = c .before .before .before .before .before .before .before .before .before .loop in
+    let l = loop in
+    omega (arith, pre, l .inv .1 .paced, l .inv .1 .inside)
 
 read-pairs-requires : tie.Need-read-pairs-requires Inv-loop μ-loop
 read-pairs-requires c κs =
-    let l = c .before .before .before .before .before .before .before .before .before .loop in
-    let z = c .before .before .before .before .before .before .before .before .before .before .before .before .pre in
-    let p = rw (c .before .before .f .given .1) at (c .before .before .before .before .before .before .read-field .ensures) in
+    let pre = c .before .before .before .before .before .before .before .before .before .before .before .before .pre in
+    let loop = c .before .before .before .before .before .before .before .before .before .loop in
+    let read-field = c .before .before .before .before .before .before .read-field in
+    let f = c .before .before .f in
+    let l = loop in
+    let z = pre in
+    let p = rw (f .given .1) at (read-field .ensures) in
     record { small = z .small; inside = p .fits; few = omega (arith, z .few, l .inv .1 .paced) }
 
 enum-known-p : tie.Need-enum-known-p Inv-loop μ-loop
@@ -69,10 +82,15 @@ same-length-2 c = search needs
 
 returns-2 : tie.Need-returns-2 Inv-loop μ-loop
 returns-2 c =
-    let l = c .before .before .before .before .before .before .before .before .before .before .before .before .before .before .loop in
-    let p = rw (c .before .before .before .before .before .before .before .f .given .1) at (c .before .before .before .before .before .before .before .before .before .before .before .read-field .ensures) in
+    let loop = c .before .before .before .before .before .before .before .before .before .before .before .before .before .before .loop in
+    let loop-test = c .before .before .before .before .before .before .before .before .before .before .before .before .before .loop-test in
+    let read-field = c .before .before .before .before .before .before .before .before .before .before .before .read-field in
+    let f = c .before .before .before .before .before .before .before .f in
+    let read-pairs = c .before .before .before .before .read-pairs in
+    let l = loop in
+    let p = rw (f .given .1) at (read-field .ensures) in
     let e = c .enum-told .given .1 in
-    rw e (list-refused (l .left) (l .none) (l .some) (omega (arith, c .before .before .before .before .before .before .before .before .before .before .before .before .before .loop-test)) (l .inv .1) p (rw e at (c .before .before .before .before .read-pairs .ensures)))
+    rw e (list-refused (l .left) (l .none) (l .some) (omega (arith, loop-test)) (l .inv .1) p (rw e at (read-pairs .ensures)))
 
 sub-left : tie.Need-sub-left Inv-loop μ-loop
 sub-left c = search needs
@@ -82,10 +100,16 @@ loop-less c = search needs
 
 loop-again : tie.Need-loop-again Inv-loop μ-loop
 loop-again c =
-    let l = c .before .before .before .before .before .before .before .before .before .before .before .before .before .before .before .loop in
-    let p = rw (c .before .before .before .before .before .before .before .before .f .given .1) at (c .before .before .before .before .before .before .before .before .before .before .before .before .read-field .ensures) in
-    let q = rw (c .before .p .given .1) at (c .before .before .before .before .before .read-pairs .ensures) in
-    (omega (arith, l .inv .0, c .before .before .before .before .before .before .before .before .before .before .before .before .read-field .kept, c .before .before .before .before .before .read-pairs .kept), list-passes (l .left) (l .none) (l .some) (omega (arith, c .before .before .before .before .before .before .before .before .before .before .before .before .before .before .loop-test)) (l .inv .1) p q)
+    let loop = c .before .before .before .before .before .before .before .before .before .before .before .before .before .before .before .loop in
+    let loop-test = c .before .before .before .before .before .before .before .before .before .before .before .before .before .before .loop-test in
+    let read-field = c .before .before .before .before .before .before .before .before .before .before .before .before .read-field in
+    let f = c .before .before .before .before .before .before .before .before .f in
+    let read-pairs = c .before .before .before .before .before .read-pairs in
+    let at-p = c .before .p in
+    let l = loop in
+    let p = rw (f .given .1) at (read-field .ensures) in
+    let q = rw (at-p .given .1) at (read-pairs .ensures) in
+    (omega (arith, l .inv .0, read-field .kept, read-pairs .kept), list-passes (l .left) (l .none) (l .some) (omega (arith, loop-test)) (l .inv .1) p q)
 
 same-length-3 : tie.Need-same-length-3 Inv-loop μ-loop
 same-length-3 c = search needs

@@ -31,12 +31,16 @@ enum-known-f c = search needs
 
 mul-code : tie.Need-mul-code Inv-loop μ-loop
 mul-code c =
-    let p = rw (c .before .f .given .1) at (c .before .before .before .before .before .read-two .ensures) in
+    let read-two = c .before .before .before .before .before .read-two in
+    let f = c .before .f in
+    let p = rw (f .given .1) at (read-two .ensures) in
     omega (arith, p .first .most)
 
 add-code : tie.Need-add-code Inv-loop μ-loop
 add-code c =
-    let p = rw (c .before .f .given .1) at (c .before .before .before .before .before .read-two .ensures) in
+    let read-two = c .before .before .before .before .before .read-two in
+    let f = c .before .f in
+    let p = rw (f .given .1) at (read-two .ensures) in
     omega (arith, p .first .most, p .second .most)
 
 same-length : tie.Need-same-length Inv-loop μ-loop
@@ -44,24 +48,35 @@ same-length c = search needs
 
 returns : tie.Need-returns Inv-loop μ-loop
 returns c =
-    let l = c .before .before .before .before .before .before .before .before .before .loop in
-    let p = rw (c .before .before .f .given .1) at (c .before .before .before .before .before .before .read-two .ensures) in
-    pair-falls (l .left) (l .least) (omega (arith, c .before .before .before .before .before .before .before .before .loop-test)) (l .inv .1) p (omega (arith, c .if1))
+    let loop = c .before .before .before .before .before .before .before .before .before .loop in
+    let loop-test = c .before .before .before .before .before .before .before .before .loop-test in
+    let read-two = c .before .before .before .before .before .before .read-two in
+    let f = c .before .before .f in
+    let l = loop in
+    let p = rw (f .given .1) at (read-two .ensures) in
+    pair-falls (l .left) (l .least) (omega (arith, loop-test)) (l .inv .1) p (omega (arith, c .if1))
 
 add-least : tie.Need-add-least Inv-loop μ-loop
 add-least c =
-    let p = rw (c .before .before .f .given .1) at (c .before .before .before .before .before .before .read-two .ensures) in
+    let read-two = c .before .before .before .before .before .before .read-two in
+    let f = c .before .before .f in
+    let p = rw (f .given .1) at (read-two .ensures) in
     omega (arith, p .first .most, p .second .most)
 
 add-at : tie.Need-add-at Inv-loop μ-loop
 add-at c =
-    let p = rw (c .before .before .f .given .1) at (c .before .before .before .before .before .before .read-two .ensures) in
-    omega (arith, p .second .fits, c .before .before .before .before .before .before .before .before .before .before .before .before .pre .small)
+    let pre = c .before .before .before .before .before .before .before .before .before .before .before .before .pre in
+    let read-two = c .before .before .before .before .before .before .read-two in
+    let f = c .before .before .f in
+    let p = rw (f .given .1) at (read-two .ensures) in
+    omega (arith, p .second .fits, pre .small)
 
 add-i : tie.Need-add-i Inv-loop μ-loop
 add-i c =
-    let l = c .before .before .before .before .before .before .before .before .before .loop in
-    omega (arith, c .before .before .before .before .before .before .before .before .before .before .before .before .pre, l .inv .1 .paced, l .inv .1 .inside)
+    let pre = c .before .before .before .before .before .before .before .before .before .before .before .before .pre in
+    let loop = c .before .before .before .before .before .before .before .before .before .loop in
+    let l = loop in
+    omega (arith, pre, l .inv .1 .paced, l .inv .1 .inside)
 
 sub-left : tie.Need-sub-left Inv-loop μ-loop
 sub-left c = search needs
@@ -83,9 +98,13 @@ same-length-2 c = search needs
 
 returns-2 : tie.Need-returns-2 Inv-loop μ-loop
 returns-2 c =
-    let l = c .before .before .before .before .before .before .before .before .loop in
-    let p = rw (c .before .f2 .given .1) at (c .before .before .before .before .before .read-two .ensures) in
-    pair-refused (l .left) (l .least) (omega (arith, c .before .before .before .before .before .before .before .loop-test)) (l .inv .1) p
+    let loop = c .before .before .before .before .before .before .before .before .loop in
+    let loop-test = c .before .before .before .before .before .before .before .loop-test in
+    let read-two = c .before .before .before .before .before .read-two in
+    let f2 = c .before .f2 in
+    let l = loop in
+    let p = rw (f2 .given .1) at (read-two .ensures) in
+    pair-refused (l .left) (l .least) (omega (arith, loop-test)) (l .inv .1) p
 
 same-length-3 : tie.Need-same-length-3 Inv-loop μ-loop
 same-length-3 c = search needs

@@ -28,34 +28,54 @@ same-length c = search needs
 
 returns : tie.Need-returns
 returns c =
+    let args = c .before .before .before .before .before .before .before .before .args in
+    let pre = c .before .before .before .before .before .before .before .before .pre in
+    let read-lists = c .before .before .before .before .read-lists in
     let e = c .enum-told .given .1 in
-    rw e (whole-refused (sheet (c .before .before .before .before .before .before .before .before .args .m)) (c .before .before .before .before .before .before .before .before .pre .inside) (rw e at (c .before .before .before .before .read-lists .ensures)))
+    rw e (whole-refused (sheet (args .m)) (pre .inside) (rw e at (read-lists .ensures)))
 
 is-clear-requires : tie.Need-is-clear-requires
 is-clear-requires c κs =
-    let q = rw (c .before .p .given .1) at (c .before .before .before .before .before .read-lists .ensures) in
-    (q .inside, omega (arith, c .before .before .before .before .before .before .before .before .before .pre .small))
+    let pre = c .before .before .before .before .before .before .before .before .before .pre in
+    let read-lists = c .before .before .before .before .before .read-lists in
+    let p = c .before .p in
+    let q = rw (p .given .1) at (read-lists .ensures) in
+    (q .inside, omega (arith, pre .small))
 
 byte-after-requires : tie.Need-byte-after-requires
 byte-after-requires c κs =
-    let q = rw (c .before .before .before .p .given .1) at (c .before .before .before .before .before .before .before .read-lists .ensures) in
-    omega (arith, q .inside, c .before .before .before .before .before .before .before .before .before .before .before .pre .small)
+    let pre = c .before .before .before .before .before .before .before .before .before .before .before .pre in
+    let read-lists = c .before .before .before .before .before .before .before .read-lists in
+    let p = c .before .before .before .p in
+    let q = rw (p .given .1) at (read-lists .ensures) in
+    omega (arith, q .inside, pre .small)
 
 same-length-2 : tie.Need-same-length-2
 same-length-2 c = search needs
 
 returns-2 : tie.Need-returns-2
 returns-2 c =
-    let q = rw (c .before .before .before .before .p .given .1) at (c .before .before .before .before .before .before .before .before .read-lists .ensures) in
-    same-at (sym (ap (λ (b : ℕ). 8 * b) (c .byte-after .ensures) ∙ next-byte _)) refl (pads (sym (c .before .before .is-clear .ensures) ∙ c .before .if1 .taken) (whole-passes (sheet (c .before .before .before .before .before .before .before .before .before .before .before .before .args .m)) (c .before .before .before .before .before .before .before .before .before .before .before .before .pre .inside) q))
+    let args = c .before .before .before .before .before .before .before .before .before .before .before .before .args in
+    let pre = c .before .before .before .before .before .before .before .before .before .before .before .before .pre in
+    let read-lists = c .before .before .before .before .before .before .before .before .read-lists in
+    let p = c .before .before .before .before .p in
+    let is-clear = c .before .before .is-clear in
+    let if1 = c .before .if1 in
+    let q = rw (p .given .1) at (read-lists .ensures) in
+    same-at (sym (ap (λ (b : ℕ). 8 * b) (c .byte-after .ensures) ∙ next-byte _)) refl (pads (sym (is-clear .ensures) ∙ if1 .taken) (whole-passes (sheet (args .m)) (pre .inside) q))
 
 same-length-3 : tie.Need-same-length-3
 same-length-3 c = search needs
 
 returns-3 : tie.Need-returns-3
 returns-3 c =
-    let q = rw (c .before .before .before .p .given .1) at (c .before .before .before .before .before .before .before .read-lists .ensures) in
-    ends-dirty (Trailing 4) (sym (c .before .is-clear .ensures) ∙ c .if1 .left) refl (whole-passes (sheet (c .before .before .before .before .before .before .before .before .before .before .before .args .m)) (c .before .before .before .before .before .before .before .before .before .before .before .pre .inside) q)
+    let args = c .before .before .before .before .before .before .before .before .before .before .before .args in
+    let pre = c .before .before .before .before .before .before .before .before .before .before .before .pre in
+    let read-lists = c .before .before .before .before .before .before .before .read-lists in
+    let p = c .before .before .before .p in
+    let is-clear = c .before .is-clear in
+    let q = rw (p .given .1) at (read-lists .ensures) in
+    ends-dirty (Trailing 4) (sym (is-clear .ensures) ∙ c .if1 .left) refl (whole-passes (sheet (args .m)) (pre .inside) q)
 
 pub read-sheet-spec : {M : Type 1} → statement M
 read-sheet-spec =

@@ -29,8 +29,10 @@ array-read-read-sheet c = search needs
 
 read-sheet-requires : tie.Need-read-sheet-requires Inv-loop μ-loop
 read-sheet-requires c κs =
-    let l = c .before .before .loop in
-    record { small = omega (arith, c .before .before .before .before .before .pre .0); inside = l .inv .2 .inside; few = omega (arith, l .inv .2 .paced) }
+    let pre = c .before .before .before .before .before .pre in
+    let loop = c .before .before .loop in
+    let l = loop in
+    record { small = omega (arith, pre .0); inside = l .inv .2 .inside; few = omega (arith, l .inv .2 .paced) }
 
 enum-known-p : tie.Need-enum-known-p Inv-loop μ-loop
 enum-known-p c = search needs
@@ -43,10 +45,16 @@ same-length c = search needs
 
 returns : tie.Need-returns Inv-loop μ-loop
 returns c =
-    let l = c .before .before .before .before .before .before .before .loop in
-    let a = c .before .before .before .before .before .before .before .before .before .before .args in
+    let args = c .before .before .before .before .before .before .before .before .before .before .args in
+    let good = c .before .before .before .before .before .before .before .before .before .before .good in
+    let pre = c .before .before .before .before .before .before .before .before .before .before .pre in
+    let loop = c .before .before .before .before .before .before .before .loop in
+    let loop-test = c .before .before .before .before .before .before .loop-test in
+    let read-sheet = c .before .before .before .before .read-sheet in
+    let l = loop in
+    let a = args in
     let e = c .enum-told .given .1 in
-    rw e (sheet-refused (a .t2) (a .k) (l .j) (omega (arith, c .before .before .before .before .before .before .before .before .before .before .good .1 .0, c .before .before .before .before .before .before .before .before .before .before .pre .1)) (omega (arith, c .before .before .before .before .before .before .loop-test)) (l .inv .2) (rw e at (c .before .before .before .before .read-sheet .ensures)))
+    rw e (sheet-refused (a .t2) (a .k) (l .j) (omega (arith, good .1 .0, pre .1)) (omega (arith, loop-test)) (l .inv .2) (rw e at (read-sheet .ensures)))
 
 add-j : tie.Need-add-j Inv-loop μ-loop
 add-j c = search needs
@@ -56,12 +64,19 @@ loop-less c = search needs
 
 loop-again : tie.Need-loop-again Inv-loop μ-loop
 loop-again c =
-    let l = c .before .before .before .before .before .before .before .before .loop in
-    let a = c .before .before .before .before .before .before .before .before .before .before .before .args in
-    let q = rw (c .before .p .given .1) at (c .before .before .before .before .before .read-sheet .ensures) in (
-      omega (arith, c .before .before .before .before .before .before .before .loop-test),
-      omega (arith, l .inv .1, c .before .before .before .before .before .read-sheet .kept),
-      sheet-passes (a .t2) (a .k) (l .j) (omega (arith, c .before .before .before .before .before .before .before .before .before .before .before .good .1 .0, c .before .before .before .before .before .before .before .before .before .before .before .pre .1)) (omega (arith, c .before .before .before .before .before .before .before .loop-test)) (l .inv .2) q,
+    let args = c .before .before .before .before .before .before .before .before .before .before .before .args in
+    let good = c .before .before .before .before .before .before .before .before .before .before .before .good in
+    let pre = c .before .before .before .before .before .before .before .before .before .before .before .pre in
+    let loop = c .before .before .before .before .before .before .before .before .loop in
+    let loop-test = c .before .before .before .before .before .before .before .loop-test in
+    let read-sheet = c .before .before .before .before .before .read-sheet in
+    let p = c .before .p in
+    let l = loop in
+    let a = args in
+    let q = rw (p .given .1) at (read-sheet .ensures) in (
+      omega (arith, loop-test),
+      omega (arith, l .inv .1, read-sheet .kept),
+      sheet-passes (a .t2) (a .k) (l .j) (omega (arith, good .1 .0, pre .1)) (omega (arith, loop-test)) (l .inv .2) q,
     )
 
 same-length-2 : tie.Need-same-length-2 Inv-loop μ-loop
@@ -69,8 +84,10 @@ same-length-2 c = search needs
 
 returns-2 : tie.Need-returns-2 Inv-loop μ-loop
 returns-2 c =
-    let l = c .before .loop in
-    let a = c .before .before .before .before .args in
+    let args = c .before .before .before .before .args in
+    let loop = c .before .loop in
+    let l = loop in
+    let a = args in
     left-is (book-end (a .t2) (a .k) (l .j) (omega (arith, c .loop-test))) (l .inv .2)
 
 pub read-sheets-spec : {M : Type 1} → statement M

@@ -24,8 +24,10 @@ loop-holds c = (omega arith, refl, left-to (sheet-is _) (begins (omega arith)))
 
 write-field-requires : tie.Need-write-field-requires Inv-loop μ-loop
 write-field-requires c κs =
-    let l = c .before .before .loop in
-    (omega (arith, l .inv .0, c .before .before .before .before .before .pre), lit≤ tt, lit≤ tt, refl)
+    let pre = c .before .before .before .before .before .pre in
+    let loop = c .before .before .loop in
+    let l = loop in
+    (omega (arith, l .inv .0, pre), lit≤ tt, lit≤ tt, refl)
 
 enum-known-f : tie.Need-enum-known-f Inv-loop μ-loop
 enum-known-f c = search needs
@@ -38,25 +40,38 @@ same-length c = search needs
 
 returns : tie.Need-returns Inv-loop μ-loop
 returns c =
-    let l = c .before .before .before .before .before .before .before .before .loop in
-    let p = rw (c .before .f2 .given .1) at (c .before .before .before .before .before .write-field .ensures) in
-    count-rejected (l .left) (l .zero) (l .nonzero) (omega (arith, c .before .before .before .before .before .before .before .loop-test)) (l .inv .2) p
+    let loop = c .before .before .before .before .before .before .before .before .loop in
+    let loop-test = c .before .before .before .before .before .before .before .loop-test in
+    let write-field = c .before .before .before .before .before .write-field in
+    let f2 = c .before .f2 in
+    let l = loop in
+    let p = rw (f2 .given .1) at (write-field .ensures) in
+    count-rejected (l .left) (l .zero) (l .nonzero) (omega (arith, loop-test)) (l .inv .2) p
 
 add-write-pairs : tie.Need-add-write-pairs Inv-loop μ-loop
 add-write-pairs c =
-    let p = rw (c .before .f .given .1) at (c .before .before .before .before .before .write-field .ensures) in
-    omega (arith, p .there, c .before .before .before .before .before .before .before .before .before .before .before .good)
+    let good = c .before .before .before .before .before .before .before .before .before .before .before .good in
+    let write-field = c .before .before .before .before .before .write-field in
+    let f = c .before .f in
+    let p = rw (f .given .1) at (write-field .ensures) in
+    omega (arith, p .there, good)
 
 add-write-pairs-2 : tie.Need-add-write-pairs-2 Inv-loop μ-loop
 add-write-pairs-2 c =
-    let l = c .before .before .before .before .before .before .before .before .before .loop in
-    omega (arith, l .inv .0, c .before .before .before .before .before .before .before .before .before .before .before .before .pre)
+    let pre = c .before .before .before .before .before .before .before .before .before .before .before .before .pre in
+    let loop = c .before .before .before .before .before .before .before .before .before .loop in
+    let l = loop in
+    omega (arith, l .inv .0, pre)
 
 write-pairs-requires : tie.Need-write-pairs-requires Inv-loop μ-loop
 write-pairs-requires c κs =
-    let l = c .before .before .before .before .before .before .before .before .before .loop in
-    let p = rw (c .before .before .f .given .1) at (c .before .before .before .before .before .before .write-field .ensures) in
-    (omega (arith, p .there), omega (arith, p .most), omega (arith, l .inv .0, c .before .before .before .before .before .before .before .before .before .before .before .before .pre))
+    let pre = c .before .before .before .before .before .before .before .before .before .before .before .before .pre in
+    let loop = c .before .before .before .before .before .before .before .before .before .loop in
+    let write-field = c .before .before .before .before .before .before .write-field in
+    let f = c .before .before .f in
+    let l = loop in
+    let p = rw (f .given .1) at (write-field .ensures) in
+    (omega (arith, p .there), omega (arith, p .most), omega (arith, l .inv .0, pre))
 
 enum-known-p : tie.Need-enum-known-p Inv-loop μ-loop
 enum-known-p c = search needs
@@ -69,10 +84,15 @@ same-length-2 c = search needs
 
 returns-2 : tie.Need-returns-2 Inv-loop μ-loop
 returns-2 c =
-    let l = c .before .before .before .before .before .before .before .before .before .before .before .before .before .before .loop in
-    let p = rw (c .before .before .before .before .before .before .before .f .given .1) at (c .before .before .before .before .before .before .before .before .before .before .before .write-field .ensures) in
+    let loop = c .before .before .before .before .before .before .before .before .before .before .before .before .before .before .loop in
+    let loop-test = c .before .before .before .before .before .before .before .before .before .before .before .before .before .loop-test in
+    let write-field = c .before .before .before .before .before .before .before .before .before .before .before .write-field in
+    let f = c .before .before .before .before .before .before .before .f in
+    let write-pairs = c .before .before .before .before .write-pairs in
+    let l = loop in
+    let p = rw (f .given .1) at (write-field .ensures) in
     let e = c .enum-told .given .1 in
-    rw e (list-rejected (l .left) (l .zero) (l .nonzero) (omega (arith, c .before .before .before .before .before .before .before .before .before .before .before .before .before .loop-test)) (l .inv .2) p (rw e at (c .before .before .before .before .write-pairs .ensures)))
+    rw e (list-rejected (l .left) (l .zero) (l .nonzero) (omega (arith, loop-test)) (l .inv .2) p (rw e at (write-pairs .ensures)))
 
 sub-left : tie.Need-sub-left Inv-loop μ-loop
 sub-left c = search needs
@@ -82,12 +102,18 @@ loop-less c = search needs
 
 loop-again : tie.Need-loop-again Inv-loop μ-loop
 loop-again c =
-    let l = c .before .before .before .before .before .before .before .before .before .before .before .before .before .before .before .loop in
-    let p = rw (c .before .before .before .before .before .before .before .before .f .given .1) at (c .before .before .before .before .before .before .before .before .before .before .before .before .write-field .ensures) in
-    let q = rw (c .before .p .given .1) at (c .before .before .before .before .before .write-pairs .ensures) in (
-      omega (arith, l .inv .0, p .most, q .1, c .before .before .before .before .before .before .before .before .before .before .before .before .before .before .loop-test),
-      omega (arith, l .inv .1, c .before .before .before .before .before .before .before .before .before .before .before .before .write-field .kept, c .before .before .before .before .before .write-pairs .kept),
-      list-accepted (l .left) (l .zero) (l .nonzero) (omega (arith, c .before .before .before .before .before .before .before .before .before .before .before .before .before .before .loop-test)) (l .inv .2) p (q .0),
+    let loop = c .before .before .before .before .before .before .before .before .before .before .before .before .before .before .before .loop in
+    let loop-test = c .before .before .before .before .before .before .before .before .before .before .before .before .before .before .loop-test in
+    let write-field = c .before .before .before .before .before .before .before .before .before .before .before .before .write-field in
+    let f = c .before .before .before .before .before .before .before .before .f in
+    let write-pairs = c .before .before .before .before .before .write-pairs in
+    let at-p = c .before .p in
+    let l = loop in
+    let p = rw (f .given .1) at (write-field .ensures) in
+    let q = rw (at-p .given .1) at (write-pairs .ensures) in (
+      omega (arith, l .inv .0, p .most, q .1, loop-test),
+      omega (arith, l .inv .1, write-field .kept, write-pairs .kept),
+      list-accepted (l .left) (l .zero) (l .nonzero) (omega (arith, loop-test)) (l .inv .2) p (q .0),
     )
 
 same-length-3 : tie.Need-same-length-3 Inv-loop μ-loop

@@ -24,20 +24,26 @@ loop-holds c = (refl, refl, begins (omega arith))
 
 write-two-requires : tie.Need-write-two-requires Inv-loop μ-loop
 write-two-requires c κs =
-    let l = c .before .before .loop in
-    (l .inv .2 .inside, omega (arith, l .inv .0, c .before .before .before .before .before .pre), lit≤ tt, lit≤ tt, refl)
+    let pre = c .before .before .before .before .before .pre in
+    let loop = c .before .before .loop in
+    let l = loop in
+    (l .inv .2 .inside, omega (arith, l .inv .0, pre), lit≤ tt, lit≤ tt, refl)
 
 enum-known-f : tie.Need-enum-known-f Inv-loop μ-loop
 enum-known-f c = search needs
 
 mul-code : tie.Need-mul-code Inv-loop μ-loop
 mul-code c =
-    let p = rw (c .before .f .given .1) at (c .before .before .before .before .before .write-two .ensures) in
+    let write-two = c .before .before .before .before .before .write-two in
+    let f = c .before .f in
+    let p = rw (f .given .1) at (write-two .ensures) in
     omega (arith, p .first .most)
 
 add-code : tie.Need-add-code Inv-loop μ-loop
 add-code c =
-    let p = rw (c .before .f .given .1) at (c .before .before .before .before .before .write-two .ensures) in
+    let write-two = c .before .before .before .before .before .write-two in
+    let f = c .before .f in
+    let p = rw (f .given .1) at (write-two .ensures) in
     omega (arith, p .first .most, p .second .most)
 
 same-length : tie.Need-same-length Inv-loop μ-loop
@@ -45,24 +51,35 @@ same-length c = search needs
 
 returns : tie.Need-returns Inv-loop μ-loop
 returns c =
-    let l = c .before .before .before .before .before .before .before .before .before .loop in
-    let p = rw (c .before .before .f .given .1) at (c .before .before .before .before .before .before .write-two .ensures) in
-    pair-denied (l .left) (l .least) (omega (arith, c .before .before .before .before .before .before .before .before .loop-test)) (l .inv .2) p (omega (arith, c .if1))
+    let loop = c .before .before .before .before .before .before .before .before .before .loop in
+    let loop-test = c .before .before .before .before .before .before .before .before .loop-test in
+    let write-two = c .before .before .before .before .before .before .write-two in
+    let f = c .before .before .f in
+    let l = loop in
+    let p = rw (f .given .1) at (write-two .ensures) in
+    pair-denied (l .left) (l .least) (omega (arith, loop-test)) (l .inv .2) p (omega (arith, c .if1))
 
 add-least : tie.Need-add-least Inv-loop μ-loop
 add-least c =
-    let p = rw (c .before .before .f .given .1) at (c .before .before .before .before .before .before .write-two .ensures) in
+    let write-two = c .before .before .before .before .before .before .write-two in
+    let f = c .before .before .f in
+    let p = rw (f .given .1) at (write-two .ensures) in
     omega (arith, p .first .most, p .second .most)
 
 add-i : tie.Need-add-i Inv-loop μ-loop
 add-i c =
-    let p = rw (c .before .before .f .given .1) at (c .before .before .before .before .before .before .write-two .ensures) in
-    omega (arith, p .second .there, c .before .before .before .before .before .before .before .before .before .before .before .before .good)
+    let good = c .before .before .before .before .before .before .before .before .before .before .before .before .good in
+    let write-two = c .before .before .before .before .before .before .write-two in
+    let f = c .before .before .f in
+    let p = rw (f .given .1) at (write-two .ensures) in
+    omega (arith, p .second .there, good)
 
 add-at : tie.Need-add-at Inv-loop μ-loop
 add-at c =
-    let l = c .before .before .before .before .before .before .before .before .before .loop in
-    omega (arith, l .inv .0, c .before .before .before .before .before .before .before .before .before .before .before .before .pre)
+    let pre = c .before .before .before .before .before .before .before .before .before .before .before .before .pre in
+    let loop = c .before .before .before .before .before .before .before .before .before .loop in
+    let l = loop in
+    omega (arith, l .inv .0, pre)
 
 sub-left : tie.Need-sub-left Inv-loop μ-loop
 sub-left c = search needs
@@ -72,9 +89,13 @@ loop-less c = search needs
 
 loop-again : tie.Need-loop-again Inv-loop μ-loop
 loop-again c =
-    let l = c .before .before .before .before .before .before .before .before .before .loop in
-    let p = rw (c .before .before .f .given .1) at (c .before .before .before .before .before .before .write-two .ensures) in
-    (omega (arith, l .inv .0, c .before .before .before .before .before .before .before .before .loop-test), omega (arith, l .inv .1, c .before .before .before .before .before .before .write-two .kept), pair-accepted (l .left) (l .least) (omega (arith, c .before .before .before .before .before .before .before .before .loop-test)) (l .inv .2) p (omega (arith, c .if1)))
+    let loop = c .before .before .before .before .before .before .before .before .before .loop in
+    let loop-test = c .before .before .before .before .before .before .before .before .loop-test in
+    let write-two = c .before .before .before .before .before .before .write-two in
+    let f = c .before .before .f in
+    let l = loop in
+    let p = rw (f .given .1) at (write-two .ensures) in
+    (omega (arith, l .inv .0, loop-test), omega (arith, l .inv .1, write-two .kept), pair-accepted (l .left) (l .least) (omega (arith, loop-test)) (l .inv .2) p (omega (arith, c .if1)))
 
 enum-known-f-2 : tie.Need-enum-known-f-2 Inv-loop μ-loop
 enum-known-f-2 c = search needs
@@ -84,9 +105,13 @@ same-length-2 c = search needs
 
 returns-2 : tie.Need-returns-2 Inv-loop μ-loop
 returns-2 c =
-    let l = c .before .before .before .before .before .before .before .before .loop in
-    let p = rw (c .before .f2 .given .1) at (c .before .before .before .before .before .write-two .ensures) in
-    pair-rejected (l .left) (l .least) (omega (arith, c .before .before .before .before .before .before .before .loop-test)) (l .inv .2) p
+    let loop = c .before .before .before .before .before .before .before .before .loop in
+    let loop-test = c .before .before .before .before .before .before .before .loop-test in
+    let write-two = c .before .before .before .before .before .write-two in
+    let f2 = c .before .f2 in
+    let l = loop in
+    let p = rw (f2 .given .1) at (write-two .ensures) in
+    pair-rejected (l .left) (l .least) (omega (arith, loop-test)) (l .inv .2) p
 
 same-length-3 : tie.Need-same-length-3 Inv-loop μ-loop
 same-length-3 c = search needs

@@ -23,22 +23,33 @@ same-length c = search needs
 
 returns : tie.Need-returns
 returns c =
+    let args = c .before .before .before .before .before .before .before .before .args in
+    let pre = c .before .before .before .before .before .before .before .before .pre in
+    let write-lists = c .before .before .before .before .write-lists in
     let e = c .enum-told .given .1 in
-    rw e (whole-rejected (sheet (c .before .before .before .before .before .before .before .before .args .m)) (c .before .before .before .before .before .before .before .before .pre .0) (rw e at (c .before .before .before .before .write-lists .ensures)))
+    rw e (whole-rejected (sheet (args .m)) (pre .0) (rw e at (write-lists .ensures)))
 
 write-padding-requires : tie.Need-write-padding-requires
 write-padding-requires c κs =
-    let q = rw (c .before .before .p .given .1) at (c .before .before .before .before .before .before .write-lists .ensures) in
-    omega (arith, q .1, c .before .before .before .before .before .before .before .before .before .before .pre .1)
+    let pre = c .before .before .before .before .before .before .before .before .before .before .pre in
+    let write-lists = c .before .before .before .before .before .before .write-lists in
+    let p = c .before .before .p in
+    let q = rw (p .given .1) at (write-lists .ensures) in
+    omega (arith, q .1, pre .1)
 
 same-length-2 : tie.Need-same-length-2
 same-length-2 c = search needs
 
 returns-2 : tie.Need-returns-2
 returns-2 c =
-    let q = rw (c .before .before .before .before .before .p .given .1) at (c .before .before .before .before .before .before .before .before .before .write-lists .ensures) in
-    let p = c .before .before .write-padding .ensures in
-    (same-to refl (sym (p .0)) (fills (p .1) (whole-accepted (sheet (c .before .before .before .before .before .before .before .before .before .before .before .before .before .args .m)) (c .before .before .before .before .before .before .before .before .before .before .before .before .before .pre .0) (q .0))), omega (arith, q .1, c .before .before .before .before .before .before .before .before .before .before .before .before .before .pre .1, p .0, gap-small (c .before .before .before .before .before .p .given .0 .0)))
+    let args = c .before .before .before .before .before .before .before .before .before .before .before .before .before .args in
+    let pre = c .before .before .before .before .before .before .before .before .before .before .before .before .before .pre in
+    let write-lists = c .before .before .before .before .before .before .before .before .before .write-lists in
+    let at-p = c .before .before .before .before .before .p in
+    let write-padding = c .before .before .write-padding in
+    let q = rw (at-p .given .1) at (write-lists .ensures) in
+    let p = write-padding .ensures in
+    (same-to refl (sym (p .0)) (fills (p .1) (whole-accepted (sheet (args .m)) (pre .0) (q .0))), omega (arith, q .1, pre .1, p .0, gap-small (at-p .given .0 .0)))
 
 pub write-sheet-spec : {M : Type 1} → statement M
 write-sheet-spec =

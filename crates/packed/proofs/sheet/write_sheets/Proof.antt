@@ -42,8 +42,10 @@ part-write-sheet-end c = search needs
 
 write-sheet-requires : tie.Need-write-sheet-requires Inv-loop μ-loop
 write-sheet-requires c κs =
-    let l = c .before .before .before .loop in
-    (l .inv .3 .inside, c .before .before .before .before .before .before .pre .1 (l .j))
+    let pre = c .before .before .before .before .before .before .pre in
+    let loop = c .before .before .before .loop in
+    let l = loop in
+    (l .inv .3 .inside, pre .1 (l .j))
 
 enum-known-p : tie.Need-enum-known-p Inv-loop μ-loop
 enum-known-p c = search needs
@@ -56,17 +58,27 @@ same-length c = search needs
 
 returns : tie.Need-returns Inv-loop μ-loop
 returns c =
-    let l = c .before .before .before .before .before .before .before .before .loop in
-    let a = c .before .before .before .before .before .before .before .before .before .before .before .args in
+    let args = c .before .before .before .before .before .before .before .before .before .before .before .args in
+    let good = c .before .before .before .before .before .before .before .before .before .before .before .good in
+    let pre = c .before .before .before .before .before .before .before .before .before .before .before .pre in
+    let loop = c .before .before .before .before .before .before .before .before .loop in
+    let loop-test = c .before .before .before .before .before .before .before .loop-test in
+    let write-sheet = c .before .before .before .before .write-sheet in
+    let l = loop in
+    let a = args in
     let e = c .enum-told .given .1 in
-    rw e (sheet-rejected (a .t2) (a .k) (l .j) (omega (arith, c .before .before .before .before .before .before .before .before .before .before .before .good .1 .0, c .before .before .before .before .before .before .before .before .before .before .before .pre .0)) (omega (arith, c .before .before .before .before .before .before .before .loop-test)) (l .inv .3)
-    (lent-rejected (l .byte) (rw e at (c .before .before .before .before .write-sheet .ensures))))
+    rw e (sheet-rejected (a .t2) (a .k) (l .j) (omega (arith, good .1 .0, pre .0)) (omega (arith, loop-test)) (l .inv .3)
+    (lent-rejected (l .byte) (rw e at (write-sheet .ensures))))
 
 add-byte : tie.Need-add-byte Inv-loop μ-loop
 add-byte c =
-    let l = c .before .before .before .before .before .before .before .before .before .loop in
-    let q = rw (c .before .p .given .1) at (c .before .before .before .before .before .write-sheet .ensures) in
-    omega (arith, q .1, l .inv .0, l .inv .1, c .before .before .before .before .before .before .before .before .before .before .before .before .pre .0)
+    let pre = c .before .before .before .before .before .before .before .before .before .before .before .before .pre in
+    let loop = c .before .before .before .before .before .before .before .before .before .loop in
+    let write-sheet = c .before .before .before .before .before .write-sheet in
+    let p = c .before .p in
+    let l = loop in
+    let q = rw (p .given .1) at (write-sheet .ensures) in
+    omega (arith, q .1, l .inv .0, l .inv .1, pre .0)
 
 add-j : tie.Need-add-j Inv-loop μ-loop
 add-j c = search needs
@@ -91,9 +103,12 @@ same-length-2 c = search needs
 
 returns-2 : tie.Need-returns-2 Inv-loop μ-loop
 returns-2 c =
-    let l = c .before .loop in
-    let a = c .before .before .before .before .args in
-    (left-to (book-end (a .t2) (a .k) (l .j) (omega (arith, c .loop-test))) (l .inv .3), omega (arith, l .inv .0, l .inv .1, c .before .before .before .before .pre .0))
+    let args = c .before .before .before .before .args in
+    let pre = c .before .before .before .before .pre in
+    let loop = c .before .loop in
+    let l = loop in
+    let a = args in
+    (left-to (book-end (a .t2) (a .k) (l .j) (omega (arith, c .loop-test))) (l .inv .3), omega (arith, l .inv .0, l .inv .1, pre .0))
 
 pub write-sheets-spec : {M : Type 1} → statement M
 write-sheets-spec =

@@ -2,13 +2,13 @@
 use Prim.Native.Nat.{_-_}
 use native.Mathlib.Omega.{arith}
 use lib.ListN.{length}
-use Rattle.packed.proofs.Copies.{Copied, copy-start, copy-step, copy-end}
+use Rattle.packed.proofs.Copies.{WordsCopied, copy-start, copy-step, copy-end}
 use borrow.Author.Needs.{needs}
 use Rattle.packed.proofs.workspace.copy_words.Statement.{statement}
 use Rattle.packed.proofs.workspace.copy_words.Tie as tie
 
 abbrev Inv-loop : tie.InvT-loop
-Inv-loop words out₀ i₀ out i = Copied words out₀ out i
+Inv-loop words out₀ i₀ out i = WordsCopied words out₀ out i
 
 abbrev μ-loop : tie.MeasureT-loop
 μ-loop words out₀ i₀ out i = length words - i

@@ -26,7 +26,10 @@ returns-2 : tie.Need-returns-2
 returns-2 c = quote-uncovered _ (c .enum-told2 .given .1)
 
 returns-3 : tie.Need-returns-3
-returns-3 c = quote-refused _ _ (c .before .before .before .coverage .given .1) (c .before .number-of .ensures) (c .detail-of .ensures)
+returns-3 c =
+    let coverage = c .before .before .before .coverage in
+    let number-of = c .before .number-of in
+    quote-refused _ _ (coverage .given .1) (number-of .ensures) (c .detail-of .ensures)
 
 pub quote-spec : {M : Type 1} → statement M
 quote-spec =

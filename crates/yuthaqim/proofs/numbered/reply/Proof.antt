@@ -22,7 +22,10 @@ returns c = rw (c .before .r .given .1)
 
 returns-2 : tie.Need-returns-2
 unfolding numberedReplyTold
-returns-2 c = rw (c .before .before .before .r2 .given .1, c .before .number-of .ensures, c .detail-of .ensures)
+returns-2 c =
+    let r2 = c .before .before .before .r2 in
+    let number-of = c .before .number-of in
+    rw (r2 .given .1, number-of .ensures, c .detail-of .ensures)
 
 pub reply-spec : {M : Type 1} → statement M
 reply-spec =

@@ -21,7 +21,9 @@ returns c = rw (c .before .s .given .1) (shown-done _ _)
 
 returns-2 : tie.Need-returns-2
 returns-2 c =
-    rw (c .before .before .before .s2 .given .1) (shown-refused (c .before .before .before .s2 .given .0 .0) (c .before .number-of .ensures) (c .detail-of .ensures))
+    let s2 = c .before .before .before .s2 in
+    let number-of = c .before .number-of in
+    rw (s2 .given .1) (shown-refused (s2 .given .0 .0) (number-of .ensures) (c .detail-of .ensures))
 
 pub shown-spec : {M : Type 1} → statement M
 shown-spec =
