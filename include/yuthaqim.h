@@ -1,6 +1,6 @@
 /*
  * Yuthaqim from C: files of patterns, catalogues, records, sheets and books; searching a record, quoting a question,
- * answering it from a book, and showing why it is uncovered.
+ * finding the cheapest extracts for it, answering it from a book, and showing why it is uncovered.
  *
  * Every function of this header is proved to meet its contract for every input: see crates/yuthaqim/src/lib.rt.
  *
@@ -52,7 +52,7 @@ extern "C" {
 #define YUTHAQIM_BOOK_WORDS 43690
 
 /* The refusals. Where several would fall, YUTHAQIM_DESK comes first, then the faults of the files in the order of a
- * function's parameters, each file front to back, then 10, 11 or 13, and 12. */
+ * function's parameters, each file front to back, then 10, 15, 11 or 13, and 12. */
 enum {
     YUTHAQIM_LONG = 1,       /* long: a file is over its most bytes */
     YUTHAQIM_SHORT = 2,      /* short: its bits, or a writer's words, end before a field does */
@@ -64,14 +64,16 @@ enum {
     YUTHAQIM_UNEVEN = 8,     /* uneven: a sheet has zero and nonzero counts */
     YUTHAQIM_TAIL = 9,       /* tail: a padding bit isn't zero, or bytes or words follow */
     YUTHAQIM_CROWDED = 10,   /* crowded: over 8,192 different pairs stand in a book */
-    YUTHAQIM_UNCOVERED = 11, /* uncovered: an answer was wanted and the question isn't covered */
+    YUTHAQIM_UNCOVERED = 11, /* uncovered: an answer or the cheapest set was wanted and the question isn't covered */
     YUTHAQIM_NO_FIT = 12,    /* no fit: an output needs more than was lent, or a sheet or book over 65,536 bytes */
     YUTHAQIM_COVERED = 13,   /* covered: a showing was wanted for a covered question */
-    YUTHAQIM_DESK = 14       /* desk: fewer than YUTHAQIM_WORK_WORDS words were lent to work in */
+    YUTHAQIM_DESK = 14,      /* desk: fewer than YUTHAQIM_WORK_WORDS words were lent to work in */
+    YUTHAQIM_CHARGES = 15    /* charges: there isn't one charge for each extract of the catalogue */
 };
 
 /* The detail of a refusal: of 1 to 10 one of these, the file at fault; of 11 the lowest unmatched link; of 12 the bytes
- * that the first output without room needs, or the words where content is the output; of 13 and 14 zero. */
+ * that the first output without room needs, or the words where content is the output; of 13 and 14 zero; of 15 the
+ * number of charges. */
 enum {
     YUTHAQIM_IN_PATTERN = 1, /* the question, or another lone pattern */
     YUTHAQIM_IN_CATALOGUE = 2,
@@ -103,6 +105,15 @@ struct yuthaqim_showing {
     size_t detail;
     size_t first;  /* the bytes of the first record */
     size_t second; /* the bytes of the second record */
+};
+
+/* The cheapest set. What has no meaning is zero. In a set the bit worth 2^a says extract a. */
+struct yuthaqim_cheapest {
+    size_t number; /* 0, or the refusal's number */
+    size_t detail;
+    uint64_t sum;    /* what the charges of the set's extracts sum to */
+    uint16_t set;    /* the cheapest set */
+    uint16_t chosen; /* the set that a quote chooses, which may cost more */
 };
 
 /* Reading: from a file to its content. */
@@ -160,6 +171,13 @@ struct yuthaqim_reply yuthaqim_make_book(const uint8_t *catalogue, size_t catalo
 /* Quotes a question with a catalogue. It has no output, and uncovered is one of its results: it never gives 11 or 12. */
 struct yuthaqim_quote yuthaqim_quote(const uint8_t *question, size_t question_length, const uint8_t *catalogue,
                                      size_t catalogue_length, uint32_t *work, size_t work_length);
+
+/* Finds the cheapest set of extracts that covers a question: charges has one for each extract, in catalogue order. No set
+ * that covers the question costs less; of those that cost as much it has the fewest extracts, and of those it comes first
+ * when the numbers are read upward. It has no output and never gives 12. */
+struct yuthaqim_cheapest yuthaqim_cheapest(const uint8_t *question, size_t question_length, const uint8_t *catalogue,
+                                           size_t catalogue_length, const uint32_t *charges, size_t charges_length,
+                                           uint32_t *work, size_t work_length);
 
 /* Answers a covered question from a book: writes the question's sheet, the one that searching the record gives if the
  * book was made from a record. */

@@ -13,8 +13,10 @@ pub enum Call {
     Answer,
     AnswerBySort,
     Quote,
+    Cheapest,
 }
 
+/// Those that are measured on the workloads. The cheapest set has workloads of its own.
 pub const CALLS: [Call; 7] =
     [Call::ReadRecord, Call::Search, Call::MakeBook, Call::ReadBook, Call::Answer, Call::AnswerBySort, Call::Quote];
 
@@ -28,6 +30,7 @@ impl Call {
             Call::Answer => "answer",
             Call::AnswerBySort => "answer, sorting",
             Call::Quote => "quote",
+            Call::Cheapest => "cheapest set",
         }
     }
 }
@@ -39,6 +42,7 @@ pub struct Files {
     pub question: Vec<u8>,
     pub catalogue: Vec<u8>,
     pub book: Vec<u8>,
+    pub charges: Vec<u32>,
 }
 
 /// What the library is lent beside files. It clears its own work words at the end of each call; the outputs keep what the
@@ -55,6 +59,7 @@ pub enum Outcome {
     Words(Vec<u32>),
     Bytes(Vec<u8>),
     Quote(Box<baseline::Quote>),
+    Cheapest(yuthaqim::Cheapest),
     Refused(usize, usize),
 }
 
@@ -65,7 +70,7 @@ impl Desk {
 
     /// A call that gives content or a file: how much it wrote.
     fn length(&mut self, call: Call, files: &Files) -> Result<usize, yuthaqim::Refusal> {
-        let Files { record, question, catalogue, book } = files;
+        let Files { record, question, catalogue, book, .. } = files;
         let Desk { words, bytes, work } = self;
         match call {
             Call::ReadRecord => yuthaqim::read_record(record, words, work),
@@ -73,31 +78,35 @@ impl Desk {
             Call::MakeBook => yuthaqim::make_book(catalogue, record, bytes, work),
             Call::ReadBook => yuthaqim::read_book(catalogue, book, words, work),
             Call::Answer | Call::AnswerBySort => yuthaqim::answer(question, catalogue, book, bytes, work),
-            Call::Quote => unreachable!("a quote has no output"),
+            Call::Quote | Call::Cheapest => unreachable!("it has no output"),
         }
+    }
+
+    fn cheapest(&mut self, files: &Files) -> yuthaqim::Priced {
+        yuthaqim::raw::cheapest(&files.question, &files.catalogue, &files.charges, &mut self.work)
     }
 
     /// A call of the library, as it is timed.
     pub fn run(&mut self, call: Call, files: &Files) {
-        if call == Call::Quote {
-            black_box(yuthaqim::raw::quote(&files.question, &files.catalogue, &mut self.work));
-        } else {
-            let _ = black_box(self.length(call, files));
+        match call {
+            Call::Quote => drop(black_box(yuthaqim::raw::quote(&files.question, &files.catalogue, &mut self.work))),
+            Call::Cheapest => drop(black_box(self.cheapest(files))),
+            _ => drop(black_box(self.length(call, files))),
         }
     }
 
     /// A call of the library, with what it gives.
     pub fn outcome(&mut self, call: Call, files: &Files) -> Outcome {
-        let outcome = if call == Call::Quote {
-            yuthaqim::quote(&files.question, &files.catalogue, &mut self.work).map(|quote| {
+        let outcome = match call {
+            Call::Quote => yuthaqim::quote(&files.question, &files.catalogue, &mut self.work).map(|quote| {
                 let yuthaqim::Quote { covered, links, chosen, lowest_unmatched, mapping } = quote;
                 Outcome::Quote(baseline::Quote { covered, links, chosen, lowest_unmatched, mapping }.into())
-            })
-        } else {
-            self.length(call, files).map(|length| match call {
-                Call::ReadRecord | Call::ReadBook => Outcome::Words(self.words[..length].to_vec()),
-                _ => Outcome::Bytes(self.bytes[..length].to_vec()),
-            })
+            }),
+            Call::Cheapest => self.cheapest(files).result().map(Outcome::Cheapest),
+            Call::ReadRecord | Call::ReadBook => {
+                self.length(call, files).map(|length| Outcome::Words(self.words[..length].to_vec()))
+            }
+            _ => self.length(call, files).map(|length| Outcome::Bytes(self.bytes[..length].to_vec())),
         };
         outcome.unwrap_or_else(|refusal| Outcome::Refused(refusal.number, refusal.detail))
     }
@@ -115,7 +124,7 @@ impl Desk {
 
 /// The same call by the baseline.
 pub fn baseline_outcome(call: Call, files: &Files) -> Outcome {
-    let Files { record, question, catalogue, book } = files;
+    let Files { record, question, catalogue, book, charges } = files;
     let outcome = match call {
         Call::ReadRecord => baseline::read_record(record, BOOK_WORDS).map(Outcome::Words),
         Call::Search => baseline::search(question, record, BOOK_BYTES).map(Outcome::Bytes),
@@ -124,6 +133,7 @@ pub fn baseline_outcome(call: Call, files: &Files) -> Outcome {
         Call::Answer => baseline::answer(question, catalogue, book, BOOK_BYTES).map(Outcome::Bytes),
         Call::AnswerBySort => baseline::answer_by_sorting(question, catalogue, book, BOOK_BYTES).map(Outcome::Bytes),
         Call::Quote => baseline::quote(question, catalogue).map(|quote| Outcome::Quote(quote.into())),
+        Call::Cheapest => baseline::cheapest(question, catalogue, charges).map(Outcome::Cheapest),
     };
     outcome.unwrap_or_else(|(number, detail)| Outcome::Refused(number, detail))
 }

@@ -33,8 +33,8 @@ const BUDGET: Duration = Duration::from_millis(30);
 /// The files of a workload.
 fn files_of(workload: &Workload, desk: &mut Desk) -> Files {
     let Workload { record, question, catalogue, .. } = workload;
-    let mut files =
-        Files { record: record.clone(), question: question.clone(), catalogue: catalogue.clone(), book: Vec::new() };
+    let (record, question, catalogue) = (record.clone(), question.clone(), catalogue.clone());
+    let mut files = Files { record, question, catalogue, ..Files::default() };
     let Outcome::Bytes(book) = desk.outcome(Call::MakeBook, &files) else {
         panic!("the book of {} doesn't fit", workload.name);
     };
@@ -54,7 +54,7 @@ fn compare(what: &str, product: Outcome, baseline: Outcome) {
     }
 }
 
-/// A call on a workload, once both sides gave the same. A quote reads no record: its size is that of the catalogue.
+/// A call on a workload. A quote reads no record: its size is that of the catalogue.
 fn call_case<'a>(workload: &Workload, files: &Rc<Files>, call: Call, part: usize, desk: &'a RefCell<Desk>) -> Case<'a> {
     let mut files = files.clone();
     let mut size = format!("{} items, {} links", report::number(workload.items), report::number(workload.links));
@@ -64,13 +64,31 @@ fn call_case<'a>(workload: &Workload, files: &Rc<Files>, call: Call, part: usize
         files = Rc::new(Files { catalogue, question: workload.question.clone(), ..Files::default() });
         size = format!("{extracts} extracts");
     }
-    let what = format!("{}, {}, {size}", call.name(), workload.name);
-    compare(&what, desk.borrow_mut().outcome(call, &files), baseline_outcome(call, &files));
     if call == Call::Answer {
-        let searched = desk.borrow_mut().outcome(Call::Search, &files);
-        compare(&format!("{what}, beside a search"), searched, baseline_outcome(call, &files));
+        let what = format!("{}, {}, {size}, beside a search", call.name(), workload.name);
+        compare(&what, desk.borrow_mut().outcome(Call::Search, &files), baseline_outcome(call, &files));
     }
-    Case::new((call.name(), workload.name), (size, part), move |Order { product_first, number }| {
+    case_of(call, workload.name, (size, part), files, desk)
+}
+
+/// The cheapest set reads no record: its size is that of the catalogue.
+fn cheapest_case<'a>(priced: workloads::Priced, part: usize, desk: &'a RefCell<Desk>) -> Case<'a> {
+    let workloads::Priced { name, extracts, question, catalogue, charges } = priced;
+    let files = Rc::new(Files { question, catalogue, charges, ..Files::default() });
+    case_of(Call::Cheapest, name, (format!("{extracts} extracts"), part), files, desk)
+}
+
+/// A call on files, once both sides gave the same.
+fn case_of<'a>(
+    call: Call,
+    workload: &'static str,
+    (size, part): (String, usize),
+    files: Rc<Files>,
+    desk: &'a RefCell<Desk>,
+) -> Case<'a> {
+    let what = format!("{}, {workload}, {size}", call.name());
+    compare(&what, desk.borrow_mut().outcome(call, &files), baseline_outcome(call, &files));
+    Case::new((call.name(), workload), (size, part), move |Order { product_first, number }| {
         let mut desk = desk.borrow_mut();
         let mut product = || timed(number, || desk.run(call, &files));
         let first = product_first.then(&mut product);
@@ -101,6 +119,9 @@ fn all_cases<'a>(beginning: &str, desk: &'a RefCell<Desk>) -> Vec<Case<'a>> {
             let files = Rc::new(files_of(&workload, &mut desk.borrow_mut()));
             let calls = CALLS.iter().filter(|call| call.name().starts_with(beginning));
             cases.extend(calls.map(|&call| call_case(&workload, &files, call, part, desk)));
+        }
+        if Call::Cheapest.name().starts_with(beginning) {
+            cases.extend(workloads::priced(part).into_iter().map(|priced| cheapest_case(priced, part, desk)));
         }
         if PAIRS.starts_with(beginning) {
             cases.extend(workloads::books(part).into_iter().map(|book| pairs_case(book, part, desk)));

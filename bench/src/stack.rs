@@ -41,7 +41,7 @@ fn depth(mut job: Job) -> usize {
 
 /// The stack that each call takes of the files of a workload.
 fn depths(files: &Files) -> Vec<(&'static str, usize)> {
-    let Files { record, question, catalogue, book } = files;
+    let Files { record, question, catalogue, book, .. } = files;
     let mut work = vec![0; WORK_WORDS];
     let mut sheet = vec![0; SHEET_BYTES];
     let length = search(question, record, &mut sheet, &mut work).expect("a sheet");
@@ -57,6 +57,7 @@ fn depths(files: &Files) -> Vec<(&'static str, usize)> {
     let record_words = content(&|out, work| read_record(record, out, work));
     let sheet_words = content(&|out, work| read_sheet(question, &sheet, out, work));
     let book_words = content(&|out, work| read_book(catalogue, book, out, work));
+    let charges = vec![1; catalogue_words[0] as usize];
     let mut words = vec![0; BOOK_WORDS];
     let mut bytes = vec![0; BOOK_BYTES];
     let mut more = vec![0; BOOK_BYTES];
@@ -84,6 +85,7 @@ fn depths(files: &Files) -> Vec<(&'static str, usize)> {
         "search": search(question, record, &mut bytes, &mut work);
         "make a book": make_book(catalogue, record, &mut bytes, &mut work);
         "quote": raw::quote(question, catalogue, &mut work);
+        "cheapest set": raw::cheapest(question, catalogue, &charges, &mut work);
         "answer": answer(question, catalogue, book, &mut bytes, &mut work);
         "show": show_uncovered(question, catalogue, &mut bytes, &mut more, &mut work);
         "show": show_uncovered(question, NO_VIEWS, &mut bytes, &mut more, &mut work);

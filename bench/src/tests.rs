@@ -4,7 +4,7 @@
 use crate::baseline;
 use crate::workloads::*;
 use model::files::{read_book, read_record, Refusal, BOOK_BYTES, WORK_WORDS};
-use model::{answering, matching, quoting};
+use model::{answering, cheapest, matching, quoting};
 
 const ROOM: usize = BOOK_BYTES;
 
@@ -30,9 +30,24 @@ fn model_quote(question: &[u8], catalogue: &[u8]) -> Result<baseline::Quote, Ref
     })
 }
 
+fn model_cheapest(question: &[u8], catalogue: &[u8], charges: &[u32]) -> Result<yuthaqim::Cheapest, Refusal> {
+    let cheapest::Cheapest { set, sum, chosen } = cheapest::cheapest(question, catalogue, charges, WORK_WORDS)?;
+    let bits = |set: Vec<usize>| set.iter().map(|a| 1 << a).sum();
+    Ok(yuthaqim::Cheapest { set: bits(set), sum, chosen: bits(chosen) })
+}
+
+fn same_cheapest(question: &[u8], catalogue: &[u8], charges: &[u32]) {
+    let model = model_cheapest(question, catalogue, charges);
+    same("cheapest set", baseline::cheapest(question, catalogue, charges), model);
+}
+
 /// Every call that reads no record.
 fn without_record(question: &[u8], catalogue: &[u8], book: &[u8]) -> Option<Vec<u8>> {
     same("quote", baseline::quote(question, catalogue), model_quote(question, catalogue));
+    let extracts = model::files::judge_catalogue(catalogue).map_or(0, |extracts| extracts.len() as u32);
+    for charges in [vec![1; extracts as usize], (0..extracts).map(|a| a * 7 % 4).collect(), vec![1; 5]] {
+        same_cheapest(question, catalogue, &charges);
+    }
     same("read a book", baseline::read_book(catalogue, book, ROOM), read_book(catalogue, book, ROOM, WORK_WORDS));
     let answer = answering::answer(question, catalogue, book, ROOM, WORK_WORDS);
     same("answer, sorting", baseline::answer_by_sorting(question, catalogue, book, ROOM), answer.clone());
@@ -57,6 +72,15 @@ fn agree(record: &[u8], question: &[u8], catalogue: &[u8]) -> bool {
 fn on_the_workloads() {
     for workload in all(8) {
         assert!(agree(&workload.record, &workload.question, &workload.catalogue), "{}", workload.name);
+    }
+}
+
+#[test]
+fn on_charges() {
+    for part in [1, 2] {
+        for priced in priced(part) {
+            same_cheapest(&priced.question, &priced.catalogue, &priced.charges);
+        }
     }
 }
 

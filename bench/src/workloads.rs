@@ -324,6 +324,36 @@ fn everything(items: usize, _: usize) -> Workload {
     workload("everything", about, &mut rule, (kinds, links), question, extracts)
 }
 
+// Questions without a record, to find the cheapest set for.
+
+pub struct Priced {
+    pub name: &'static str,
+    pub extracts: usize,
+    pub question: Vec<u8>,
+    pub catalogue: Vec<u8>,
+    pub charges: Vec<u32>,
+}
+
+/// Up to sixteen extracts that all match every link: each is the question, of 16 items and 32 links. Or each matches one
+/// link alone, so that only the set of all covers.
+pub fn priced(part: usize) -> [Priced; 2] {
+    let mut rule = Rule::new(9);
+    let extracts = 16 / part;
+    let charges: Vec<u32> = (0..extracts).map(|_| rule.below(1_000) as u32).collect();
+    let mut full = ring(&std::array::from_fn::<u32, 16, _>(|kind| kind as u32));
+    full.1.extend((0..16).map(|u| (u, (u + 2) % 16)));
+    let apart = ring(&(0..extracts as u32).collect::<Vec<u32>>());
+    let single: Vec<Pattern> = apart.1.iter().map(|&(from, to)| path(&[from as u32, to as u32])).collect();
+    let make = |name, question: &Pattern, catalogue: &[Pattern]| Priced {
+        name,
+        extracts,
+        question: pattern_file(question),
+        catalogue: catalogue_file(catalogue),
+        charges: charges.clone(),
+    };
+    [make("all match everything", &full, &vec![full.clone(); extracts]), make("each matches one link", &apart, &single)]
+}
+
 // Books that belong to no record, to find the different pairs of.
 
 pub struct Book {

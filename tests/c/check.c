@@ -193,6 +193,60 @@ static void quoting(void) {
                q.chosen == 0 && q.lowest == 0 && masks(&q) == 0);
 }
 
+/* Extracts 0 and 1 are D's first two links, extract 2 its last two, extract 3 D itself. */
+static const uint32_t HALVES_FIELDS[] = {4, 3, 2, 0, 1, 2, 0, 1, 0, 2, 3, 2, 0, 1, 2, 0, 1, 0, 2,
+                                         3, 2, 1, 2, 3, 0, 2, 1, 2, 4, 4, 0, 1, 2, 3, 0, 1, 0, 2, 1, 3, 2, 3};
+
+static void expect_cheapest(const char *what, struct yuthaqim_cheapest c, uint64_t sum, uint16_t set, uint16_t chosen) {
+    expect(what, c.number, (size_t)c.sum,
+           c.number == 0 && c.detail == 0 && c.sum == sum && c.set == set && c.chosen == chosen && is_cleared());
+}
+
+static void expect_no_cheapest(const char *what, struct yuthaqim_cheapest c, size_t number, size_t detail) {
+    expect(what, c.number, c.detail,
+           c.number == number && c.detail == detail && c.sum == 0 && c.set == 0 && c.chosen == 0);
+}
+
+static void charging(void) {
+    static const uint32_t charges[] = {100, 200, 150};
+    static const uint32_t most[] = {UINT32_MAX, UINT32_MAX, UINT32_MAX, UINT32_MAX};
+    static const uint32_t alike[] = {3, 3, 4, 7};
+    static const uint32_t dear[] = {3, 2, 4, 7};
+    static uint8_t halves[YUTHAQIM_CATALOGUE_BYTES];
+    size_t length = yuthaqim_write_catalogue(HALVES_FIELDS, LENGTH(HALVES_FIELDS), halves, sizeof halves, work,
+                                             LENGTH(work)).value;
+
+    mark();
+    expect_cheapest("cheapest: D with C", yuthaqim_cheapest(D, sizeof D, C, sizeof C, charges, 3, work, LENGTH(work)),
+                    350, 1 << 1 | 1 << 2, 1 << 1 | 1 << 2);
+    mark();
+    expect_cheapest("cheapest: sums beyond 32 bits",
+                    yuthaqim_cheapest(D, sizeof D, C, sizeof C, most, 3, work, LENGTH(work)), 2 * (uint64_t)UINT32_MAX,
+                    1 << 1 | 1 << 2, 1 << 1 | 1 << 2);
+    mark();
+    expect_cheapest("cheapest: two extracts for less than one",
+                    yuthaqim_cheapest(D, sizeof D, halves, length, dear, 4, work, LENGTH(work)), 6, 1 << 1 | 1 << 2,
+                    1 << 0 | 1 << 2);
+    mark();
+    expect_cheapest("cheapest: of sets that cost the same the smallest",
+                    yuthaqim_cheapest(D, sizeof D, halves, length, alike, 4, work, LENGTH(work)), 7, 1 << 3,
+                    1 << 0 | 1 << 2);
+    mark();
+    expect_no_cheapest("cheapest: two charges for three extracts",
+                       yuthaqim_cheapest(D, sizeof D, C, sizeof C, charges, 2, work, LENGTH(work)), YUTHAQIM_CHARGES, 2);
+    expect_no_cheapest("cheapest: no charges",
+                       yuthaqim_cheapest(D, sizeof D, C, sizeof C, charges, 0, work, LENGTH(work)), YUTHAQIM_CHARGES, 0);
+    expect_no_cheapest("cheapest: D with extract 1 alone, two charges",
+                       yuthaqim_cheapest(D, sizeof D, ONLY_SLOW, sizeof ONLY_SLOW, charges, 2, work, LENGTH(work)),
+                       YUTHAQIM_CHARGES, 2);
+    expect_no_cheapest("cheapest: D with extract 1 alone is uncovered",
+                       yuthaqim_cheapest(D, sizeof D, ONLY_SLOW, sizeof ONLY_SLOW, charges, 1, work, LENGTH(work)),
+                       YUTHAQIM_UNCOVERED, 1);
+    expect_no_cheapest("cheapest: a catalogue that is cut off",
+                       yuthaqim_cheapest(D, sizeof D, C, sizeof C - 1, charges, 0, work, LENGTH(work)), YUTHAQIM_SHORT,
+                       YUTHAQIM_IN_CATALOGUE);
+}
+
 static void answering(void) {
     static uint8_t book[YUTHAQIM_BOOK_BYTES];
     size_t length = yuthaqim_make_book(C, sizeof C, K9, sizeof K9, book, sizeof book, work, LENGTH(work)).value;
@@ -265,6 +319,7 @@ int main(void) {
     files();
     matching();
     quoting();
+    charging();
     answering();
     showing();
     refusals();

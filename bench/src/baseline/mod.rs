@@ -14,7 +14,7 @@ pub use answering::{answer, answer_by_sorting};
 pub use bits::Writer;
 pub use files::{different_pairs, parse_book, parse_catalogue, read_book, read_record};
 pub use matching::{make_book, search};
-pub use quoting::{quote, Quote};
+pub use quoting::{cheapest, quote, Quote};
 
 /// A refusal's number and detail.
 pub type Refusal = (usize, usize);

@@ -67,3 +67,32 @@ pub fn quote(question: &[u8], catalogue: &[u8]) -> Result<Quote, Refusal> {
     let question = parse_question(question)?;
     Ok(quote_of(&question, &parse_catalogue(catalogue)?))
 }
+
+/// The cheapest set that covers a question. What a set matches and costs follows from the set without its lowest extract.
+/// Of two sets of equal cost and size, the one that comes first has the greater number with its bits turned round.
+pub fn cheapest(question: &[u8], catalogue: &[u8], charges: &[u32]) -> Result<yuthaqim::Cheapest, Refusal> {
+    let (question, catalogue) = (parse_question(question)?, parse_catalogue(catalogue)?);
+    if charges.len() != catalogue.len() {
+        return Err((yuthaqim::CHARGES, charges.len()));
+    }
+    let quote = quote_of(&question, &catalogue);
+    if let Some(lowest) = quote.lowest_unmatched {
+        return Err((yuthaqim::UNCOVERED, lowest));
+    }
+    let all = Links::MAX >> (32 - quote.links);
+    let matched: Vec<Links> = (0..charges.len()).map(|a| quote.matched(a)).collect();
+    let mut sets: Vec<(Links, u64)> = vec![(0, 0)];
+    let mut best = (u64::MAX, u32::MAX, 0);
+    let mut set = 0u16;
+    for number in 1..1usize << charges.len() {
+        let lowest = number.trailing_zeros() as usize;
+        let (links, sum) = sets[number & (number - 1)];
+        let (links, sum) = (links | matched[lowest], sum + u64::from(charges[lowest]));
+        sets.push((links, sum));
+        let key = (sum, number.count_ones(), !(number as u16).reverse_bits());
+        if links == all && key < best {
+            (best, set) = (key, number as u16);
+        }
+    }
+    Ok(yuthaqim::Cheapest { set, sum: best.0, chosen: quote.chosen as u16 })
+}

@@ -18,7 +18,7 @@ use Rattle.containment.specs.Choice.{matches, matchedIn, coversIn, lowes
 use Rattle.containment.proofs.SetBits.{test-cases, never, bit-lt, bit-over, bit-zero, more-self, more-has, less-self, less-say, less-by}
 
 -- by the two cases of a test
-pick-cases : {A : Type 0} (P : A → Type 0) (b : Bool) (x y : A) → (b ≡ true → P x) → (b ≡ false → P y) → P (pick b x y)
+pub pick-cases : {A : Type 0} (P : A → Type 0) (b : Bool) (x y : A) → (b ≡ true → P x) → (b ≡ false → P y) → P (pick b x y)
 pick-cases P true x y f g = f refl
 pick-cases P false x y f g = g refl
 

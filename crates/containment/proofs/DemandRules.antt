@@ -41,7 +41,7 @@ use Rattle.containment.proofs.CoveredBytes.{question-bounds, few-views,
 pub number-same : {m n d e : ℕ} → refuse m d ≡ refuse n e → m ≡ n
 number-same h = cc
 
-detail-same : {m n d e : ℕ} → refuse m d ≡ refuse n e → d ≡ e
+pub detail-same : {m n d e : ℕ} → refuse m d ≡ refuse n e → d ≡ e
 detail-same h = cc
 
 pub not-refused : {vs : List ℕ} {os : List (List ℕ)} {n d : ℕ} → give vs os ≡ refuse n d → ⊥

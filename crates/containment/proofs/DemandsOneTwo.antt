@@ -5,7 +5,7 @@ use mathlib.Core.Bool.{Bool, true, false}
 use mathlib.Core.Logic.{_↔_, Iff·trans, Iff·symm}
 use mathlib.Core.List.{List, [], _∷_, _++_}
 use lib.ListN.{length, getD}
-use lib.Dec.{T}
+use lib.Dec.{T, eqb}
 use borrow.Author.Tests.{lt-ltb, le-ltb}
 use native.Mathlib.Omega.{arith}
 use Rattle.packed.specs.Format.{pick}
@@ -26,6 +26,7 @@ use Rattle.matching.proofs.RecordLaws.{graph-narrow}
 use Rattle.containment.specs.Choice.{everyView, coversIn}
 use Rattle.containment.specs.Quote.{QuoteValues, flat, one, mapping, valuesFrom, quoteValues, quoteOutcome}
 use Rattle.containment.specs.Answer.{answerIn, answerBy, usedFor, answerOutcome}
+use Rattle.containment.specs.Cheapest.{cheapestFrom, cheapestFor, cheapestOutcome}
 use Rattle.containment.specs.Show.{showFor, showOutcome}
 use Rattle.containment.specs.Listing.{lineOf, lineAnswer}
 use Rattle.containment.specs.Demands.{Full, Settles, Worked, Demand1, Question, Catalogue, Record, Uncrowded, Book, extracts, extractOf, linkOf, Covered, lacking, chosenOf, Matching, Matched, Demand2}
@@ -58,6 +59,11 @@ unfolding answerIn
 answer-settles set qs cs bs room =
     uncrowded-settles (edgeCounts cs) bs (either (covers set qs (extracts cs)) (fitFile-settles room _) (refuses _ (numbered 11 refl refl)))
 
+cheapest-settles : (qs cs charges : List ℕ) → Settles (cheapestFor qs cs charges)
+unfolding cheapestFor cheapestFrom
+cheapest-settles qs cs charges =
+    either (eqb (length charges) (length (extracts cs))) (either (covers everyView qs (extracts cs)) (gives _ []) (refuses _ (numbered 11 refl refl))) (refuses _ (numbered 15 refl refl))
+
 show-settles : (set : ℕ) (qs : List ℕ) (Ps : List Pattern) (room room′ : ℕ) → Settles (showFor set qs Ps room room′)
 unfolding showFor
 show-settles set qs Ps room room′ = either (covers set qs Ps) (refuses 0 (numbered 13 refl refl)) (fitBoth-settles room room′ _ _)
@@ -82,7 +88,7 @@ book-exactly cs s ws = (
 )
 
 pub demand-1 : Demand1
-unfolding fronts patternRead catalogueRead recordRead sheetRead bookRead patternWritten catalogueWritten recordWritten sheetWritten bookWritten searchOutcome makeBookOutcome quoteOutcome answerBy answerOutcome showOutcome lineAnswer toldOf outputsOf
+unfolding fronts patternRead catalogueRead recordRead sheetRead bookRead patternWritten catalogueWritten recordWritten sheetWritten bookWritten searchOutcome makeBookOutcome quoteOutcome cheapestOutcome answerBy answerOutcome showOutcome lineAnswer toldOf outputsOf
 demand-1 = record {
   read-pattern = λ s room words. workspace-settles words (pattern-first s (fit-settles room));
   read-catalogue = λ s room words. workspace-settles words (catalogue-first s (fit-settles room));
@@ -101,6 +107,7 @@ demand-1 = record {
   search = λ p r room words. workspace-settles words (pattern-first p (λ ps. record-first r (λ rs. fitFile-settles room _)));
   make-book = λ c r room words. workspace-settles words (catalogue-first c (λ cs. record-first r (λ rs. fitFile-settles room _)));
   quote = λ q c words. workspace-settles words (pattern-first q (λ qs. catalogue-first c (λ cs. gives _ [])));
+  cheapest = λ q c charges words. workspace-settles words (pattern-first q (λ qs. catalogue-first c (λ cs. cheapest-settles qs cs charges)));
   answer = λ q c b room words.
       workspace-settles words
       (pattern-first q (λ qs. catalogue-first c (λ cs. read-settles 65536 4 (book-faults (edgeCounts cs)) b (λ bs. answer-settles (usedFor qs cs) qs cs bs room))));

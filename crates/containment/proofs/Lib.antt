@@ -1,6 +1,9 @@
 -- sets of views and what they cover
 pub mod SetBits
 pub mod ChoiceLaws
+pub mod CheapestLaws
+pub mod TriesLaws
+pub mod CheapestSets
 -- a query read as a record
 pub mod QueryGraph
 pub mod FieldLaws
@@ -18,6 +21,7 @@ pub mod CoveredBytes
 -- the calls
 pub mod AnswerLaws
 pub mod ShowLaws
+pub mod CostingLaws
 pub mod Numbered
 -- the demands
 pub mod DemandRules

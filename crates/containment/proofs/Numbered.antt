@@ -1,4 +1,4 @@
--- Every refusal has a number from 1 to 14: a file's by its format, and the others by the calls that give them.
+-- Every refusal has a number from 1 to 15: a file's by its format, and the others by the calls that give them.
 use Prim.Native.Nat.{ℕ, zero, suc, _+_, _%_, _^_, _≤_}
 use mathlib.Core.Path.{_≡_, refl}
 use mathlib.Core.Logic.{inl, inr}
@@ -12,17 +12,17 @@ use Rattle.packed.specs.Format.{Format, done, ask, test, pad, then, times, whol
 use Rattle.packed.specs.Formats.{code, edges, label, joined, pattern, catalogue, labels, record′, pairs, lists, sheet, book}
 use Rattle.packed.specs.Refusals.{numberOf}
 use Rattle.packed.specs.declared.reply.Refusal.{Refusal}
-use Rattle.packed.specs.declared.reply.Refusal.the-variants.{TooLong, Truncated, OutOfRange, NoSuchNode, DuplicateEdge, NotAscending, IsolatedNode, MixedCounts, Trailing, TooManyPairs, NotContained, NoRoom, Contained, SmallWorkspace}
+use Rattle.packed.specs.declared.reply.Refusal.the-variants.{TooLong, Truncated, OutOfRange, NoSuchNode, DuplicateEdge, NotAscending, IsolatedNode, MixedCounts, Trailing, TooManyPairs, NotContained, NoRoom, Contained, SmallWorkspace, WrongCharges}
 use Rattle.packed.specs.Calls.{Outcome, give, refuse, withWorkspace, rejected, inFile, readFile, writeFile, judged, pairsOf, uncrowdedBy, fit, fitFile}
 use Rattle.containment.specs.Show.{fitBoth}
 use Rattle.containment.specs.Demands.{Settles}
 
 pub record Numbered (n : ℕ) : Type 0 where
   pub least : 1 ≤ n
-  pub most : n ≤ 14
+  pub most : n ≤ 15
 
-pub numbered : (n : ℕ) → leb 1 n ≡ true → leb n 14 ≡ true → Numbered n
-numbered n p q = record { least = leb-true 1 n p; most = leb-true n 14 q }
+pub numbered : (n : ℕ) → leb 1 n ≡ true → leb n 15 ≡ true → Numbered n
+numbered n p q = record { least = leb-true 1 n p; most = leb-true n 15 q }
 
 pub refusal-numbered : (x : Refusal) → Numbered (numberOf x)
 refusal-numbered (TooLong d) = numbered 1 refl refl
@@ -39,6 +39,7 @@ refusal-numbered (NotContained d) = numbered 11 refl refl
 refusal-numbered (NoRoom d) = numbered 12 refl refl
 refusal-numbered Contained = numbered 13 refl refl
 refusal-numbered SmallWorkspace = numbered 14 refl refl
+refusal-numbered (WrongCharges d) = numbered 15 refl refl
 
 -- ---- formats
 

@@ -89,6 +89,10 @@ module _ (x a : ℕ) (out : bit x a ≡ false) where
   pub more-has : (b : ℕ) → bit x b ≡ true → bit (x + 2 ^ a) b ≡ true
   more-has b h = bit-by (x + 2 ^ a) b (add-other a b x (bit-lacks x a out) (λ e. never (sym h ∙ ap (bit x) (sym e) ∙ out)) ∙ bit-say x b h)
 
+  pub more-other : (b : ℕ) → (a ≡ b → ⊥) → bit (x + 2 ^ a) b ≡ bit x b
+  unfolding bit
+  more-other b n = ap (λ (y : ℕ). eqb y 1) (add-other a b x (bit-lacks x a out) n)
+
 -- ---- one number less
 module _ (x a : ℕ) (has : bit x a ≡ true) where
   back : (x - 2 ^ a) + 2 ^ a ≡ x

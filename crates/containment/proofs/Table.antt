@@ -19,6 +19,7 @@ use Rattle.matching.specs.Search.{sheetBytes, bookBytes, searchOutcome, viewShe
 use Rattle.matching.specs.Join.{listsEdge as listsHere, pairOf, under, candidates, supported, join, complete, keptFor, answerSets}
 use Rattle.containment.specs.Choice.{matches, matchedIn, coversIn, lowestUnmatched, addsTo, taken, kept, chosen, used}
 use Rattle.containment.specs.Quote.{maskIn, matchMask, maskAt, mapping, valuesFrom, quoteValues, flat, quoteOutcome}
+use Rattle.containment.specs.Cheapest.{weigh, cost, lesser, better, misses, ahead, foremost, cheapest, cheapestFrom, cheapestFor, cheapestOutcome}
 use Rattle.containment.specs.Answer.{viewsIn, answerBytes, answerIn, answerBy, usedFor, answerOutcome}
 use Rattle.containment.specs.Show.{graphFields, fewerFields, recordBytes, fitBoth, showFor, showOutcome}
 
@@ -497,6 +498,42 @@ quotes =
     ∷ case (withWorkspace 16383 (quoteOutcome d c)) (refuse 14 0)
     ∷ []
 
+-- a table of four edges and four views, of which {0, 3} and {1, 2} cover all edges, and no other two do
+abbrev pub fourOf : ℕ → ℕ → ℕ → ℕ → List ℕ
+fourOf x y z w = x ∷ y ∷ z ∷ w ∷ replicate 12 0
+
+abbrev pub pairs4 : List ℕ
+pairs4 = fourOf 1 1 0 0 ++ (fourOf 1 0 1 0 ++ (fourOf 0 1 0 1 ++ fourOf 0 0 1 1))
+
+-- two edges: a view for each, and one for both
+abbrev pub both3 : List ℕ
+both3 = rowOf 1 0 1 ++ rowOf 0 1 1
+
+unfoldable pub cheapests : List Case
+cheapests =
+    -- K2: what a quote chooses is all that covers, with or without extract 0
+    call (cheapestOutcome d c (fields "100 200 150")) (give (6 ∷ 350 ∷ 6 ∷ []) [])
+    ∷ call (cheapestOutcome d c (fields "0 0 0")) (give (6 ∷ 0 ∷ 6 ∷ []) [])
+    -- the least sum, beside a chosen set that costs more
+    ∷ case (cheapestFrom both3 2 (fields "1 1 3") 3) (give (3 ∷ 2 ∷ 3 ∷ []) [])
+    ∷ case (cheapestFrom both3 2 (fields "2 2 3") 3) (give (4 ∷ 3 ∷ 3 ∷ []) [])
+    -- ties: fewer extracts, also where all cost nothing; then {0, 3} before {1, 2}
+    ∷ case (cheapestFrom both3 2 (fields "1 1 2") 3) (give (4 ∷ 2 ∷ 3 ∷ []) [])
+    ∷ case (cheapestFrom both3 2 (fields "0 0 0") 3) (give (4 ∷ 0 ∷ 3 ∷ []) [])
+    ∷ case (cheapestFrom pairs4 4 (fields "5 5 5 5") 4) (give (9 ∷ 10 ∷ 6 ∷ []) [])
+    -- sixteen of the highest charges
+    ∷ case (number (cost (replicate 16 4294967295) 65535 16)) (number 68719476720)
+    -- the files are judged first, then 15, then 11; too few words
+    ∷ call (cheapestOutcome (hex "88") (hex "88") []) (refuse 3 1)
+    ∷ call (cheapestOutcome d (hex "88") []) (refuse 3 2)
+    ∷ call (cheapestOutcome d c (fields "1 1")) (refuse 15 2)
+    ∷ call (cheapestOutcome d c (fields "1 1 1 1")) (refuse 15 4)
+    ∷ call (cheapestOutcome d c3 (fields "1 1")) (refuse 15 2)
+    ∷ call (cheapestOutcome d c3 (fields "1")) (refuse 11 1)
+    ∷ call (cheapestOutcome d c4 []) (refuse 11 0)
+    ∷ case (withWorkspace 16383 (cheapestOutcome d c [])) (refuse 14 0)
+    ∷ []
+
 unfoldable pub showings : List Case
 showings =
     -- K3: the second shown record lacks 0 → 2
@@ -534,8 +571,8 @@ answers =
     ∷ []
 
 unfoldable pub table : List (List Case)
-table = patterns ∷ catalogues ∷ records ∷ sheets ∷ books ∷ searches ∷ quotes ∷ showings ∷ answers ∷ []
+table = patterns ∷ catalogues ∷ records ∷ sheets ∷ books ∷ searches ∷ quotes ∷ cheapests ∷ showings ∷ answers ∷ []
 
 pub cases : Agree table
-unfolding Agree table patterns catalogues records sheets books searches quotes showings answers digit hex next turned numbers bitsOf num numFrom bits zeros gap then times whole within scan lay bytesOf decode encode linked edges isEnd allEnds label joined pattern catalogue labels record′ pairs lists sheet book patternSize patternsIn viewsOf edgeCounts codesIn listsIn afterLists ends fieldsOf sheetsIn pairsIn sum member insert distinct withWorkspace readFile writeFile judged pairsOf uncrowdedBy fit fitFile patternRead catalogueRead recordRead sheetRead bookRead patternWritten catalogueWritten recordWritten sheetWritten bookWritten _and_ _or_ _implies_ every some keep gather each below upTo settle greatest same has sameEdge allPairs bit edgesIn patternOf graphOf asGraph fits follows sim total row ascending matchSets viewSheet sheetBytes bookBytes searchOutcome viewSheets makeBookOutcome pairOf listsHere under candidates supported join complete keptFor answerSets matches matchedIn coversIn lowestUnmatched addsTo taken kept chosen used maskIn matchMask maskAt mapping valuesFrom quoteValues flat quoteOutcome viewsIn answerBytes answerIn answerBy usedFor answerOutcome graphFields fewerFields recordBytes fitBoth showFor showOutcome
-cases = (refl, (refl, (refl, (refl, (refl, (refl, (refl, (refl, (refl, tt)))))))))
+unfolding Agree table patterns catalogues records sheets books searches quotes cheapests showings answers digit hex next turned numbers bitsOf num numFrom bits zeros gap then times whole within scan lay bytesOf decode encode linked edges isEnd allEnds label joined pattern catalogue labels record′ pairs lists sheet book patternSize patternsIn viewsOf edgeCounts codesIn listsIn afterLists ends fieldsOf sheetsIn pairsIn sum member insert distinct withWorkspace readFile writeFile judged pairsOf uncrowdedBy fit fitFile patternRead catalogueRead recordRead sheetRead bookRead patternWritten catalogueWritten recordWritten sheetWritten bookWritten _and_ _or_ _implies_ every some keep gather each below upTo settle greatest same has sameEdge allPairs bit edgesIn patternOf graphOf asGraph fits follows sim total row ascending matchSets viewSheet sheetBytes bookBytes searchOutcome viewSheets makeBookOutcome pairOf listsHere under candidates supported join complete keptFor answerSets matches matchedIn coversIn lowestUnmatched addsTo taken kept chosen used maskIn matchMask maskAt mapping valuesFrom quoteValues flat quoteOutcome viewsIn answerBytes answerIn answerBy usedFor answerOutcome graphFields fewerFields recordBytes fitBoth showFor showOutcome weigh lesser better misses ahead foremost cheapest cheapestFrom cheapestFor cheapestOutcome
+cases = (refl, (refl, (refl, (refl, (refl, (refl, (refl, (refl, (refl, (refl, tt))))))))))

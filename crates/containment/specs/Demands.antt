@@ -3,8 +3,8 @@
 -- The contract of each client call is `Settled` (packed/specs/Calls.antt) over one of the answers named here: it says of the result, of every
 -- lent byte and of every word of the workspace what they are once that answer is known. So what is said here of answers holds of the programs.
 -- An answer is a function of the bytes and fields that are lent, of the length of each output (`room`) and of the workspace (`words`).
--- Proofs: proofs/DemandsOneTwo.antt and proofs/DemandThree.antt, by proofs/DemandRules.antt, DemandSheets.antt and DemandJoin.antt; of the listing,
--- proofs/Listings.antt.
+-- Proofs: proofs/DemandsOneTwo.antt and proofs/DemandThree.antt, by proofs/DemandRules.antt, DemandSheets.antt and DemandJoin.antt; of the cheapest
+-- set, proofs/CheapestSets.antt; of the listing, proofs/Listings.antt.
 use Prim.Native.Nat.{ℕ, _+_, _-_, _*_, _/_, _^_, _<_, _≤_}
 use mathlib.Core.Path.{_≡_}
 use mathlib.Core.Logic.{_⊎_, _↔_}
@@ -25,6 +25,7 @@ use Rattle.matching.specs.Search.{sheetBytes, bookBytes, viewSheets, searchOutc
 use Rattle.containment.specs.Choice.{everyView, coversIn, lowestUnmatched, chosen}
 use Rattle.containment.specs.Quote.{noPattern, mapping, QuoteValues, flat, blank, quoteOutcome, quoteTold}
 use Rattle.containment.specs.Answer.{viewsIn, answerBy, answerOutcome}
+use Rattle.containment.specs.Cheapest.{cost, IsCheapest, cheapestOutcome}
 use Rattle.containment.specs.Show.{graphFields, fewerFields, recordBytes, fitBoth, showOutcome}
 use Rattle.containment.specs.Listing.{bytes, linkLine, lineOf, lineAnswer}
 use Rattle.containment.specs.declared.quote_type.Quote.{Quote}
@@ -121,13 +122,13 @@ pub record Full (a : Outcome) : Type 0 where
   pub outputs : List (List ℕ)
   pub is : a ≡ give values outputs
 
--- a refusal with a number from 1 to 14
+-- a refusal with a number from 1 to 15
 pub record Refused (a : Outcome) : Type 0 where
   pub number : ℕ
   pub detail : ℕ
   pub is : a ≡ refuse number detail
   pub least : 1 ≤ number
-  pub most : number ≤ 14
+  pub most : number ≤ 15
 
 abbrev pub Settles : Outcome → Type 0
 Settles a = Full a ⊎ Refused a
@@ -185,6 +186,7 @@ pub record Demand1 : Type 0 where
   pub quote : (q c : List ℕ) (words : ℕ) → Settles (withWorkspace words (quoteOutcome q c))
   pub answer : (q c b : List ℕ) (room words : ℕ) → Settles (withWorkspace words (answerOutcome q c b room))
   pub show : (q c : List ℕ) (room room′ words : ℕ) → Settles (withWorkspace words (showOutcome q c room room′))
+  pub cheapest : (q c charges : List ℕ) (words : ℕ) → Settles (withWorkspace words (cheapestOutcome q c charges))
   pub line : (q : Quote) (k room : ℕ) → Settles (lineAnswer q k room)
   -- "under a fixed rule": 14, "fewer than 16,384 work words were lent", stands before all else
   pub desk : (a : Outcome) (words : ℕ) → words < workspace → withWorkspace words a ≡ refuse 14 0
@@ -446,6 +448,39 @@ pub record Answering : Type 1 where
   -- for an uncovered question no function whatsoever of the extracts' lists gives the question's sheet on every record
   pub no-other-way : (q c qs cs : List ℕ) → Question q qs → Catalogue c cs → Uncovered qs cs → (F : List (List (List ℕ)) → List ℕ)
       → ((r rs : List ℕ) → Record r rs → F (viewSheets cs (graphOf rs)) ≡ sheetOf (patternOf qs) rs) → ⊥
+
+-- ---- what holds of the cheapest set
+
+-- one charge for each extract
+abbrev pub Charged : List ℕ → List ℕ → Type 0
+Charged charges cs = length charges ≡ length (extracts cs)
+
+-- the sum of the charges of a set of extracts
+abbrev pub costOf : List ℕ → List ℕ → ℕ → ℕ
+costOf charges cs set = cost charges set (length (extracts cs))
+
+-- "the covering set whose charges sum to the least", with the ties: it covers, and no set that covers is better (specs/Cheapest.antt)
+abbrev pub CheapestOf : List ℕ → List ℕ → List ℕ → ℕ → Type 0
+CheapestOf qs cs charges set = IsCheapest (mapping (patternOf qs) (extracts cs)) (edgesOf qs) charges (length (extracts cs)) set
+
+pub record Cheapests : Type 0 where
+  -- for a covered question the call gives that set, its sum, and beside them "the chosen set of the ordinary quote"
+  pub gives : (q c qs cs charges : List ℕ) → Question q qs → Catalogue c cs → Charged charges cs → Covered qs cs → (words : ℕ) → workspace ≤ words
+      → (set : ℕ) × CheapestOf qs cs charges set × (withWorkspace words (cheapestOutcome q c charges) ≡ give (set ∷ costOf charges cs set ∷ chosenOf qs cs ∷ []) [])
+  -- one set at most is so
+  pub one : (c qs cs charges : List ℕ) → Catalogue c cs → (a b : ℕ) → CheapestOf qs cs charges a → CheapestOf qs cs charges b → a ≡ b
+  -- "no covering set may cost less than the one returned", the chosen set among them
+  pub least : (qs cs charges : List ℕ) (set other : ℕ) → CheapestOf qs cs charges set → other < 2 ^ length (extracts cs) → Covers other qs cs
+      → costOf charges cs set ≤ costOf charges cs other
+  pub chosen : (qs cs charges : List ℕ) (set : ℕ) → CheapestOf qs cs charges set → Covered qs cs → costOf charges cs set ≤ costOf charges cs (chosenOf qs cs)
+  -- 15, "when the number of charges differs from the number of extracts", exactly then
+  pub wrong-charges : (q c qs cs charges : List ℕ) → Question q qs → Catalogue c cs → (words d : ℕ)
+      → (withWorkspace words (cheapestOutcome q c charges) ≡ refuse 15 d) ↔ ((workspace ≤ words) × (Charged charges cs → ⊥) × (d ≡ length charges))
+  -- 11, for an uncovered question, exactly then
+  pub refused : (q c qs cs charges : List ℕ) → Question q qs → Catalogue c cs → (words d : ℕ)
+      → (withWorkspace words (cheapestOutcome q c charges) ≡ refuse 11 d) ↔ ((workspace ≤ words) × Charged charges cs × Uncovered qs cs × (d ≡ lacking qs cs))
+  -- nothing is given of other files
+  pub only : (q c charges : List ℕ) (words : ℕ) → Full (withWorkspace words (cheapestOutcome q c charges)) → (qs : List ℕ) × (cs : List ℕ) × Question q qs × Catalogue c cs
 
 -- ---- what holds of the listing of a quote
 

@@ -2,7 +2,9 @@ pub mod Choice
 pub mod Quote
 pub mod Answer
 pub mod Show
+pub mod Cheapest
 pub mod Listing
 pub mod Demands
 -- inner
 pub mod Steps
+pub mod Tries

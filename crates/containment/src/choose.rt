@@ -16,9 +16,9 @@ fn is_in(set: u32, a: usize) -> bool
     d % 2 == 1
 }
 
-// The set of the view a alone.
-fn only(a: usize) -> u32
-    requires { ⌜ a < 16 ⌝ }
+// The set of one number alone.
+pub fn only(a: usize) -> u32
+    requires { ⌜ a < 32 ⌝ }
     ensures { λ r. ⌜ r ≡ 2 ^ a ⌝ }
 {
     1 << a

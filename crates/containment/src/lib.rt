@@ -1,6 +1,7 @@
-// Containment of a query in views: quotes, answers from a book, and why a query is not covered.
+// Containment of a query in views: quotes, the cheapest views, answers from a book, and why a query is not covered.
 mod answering;
 mod choose;
+pub mod costing;
 mod mapping;
 mod query;
 pub mod quote_type;
@@ -12,8 +13,10 @@ ghost use lib.ListN.{length};
 ghost use Rattle.packed.specs.Calls.{OneOutput, Settled, withWorkspace};
 ghost use Rattle.packed.specs.Refusals.{replyTold};
 ghost use Rattle.containment.specs.Answer.{answerOutcome};
+ghost use Rattle.containment.specs.Cheapest.{cheapestOutcome, cheapestTold};
 ghost use Rattle.containment.specs.Quote.{quoteOutcome, quoteTold, blank};
 ghost use Rattle.containment.specs.Show.{showOutcome, shownTold};
+use costing::Cheapest;
 use packed::limits;
 use packed::reply::Refusal;
 use packed::reply::Reply;
@@ -29,6 +32,23 @@ pub fn quote(question: &[u8], catalogue: &[u8], work: &mut [u32]) -> Quote
         return quoting::refused(Refusal::SmallWorkspace);
     }
     let r = quoting::quote(question, catalogue, &mut work[0..limits::WORKSPACE]);
+    workspace::clear(work, limits::WORKSPACE);
+    r
+}
+
+// The cheapest set of extracts that covers a question, by the charges of the extracts.
+pub fn cheapest(question: &[u8], catalogue: &[u8], charges: &[u32], work: &mut [u32]) -> Cheapest
+    ensures { λ r. ⌜ Settled [] (withWorkspace (length (now (work .entry))) (cheapestOutcome (now (question .entry)) (now (catalogue .entry)) (now (charges .entry)))) (cheapestTold r) [] [] (now (work .entry)) (now (work .exit)) ⌝ }
+{
+    if work.len() < limits::WORKSPACE {
+        return Cheapest::Refused(Refusal::SmallWorkspace);
+    }
+    let r = costing::find_cheapest(
+        question,
+        catalogue,
+        charges,
+        &mut work[0..limits::WORKSPACE],
+    );
     workspace::clear(work, limits::WORKSPACE);
     r
 }

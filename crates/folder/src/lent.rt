@@ -14,6 +14,13 @@ pub fn catalogue_bytes() -> [u8; 706]
     [0; 706]
 }
 
+// One charge more than a catalogue may have extracts.
+pub fn charge_words() -> [u32; 17]
+    ensures { λ r. ⌜ 17 ≡ length r ⌝ }
+{
+    [0; 17]
+}
+
 pub fn record_bytes() -> [u8; 40965]
     ensures { λ r. ⌜ 40965 ≡ length r ⌝ }
 {

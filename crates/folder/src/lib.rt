@@ -5,6 +5,7 @@
 pub mod files;
 pub mod lent;
 pub mod lines;
+pub mod numbers;
 
 use packed::reply::Reply;
 

@@ -8,7 +8,7 @@ pub fn say(text: &[u8]) {
     io::write_all(STDOUT_FILENO, text);
 }
 
-fn number(n: usize) {
+pub fn number(n: usize) {
     io::print_decimal(STDOUT_FILENO, n as u64);
 }
 
@@ -24,6 +24,15 @@ pub fn written(name: &[u8], n: usize) {
 pub fn failed(name: &[u8]) {
     io::write_all(STDERR_FILENO, b"failed ");
     io::write_all(STDERR_FILENO, name);
+    io::write_all(STDERR_FILENO, b"\n");
+}
+
+// The same for a line of a text file that is not what it should be.
+pub fn failed_at(name: &[u8], line: usize) {
+    io::write_all(STDERR_FILENO, b"failed ");
+    io::write_all(STDERR_FILENO, name);
+    io::write_all(STDERR_FILENO, b" line ");
+    io::print_decimal(STDERR_FILENO, line as u64);
     io::write_all(STDERR_FILENO, b"\n");
 }
 

@@ -32,6 +32,8 @@ pub enum Refusal {
     Contained,
     // 14, desk: fewer than 16,384 words were lent to work in
     SmallWorkspace,
+    // 15, charges: how many charges were lent, where that is not the number of views
+    WrongCharges(usize),
 }
 
 // What a call with one output answers: how much of it was written, or the refusal.
@@ -83,6 +85,7 @@ pub fn number_of(x: Refusal) -> usize
         Refusal::NoRoom(_) => 12,
         Refusal::Contained => 13,
         Refusal::SmallWorkspace => 14,
+        Refusal::WrongCharges(_) => 15,
     }
 }
 
@@ -105,5 +108,6 @@ pub fn detail_of(x: Refusal) -> usize
         Refusal::NoRoom(d) => d,
         Refusal::Contained => 0,
         Refusal::SmallWorkspace => 0,
+        Refusal::WrongCharges(d) => d,
     }
 }

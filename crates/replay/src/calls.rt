@@ -38,14 +38,16 @@ pub const ANSWER: usize = 13;
 
 pub const SHOW_UNCOVERED: usize = 14;
 
+pub const CHEAPEST: usize = 15;
+
 // The search that is made apart.
-pub const PLAIN: usize = 15;
+pub const PLAIN: usize = 31;
 
 // What a call answered: 0 or the refusal's number; the values, how much it wrote, a digest of it; and at how many places of an output that
 // it alone knows the marks are not as they should be.
 //
 // The value is the written length, or a refusal's detail. A showing has the second record's length beside it. A quote has 1 where the
-// question is covered, and the chosen views beside it, else the lowest unmatched link.
+// question is covered, and the chosen views beside it, else the lowest unmatched link. The cheapest set has its sum, and itself beside it.
 pub struct Outcome {
     pub number: usize,
     pub value: usize,
@@ -193,6 +195,25 @@ fn quote(question: &[u8], catalogue: &[u8], work: &mut [u32]) -> Outcome {
         q.lowest,
         d,
     )
+}
+
+// The content is the charges.
+fn cheapest(question: &[u8], catalogue: &[u8], charges: &[u32], work: &mut [u32]) -> Outcome {
+    let c = yuthaqim::yuthaqim_cheapest(question, catalogue, charges, work);
+    let value = if c.number == 0 {
+        c.sum as usize
+    } else {
+        c.detail
+    };
+    let d = digest::step(digest::step(digest::START, c.set as u64), c.sum);
+    Outcome {
+        number: c.number,
+        value,
+        other: c.set as usize,
+        written: 0,
+        digest: digest::step(d, c.chosen as u64),
+        faults: 0,
+    }
 }
 
 // More than a question has as a record; no more of an output is lent to a showing.
@@ -346,6 +367,10 @@ fn on_parts(
     if k < SEARCH {
         let m = slices::least(cells::number(registers, cells::CONTENT), words.len());
         return write(k, a, b, &words[0..m], &mut out[0..n], work);
+    }
+    if k == CHEAPEST {
+        let m = slices::least(cells::number(registers, cells::CONTENT), words.len());
+        return cheapest(a, b, &words[0..m], work);
     }
     if k == PLAIN {
         return beside::search(a, c, &mut out[0..n], words, work);

@@ -79,17 +79,17 @@ pub const NEEDED_SECOND: usize = 43;
 // The call of the last round or single call, which sweeps make too.
 pub const CHOSEN: usize = 44;
 
-// The counts of a group, and of all groups: so many cells for each of 16 calls.
+// The counts of a group, and of all groups: so many cells for each of 32 calls.
 pub const GROUP: usize = 64;
 
-pub const ALL: usize = 1344;
+pub const ALL: usize = 5248;
 
-pub const BLOCK: usize = 80;
+pub const BLOCK: usize = 162;
 
-pub fn none() -> [u64; 2624]
-    ensures { λ r. ⌜ 2624 ≡ length r ⌝ }
+pub fn none() -> [u64; 10432]
+    ensures { λ r. ⌜ 10432 ≡ length r ⌝ }
 {
-    [0; 2624]
+    [0; 10432]
 }
 
 pub fn at(cells: &[u64], i: usize) -> u64 {

@@ -10,16 +10,16 @@ pub const LISTING: usize = 1;
 
 pub const REFUSED: usize = 5;
 
-pub const DIGEST: usize = 75;
+pub const DIGEST: usize = 160;
 
-pub const FAULTS: usize = 76;
+pub const FAULTS: usize = 161;
 
 // The detail of 1 to 10 is a file's number.
 fn cell_of(number: usize, detail: usize) -> usize {
     if (number == 0) | (10 < number) {
-        return number % 15 * 5;
+        return number % 32 * 5;
     }
-    number % 15 * 5 + detail % 5
+    number % 32 * 5 + detail % 5
 }
 
 // Whether a quote is covered, or a sheet lists pairs: its first count has 14 bits.
@@ -37,7 +37,7 @@ fn is_listing(k: usize, o: Outcome, out: &[u8]) -> bool {
 
 // A cell of a call's block, in its group and of all groups.
 fn add(cells: &mut [u64], k: usize, cell: usize, x: usize) {
-    let i = slices::plus(k % 16 * cells::BLOCK, cell);
+    let i = slices::plus(k % 32 * cells::BLOCK, cell);
     cells::add(cells, slices::plus(cells::GROUP, i), x);
     cells::add(cells, slices::plus(cells::ALL, i), x);
 }
@@ -79,7 +79,7 @@ pub fn count(k: usize, o: Outcome, faults: usize, out: &[u8], cells: &mut [u64])
     add(cells, k, cell_of(o.number, o.value), 1);
     add(cells, k, LISTING, slices::one_if(is_listing(k, o, out)));
     add(cells, k, FAULTS, faults);
-    digest_on(cells, cells::GROUP + k % 16 * cells::BLOCK + DIGEST, o);
+    digest_on(cells, cells::GROUP + k % 32 * cells::BLOCK + DIGEST, o);
     digest_on(cells, cells::OUTCOMES, o);
     keep(k, o, cells);
 }

@@ -46,17 +46,17 @@ const GROUP: usize = 47;
 
 const ALL: usize = 48;
 
-// A single call, and a round, of the call that the last four bits say.
+// A single call, and a round, of the call that the last five bits say.
 const ONCE: usize = 64;
 
-const ROUND: usize = 80;
+const ROUND: usize = 96;
 
 // Sweeps of the same call over a part.
-const CUTS: usize = 96;
+const CUTS: usize = 128;
 
-const FLIPS: usize = 97;
+const FLIPS: usize = 129;
 
-const SHORT: usize = 98;
+const SHORT: usize = 130;
 
 fn keep(part: usize, memory: &mut [u8], out: &[u8], cells: &mut [u64]) {
     let end = cells::number(cells, cells::END + part % 4);
@@ -149,7 +149,7 @@ fn mode_of(op: usize) -> usize {
 
 // A sweep is of the call of the last round or single call.
 fn chosen(op: usize, before: usize) -> usize {
-    if op < CUTS { op % 16 } else { before }
+    if op < CUTS { op % 32 } else { before }
 }
 
 // Those that make calls.

@@ -77,8 +77,13 @@ fn say_output(k: usize, cells: &[u64], out: &[u8], words: &[u32]) {
     }
 }
 
-fn say_quote(cells: &[u64]) {
-    if cells::at(cells, cells::VALUE) == 1 {
+// A quote, or the cheapest set.
+fn say_quote(k: usize, cells: &[u64]) {
+    if k == calls::CHEAPEST {
+        say(b"cost ");
+        say_number(cells::number(cells, cells::VALUE));
+        say(b", set ");
+    } else if cells::at(cells, cells::VALUE) == 1 {
         say(b"covered, chosen ");
     } else {
         say(b"uncovered, lowest ");
@@ -101,8 +106,8 @@ fn say_lengths(k: usize, cells: &[u64]) {
 }
 
 fn say_accepted(k: usize, cells: &[u64], out: &[u8], words: &[u32]) {
-    if k == calls::QUOTE {
-        say_quote(cells);
+    if (k == calls::QUOTE) | (k == calls::CHEAPEST) {
+        say_quote(k, cells);
     } else {
         say_lengths(k, cells);
         say_output(k, cells, out, words);
@@ -140,6 +145,7 @@ fn say_call(k: usize) {
         12 => say(b"  quote: "),
         13 => say(b"  answer: "),
         14 => say(b"  show_uncovered: "),
+        15 => say(b"  cheapest: "),
         _ => say(b"  plain search: "),
     }
 }
@@ -237,7 +243,7 @@ fn say_compared(cells: &mut [u64]) {
 // The lines of a group, from the first block on, after which it is counted anew.
 pub fn group(first: usize, cells: &mut [u64]) {
     let mut k: usize = 0;
-    while k < 16 {
+    while k < 32 {
         let block = slices::plus(first, k * cells::BLOCK);
         say_block(k, block, cells);
         clear(block, cells);

@@ -12,7 +12,7 @@ use Rattle.containment.specs.declared.quote_type.Coverage.{Coverage}
 use Rattle.containment.specs.declared.quote_type.Coverage.the-variants as coverage-is
 use Rattle.containment.specs.declared.quote_type.Quote.{Quote}
 use Rattle.containment.proofs.Numbered.{refusal-numbered}
-use Rattle.yuthaqim.specs.Numbered.{toldBy, numberedQuoteTold, numberedShownTold, QuoteZeros, ShownZeros}
+use Rattle.yuthaqim.specs.Numbered.{toldBy, numberedQuoteTold, numberedShownTold, numberedCheapestTold, QuoteZeros, ShownZeros, CheapestZeros}
 use Rattle.yuthaqim.specs.declared.numbered.NumberedQuote.{NumberedQuote}
 
 pub settled-as : {none : List ℕ} {a : Outcome} {r r′ : Told} {outs outs′ : List (List ℕ)} {work work′ : List ℕ}
@@ -61,3 +61,17 @@ pub shown-refused : (x : Refusal) {n d : ℕ} → n ≡ numberOf x → d ≡ det
     × ShownZeros (record { number = n; detail = d; first = 0; second = 0 })
 unfolding numberedShownTold
 shown-refused x p r = (rw (p, r, refused-told), record { no-detail = λ h. absurd (number-not-0 x (sym p ∙ h)); no-first = λ n. refl; no-second = λ n. refl })
+
+-- a cheapest set in numbers
+pub cheapest-done : (set sum chosen : ℕ) → (numberedCheapestTold (record { number = 0; detail = 0; sum = sum; set = set; chosen = chosen }) ≡ told 0 (set ∷ sum ∷ chosen ∷ []))
+    × CheapestZeros (record { number = 0; detail = 0; sum = sum; set = set; chosen = chosen })
+unfolding numberedCheapestTold toldBy
+cheapest-done set sum chosen =
+    (refl, record { no-detail = λ h. refl; no-sum = λ n. absurd (n refl); no-set = λ n. absurd (n refl); no-chosen = λ n. absurd (n refl) })
+
+pub cheapest-refused : (x : Refusal) {n d : ℕ} → n ≡ numberOf x → d ≡ detailOf x
+    → (numberedCheapestTold (record { number = n; detail = d; sum = 0; set = 0; chosen = 0 }) ≡ told (numberOf x) (detailOf x ∷ []))
+    × CheapestZeros (record { number = n; detail = d; sum = 0; set = 0; chosen = 0 })
+unfolding numberedCheapestTold
+cheapest-refused x p r =
+    (rw (p, r, refused-told), record { no-detail = λ h. absurd (number-not-0 x (sym p ∙ h)); no-sum = λ n. refl; no-set = λ n. refl; no-chosen = λ n. refl })

@@ -9,6 +9,7 @@ use Rattle.containment.specs.Quote.{QuoteValues, flat}
 use Rattle.yuthaqim.specs.declared.numbered.NumberedReply.{NumberedReply}
 use Rattle.yuthaqim.specs.declared.numbered.NumberedQuote.{NumberedQuote}
 use Rattle.yuthaqim.specs.declared.numbered.NumberedShown.{NumberedShown}
+use Rattle.yuthaqim.specs.declared.numbered.NumberedCheapest.{NumberedCheapest}
 
 -- the values of success, or those of a refusal
 unfoldable pub toldBy : ℕ → List ℕ → List ℕ → Told
@@ -27,6 +28,9 @@ numberedQuoteTold q = toldBy (q .number) (flat (numberedValues q)) (q .detail �
 unfoldable pub numberedShownTold : NumberedShown → Told
 numberedShownTold s = toldBy (s .number) (s .first ∷ s .second ∷ []) (s .detail ∷ [])
 
+unfoldable pub numberedCheapestTold : NumberedCheapest → Told
+numberedCheapestTold c = toldBy (c .number) (c .set ∷ c .sum ∷ c .chosen ∷ []) (c .detail ∷ [])
+
 -- what is not told: a quote has no detail
 pub record QuoteZeros (q : NumberedQuote) : Type 0 where
   pub no-detail : q .number ≡ 0 → q .detail ≡ 0
@@ -36,3 +40,10 @@ pub record ShownZeros (s : NumberedShown) : Type 0 where
   pub no-detail : s .number ≡ 0 → s .detail ≡ 0
   pub no-first : (s .number ≡ 0 → ⊥) → s .first ≡ 0
   pub no-second : (s .number ≡ 0 → ⊥) → s .second ≡ 0
+
+-- a cheapest set has no detail, and a refusal has no set and no sum
+pub record CheapestZeros (c : NumberedCheapest) : Type 0 where
+  pub no-detail : c .number ≡ 0 → c .detail ≡ 0
+  pub no-sum : (c .number ≡ 0 → ⊥) → c .sum ≡ 0
+  pub no-set : (c .number ≡ 0 → ⊥) → c .set ≡ 0
+  pub no-chosen : (c .number ≡ 0 → ⊥) → c .chosen ≡ 0

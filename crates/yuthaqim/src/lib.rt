@@ -8,7 +8,9 @@ ghost use Rattle.matching.specs.Search.{searchOutcome, makeBookOutcome};
 ghost use Rattle.containment.specs.Quote.{quoteOutcome, blank};
 ghost use Rattle.containment.specs.Answer.{answerOutcome};
 ghost use Rattle.containment.specs.Show.{showOutcome};
-ghost use Rattle.yuthaqim.specs.Numbered.{numberedReplyTold, numberedQuoteTold, numberedShownTold, QuoteZeros, ShownZeros};
+ghost use Rattle.containment.specs.Cheapest.{cheapestOutcome};
+ghost use Rattle.yuthaqim.specs.Numbered.{numberedReplyTold, numberedQuoteTold, numberedShownTold, numberedCheapestTold, QuoteZeros, ShownZeros, CheapestZeros};
+use numbered::NumberedCheapest;
 use numbered::NumberedQuote;
 use numbered::NumberedReply;
 use numbered::NumberedShown;
@@ -201,4 +203,17 @@ pub extern "C" fn yuthaqim_show_uncovered(
     ensures { λ r. ⌜ Settled [] (withWorkspace (length (now (work .entry))) (showOutcome (now (question .entry)) (now (catalogue .entry)) (length (now (first .entry))) (length (now (second .entry))))) (numberedShownTold r) (now (first .entry) ∷ now (second .entry) ∷ []) (now (first .exit) ∷ now (second .exit) ∷ []) (now (work .entry)) (now (work .exit)) × ShownZeros r ⌝ }
 {
     numbered::shown(containment::show_uncovered(question, catalogue, first, second, work))
+}
+
+// Finds the cheapest set of extracts that covers a question, by the charges of the extracts.
+#[no_mangle]
+pub extern "C" fn yuthaqim_cheapest(
+    question: &[u8],
+    catalogue: &[u8],
+    charges: &[u32],
+    work: &mut [u32],
+) -> NumberedCheapest
+    ensures { λ r. ⌜ Settled [] (withWorkspace (length (now (work .entry))) (cheapestOutcome (now (question .entry)) (now (catalogue .entry)) (now (charges .entry)))) (numberedCheapestTold r) [] [] (now (work .entry)) (now (work .exit)) × CheapestZeros r ⌝ }
+{
+    numbered::cheapest(containment::cheapest(question, catalogue, charges, work))
 }

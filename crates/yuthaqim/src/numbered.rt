@@ -1,9 +1,11 @@
 // Answers in numbers: an enum doesn't cross to C.
 ghost use mathlib.Core.Path.{_≡_};
 ghost use Rattle.packed.specs.Refusals.{replyTold};
+ghost use Rattle.containment.specs.Cheapest.{cheapestTold};
 ghost use Rattle.containment.specs.Quote.{quoteTold};
 ghost use Rattle.containment.specs.Show.{shownTold};
-ghost use Rattle.yuthaqim.specs.Numbered.{numberedReplyTold, numberedQuoteTold, numberedShownTold, QuoteZeros, ShownZeros};
+ghost use Rattle.yuthaqim.specs.Numbered.{numberedReplyTold, numberedQuoteTold, numberedShownTold, numberedCheapestTold, QuoteZeros, ShownZeros, CheapestZeros};
+use containment::costing::Cheapest;
 use containment::quote_type::Coverage;
 use containment::quote_type::Quote;
 use containment::showing::Shown;
@@ -36,6 +38,16 @@ pub struct NumberedShown {
     pub detail: usize,
     pub first: usize,
     pub second: usize,
+}
+
+// 0 and the cheapest set, its sum and the set that a quote chooses, or a refusal's number and detail. What has no meaning is zero.
+#[repr(C)]
+pub struct NumberedCheapest {
+    pub number: usize,
+    pub detail: usize,
+    pub sum: u64,
+    pub set: u16,
+    pub chosen: u16,
 }
 
 pub fn reply(r: Reply) -> NumberedReply
@@ -104,6 +116,27 @@ pub fn shown(s: Shown) -> NumberedShown
             detail: reply::detail_of(x),
             first: 0,
             second: 0,
+        },
+    }
+}
+
+pub fn cheapest(c: Cheapest) -> NumberedCheapest
+    ensures { λ n. ⌜ (numberedCheapestTold n ≡ cheapestTold c) × CheapestZeros n ⌝ }
+{
+    match c {
+        Cheapest::Of(set, sum, chosen) => NumberedCheapest {
+            number: 0,
+            detail: 0,
+            sum,
+            set,
+            chosen,
+        },
+        Cheapest::Refused(x) => NumberedCheapest {
+            number: reply::number_of(x),
+            detail: reply::detail_of(x),
+            sum: 0,
+            set: 0,
+            chosen: 0,
         },
     }
 }

@@ -1,6 +1,6 @@
 //! What the archive's functions answer, as include/yuthaqim.h declares it.
 
-use crate::{Quote, Refusal};
+use crate::{Cheapest, Quote, Refusal};
 
 /// The answer of a call with one output.
 #[repr(C)]
@@ -31,6 +31,17 @@ pub struct Showed {
     pub detail: usize,
     pub first: usize,
     pub second: usize,
+}
+
+/// The cheapest set. What has no meaning is zero.
+#[repr(C)]
+#[derive(Clone, Copy, Debug, PartialEq, Eq)]
+pub struct Priced {
+    pub number: usize,
+    pub detail: usize,
+    pub sum: u64,
+    pub set: u16,
+    pub chosen: u16,
 }
 
 fn judged<T>(number: usize, detail: usize, done: T) -> Result<T, Refusal> {
@@ -64,5 +75,12 @@ impl Quoted {
 impl Showed {
     pub fn result(self) -> Result<(usize, usize), Refusal> {
         judged(self.number, self.detail, (self.first, self.second))
+    }
+}
+
+impl Priced {
+    pub fn result(self) -> Result<Cheapest, Refusal> {
+        let cheapest = Cheapest { set: self.set, sum: self.sum, chosen: self.chosen };
+        judged(self.number, self.detail, cheapest)
     }
 }

@@ -1,6 +1,6 @@
 //! The calls.
 
-use crate::{Quote, Quoted, Refusal, Replied, Showed};
+use crate::{Cheapest, Priced, Quote, Quoted, Refusal, Replied, Showed};
 
 /// Each call with its function in the archive, the items of its inputs and of its outputs, what that function answers and
 /// what the call gives. Every parameter of a function in the archive is a slice, as its pointer and its length.
@@ -79,4 +79,7 @@ calls! {
     /// Shows why a question is uncovered: writes the question read as a record, and the same without its lowest
     /// unmatched link. Every extract lists the same on both, the question doesn't.
     show_uncovered = yuthaqim_show_uncovered(question: u8, catalogue: u8; first: u8, second: u8) -> Showed, (usize, usize);
+    /// Finds the cheapest set of extracts that covers a question, by one charge for each extract, in catalogue order. It has
+    /// no output.
+    cheapest = yuthaqim_cheapest(question: u8, catalogue: u8, charges: u32;) -> Priced, Cheapest;
 }

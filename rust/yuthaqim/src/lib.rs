@@ -1,6 +1,6 @@
-//! Files of patterns, catalogues, records, sheets and books; searching a record, quoting a question, answering it from a
-//! book, and showing why it is uncovered. The work is done by a library whose every call is proved to meet its contract;
-//! this crate only hands over slices.
+//! Files of patterns, catalogues, records, sheets and books; searching a record, quoting a question, finding the cheapest
+//! extracts for it, answering it from a book, and showing why it is uncovered. The work is done by a library whose every
+//! call is proved to meet its contract; this crate only hands over slices.
 //!
 //! A call is lent its output and at least [`WORK_WORDS`] words to work in. It answers how much of the output it wrote, or
 //! a [`Refusal`], which leaves the output as it was. The words may hold anything before a call. Afterwards the first
@@ -17,6 +17,9 @@
 //! let quote = yuthaqim::quote(&question, &catalogue, &mut work)?;
 //! assert!(quote.covered);
 //! assert!(quote.extracts().eq([1, 2]));
+//! let cheapest = yuthaqim::cheapest(&question, &catalogue, &[100, 200, 150], &mut work)?;
+//! assert!(cheapest.extracts().eq([1, 2]));
+//! assert_eq!(cheapest.sum, 350);
 //!
 //! let mut record = [0; yuthaqim::RECORD_BYTES];
 //! let length = yuthaqim::write_record(&[3, 2, 1, 6, 8, 0, 1, 1, 2], &mut record, &mut work)?;
@@ -35,7 +38,7 @@
 mod answers;
 mod calls;
 
-pub use answers::{Quoted, Replied, Showed};
+pub use answers::{Priced, Quoted, Replied, Showed};
 pub use calls::*;
 
 use std::error::Error;
@@ -73,9 +76,10 @@ pub const UNCOVERED: usize = 11;
 pub const NO_FIT: usize = 12;
 pub const COVERED: usize = 13;
 pub const DESK: usize = 14;
+pub const CHARGES: usize = 15;
 
 /// The word of each refusal, from 1 on.
-const WORDS: [&str; 14] = [
+const WORDS: [&str; 15] = [
     "long",
     "short",
     "count",
@@ -90,15 +94,17 @@ const WORDS: [&str; 14] = [
     "no fit",
     "covered",
     "desk",
+    "charges",
 ];
 
 /// Why a call refuses.
 #[derive(Clone, Copy, Debug, PartialEq, Eq)]
 pub struct Refusal {
-    /// 1 to 14.
+    /// 1 to 15.
     pub number: usize,
     /// Of 1 to 10 the file at fault (1 a pattern, 2 a catalogue, 3 a record, 4 a book or sheet), of [`UNCOVERED`] the
-    /// lowest unmatched link, of [`NO_FIT`] how much the output needs, of the others zero.
+    /// lowest unmatched link, of [`NO_FIT`] how much the output needs, of [`CHARGES`] how many charges there were, of the
+    /// others zero.
     pub detail: usize,
 }
 
@@ -139,7 +145,28 @@ impl Quote {
 
     /// The chosen extracts, ascending.
     pub fn extracts(&self) -> impl Iterator<Item = usize> {
-        let chosen = self.chosen;
-        (0..16).filter(move |a| chosen >> a & 1 == 1)
+        extracts(self.chosen)
     }
+}
+
+/// The cheapest set of extracts that covers a question.
+#[derive(Clone, Copy, Debug, PartialEq, Eq)]
+pub struct Cheapest {
+    /// The bit worth 2^a says extract a.
+    pub set: u16,
+    /// What the charges of its extracts sum to: no set that covers the question costs less.
+    pub sum: u64,
+    /// The set that a quote chooses, which may cost more.
+    pub chosen: u16,
+}
+
+impl Cheapest {
+    /// The extracts of the set, ascending.
+    pub fn extracts(&self) -> impl Iterator<Item = usize> {
+        extracts(self.set.into())
+    }
+}
+
+fn extracts(set: u32) -> impl Iterator<Item = usize> {
+    (0..16).filter(move |a| set >> a & 1 == 1)
 }

@@ -73,15 +73,10 @@ pub fn answer(
 mod tests {
     use super::*;
     use crate::matching::{make_book, search};
+    use crate::quoting::tests::{C, D, SLOW};
 
     const ROOM: usize = BOOK_BYTES;
     const WORK: usize = WORK_WORDS;
-    const D: [u8; 8] = [0x20, 0x80, 0x08, 0x86, 0x02, 0x04, 0x26, 0x46];
-    const C: [u8; 17] = [
-        0x18, 0x10, 0x20, 0x08, 0x08, 0x18, 0x40, 0x08, 0xc0, 0x44, 0x80, 0x18, 0x40, 0x10, 0xc0, 0x44, 0x80,
-    ];
-    /// Only extract 1 of C.
-    const SLOW: [u8; 7] = [0x08, 0x18, 0x40, 0x08, 0xc0, 0x44, 0x80];
 
     fn book(fields: &[u32]) -> Vec<u8> {
         write_book(&C, fields, ROOM, WORK).unwrap()

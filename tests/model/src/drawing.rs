@@ -162,6 +162,28 @@ pub fn draw_files(rule: &mut Rule, size: u32, full: bool, kinds: Kinds) -> (Vec<
     (pattern_file(&question), catalogue)
 }
 
+// Charges.
+
+/// Charges for so many extracts, and one time in eight for another number of them: the same for each, few different ones,
+/// any.
+pub fn draw_charges(rule: &mut Rule, extracts: usize) -> Vec<u32> {
+    let number = match rule.draw(32) {
+        0 => 0,
+        1 => extracts.saturating_sub(1),
+        2 => extracts + 1,
+        3 => 15 + rule.draw(3) as usize,
+        _ => extracts,
+    };
+    let (least, most) = match rule.draw(4) {
+        0 => (rule.draw(1_000), 1),
+        1 => (0, 3),
+        2 => (0, 1_000),
+        _ => (65_000, 536),
+    };
+    let large = if least == 65_000 { 65_537 } else { 1 };
+    (0..number).map(|_| (least + rule.draw(most)) * large).collect()
+}
+
 // Records.
 
 /// The number of items of a record. Every second record of a group may have fewer.

@@ -4,6 +4,7 @@
 
 pub mod answering;
 pub mod cases;
+pub mod cheapest;
 mod drawing;
 pub mod files;
 pub mod matching;

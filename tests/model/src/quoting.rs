@@ -51,7 +51,8 @@ fn is_matched(matches: &[(usize, usize)], set: &[usize]) -> bool {
     matches.iter().any(|(a, _)| set.contains(a))
 }
 
-fn covers(mapping: &[Vec<(usize, usize)>], set: &[usize]) -> bool {
+/// Whether the extracts of the set match every link.
+pub fn covers(mapping: &[Vec<(usize, usize)>], set: &[usize]) -> bool {
     mapping.iter().all(|matches| is_matched(matches, set))
 }
 
@@ -112,18 +113,18 @@ pub fn show(
 }
 
 #[cfg(test)]
-mod tests {
+pub mod tests {
     use super::*;
 
     const WORK: usize = WORK_WORDS;
-    const D: [u8; 8] = [0x20, 0x80, 0x08, 0x86, 0x02, 0x04, 0x26, 0x46];
-    const C: [u8; 17] = [
+    pub const D: [u8; 8] = [0x20, 0x80, 0x08, 0x86, 0x02, 0x04, 0x26, 0x46];
+    pub const C: [u8; 17] = [
         0x18, 0x10, 0x20, 0x08, 0x08, 0x18, 0x40, 0x08, 0xc0, 0x44, 0x80, 0x18, 0x40, 0x10, 0xc0, 0x44, 0x80,
     ];
     /// Only extract 1 of C.
-    const SLOW: [u8; 7] = [0x08, 0x18, 0x40, 0x08, 0xc0, 0x44, 0x80];
+    pub const SLOW: [u8; 7] = [0x08, 0x18, 0x40, 0x08, 0xc0, 0x44, 0x80];
     /// No extracts.
-    const NONE: [u8; 1] = [0];
+    pub const NONE: [u8; 1] = [0];
 
     fn quoted(catalogue: &[u8]) -> Quote {
         quote(&D, catalogue, WORK).unwrap()

@@ -5,6 +5,7 @@ mod counts;
 mod outcome;
 
 use crate::answering::answer;
+use crate::cheapest::cheapest;
 use crate::files::*;
 use crate::matching::{make_book, search};
 use crate::quoting::{quote, show};
@@ -50,10 +51,10 @@ const OUTCOME: usize = 46;
 const GROUP: usize = 47;
 const ALL: usize = 48;
 const ONCE: usize = 64;
-const ROUND: usize = 80;
-const CUTS: usize = 96;
-const FLIPS: usize = 97;
-const SHORT_BY_ONE: usize = 98;
+const ROUND: usize = 96;
+const CUTS: usize = 128;
+const FLIPS: usize = 129;
+const SHORT_BY_ONE: usize = 130;
 
 /// The calls.
 pub const READ_PATTERN: usize = 0;
@@ -71,11 +72,15 @@ pub const MAKE_BOOK: usize = 11;
 pub const QUOTE: usize = 12;
 pub const ANSWER: usize = 13;
 pub const SHOW_UNCOVERED: usize = 14;
+pub const CHEAPEST: usize = 15;
 /// The search that the program makes apart from the library's. To the model it is the same.
-pub const PLAIN: usize = 15;
+pub const PLAIN: usize = 31;
+
+/// The numbers that calls may have.
+const NUMBERS: usize = 32;
 
 /// The names of the library's calls, in the order of these numbers.
-pub const CALLS: [&str; 15] = [
+pub const CALLS: [&str; 16] = [
     "read_pattern",
     "read_catalogue",
     "read_record",
@@ -91,6 +96,7 @@ pub const CALLS: [&str; 15] = [
     "quote",
     "answer",
     "show_uncovered",
+    "cheapest",
 ];
 
 /// The name of a call, the plain search too.
@@ -150,8 +156,8 @@ impl Script {
             held: 0,
             compared: 0,
             equal: 0,
-            group: vec![Counts::new(); 16],
-            all: vec![Counts::new(); 16],
+            group: vec![Counts::new(); NUMBERS],
+            all: vec![Counts::new(); NUMBERS],
         }
     }
 
@@ -339,6 +345,7 @@ impl Script {
             MAKE_BOOK => Outcome::bytes(make_book(catalogue, record, room, work)),
             QUOTE => Outcome::quoted(quote(question, catalogue, work)),
             ANSWER => Outcome::bytes(answer(question, catalogue, book, room, work)),
+            CHEAPEST => Outcome::priced(cheapest(question, catalogue, content, work)),
             _ => {
                 let second = self.registers[SECOND];
                 Outcome::shown(show(question, catalogue, room.min(200), second.min(200), work))
@@ -487,6 +494,7 @@ impl Script {
         let mut line = match (number, self.call) {
             (0, QUOTE) if *value == 1 => format!("covered, chosen {other}, digest {digest:016x}"),
             (0, QUOTE) => format!("uncovered, lowest {other}, digest {digest:016x}"),
+            (0, CHEAPEST) => format!("cost {value}, set {other}, digest {digest:016x}"),
             (0, SHOW_UNCOVERED) => format!("{value} and {other} bytes"),
             (0, call) if call < WRITE_PATTERN => format!("{value} words"),
             (0, _) => format!("{value} bytes"),
@@ -517,14 +525,14 @@ impl Script {
     /// A line for each call of the group.
     pub fn group(&mut self) {
         self.instruction(GROUP, 0);
-        let counts = std::mem::replace(&mut self.group, vec![Counts::new(); 16]);
+        let counts = std::mem::replace(&mut self.group, vec![Counts::new(); NUMBERS]);
         self.lines(counts, true);
     }
 
     /// A line for each call of all groups.
     pub fn all(&mut self) {
         self.instruction(ALL, 0);
-        let counts = std::mem::replace(&mut self.all, vec![Counts::new(); 16]);
+        let counts = std::mem::replace(&mut self.all, vec![Counts::new(); NUMBERS]);
         self.lines(counts, false);
     }
 }

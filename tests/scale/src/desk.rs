@@ -2,10 +2,11 @@
 
 use crate::draw::Draw;
 use crate::tally::{Call, Tally};
+use model::cheapest::{self, Cheapest};
 use model::files::{Refusal, NO_FIT};
 use model::quoting::{self, Quote};
 use std::fmt::Debug;
-use yuthaqim::{raw, Quoted, Showed, WORK_WORDS};
+use yuthaqim::{raw, Priced, Quoted, Showed, WORK_WORDS};
 
 /// The most that is lent for an output: more than any has.
 const MOST: usize = 75_000;
@@ -202,6 +203,11 @@ fn refused(refusal: &Refusal) -> yuthaqim::Refusal {
     yuthaqim::Refusal { number: refusal.number as usize, detail: refusal.detail }
 }
 
+/// A set of extracts: the bit worth 2^a says extract a.
+fn bits(set: &[usize]) -> u16 {
+    set.iter().map(|a| 1 << a).sum()
+}
+
 /// A quote of the model as the library answers it.
 fn quoted(quote: &Result<Quote, Refusal>) -> Quoted {
     let mut quoted = Quoted { number: 0, detail: 0, covered: 0, edges: 0, chosen: 0, lowest: 0, mapping: [0; 512] };
@@ -209,7 +215,7 @@ fn quoted(quote: &Result<Quote, Refusal>) -> Quoted {
         Ok(quote) => {
             quoted.covered = quote.covered.into();
             quoted.edges = quote.mapping.len() as u32;
-            quoted.chosen = quote.chosen.iter().map(|a| 1 << a).sum();
+            quoted.chosen = bits(&quote.chosen).into();
             quoted.lowest = quote.lowest_unmatched.unwrap_or(0) as u32;
             for (e, matches) in quote.mapping.iter().enumerate() {
                 for (a, b) in matches {
@@ -229,6 +235,19 @@ fn showed(showing: &Result<(Vec<u8>, Vec<u8>), Refusal>) -> Showed {
         Err(refusal) => {
             let yuthaqim::Refusal { number, detail } = refused(refusal);
             Showed { number, detail, first: 0, second: 0 }
+        }
+    }
+}
+
+/// A cheapest set of the model as the library answers it.
+fn priced(cheapest: &Result<Cheapest, Refusal>) -> Priced {
+    match cheapest {
+        Ok(Cheapest { set, sum, chosen }) => {
+            Priced { number: 0, detail: 0, sum: *sum, set: bits(set), chosen: bits(chosen) }
+        }
+        Err(refusal) => {
+            let yuthaqim::Refusal { number, detail } = refused(refusal);
+            Priced { number, detail, sum: 0, set: 0, chosen: 0 }
         }
     }
 }
@@ -262,6 +281,27 @@ impl Desk<u8> {
             ("result", same_quote(&answered.result(), &expected)),
             ("workspace", self.work.is_cleared()),
         ];
+        notes.end(&asked, &expected, &answered, expected.as_ref().err().copied(), &held)
+    }
+
+    pub fn cheapest(
+        &mut self,
+        notes: &mut Notes,
+        draw: &mut Draw,
+        lent: Lent,
+        question: &[u8],
+        catalogue: &[u8],
+        charges: &[u32],
+    ) -> Result<(), Difference> {
+        let expected = cheapest::cheapest(question, catalogue, charges, lent.work);
+        let answered = raw::cheapest(question, catalogue, charges, self.work.lend(lent.work, draw.word()));
+        let inputs = &[("question", &question as _), ("catalogue", &catalogue as _), ("charges", &charges as _)];
+        let asked = Asked { call: Call::Cheapest, inputs, lent };
+        let held = [("answer", answered == priced(&expected)), ("workspace", self.work.is_cleared())];
+        if let Ok(Cheapest { set, chosen, .. }) = &expected {
+            notes.tally.cheapest += 1;
+            notes.tally.not_chosen += u64::from(set != chosen);
+        }
         notes.end(&asked, &expected, &answered, expected.as_ref().err().copied(), &held)
     }
 

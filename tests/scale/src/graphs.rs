@@ -1,4 +1,4 @@
-//! Patterns, catalogues, records and books, all of them right.
+//! Patterns, catalogues, charges, records and books, all of them right.
 
 use crate::draw::{Draw, Size};
 use model::files::{Book, Catalogue, Pattern, Record, Sheet};
@@ -88,6 +88,30 @@ pub fn draw_catalogue(draw: &mut Draw, kinds: &Kinds, question: &Pattern, covere
         extract
     };
     parts.iter().map(&mut extract).collect()
+}
+
+/// Charges for so many extracts, or one time in eight for another number of them. They tie, cost nothing, have equal sums
+/// or are any.
+pub fn draw_charges(draw: &mut Draw, extracts: usize) -> Vec<u32> {
+    let number = match draw.below(32) {
+        0 => 0,
+        1 => draw.within(15, 17),
+        2 => extracts + 1,
+        3 => draw.below(100),
+        _ => extracts,
+    };
+    let few = [draw.word() % 8, draw.word() % 8, draw.word()];
+    let form = draw.below(6);
+    let charge = |a: usize| match form {
+        0 => few[0],
+        1 => draw.of(&few[..2]),
+        2 => draw.of(&[0, 0, few[0], few[2]]),
+        3 => draw.below(4) as u32,
+        4 => 1 << draw.below(4 + a.min(27)),
+        _ if draw.one_in(4) => u32::MAX - draw.below(2) as u32,
+        _ => draw.word(),
+    };
+    (0..number).map(charge).collect()
 }
 
 /// A pattern put into a record: its items are any of the record's, which get their kinds.

@@ -2,7 +2,7 @@
 
 use crate::desk::{exactly, fitted, Asked, Desk, Difference, Lent, Notes};
 use crate::draw::{draw_size, Draw, Size};
-use crate::graphs::{draw_book, draw_catalogue, draw_pattern, draw_record, Kinds};
+use crate::graphs::{draw_book, draw_catalogue, draw_charges, draw_pattern, draw_record, Kinds};
 use crate::layout::{content, file, of_book, of_catalogue, of_pattern, of_record};
 use crate::tally::Call;
 use model::files::{Catalogue, Pattern, WORK_WORDS};
@@ -72,9 +72,10 @@ impl Test {
             63..=74 => self.content_beside(draw),
             75..=80 => self.search(draw),
             81..=84 => self.make_book(draw),
-            85..=88 => self.quote(draw),
-            89..=91 => self.show(draw),
-            92..=95 => self.answer(draw),
+            85..=87 => self.quote(draw),
+            88..=89 => self.show(draw),
+            90..=92 => self.cheapest(draw),
+            93..=95 => self.answer(draw),
             _ => self.answer_and_search(draw),
         }
     }
@@ -189,6 +190,16 @@ impl Test {
         let question = subject.question(draw, 16);
         let catalogue = subject.catalogue(draw, 16);
         self.bytes.show(&mut self.notes, draw, lent, &question, &catalogue)
+    }
+
+    fn cheapest(&mut self, draw: &mut Draw) -> Result<(), Difference> {
+        let covered = !draw.one_in(8);
+        let subject = draw_subject(draw, covered);
+        let lent = Lent::draw(draw);
+        let question = subject.question(draw, 16);
+        let catalogue = subject.catalogue(draw, 16);
+        let charges = draw_charges(draw, subject.catalogue.len());
+        self.bytes.cheapest(&mut self.notes, draw, lent, &question, &catalogue, &charges)
     }
 
     /// From a book that belongs to no record.

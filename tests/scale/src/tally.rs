@@ -21,6 +21,7 @@ pub enum Call {
     Quote,
     Answer,
     ShowUncovered,
+    Cheapest,
 }
 
 impl Call {
@@ -29,14 +30,23 @@ impl Call {
     }
 }
 
-/// For each call how often it succeeded, at 0, and how often it gave each refusal.
+/// The refusals are numbered from 1 to this.
+const REFUSALS: usize = 15;
+
+/// At 0 how often a call succeeded, then how often it gave each refusal.
+type Counts = [u64; REFUSALS + 1];
+
+/// What came of each call.
 #[derive(Default)]
 pub struct Tally {
-    counts: [[u64; 15]; CALLS.len()],
+    counts: [Counts; CALLS.len()],
     /// Covered questions that were answered from the book of a record, and the record searched.
     pub answered: u64,
     /// Those of them whose sheet has pairs.
     pub with_pairs: u64,
+    /// Cheapest sets, and those of them that an ordinary quote doesn't choose.
+    pub cheapest: u64,
+    pub not_chosen: u64,
 }
 
 impl Tally {
@@ -48,19 +58,23 @@ impl Tally {
 
 impl fmt::Display for Tally {
     fn fmt(&self, f: &mut fmt::Formatter) -> fmt::Result {
-        let line = |f: &mut fmt::Formatter, name: &str, counts: &[u64; 15]| {
+        let line = |f: &mut fmt::Formatter, name: &str, counts: &Counts| {
             write!(f, "{name:<16}{:>9}", counts.iter().sum::<u64>())?;
             counts.iter().try_for_each(|count| write!(f, "{count:>8}"))?;
             writeln!(f)
         };
         write!(f, "{:<16}{:>9}{:>8}", "call", "calls", "done")?;
-        (1..=14).try_for_each(|number| write!(f, "{number:>8}"))?;
+        (1..=REFUSALS).try_for_each(|number| write!(f, "{number:>8}"))?;
         writeln!(f)?;
         for (name, counts) in CALLS.iter().zip(&self.counts) {
             line(f, name, counts)?;
         }
         line(f, "all", &std::array::from_fn(|number| self.counts.iter().map(|counts| counts[number]).sum()))?;
-        let Tally { answered, with_pairs, .. } = self;
-        writeln!(f, "{answered} covered questions answered as the record is searched, {with_pairs} of them with pairs")
+        let Tally { answered, with_pairs, cheapest, not_chosen, .. } = self;
+        writeln!(
+            f,
+            "{answered} covered questions answered as the record is searched, {with_pairs} of them with pairs"
+        )?;
+        writeln!(f, "{cheapest} cheapest sets, {not_chosen} of them not the chosen one")
     }
 }

@@ -10,11 +10,11 @@ use crate::quoting::quote;
 /// The most items of a question, whether question and catalogue are as large as can be, the most items of a record; how
 /// many questions, how many of them have a record, and how many a book of no record.
 const GROUPS: [(u32, bool, u32, u32, u32, u32); 9] = [
-    (2, false, 4, 60, 60, 0),
-    (4, false, 16, 60, 60, 60),
+    (2, false, 4, 45, 45, 0),
+    (4, false, 16, 50, 50, 50),
     (4, false, 1_024, 30, 30, 30),
     (4, false, 4_096, 20, 20, 20),
-    (8, false, 64, 100, 70, 100),
+    (8, false, 64, 80, 60, 80),
     (16, false, 256, 40, 40, 40),
     (16, false, 4_096, 20, 20, 20),
     (16, false, 0, 40, 0, 40),
@@ -48,11 +48,13 @@ impl Files {
     }
 }
 
-/// A quote, also with too few words to work in, and showings.
+/// A quote and the cheapest set, also with too few words to work in, and showings. The charges are what content there is.
 fn quotes(script: &mut Script) {
     script.once(QUOTE);
+    script.once(CHEAPEST);
     script.set(WORK, WORK_WORDS - 1);
     script.once(QUOTE);
+    script.once(CHEAPEST);
     script.set(WORK, WORK_MOST);
     script.round(SHOW_UNCOVERED);
 }
@@ -113,6 +115,7 @@ fn case(script: &mut Script, rule: &mut Rule, size: u32, full: bool, record: Opt
             script.flips(part_of(reader), stride);
         }
     }
+    script.content(&draw_charges(rule, files.extracts.len()));
     quotes(script);
     if let Some(items) = record {
         answers(script, rule, &files, items, kinds);
@@ -125,6 +128,9 @@ fn case(script: &mut Script, rule: &mut Rule, size: u32, full: bool, record: Opt
     }
     for (part, room) in [(CATALOGUE_PART, CATALOGUE_ROOM), (QUESTION_PART, QUESTION_ROOM)] {
         damage(script, rule, part, room);
+        if rule.draw(4) == 0 {
+            script.content(&draw_charges(rule, files.extracts.len()));
+        }
         quotes(script);
         if book {
             script.round(ANSWER);

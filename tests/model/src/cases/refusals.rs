@@ -5,7 +5,7 @@ use super::*;
 use crate::files::*;
 
 /// The calls that read files, and which.
-const CALLS: [(usize, &[usize]); 12] = [
+const CALLS: [(usize, &[usize]); 13] = [
     (READ_PATTERN, &[QUESTION_PART]),
     (READ_CATALOGUE, &[CATALOGUE_PART]),
     (READ_RECORD, &[RECORD_PART]),
@@ -18,6 +18,7 @@ const CALLS: [(usize, &[usize]); 12] = [
     (QUOTE, &[QUESTION_PART, CATALOGUE_PART]),
     (ANSWER, &[QUESTION_PART, CATALOGUE_PART, BOOK_PART]),
     (SHOW_UNCOVERED, &[QUESTION_PART, CATALOGUE_PART]),
+    (CHEAPEST, &[QUESTION_PART, CATALOGUE_PART]),
 ];
 
 /// A file for each refusal that falls to it.
@@ -154,19 +155,29 @@ fn zeros(script: &mut Script, call: usize) {
     script.cuts(QUESTION_PART, 1);
 }
 
+/// The content that a writer takes, or the charges: a field for each link of D, of C, or for each extract of it.
+fn lay_content(script: &mut Script, call: usize) {
+    let fields = match call {
+        WRITE_SHEET => 4,
+        CHEAPEST => 3,
+        _ => 5,
+    };
+    script.content(&[0; 5][..fields]);
+}
+
 pub fn write(script: &mut Script) {
     for (call, parts) in CALLS {
         let good = small(call);
         good.lay_all(script);
         for &part in parts {
             for &(number, file) in faulty(call, part) {
-                script.content(&[0; 5][..if call == WRITE_SHEET { 4 } else { 5 }]);
+                lay_content(script, call);
                 lay(script, part, file);
                 script.round(call);
                 assert_eq!(script.refusal(), Some(number), "{call} {part}");
                 good.lay(script, part);
             }
-            script.content(&[0; 5][..if call == WRITE_SHEET { 4 } else { 5 }]);
+            lay_content(script, call);
             sweep(script, call, part, 1);
             if part == QUESTION_PART {
                 zeros(script, call);
@@ -178,8 +189,9 @@ pub fn write(script: &mut Script) {
     script.group();
     let good = large();
     good.lay_all(script);
+    script.content(&[u32::MAX]);
     for (call, parts) in CALLS {
-        if [SEARCH, MAKE_BOOK, QUOTE, ANSWER].contains(&call) {
+        if [SEARCH, MAKE_BOOK, QUOTE, ANSWER, CHEAPEST].contains(&call) {
             for &part in parts {
                 sweep(script, call, part, if part == BOOK_PART { 101 } else { 1 });
             }

@@ -1,6 +1,7 @@
 //! The worked cases of the requirements that are more than one file, and a few that are as large as can be.
 
 use super::*;
+use crate::drawing::content;
 use crate::files::*;
 use crate::rule::Lists;
 
@@ -51,6 +52,68 @@ fn shown(script: &mut Script, name: &str) {
     say(script, &format!("{name}, search the second"), SEARCH);
     script.place(RECORD_PART, start, start + first);
     say(script, &format!("{name}, search the first"), SEARCH);
+}
+
+/// The cheapest set with these charges.
+fn priced(script: &mut Script, name: &str, charges: &[u32]) {
+    script.content(charges);
+    say(script, &format!("{name}, cheapest"), CHEAPEST);
+}
+
+/// A question of n items of different kinds, linked in a ring, and extracts that have some of its links each.
+fn lay_ring(script: &mut Script, n: u32, extracts: &[&[u32]]) {
+    let part = |links: &[u32]| {
+        let mut items: Vec<u32> = links.iter().flat_map(|&link| [link, (link + 1) % n]).collect();
+        items.sort();
+        items.dedup();
+        let number = |item: u32| items.iter().position(|&other| other == item).unwrap() as u32;
+        let links: Vec<(u32, u32)> = links.iter().map(|&link| (number(link), number((link + 1) % n))).collect();
+        content(&items, &links)
+    };
+    let all: Vec<u32> = (0..n).collect();
+    script.bytes(QUESTION_PART, &pattern(&part(&all)));
+    let mut fields = vec![extracts.len() as u32];
+    fields.extend(extracts.iter().flat_map(|links| part(links)));
+    script.bytes(CATALOGUE_PART, &catalogue(&fields));
+}
+
+/// Charges that tie, cost nothing, differ in number from the extracts, and are as many and as large as can be.
+fn charged(script: &mut Script) {
+    script.bytes(QUESTION_PART, &D);
+    script.bytes(CATALOGUE_PART, &C);
+    priced(script, "K2: C at 100 200 150", &[100, 200, 150]);
+    priced(script, "K2: C for nothing", &[0, 0, 0]);
+    for number in [0, 2, 4, 15, 16, 17] {
+        priced(script, &format!("K2: C, {number} charges"), &vec![1; number]);
+    }
+    script.bytes(CATALOGUE_PART, &SLOW);
+    priced(script, "K3: extract 1 of C, 3 charges", &[1, 2, 3]);
+    priced(script, "K3: extract 1 of C, a charge", &[1]);
+    script.bytes(CATALOGUE_PART, &[0]);
+    priced(script, "K4: no extracts, a charge", &[0]);
+    priced(script, "K4: no extracts, no charge", &[]);
+
+    lay_ring(script, 4, &[&[0, 1, 2, 3], &[0, 1], &[2, 3]]);
+    priced(script, "two are cheaper than one", &[9, 4, 4]);
+    priced(script, "one costs as much as two", &[8, 4, 4]);
+    priced(script, "one for nothing and two for nothing", &[0, 0, 0]);
+    lay_ring(script, 4, &[&[0, 1], &[0, 2], &[1, 3], &[2, 3]]);
+    priced(script, "0 3 before 1 2", &[5, 5, 5, 5]);
+    priced(script, "1 2 for less", &[5, 4, 5, 5]);
+    lay_ring(script, 4, &[&[0, 1], &[2, 3], &[0, 1], &[2, 3]]);
+    priced(script, "0 1, 0 3, 1 2 and 2 3 alike", &[7, 7, 7, 7]);
+    priced(script, "2 3 for nothing", &[1, 1, 0, 0]);
+
+    let single: Vec<[u32; 1]> = (0..16).map(|link| [link]).collect();
+    let single: Vec<&[u32]> = single.iter().map(|link| &link[..]).collect();
+    lay_ring(script, 16, &single);
+    priced(script, "16 extracts of a link each at the most", &[u32::MAX; 16]);
+    for number in [15, 17] {
+        priced(script, &format!("16 extracts, {number} charges"), &vec![u32::MAX; number]);
+    }
+    lay_ring(script, 2, &[&[0, 1][..]; 16]);
+    priced(script, "16 extracts alike at the most", &[u32::MAX; 16]);
+    priced(script, "16 extracts alike, the last for less", &std::array::from_fn::<u32, 16, _>(|a| 16 - a as u32));
 }
 
 /// A pattern on a record.
@@ -112,6 +175,8 @@ pub fn write(script: &mut Script) {
     quoted(script, "K3: extract 1 of C", &[1, 3, 2, 0, 1, 3, 0, 1, 1, 2]);
     quoted(script, "K4: no extracts", &[0]);
     quoted(script, "K5: slow run to fast run", &[1, 2, 1, 1, 2, 0, 1]);
+
+    charged(script);
 
     let k6 = record(&[1, 2, 8, 2], &[(0, 1), (0, 3), (1, 2)]);
     let k9 = record(&[1, 6, 8], &[(0, 1), (1, 2)]);

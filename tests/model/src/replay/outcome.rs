@@ -1,6 +1,7 @@
 //! What a call answered, as the program has it.
 
 use super::{ANSWER, PLAIN, QUOTE, SEARCH};
+use crate::cheapest::Cheapest;
 use crate::files::Refusal;
 use crate::quoting::Quote;
 
@@ -15,6 +16,11 @@ fn over<T: Copy + Into<u64>>(digest: u64, values: &[T]) -> u64 {
     values.iter().fold(digest, |digest, &value| step(digest, value.into()))
 }
 
+/// A set of extracts: the bit worth 2^a says extract a.
+fn bits(set: &[usize]) -> u64 {
+    set.iter().map(|a| 1 << a).sum()
+}
+
 /// What a call wrote.
 #[derive(Clone, Debug, PartialEq)]
 pub enum Output {
@@ -24,7 +30,7 @@ pub enum Output {
 }
 
 /// 0 or the refusal's number; the written length, or a refusal's detail; a second length, or what a quote adds; and a
-/// digest of what was written.
+/// digest of what was written. The cheapest set has its sum in the place of a length, and itself beside it.
 #[derive(Clone, Debug, PartialEq)]
 pub struct Outcome {
     pub number: u64,
@@ -83,7 +89,7 @@ impl Outcome {
                         mapping[16 * e + a] |= 1 << b;
                     }
                 }
-                let chosen = quote.chosen.iter().map(|a| 1 << a).sum();
+                let chosen = bits(&quote.chosen);
                 let lowest = quote.lowest_unmatched.unwrap_or(0) as u64;
                 let covered = u64::from(quote.covered);
                 let rest = [quote.mapping.len() as u64, covered, chosen, lowest];
@@ -95,6 +101,17 @@ impl Outcome {
                 let digest = over(over(DIGEST_START, &mapping), &[0u64; 4]);
                 Outcome { digest, ..Outcome::refused(refusal) }
             }
+        }
+    }
+
+    /// The digest is that of the set, its sum and the chosen set.
+    pub fn priced(result: Result<Cheapest, Refusal>) -> Outcome {
+        match result {
+            Ok(Cheapest { set, sum, chosen }) => {
+                let digest = over(DIGEST_START, &[bits(&set), sum, bits(&chosen)]);
+                Outcome { number: 0, value: sum, other: bits(&set), digest, output: Output::Nothing }
+            }
+            Err(refusal) => Outcome { digest: over(DIGEST_START, &[0u64; 3]), ..Outcome::refused(refusal) },
         }
     }
 

@@ -10,7 +10,7 @@ abbrev Inv-loop : tie.InvT-loop
 Inv-loop block cells₀ cell₀ cells cell = length cells ≡ length cells₀
 
 abbrev μ-loop : tie.MeasureT-loop
-μ-loop block cells₀ cell₀ cells cell = 80 - cell
+μ-loop block cells₀ cell₀ cells cell = 162 - cell
 
 loop-holds : tie.Need-loop-holds Inv-loop μ-loop
 loop-holds c = search needs

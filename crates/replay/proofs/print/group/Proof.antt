@@ -10,7 +10,7 @@ abbrev Inv-loop : tie.InvT-loop
 Inv-loop first cells₀ k₀ cells k = length cells ≡ length cells₀
 
 abbrev μ-loop : tie.MeasureT-loop
-μ-loop first cells₀ k₀ cells k = 16 - k
+μ-loop first cells₀ k₀ cells k = 32 - k
 
 loop-holds : tie.Need-loop-holds Inv-loop μ-loop
 loop-holds c = search needs

@@ -8,7 +8,7 @@ abbrev Inv-loop : tie.InvT-loop
 Inv-loop block cells cell₀ cell = Unit
 
 abbrev μ-loop : tie.MeasureT-loop
-μ-loop block cells cell₀ cell = 80 - cell
+μ-loop block cells cell₀ cell = 162 - cell
 
 loop-holds : tie.Need-loop-holds Inv-loop μ-loop
 loop-holds c = search needs

@@ -8,7 +8,7 @@ abbrev Inv-loop : tie.InvT-loop
 Inv-loop block cells n₀ cell₀ n cell = Unit
 
 abbrev μ-loop : tie.MeasureT-loop
-μ-loop block cells n₀ cell₀ n cell = 80 - cell
+μ-loop block cells n₀ cell₀ n cell = 162 - cell
 
 number-requires : tie.Need-number-requires Inv-loop μ-loop
 number-requires c κs = search needs

@@ -1,0 +1,90 @@
+// Finds the cheapest extracts of the file `catalogue` that cover the file `question`, by the file `charges`, which has a decimal number a line
+// for each extract, all in the folder it is run in. Prints them and what they cost.
+ghost use Prim.Native.Nat.{_<_, _≤_};
+use containment::costing::Cheapest;
+use folder::files;
+use folder::lent;
+use folder::lines;
+use folder::numbers;
+use packed::reply::Refusal;
+
+// " a" where the set has the extract a.
+fn say_extract(set: u16, a: u16)
+    requires { ⌜ a < 16 ⌝ }
+{
+    if set >> a & 1 == 1 {
+        lines::say(b" ");
+        lines::number(a as usize);
+    }
+}
+
+fn say_extracts(set: u16) {
+    let mut a: u16 = 0;
+    while a < 16 {
+        say_extract(set, a);
+        a += 1;
+    }
+}
+
+fn say_cheapest(set: u16, sum: u64) {
+    lines::say(b"cheapest");
+    say_extracts(set);
+    lines::say(b" cost ");
+    lines::number(sum as usize);
+    lines::say(b"\n");
+}
+
+// Of too many charges no more are lent than show it: all are counted here.
+fn say_refused(x: Refusal, charges: usize) {
+    match x {
+        Refusal::WrongCharges(_) => lines::refused(Refusal::WrongCharges(charges)),
+        _ => lines::refused(x),
+    }
+}
+
+fn say(c: Cheapest, charges: usize) {
+    match c {
+        Cheapest::Of(set, sum, _) => say_cheapest(set, sum),
+        Cheapest::Refused(x) => say_refused(x, charges),
+    }
+}
+
+fn least(a: usize, b: usize) -> usize
+    ensures { λ r. ⌜ (r ≤ a) × (r ≤ b) ⌝ }
+{
+    if a < b { a } else { b }
+}
+
+// By the first charges, as many as the file has or the buffer holds.
+fn find(
+    question: &[u8],
+    catalogue: &[u8],
+    charges: &[u32],
+    count: usize,
+    work: &mut [u32],
+) -> Cheapest {
+    let n = least(count, charges.len());
+    containment::cheapest(question, catalogue, &charges[0..n], work)
+}
+
+fn main() {
+    let mut question = lent::question_bytes();
+    let mut catalogue = lent::catalogue_bytes();
+    let mut charges = lent::charge_words();
+    let mut work = lent::work_words();
+    let text = numbers::read(b"charges", &mut charges);
+    if !text.good {
+        lines::failed_at(b"charges", text.count);
+        return;
+    }
+    let n = files::read(b"question", &mut question);
+    let m = files::read(b"catalogue", &mut catalogue);
+    let c = find(
+        &question[0..n],
+        &catalogue[0..m],
+        &charges,
+        text.count,
+        &mut work,
+    );
+    say(c, text.count);
+}

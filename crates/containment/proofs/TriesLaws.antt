@@ -1,0 +1,232 @@
+-- What the search for the cheapest set carries of each set: the sum, the number and the matched edges are the set's own, and what is left at the end
+-- belongs to the cheapest.
+use mathlib.Core.Path.{_≡_, refl, ap, sym, subst, _∙_}
+use mathlib.Core.Bool.{Bool, true, false, not, _&&_, _||_, or-true}
+use mathlib.Core.List.{List}
+use mathlib.Core.Logic.{_⊎_, inl, inr, ⊎-elim}
+use Prim.Native.Nat.{ℕ, zero, suc, _+_, _-_, _*_, _%_, _^_, _<_, _≤_}
+use native.Mathlib.Nat.{le-antisymm}
+use native.Mathlib.Omega.{arith}
+use lib.ListN.{length, getD, set}
+use lib.Seq.{getD-set-same, getD-set-other}
+use lib.Bits.{bitOr}
+use lib.Pow.{pow-pos, pow-mono}
+use lib.Dec.{ltb, eqb}
+use borrow.Author.Tests.{eqb-true, eq-eqb, ne-eqb}
+use Rattle.packed.specs.Format.{pick}
+use Rattle.packed.proofs.OrderCases.{lt-or-ge, eq-or-ne}
+use Rattle.matching.specs.Simulation.{bit}
+use Rattle.matching.specs.Sweeps.{Mask, Has}
+use Rattle.matching.proofs.MaskBits.{mask-cast, mask-or, mask-one, mask-none, part-le, has-lt, not-by, none-has}
+use Rattle.containment.specs.Choice.{matches, matchedIn, coversIn}
+use Rattle.containment.specs.Cheapest.{weigh, cost, size, turned, lesser, better, misses, ahead, foremost, cheapest}
+use Rattle.containment.specs.Tries.{EdgeMatchedBy, TriedRoom, taking, isFirst, foremostTried, settled, Tries}
+use Rattle.containment.specs.declared.costing.Tried.{Tried}
+use Rattle.containment.proofs.SetBits.{test-cases, never, bit-zero, more-self, more-has, more-other}
+use Rattle.containment.proofs.ChoiceLaws.{pick-cases, matched-say, matched-by, covers-say, covers-by}
+
+-- ---- powers
+pub power-small : (a : ℕ) → a < 16 → 2 ^ a ≤ 32768
+power-small a l = pow-mono {j = 15} (omega arith)
+
+-- ---- the edges that a view matches
+module _ (t : List ℕ) (a : ℕ) where
+  pub matches-yes : (e : ℕ) → (getD t (16 * e + a) 0 ≡ 0 → ⊥) → matches t e a ≡ true
+  unfolding matches
+  matches-yes e n = rw (ne-eqb _ _ n)
+
+  pub matches-no : (e : ℕ) → getD t (16 * e + a) 0 ≡ 0 → matches t e a ≡ false
+  unfolding matches
+  matches-no e q = rw (eq-eqb _ _ q)
+
+  pub edges-none : Mask (EdgeMatchedBy t a 0) 0
+  edges-none = mask-none (λ k q. let l = q .0 in omega arith)
+
+  pub edges-more : {e mask : ℕ} → Mask (EdgeMatchedBy t a e) mask → matches t e a ≡ true → (b : ℕ) → b ≡ 2 ^ e → Mask (EdgeMatchedBy t a (e + 1)) (bitOr mask b)
+  edges-more {e} h p b q =
+      mask-cast
+      (λ k. ⊎-elim (λ z. (let l = z .0 in omega arith, z .1)) (λ z. (let l = z .0 in omega arith, subst (λ (x : ℕ). matches t x a ≡ true) (z .0) p)))
+      (λ k z. ⊎-elim (λ (l : k < e). inl (l, z .1)) (λ (l : e ≤ k). inr (let n = z .0 in (omega arith, p))) (lt-or-ge k e))
+      (mask-or h (mask-one e b q p))
+
+  pub edges-same : {e mask : ℕ} → Mask (EdgeMatchedBy t a e) mask → matches t e a ≡ false → Mask (EdgeMatchedBy t a (e + 1)) mask
+  edges-same {e} h p =
+      mask-cast (λ k z. (let l = z .0 in omega arith, z .1))
+      (λ k z. ⊎-elim (λ (l : k < e). (l, z .1))
+      (λ (l : e ≤ k). let n = z .0 in let q : k ≡ e = omega arith in never (sym (z .1) ∙ ap (λ (x : ℕ). matches t x a) q ∙ p)) (lt-or-ge k e))
+      h
+
+-- the same of one view more
+pub masks-more : (P : ℕ → ℕ → Type 0) (masks : List ℕ) (a x : ℕ) → a < length masks → ((b : ℕ) → b < a → P b (getD masks b 0)) → P a x
+    → (b : ℕ) → b < a + 1 → P b (getD (set masks a x) b 0)
+masks-more P masks a x l f p b h =
+    ⊎-elim (λ (q : b < a). subst (P b) (sym (getD-set-other masks a b x 0 (λ e. omega arith))) (f b q))
+    (λ (q : a ≤ b). let e : a ≡ b = omega arith in subst (λ (z : ℕ). P z (getD (set masks a x) z 0)) e (subst (P a) (sym (getD-set-same masks a x 0 l)) p))
+    (lt-or-ge b a)
+
+-- ---- room for what is taken, where u views are undecided
+module _ (u : ℕ) (x : Tried) (n : u ≡ 0 → ⊥) where
+  pub room-here : TriedRoom u x → TriedRoom (u - 1 + 1) x
+  room-here r = subst (λ (z : ℕ). TriedRoom z x) (omega arith) r
+
+  module _ (l : u ≤ 16) (r : TriedRoom u x) where
+    pub room-less : TriedRoom (u - 1) x
+    room-less =
+        record {
+          set = (let z = r .set in omega arith);
+          sum = (let z = r .sum in omega arith);
+          number = (let z = r .number in omega arith);
+          turned = (let z = r .turned in omega arith);
+        }
+
+    room-taking : (charge mask : ℕ) → charge < 4294967296 → TriedRoom (u - 1) (taking (u - 1) charge mask x)
+    unfolding taking
+    room-taking charge mask h =
+        let p = power-small (u - 1) (omega arith) in
+        let q = power-small (15 - (u - 1)) (omega arith) in
+        record {
+          set = (let z = r .set in omega arith);
+          sum = (let z = r .sum in omega arith);
+          number = (let z = r .number in omega arith);
+          turned = (let z = r .turned in omega arith);
+        }
+
+    pub room-after : (charge mask : ℕ) (y : Tried) → charge < 4294967296 → y ≡ taking (u - 1) charge mask x → TriedRoom (u - 1) y
+    room-after charge mask y h e = subst (TriedRoom (u - 1)) (sym e) (room-taking charge mask h)
+
+-- ---- a turn of the search
+module _ (masks charges : List ℕ) (all : ℕ) where
+  pub settled-none : {u : ℕ} (x : Tried) → u ≡ 0 → x ≡ settled masks charges all u x
+  unfolding settled
+  settled-none x e = rw e
+
+  pub settled-turn : (u a : ℕ) (x more with without r : Tried) → u ≡ suc a → more ≡ taking a (getD charges a 0) (getD masks a 0) x
+      → with ≡ settled masks charges all a more → without ≡ settled masks charges all a x → r ≡ foremostTried all with without → r ≡ settled masks charges all u x
+  unfolding settled
+  settled-turn u a x more with without r e p q s z = rw e (z ∙ rw (q, s, p))
+
+-- ---- a view taken
+module _ (w : ℕ → ℕ) (x a : ℕ) (out : bit x a ≡ false) where
+  weigh-below : (k : ℕ) → k ≤ a → weigh w (x + 2 ^ a) k ≡ weigh w x k
+  unfolding weigh
+  weigh-below zero h = refl
+  weigh-below (suc k) h = rw (weigh-below k (omega arith), more-other x a out k (λ e. omega arith)) refl
+
+  -- it adds its weight
+  weigh-taken : (k : ℕ) → a < k → weigh w (x + 2 ^ a) k ≡ weigh w x k + w a
+  unfolding weigh
+  weigh-taken zero h = absurd (omega arith)
+  weigh-taken (suc k) h =
+      ⊎-elim (λ (l : a < k). let i = weigh-taken k l in rw (i, more-other x a out k (λ e. omega arith)) (omega arith))
+      (λ (l : k ≤ a). let q : k ≡ a = omega arith in rw q (let i = weigh-below a (omega arith) in rw (i, more-self x a out, out) (omega arith)))
+      (lt-or-ge a k)
+
+weigh-none : (w : ℕ → ℕ) (k : ℕ) → weigh w 0 k ≡ 0
+unfolding weigh
+weigh-none w zero = refl
+weigh-none w (suc k) = rw (weigh-none w k, bit-zero k) refl
+
+module _ (t : List ℕ) (x a : ℕ) (out : bit x a ≡ false) (e k : ℕ) (l : a < k) where
+  -- .. and the edges that it matches
+  taken-say : matchedIn t (x + 2 ^ a) e k ≡ true → (matchedIn t x e k ≡ true) ⊎ (matches t e a ≡ true)
+  taken-say h =
+      let o = matched-say t (x + 2 ^ a) e k h in
+      ⊎-elim
+      (λ q. inr (ap (λ (b : ℕ). matches t e b) q ∙ o .holds .1))
+      (λ n. inl (matched-by t x e k (record { at = o .at; below = o .below; holds = (sym (more-other x a out (o .at) n) ∙ o .holds .0, o .holds .1) })))
+      (eq-or-ne a (o .at))
+
+  taken-by : (matchedIn t x e k ≡ true) ⊎ (matches t e a ≡ true) → matchedIn t (x + 2 ^ a) e k ≡ true
+  taken-by (inl h) = let o = matched-say t x e k h in matched-by t (x + 2 ^ a) e k (record { at = o .at; below = o .below; holds = (more-has x a out (o .at) (o .holds .0), o .holds .1) })
+  taken-by (inr g) = matched-by t (x + 2 ^ a) e k (record { at = a; below = l; holds = (more-self x a out, g) })
+
+-- ---- what is carried
+
+-- of the set without views
+abbrev pub none : Tried
+none = record { set = 0; sum = 0; number = 0; turned = 0; matched = 0 }
+
+module _ (t : List ℕ) (m : ℕ) (charges : List ℕ) (k : ℕ) (masks : List ℕ) (each : (a : ℕ) → a < k → Mask (EdgeMatchedBy t a m) (getD masks a 0)) where
+  tries-taking : (a set : ℕ) (x : Tried) → a < k → bit set a ≡ false → Tries t m charges k set x → Tries t m charges k (set + 2 ^ a) (taking a (getD charges a 0) (getD masks a 0) x)
+  unfolding taking
+  tries-taking a set x l out h =
+      record {
+        is = ap (λ (y : ℕ). y + 2 ^ a) (h .is);
+        costs = ap (λ (y : ℕ). y + getD charges a 0) (h .costs) ∙ sym (weigh-taken (λ b. getD charges b 0) set a out k l);
+        counts = ap (λ (y : ℕ). y + 1) (h .counts) ∙ sym (weigh-taken (λ _. 1) set a out k l);
+        turns = ap (λ (y : ℕ). y + 2 ^ (15 - a)) (h .turns) ∙ sym (weigh-taken (λ b. 2 ^ (15 - b)) set a out k l);
+        edges =
+            mask-cast
+            (λ e. ⊎-elim (λ z. (z .0, taken-by t set a out e k l (inl (z .1)))) (λ z. (z .0, taken-by t set a out e k l (inr (z .1)))))
+            (λ e z. ⊎-elim (λ p. inl (z .0, p)) (λ p. inr (z .0, p)) (taken-say t set a out e k l (z .1)))
+            (mask-or (h .edges) (each a l));
+      }
+
+  -- all edges are matched exactly if the mask is that of all edges
+  tries-covers : (set : ℕ) (x : Tried) → Tries t m charges k set x → eqb (x .matched) (2 ^ m - 1) ≡ coversIn t set k m
+  tries-covers set x h = ⊎-elim covered uncovered (test-cases (coversIn t set k m))
+    where
+      in-all : (e : ℕ) → e < m → Has (2 ^ m - 1) e
+      in-all e l = subst (λ (y : ℕ). Has y e) (omega arith) (not-by m 0 e (pow-pos m) l (none-has e))
+
+      covered : coversIn t set k m ≡ true → eqb (x .matched) (2 ^ m - 1) ≡ coversIn t set k m
+      covered c =
+          eq-eqb _ _
+          (le-antisymm
+          (part-le (x .matched) (2 ^ m - 1) (λ e i. in-all e (h .edges .why e i .0)))
+          (part-le (2 ^ m - 1) (x .matched)
+          (λ e i. let l = has-lt m (2 ^ m - 1) e (let p = pow-pos m in omega arith) i in h .edges .hit e (l, matched-by t set e k (covers-say t set k m c e l)))))
+          ∙ sym c
+
+      uncovered : coversIn t set k m ≡ false → eqb (x .matched) (2 ^ m - 1) ≡ coversIn t set k m
+      uncovered c =
+          ne-eqb _ _
+          (λ q. never (sym (covers-by t set k m (λ e l. matched-say t set e k (h .edges .why e (subst (λ (y : ℕ). Has y e) (sym q) (in-all e l)) .1))) ∙ c))
+          ∙ sym c
+
+  by-misses : (p q r : Bool) → ((p && not q) || ((p || not q) && r)) ≡ lesser (pick p 0 1) (pick q 0 1) r
+  unfolding lesser
+  by-misses true true r = refl
+  by-misses true false r = refl
+  by-misses false true r = refl
+  by-misses false false r = refl
+
+  tries-first : (a b : ℕ) (x y : Tried) → Tries t m charges k a x → Tries t m charges k b y → isFirst (2 ^ m - 1) x y ≡ ahead t m charges k a b
+  unfolding isFirst ahead better misses
+  tries-first a b x y h g =
+      rw (tries-covers a x h, tries-covers b y g, h .costs, g .costs, h .counts, g .counts, h .turns, g .turns)
+      (by-misses (coversIn t a k m) (coversIn t b k m) (lesser (cost charges a k) (cost charges b k) (lesser (size a k) (size b k) (ltb (turned b k) (turned a k)))))
+
+  -- none of the views below u is in the set
+  abbrev Free : ℕ → ℕ → Type 0
+  Free u set = (i : ℕ) → i < u → bit set i ≡ false
+
+  settled-tries : (u set : ℕ) (x : Tried) → u ≤ k → Free u set → Tries t m charges k set x
+      → Tries t m charges k (foremost (ahead t m charges k) u set) (settled masks charges (2 ^ m - 1) u x)
+  unfolding foremost settled foremostTried
+  settled-tries zero set x l f h = h
+  settled-tries (suc u) set x l f h =
+      let out = f u (omega arith) in
+      let p = settled-tries u (set + 2 ^ u) (taking u (getD charges u 0) (getD masks u 0) x) (omega arith) (λ i q. more-other set u out i (λ e. omega arith) ∙ f i (omega arith)) (tries-taking u set x (omega arith) out h) in
+      let q = settled-tries u set x (omega arith) (λ i z. f i (omega arith)) h in
+      rw (tries-first _ _ _ _ p q)
+      (picked (ahead t m charges k (foremost (ahead t m charges k) u (set + 2 ^ u)) (foremost (ahead t m charges k) u set)) p q)
+    where
+      picked : (c : Bool) {a b : ℕ} {y z : Tried} → Tries t m charges k a y → Tries t m charges k b z → Tries t m charges k (pick c a b) (pick c y z)
+      picked true p q = p
+      picked false p q = q
+
+  tries-none : Tries t m charges k 0 none
+  tries-none =
+      record {
+        is = refl;
+        costs = sym (weigh-none _ k);
+        counts = sym (weigh-none _ k);
+        turns = sym (weigh-none _ k);
+        edges = mask-none (λ e z. let o = matched-say t 0 e k (z .1) in never (sym (o .holds .0) ∙ bit-zero (o .at)));
+      }
+
+  -- what is left once all views are settled belongs to the cheapest set
+  pub settled-cheapest : (all : ℕ) (r : Tried) → all ≡ 2 ^ m - 1 → r ≡ settled masks charges all k none → Tries t m charges k (cheapest t m charges k) r
+  unfolding cheapest
+  settled-cheapest all r e q = rw (q, e) (settled-tries k 0 none (omega arith) (λ i _. bit-zero i) tries-none)

@@ -1,0 +1,55 @@
+-- `containment::cheapest` meets its contract.
+use mathlib.Core.Path.{refl}
+use mathlib.Core.List.{[]}
+use Rattle.containment.specs.Cheapest.{cheapestOutcome}
+use Rattle.containment.proofs.AnswerLaws.{settles-small, settles-lent}
+use borrow.Author.Needs.{needs}
+use Rattle.containment.proofs.cheapest.Statement.{statement}
+use Rattle.containment.proofs.cheapest.Tie as tie
+
+returns : tie.Need-returns
+returns c =
+    let args = c .before .before .before .before .before .args in
+    let a = args in
+    settles-small [] (cheapestOutcome (a .question .now) (a .catalogue .now) (a .charges .now)) (a .work .now) [] (c .if1 .taken) refl
+
+sub-find-cheapest : tie.Need-sub-find-cheapest
+sub-find-cheapest c = search needs
+
+part-find-cheapest-start : tie.Need-part-find-cheapest-start
+part-find-cheapest-start c = search needs
+
+part-find-cheapest-end : tie.Need-part-find-cheapest-end
+part-find-cheapest-end c = search needs
+
+find-cheapest-requires : tie.Need-find-cheapest-requires
+find-cheapest-requires c κs = search needs
+
+clear-requires : tie.Need-clear-requires
+clear-requires c κs = search needs
+
+same-length : tie.Need-same-length
+same-length c = search needs
+
+returns-2 : tie.Need-returns-2
+returns-2 c =
+    let args = c .before .before .before .before .before .before .before .before .before .before .before .before .before .args in
+    let if1 = c .before .before .before .before .before .before .before .before .if1 in
+    let find-cheapest = c .before .before .before .before .before .before .find-cheapest in
+    let clear = c .before .before .clear in
+    let a = args in
+    let k = find-cheapest in
+    settles-lent [] (cheapestOutcome (a .question .now) (a .catalogue .now) (a .charges .now)) (a .work .now) (k .last .1 .1 .1 .0) (if1 .left) (k .ensures) (k .kept .1 .1 .1 .0) (clear .ensures)
+
+pub cheapest-spec : {M : Type 1} → statement M
+cheapest-spec =
+    tie.close
+    (tie.spec
+    returns
+    sub-find-cheapest
+    part-find-cheapest-start
+    part-find-cheapest-end
+    find-cheapest-requires
+    clear-requires
+    same-length
+    returns-2)

@@ -1,0 +1,59 @@
+-- inner: the sets that the search for the cheapest tries, with what it carries of each.
+use Prim.Native.Nat.{ℕ, zero, suc, _+_, _-_, _*_, _^_, _<_, _≤_}
+use mathlib.Core.Path.{_≡_}
+use mathlib.Core.Bool.{Bool, true, not, _&&_, _||_}
+use mathlib.Core.List.{List}
+use lib.ListN.{getD}
+use lib.Bits.{bitOr}
+use lib.Dec.{eqb, ltb}
+use Rattle.packed.specs.Format.{pick}
+use Rattle.matching.specs.Sweeps.{Mask}
+use Rattle.containment.specs.Choice.{matches, matchedIn}
+use Rattle.containment.specs.Cheapest.{cost, size, turned, lesser}
+use Rattle.containment.specs.declared.costing.Tried.{Tried}
+
+-- the view a matches the edge e, of m
+abbrev pub EdgeMatchedBy : List ℕ → ℕ → ℕ → ℕ → Type 0
+EdgeMatchedBy t a m e = (e < m) × (matches t e a ≡ true)
+
+-- u more views can be taken
+pub record TriedRoom (u : ℕ) (x : Tried) : Type 0 where
+  pub set : x .set + 65536 * u ≤ 4294967295
+  pub sum : x .sum + 4294967296 * u ≤ 18446744073709551615
+  pub number : x .number + u ≤ 4294967295
+  pub turned : x .turned + 65536 * u ≤ 4294967295
+
+-- the set with the view a, which has this charge and matches these edges
+unfoldable pub taking : ℕ → ℕ → ℕ → Tried → Tried
+taking a charge mask x =
+    record {
+      set = x .set + 2 ^ a;
+      sum = x .sum + charge;
+      number = x .number + 1;
+      turned = x .turned + 2 ^ (15 - a);
+      matched = bitOr (x .matched) mask;
+    }
+
+-- whether x goes before y: it alone matches all edges, or both do or neither, and it is the better one
+unfoldable pub isFirst : ℕ → Tried → Tried → Bool
+isFirst all x y =
+    (eqb (x .matched) all && not (eqb (y .matched) all))
+    || ((eqb (x .matched) all || not (eqb (y .matched) all))
+    && lesser (x .sum) (y .sum) (lesser (x .number) (y .number) (ltb (y .turned) (x .turned))))
+
+unfoldable pub foremostTried : ℕ → Tried → Tried → Tried
+foremostTried all x y = pick (isFirst all x y) x y
+
+-- the first of the sets that have the views taken and any of the u views still undecided
+unfoldable pub settled : List ℕ → List ℕ → ℕ → ℕ → Tried → Tried
+settled masks charges all zero x = x
+settled masks charges all (suc a) x =
+    foremostTried all (settled masks charges all a (taking a (getD charges a 0) (getD masks a 0) x)) (settled masks charges all a x)
+
+-- x is what is carried of a set of k views
+pub record Tries (t : List ℕ) (m : ℕ) (charges : List ℕ) (k set : ℕ) (x : Tried) : Type 0 where
+  pub is : x .set ≡ set
+  pub costs : x .sum ≡ cost charges set k
+  pub counts : x .number ≡ size set k
+  pub turns : x .turned ≡ turned set k
+  pub edges : Mask (λ e. (e < m) × (matchedIn t set e k ≡ true)) (x .matched)

@@ -1,0 +1,181 @@
+// The cheapest set of views that covers a query: the views still undecided are settled highest first, each taken or left.
+ghost use mathlib.Core.Path.{_≡_};
+ghost use mathlib.Core.List.{[]};
+ghost use Prim.Native.Nat.{ℕ, _+_, _-_, _^_, _≤_, _<_};
+ghost use lib.ListN.{length, getD};
+ghost use Rattle.packed.specs.Calls.{judged, readCatalogue, toldOf};
+ghost use Rattle.matching.specs.Sweeps.{Mask};
+ghost use Rattle.containment.specs.Cheapest.{cheapestFrom, cheapestFor, cheapestOutcome, cheapestTold};
+ghost use Rattle.containment.specs.Steps.{Query, FulfilsAll};
+ghost use Rattle.containment.specs.Tries.{EdgeMatchedBy, TriedRoom, taking, isFirst, foremostTried, settled};
+use crate::choose;
+use crate::mapping;
+use packed::accept;
+use packed::by_value::Pattern;
+use packed::reply::Refusal;
+use packed::reply::Reply;
+
+// The cheapest set, the sum of its charges, and the set that a quote chooses; or why there is none.
+pub enum Cheapest {
+    Of(u16, u64, u16),
+    Refused(Refusal),
+}
+
+// A set of views: the sum of their charges, how many they are, the set with its bits turned round (of two sets the one that has the lowest view
+// in which they differ has the greater), and the edges that they match.
+pub struct Tried {
+    pub set: u32,
+    pub sum: u64,
+    pub number: u32,
+    pub turned: u32,
+    pub matched: u32,
+}
+
+// The mask of those of the first m edges that the view a matches.
+fn edges_of(mapping: &[u32; 512], a: usize, m: usize) -> u32
+    requires { ⌜ (a < 16) × (m ≤ 32) ⌝ }
+    ensures { λ r. ⌜ Mask (EdgeMatchedBy (now (mapping .entry)) a m) r ⌝ }
+{
+    let mut mask: u32 = 0;
+    let mut e: usize = 0;
+    while e < m {
+        let at = 16 * e + a;
+        if mapping[at] != 0 {
+            mask = mask | choose::only(e);
+        }
+        e += 1;
+    }
+    mask
+}
+
+// These masks of the first k views.
+fn masks_of(mapping: &[u32; 512], k: usize, m: usize) -> [u32; 16]
+    requires { ⌜ (k ≤ 16) × (m ≤ 32) ⌝ }
+    ensures { λ r. ⌜ ((a : ℕ) → a < k → Mask (EdgeMatchedBy (now (mapping .entry)) a m) (getD r a 0)) ⌝ }
+{
+    let mut masks = [0u32; 16];
+    let mut a: usize = 0;
+    while a < k {
+        masks[a] = edges_of(mapping, a, m);
+        a += 1;
+    }
+    masks
+}
+
+// The mask of the first m edges.
+fn first_edges(m: usize) -> u32
+    requires { ⌜ m ≤ 32 ⌝ }
+    ensures { λ r. ⌜ r ≡ 2 ^ m - 1 ⌝ }
+{
+    let over: u64 = 1 << m;
+    (over - 1) as u32
+}
+
+// The set with the view a, which has this charge and matches these edges.
+fn take_view(x: Tried, a: usize, charge: u32, mask: u32) -> Tried
+    requires { ⌜ (a < 16) × TriedRoom (a + 1) x ⌝ }
+    ensures { λ r. ⌜ r ≡ taking a charge mask x ⌝ }
+{
+    Tried {
+        set: x.set + choose::only(a),
+        sum: x.sum + charge as u64,
+        number: x.number + 1,
+        turned: x.turned + choose::only(15 - a),
+        matched: x.matched | mask,
+    }
+}
+
+// Whether x goes before y: a set that matches all edges before one that doesn't; then by the sum, by the number, by the lowest view in which
+// they differ.
+fn is_first(x: Tried, y: Tried, all: u32) -> bool
+    ensures { λ r. ⌜ r ≡ isFirst all x y ⌝ }
+{
+    let a = x.matched == all;
+    let b = y.matched == all;
+    (a & !b)
+        | ((a | !b)
+            & ((x.sum < y.sum)
+                | ((x.sum == y.sum)
+                    & ((x.number < y.number) | ((x.number == y.number) & (y.turned < x.turned))))))
+}
+
+fn first_of(x: Tried, y: Tried, all: u32) -> Tried
+    ensures { λ r. ⌜ r ≡ foremostTried all x y ⌝ }
+{
+    if is_first(x, y, all) {
+        return x;
+    }
+    y
+}
+
+// The first of the sets that have the views taken and any of the u views still undecided.
+fn settle(masks: &[u32; 16], charges: &[u32], all: u32, u: usize, taken: Tried) -> Tried
+    requires { ⌜ (u ≤ 16) × (u ≤ length (now charges)) × TriedRoom u taken ⌝ }
+    ensures { λ r. ⌜ r ≡ settled (now (masks .entry)) (now (charges .entry)) all u taken ⌝ }
+{
+    if u == 0 {
+        return taken;
+    }
+    let a = u - 1;
+    let more = take_view(taken, a, charges[a], masks[a]);
+    let with = settle(masks, charges, all, a, more);
+    let without = settle(masks, charges, all, a, taken);
+    first_of(with, without, all)
+}
+
+// The cheapest set from the table of a quote, by the charges of k views.
+fn cheapest_of(mapping: &[u32; 512], charges: &[u32], k: usize, m: usize) -> Cheapest
+    requires { ⌜ (k ≤ 16) × (m ≤ 32) × (length (now charges) ≡ k) ⌝ }
+    ensures { λ r. ⌜ cheapestTold r ≡ toldOf [] (cheapestFrom (now (mapping .entry)) m (now (charges .entry)) k) ⌝ }
+{
+    if choose::is_cover(mapping, choose::EVERY_VIEW, k, m) {
+        let masks = masks_of(mapping, k, m);
+        let none = Tried {
+            set: 0,
+            sum: 0,
+            number: 0,
+            turned: 0,
+            matched: 0,
+        };
+        let x = settle(&masks, charges, first_edges(m), k, none);
+        let chosen = choose::choose(mapping, choose::EVERY_VIEW, k, m);
+        return Cheapest::Of(x.set as u16, x.sum, chosen as u16);
+    }
+    let e = choose::lowest_unmatched(mapping, choose::EVERY_VIEW, k, m);
+    Cheapest::Refused(Refusal::NotContained(e as u32))
+}
+
+fn cheapest_for(q: Pattern, catalogue: &[u8], charges: &[u32], work: &mut [u32]) -> Cheapest
+    requires { ⌜ Query q × (length (now work) ≡ 16384) ⌝ }
+    ensures { λ r. ⌜ ((t : Query q) → FulfilsAll [] (judged (readCatalogue (now (catalogue .entry))) (λ cs. cheapestFor (t .content) cs (now (charges .entry)))) (cheapestTold r) [] []) ⌝ }
+{
+    let f = accept::accept_catalogue(catalogue, work);
+    let verdict = f.verdict;
+    if let Reply::Refused(x) = verdict {
+        return Cheapest::Refused(x);
+    }
+    let k = f.views;
+    let number = charges.len();
+    if number != k {
+        return Cheapest::Refused(Refusal::WrongCharges(number));
+    }
+    let table = mapping::map_views(q, catalogue, k, work);
+    cheapest_of(&table, charges, k, q.edges)
+}
+
+pub fn find_cheapest(
+    question: &[u8],
+    catalogue: &[u8],
+    charges: &[u32],
+    work: &mut [u32],
+) -> Cheapest
+    requires { ⌜ length (now work) ≡ 16384 ⌝ }
+    ensures { λ r. ⌜ FulfilsAll [] (cheapestOutcome (now (question .entry)) (now (catalogue .entry)) (now (charges .entry))) (cheapestTold r) [] [] ⌝ }
+{
+    let f = accept::accept_pattern(question, work);
+    let verdict = f.verdict;
+    if let Reply::Refused(x) = verdict {
+        return Cheapest::Refused(x);
+    }
+    cheapest_for(f.pattern, catalogue, charges, work)
+}
