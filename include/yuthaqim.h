@@ -64,7 +64,8 @@ enum {
     YUTHAQIM_UNEVEN = 8,     /* uneven: a sheet has zero and nonzero counts */
     YUTHAQIM_TAIL = 9,       /* tail: a padding bit isn't zero, or bytes or words follow */
     YUTHAQIM_CROWDED = 10,   /* crowded: over 8,192 different pairs stand in a book */
-    YUTHAQIM_UNCOVERED = 11, /* uncovered: an answer or the cheapest set was wanted and the question isn't covered */
+    YUTHAQIM_UNCOVERED = 11, /* uncovered: an answer or the cheapest set was wanted and the question isn't covered, or
+                              * not by the set that was named */
     YUTHAQIM_NO_FIT = 12,    /* no fit: an output needs more than was lent, or a sheet or book over 65,536 bytes */
     YUTHAQIM_COVERED = 13,   /* covered: a showing was wanted for a covered question */
     YUTHAQIM_DESK = 14,      /* desk: fewer than YUTHAQIM_WORK_WORDS words were lent to work in */
@@ -184,6 +185,14 @@ struct yuthaqim_cheapest yuthaqim_cheapest(const uint8_t *question, size_t quest
 struct yuthaqim_reply yuthaqim_answer(const uint8_t *question, size_t question_length, const uint8_t *catalogue,
                                       size_t catalogue_length, const uint8_t *book, size_t book_length, uint8_t *out,
                                       size_t out_length, uint32_t *work, size_t work_length);
+
+/* The same by a set of extracts that the client names, the bit worth 2^a for extract a; bits that name no extract of the
+ * catalogue are ignored. Every set that covers the question serves: if the book was made from a record, all of them give
+ * the same. Of 11 the detail is the lowest link that this set leaves unmatched. */
+struct yuthaqim_reply yuthaqim_answer_from(const uint8_t *question, size_t question_length, const uint8_t *catalogue,
+                                           size_t catalogue_length, uint16_t set, const uint8_t *book,
+                                           size_t book_length, uint8_t *out, size_t out_length, uint32_t *work,
+                                           size_t work_length);
 
 /* Shows why a question is uncovered: writes the question read as a record, and the same without its lowest unmatched
  * link. Every extract lists the same on both, the question doesn't. */

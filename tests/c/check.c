@@ -262,6 +262,24 @@ static void answering(void) {
     r = yuthaqim_answer(D, sizeof D, ONLY_SLOW, sizeof ONLY_SLOW, K6_SHEET, sizeof K6_SHEET, bytes, sizeof bytes, work,
                         LENGTH(work));
     expect_refusal("answer: D with extract 1 alone is uncovered", r.number, r.value, YUTHAQIM_UNCOVERED, 1);
+    mark();
+    r = yuthaqim_answer_from(D, sizeof D, C, sizeof C, 1 << 1 | 1 << 2, book, length, bytes, sizeof bytes, work,
+                             LENGTH(work));
+    expect_bytes("answer_from: extracts 1 and 2", r, K9_SHEET, sizeof K9_SHEET);
+    mark();
+    r = yuthaqim_answer_from(D, sizeof D, C, sizeof C, 0xffff, book, length, bytes, sizeof bytes, work, LENGTH(work));
+    expect_bytes("answer_from: all extracts, and bits that name none", r, K9_SHEET, sizeof K9_SHEET);
+    mark();
+    r = yuthaqim_answer_from(D, sizeof D, C, sizeof C, 1 << 0 | 1 << 2, book, length, bytes, sizeof bytes, work,
+                             LENGTH(work));
+    expect_refusal("answer_from: extracts 0 and 2 leave link 2", r.number, r.value, YUTHAQIM_UNCOVERED, 2);
+    mark();
+    r = yuthaqim_answer_from(D, sizeof D, C, sizeof C, 0xfff8, book, length, bytes, sizeof bytes, work, LENGTH(work));
+    expect_refusal("answer_from: no extract", r.number, r.value, YUTHAQIM_UNCOVERED, 0);
+    mark();
+    r = yuthaqim_answer_from(D, sizeof D, C, sizeof C, 0xffff, book, length, bytes, sizeof K9_SHEET - 1, work,
+                             LENGTH(work));
+    expect_refusal("answer_from: no room", r.number, r.value, YUTHAQIM_NO_FIT, sizeof K9_SHEET);
 }
 
 static void showing(void) {

@@ -72,7 +72,7 @@ fn main() {
     let mut catalogue = lent::catalogue_bytes();
     let mut charges = lent::charge_words();
     let mut work = lent::work_words();
-    let text = numbers::read(b"charges", &mut charges);
+    let text = numbers::read_list(b"charges", &mut charges);
     if !text.good {
         lines::failed_at(b"charges", text.count);
         return;

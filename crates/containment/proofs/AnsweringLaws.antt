@@ -32,10 +32,10 @@ use Rattle.matching.proofs.UpToLaws.{length-upTo}
 use Rattle.matching.proofs.JoinLaws.{answer-each}
 use Rattle.matching.proofs.PatternLaws.{pattern-same}
 use Rattle.matching.proofs.SheetBytes.{sheet-is, sheet-by}
-use Rattle.containment.specs.Choice.{everyView, coversIn, lowestUnmatched, used}
+use Rattle.containment.specs.Choice.{coversIn, lowestUnmatched, used}
 use Rattle.containment.specs.Quote.{mapping}
-use Rattle.containment.specs.Answer.{viewsIn, answerBytes, answerIn, usedFor}
-use Rattle.containment.specs.Steps.{Query, Views, ViewCounts}
+use Rattle.containment.specs.Answer.{viewsIn, answerBytes, Choose, answerIn, usedFor}
+use Rattle.containment.specs.Steps.{Query, Views, ViewCounts, wholeOrChosen}
 use Rattle.containment.proofs.QueryLaws.{plain}
 use Rattle.containment.proofs.AnswerLaws.{viewPatterns, views-many}
 use Rattle.containment.proofs.BookLaws.{booked-by}
@@ -78,11 +78,11 @@ module _ {q : Given} {table : List ℕ} {set : ℕ} {s counts : List ℕ} {k d :
     answer-bytes x = sym (sheet-is (q .edges) kept (x .bytes) kept-long (x .is)) ∙ ap sheetBytes (j .sets vs g)
 
 -- ---- how the call goes on, once the files before were accepted
-abbrev pub bookMade : List ℕ → List ℕ → ℕ → List ℕ → Outcome
-bookMade qs b room cs = judged (readBook cs b) (λ bs. answerIn (usedFor qs cs) qs cs bs room)
+abbrev pub bookMade : Choose → List ℕ → List ℕ → ℕ → List ℕ → Outcome
+bookMade choose qs b room cs = judged (readBook cs b) (λ bs. answerIn (choose qs cs) qs cs bs room)
 
-abbrev pub answerOn : List ℕ → List ℕ → ℕ → List ℕ → Outcome
-answerOn c b room qs = judged (readCatalogue c) (bookMade qs b room)
+abbrev pub answerOn : Choose → List ℕ → List ℕ → ℕ → List ℕ → Outcome
+answerOn choose c b room qs = judged (readCatalogue c) (bookMade choose qs b room)
 
 -- ---- what is answered from an accepted book
 
@@ -97,9 +97,9 @@ module _ {q : Given} (t : Query q) {c : List ℕ} {k : ℕ} (v : Views c k) {tab
   answer-by set bs room = rw (pattern-same (plain t) (t .holds), is, views-many v, t .holds .edges)
 
   -- the views that answer
-  pub used-is : {set : ℕ} → set ≡ used table everyView (q .edges) k → set ≡ usedFor (t .content) (v .content)
+  pub used-is : (whole : Bool) (set : ℕ) {r : ℕ} → r ≡ pick whole set (used table set (q .edges) k) → r ≡ wholeOrChosen whole set (t .content) (v .content)
   unfolding usedFor
-  used-is e = e ∙ rw (is, views-many v, t .holds .edges)
+  used-is whole set e = e ∙ rw (is, views-many v, t .holds .edges)
 
 -- the book was judged, and its pairs were gathered
 module _ {q : Given} (t : Query q) {counts : List ℕ} {k : ℕ} (v : ViewCounts counts k) (s : List ℕ)

@@ -15,7 +15,7 @@ use Rattle.packed.proofs.OrderCases.{lt-or-ge, trichotomy, or-cases, and-both, 
 use Rattle.matching.specs.Simulation.{bit}
 use Rattle.matching.specs.Sweeps.{OneOf}
 use Rattle.containment.specs.Choice.{matches, matchedIn, coversIn, lowestUnmatched, addsTo, taken, kept, chosen, used}
-use Rattle.containment.proofs.SetBits.{test-cases, never, bit-lt, bit-over, bit-zero, more-self, more-has, less-self, less-say, less-by}
+use Rattle.containment.proofs.SetBits.{test-cases, never, bit-lt, bit-over, bit-zero, more-self, more-has, more-other, less-self, less-say, less-by}
 
 -- by the two cases of a test
 pub pick-cases : {A : Type 0} (P : A → Type 0) (b : Bool) (x y : A) → (b ≡ true → P x) → (b ≡ false → P y) → P (pick b x y)
@@ -77,6 +77,24 @@ module _ (t : List ℕ) where
   covers-more set more k m f h =
       covers-by more k m (λ e l. let o = covers-say set k m h e l in record { at = o .at; below = o .below; holds = (f (o .at) (o .holds .0), o .holds .1) })
 
+  -- ---- sets that have the same of k views
+  module _ (set set′ : ℕ) where
+    matched-alike : (k : ℕ) → ((a : ℕ) → a < k → bit set a ≡ bit set′ a) → (e : ℕ) → matchedIn t set e k ≡ matchedIn t set′ e k
+    unfolding matchedIn
+    matched-alike zero f e = refl
+    matched-alike (suc k) f e = rw (matched-alike k (λ a l. f a (omega arith)) e, f k (omega arith))
+
+    module _ (k : ℕ) (f : (a : ℕ) → a < k → bit set a ≡ bit set′ a) where
+      pub covers-alike : (m : ℕ) → coversIn t set k m ≡ coversIn t set′ k m
+      unfolding coversIn
+      covers-alike zero = refl
+      covers-alike (suc m) = rw (covers-alike m, matched-alike k f m)
+
+      pub lowest-alike : (m : ℕ) → lowestUnmatched t set k m ≡ lowestUnmatched t set′ k m
+      unfolding lowestUnmatched
+      lowest-alike zero = refl
+      lowest-alike (suc m) = rw (lowest-alike m, matched-alike k f m)
+
   -- ---- the views taken
   adds-by : (set a m e : ℕ) → e < m → matches t e a ≡ true → matchedIn t set e a ≡ false → addsTo t set a m ≡ true
   unfolding addsTo
@@ -108,6 +126,17 @@ module _ (t : List ℕ) where
         let i = taken-small a in
         let p = pow-suc 2 a in
         taken-step (λ (x : ℕ). x < 2 ^ suc a) a (λ h. omega arith) (λ h. omega arith)
+
+    -- all are of the set
+    taken-within : (a b : ℕ) → bit (taken t set m a) b ≡ true → bit set b ≡ true
+    unfolding taken
+    taken-within zero b h = never (sym h ∙ bit-zero b)
+    taken-within (suc a) b h =
+        taken-step (λ (x : ℕ). bit x b ≡ true → bit set b ≡ true) a
+        (λ d i.
+        let from : (a ≡ b → ⊥) → bit set b ≡ true = λ n. taken-within a b (sym (more-other (taken t set m a) a (bit-over _ a (taken-small a)) b n) ∙ i) in
+        trichotomy a b (λ l. from (λ e. omega arith)) (λ e. sym (ap (bit set) e) ∙ and-both (bit set a) _ d .0) (λ l. from (λ e. omega arith)))
+        (λ _. taken-within a b) h
 
     -- a turn: the view a is taken, or left
     pub taken-adds : (a first : ℕ) → first ≡ taken t set m a → (bit set a && addsTo t first a m) ≡ true → first + 2 ^ a ≡ taken t set m (a + 1)
@@ -238,6 +267,15 @@ module _ (t : List ℕ) where
         let s = taken-small set m k in
         let p = pow-pos k in
         pick-cases (λ (x : ℕ). x < 2 ^ k) (coversIn t set k m) (kept t m k (taken t set m k) k) 0 (λ _. omega arith) (λ _. p)
+
+    -- and all of the set
+    pub chosen-within : (a : ℕ) → bit (chosen t set m k) a ≡ true → bit set a ≡ true
+    unfolding kept
+    chosen-within a h =
+        ⊎-elim
+        (λ y. taken-within set m k a (kept-later m k (taken t set m k) 0 k a (omega arith) (rw (chosen-covered y) at h)))
+        (λ n. never (sym h ∙ ap (λ (x : ℕ). bit x a) (chosen-none n) ∙ bit-zero a))
+        (test-cases (coversIn t set k m))
 
     -- they cover a query that the set covers
     pub chosen-covers : coversIn t set k m ≡ true → coversIn t (chosen t set m k) k m ≡ true

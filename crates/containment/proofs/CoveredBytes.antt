@@ -41,6 +41,7 @@ use Rattle.containment.specs.Choice.{everyView, coversIn}
 use Rattle.containment.specs.Quote.{mapping}
 use Rattle.containment.specs.Answer.{viewsIn, answerBytes, Choose, answerIn, answerBy}
 use Rattle.containment.specs.Demands.{Question, Catalogue, Record, Book, extracts, Covers, Leaves, bookOf, lackingIn}
+use Rattle.containment.proofs.ChoiceLaws.{covers-alike, lowest-alike}
 use Rattle.containment.proofs.CandidateLaws.{views-say}
 use Rattle.containment.proofs.QuoteLaws.{place-of, chosenFrom, set-covers-exactly}
 
@@ -66,18 +67,20 @@ next-bit : (set a : ℕ) → bit set (1 + a) ≡ bit (set / 2) a
 unfolding bit
 next-bit set a = ap (λ (x : ℕ). eqb (x % 2) 1) (sym (shr-shr set 1 a))
 
--- only the sheets of the views in the set count
-pub views-same : (set : ℕ) (Ps : List Pattern) (xs ys : List (List (List ℕ))) → ((a : ℕ) → T (bit set a) → getD xs a [] ≡ getD ys a [])
-    → viewsIn set Ps xs ≡ viewsIn set Ps ys
+-- only the numbers of views count, and only the sheets of those in the set
+pub views-same : (set set′ : ℕ) (Ps : List Pattern) (xs ys : List (List (List ℕ))) → ((a : ℕ) → a < length Ps → bit set a ≡ bit set′ a)
+    → ((a : ℕ) → a < length Ps → T (bit set a) → getD xs a [] ≡ getD ys a []) → viewsIn set Ps xs ≡ viewsIn set′ Ps ys
 unfolding viewsIn
-views-same set [] xs ys h = refl
-views-same set (P ∷ Ps) xs ys h =
-    step (bit set 0) (h 0)
-    (views-same (set / 2) Ps (drop 1 xs) (drop 1 ys) (λ a t. getD-drop 1 xs a [] ∙ h (1 + a) (subst T (sym (next-bit set a)) t) ∙ sym (getD-drop 1 ys a [])))
+views-same set set′ [] xs ys f h = refl
+views-same set set′ (P ∷ Ps) xs ys f h =
+    step (bit set 0) (f 0 (omega arith)) (h 0 (omega arith))
+    (views-same (set / 2) (set′ / 2) Ps (drop 1 xs) (drop 1 ys) (λ a l. sym (next-bit set a) ∙ f (1 + a) (omega arith) ∙ next-bit set′ a)
+    (λ a l t. getD-drop 1 xs a [] ∙ h (1 + a) (omega arith) (subst T (sym (next-bit set a)) t) ∙ sym (getD-drop 1 ys a [])))
   where
-    step : (b : Bool) {x y : List (List ℕ)} {s t : List View} → (T b → x ≡ y) → s ≡ t → pick b (with-sheet P x ∷ s) s ≡ pick b (with-sheet P y ∷ t) t
-    step true f e = ap₂ (λ (m : List (List ℕ)) (l : List View). with-sheet P m ∷ l) (f tt) e
-    step false f e = e
+    step : (b : Bool) {b′ : Bool} {x y : List (List ℕ)} {s t : List View} → b ≡ b′ → (T b → x ≡ y) → s ≡ t
+        → pick b (with-sheet P x ∷ s) s ≡ pick b′ (with-sheet P y ∷ t) t
+    step true q f e = rw (← q) (ap₂ (λ (m : List (List ℕ)) (l : List View). with-sheet P m ∷ l) (f tt) e)
+    step false q f e = rw (← q) e
 
 -- ---- accepted files
 pub question-is : (q qs : List ℕ) → Question q qs → decode pattern q ≡ ok qs
@@ -128,6 +131,16 @@ module _ (c r cs rs : List ℕ) (d : Catalogue c cs) (f : Record r rs) where
   }
 
 -- ---- what is answered from an accepted book
+
+-- only the numbers of views count in a set
+pub answer-alike : (set set′ : ℕ) (qs cs bs : List ℕ) (room : ℕ) → ((a : ℕ) → a < length (extracts cs) → bit set a ≡ bit set′ a)
+    → answerIn set qs cs bs room ≡ answerIn set′ qs cs bs room
+unfolding answerIn answerBytes
+answer-alike set set′ qs cs bs room f =
+    let Ps = extracts cs in
+    let t = mapping (patternOf qs) Ps in
+    let sheets = sheetsIn (edgeCounts cs) bs in
+    rw (covers-alike t set set′ (length Ps) f (edgesOf qs), lowest-alike t set set′ (length Ps) f (edgesOf qs), views-same set set′ Ps sheets sheets f (λ a l _. refl))
 
 -- whether the views in a set cover the query, and whether all do
 abbrev pub coveredIn : ℕ → List ℕ → List ℕ → Bool

@@ -28,11 +28,11 @@ use Rattle.matching.proofs.CodeLaws.{member-in}
 use Rattle.matching.proofs.JoinLaws.{lists-by}
 use Rattle.containment.specs.Choice.{everyView}
 use Rattle.containment.specs.Quote.{mapping}
-use Rattle.containment.specs.Answer.{answerBytes, answerIn, answerBy, usedFor, answerOutcome}
+use Rattle.containment.specs.Answer.{answerBytes, Choose, answerIn, answerBy, usedFor}
 use Rattle.containment.specs.Show.{recordBytes, fitBoth, showFor, showOutcome}
-use Rattle.containment.specs.Demands.{Question, Catalogue, Record, Sheet, Uncrowded, Crowded, Book, extracts, extractOf, linkOf, Covers, Covered, Uncovered, lackingIn, lacking, chosenOf, answerOf, firstOf, secondOf, Full, Over, OverFile, OverEither, Fitted, Reads, Writes, Matched, MatchedIn}
-use Rattle.containment.proofs.SetBits.{test-cases}
-use Rattle.containment.proofs.ChoiceLaws.{covers-exactly, chosen-covers, used-covered, used-uncovered}
+use Rattle.containment.specs.Demands.{Question, Catalogue, Record, Sheet, Uncrowded, Crowded, Book, extracts, extractOf, linkOf, Covers, Leaves, Covered, Uncovered, lackingIn, chosenOf, answerOf, firstOf, secondOf, Full, Over, OverFile, OverEither, Fitted, Reads, Writes, Matched, MatchedIn, LowestUnmatched}
+use Rattle.containment.proofs.SetBits.{test-cases, never}
+use Rattle.containment.proofs.ChoiceLaws.{MatchedBy, matched-say as matched-in-table, matched-by as matched-by-table, covers-exactly, chosen-covers, used-covered, used-uncovered, lowest-is, lowest-below}
 use Rattle.containment.proofs.QuoteLaws.{test-is, place-of, matched-exactly, ListedEdge, matched-say, matched-by, listed-whole}
 use Rattle.containment.proofs.CoveredBytes.{question-bounds, few-views, coveredIn, coveredBy, answer-covered, answer-uncovered}
 
@@ -357,12 +357,12 @@ answer-number : (b : Bool) (room : ℕ) (o : List ℕ) (k d : ℕ) → pick b (f
 answer-number true room o k d e = let z = file-number room o 10 d e in omega arith
 answer-number false room o k d e = let z = number-same e in omega arith
 
-pub crowded-answer : (q c b qs cs bs : List ℕ) → Question q qs → Catalogue c cs → readBook cs b ≡ accepted bs → (room words d : ℕ)
-    → (withWorkspace words (answerOutcome q c b room) ≡ refuse 10 d) ↔ ((16384 ≤ words) × Crowded cs bs × (d ≡ 4))
-unfolding answerOutcome answerBy answerIn
-crowded-answer q c b qs cs bs e f g room words d =
-    crowded-exactly words _ (edgeCounts cs) bs (uncrowdedAnswer (usedFor qs cs) qs cs bs room) (goes-on _ e ∙ goes-on _ f ∙ goes-on _ g)
-    (λ k x. answer-number (coveredIn (usedFor qs cs) qs cs) room _ (lackingIn (usedFor qs cs) qs cs) k x) d
+pub crowded-answer : (choose : Choose) (q c b qs cs bs : List ℕ) → Question q qs → Catalogue c cs → readBook cs b ≡ accepted bs → (room words d : ℕ)
+    → (withWorkspace words (answerBy choose q c b room) ≡ refuse 10 d) ↔ ((16384 ≤ words) × Crowded cs bs × (d ≡ 4))
+unfolding answerBy answerIn
+crowded-answer choose q c b qs cs bs e f g room words d =
+    crowded-exactly words _ (edgeCounts cs) bs (uncrowdedAnswer (choose qs cs) qs cs bs room) (goes-on _ e ∙ goes-on _ f ∙ goes-on _ g)
+    (λ k x. answer-number (coveredIn (choose qs cs) qs cs) room _ (lackingIn (choose qs cs) qs cs) k x) d
 
 -- no other number
 no-other : {words n e : ℕ} {NoFit : ℕ → Type 0} {outputs : List (List ℕ)} {a : Outcome} → Fitted words NoFit outputs a → a ≡ refuse n e → (n ≡ 14) ⊎ (n ≡ 12)
@@ -409,36 +409,56 @@ module _ (qs cs : List ℕ) where
   abbrev table : List ℕ
   table = mapping (patternOf qs) (extracts cs)
 
-  used-chosen : Covered qs cs → usedFor qs cs ≡ chosenOf qs cs
+  pub used-chosen : Covered qs cs → usedFor everyView qs cs ≡ chosenOf qs cs
   unfolding usedFor
   used-chosen h = used-covered table everyView (edgesOf qs) (length (extracts cs)) h
 
-  used-all : Uncovered qs cs → usedFor qs cs ≡ everyView
+  pub used-all : Uncovered qs cs → usedFor everyView qs cs ≡ everyView
   unfolding usedFor
   used-all n = used-uncovered table everyView (edgesOf qs) (length (extracts cs)) n
 
-  pub used-covers : Covered qs cs → Covers (usedFor qs cs) qs cs
+  pub used-covers : Covered qs cs → Covers (usedFor everyView qs cs) qs cs
   used-covers h = rw (used-chosen h) (chosen-covers table everyView (edgesOf qs) (length (extracts cs)) h)
 
+  -- all are used where those used leave an edge unmatched
+  pub used-leaves : Leaves (usedFor everyView qs cs) qs cs → Uncovered qs cs
+  used-leaves n = ⊎-elim (λ h. never (sym (used-covers h) ∙ n)) (λ n′. n′) (test-cases (coveredBy qs cs))
+
 module _ (q c qs cs : List ℕ) (p : Question q qs) (d : Catalogue c cs) where
-  pub covers-plain : (set : ℕ) → Covers set qs cs ↔ ((i : ℕ) → i < edgesOf qs → MatchedIn (patternOf qs) (extracts cs) set (linkOf qs i))
-  covers-plain set =
-      let Q = patternOf qs in
-      let Ps = extracts cs in
-      let x = covers-exactly (mapping Q Ps) set (length Ps) (edgesOf qs) in
-      let b = question-bounds q qs p in
-      let n = few-views c cs d in (
-        λ h i l.
-            let o = x .0 h i l in
-            let k = o .below in
-            let r = link-of Q (linkOf qs i) (extractOf cs (o .at)) (matched-exactly Q Ps (b .few-edges) i (o .at) (omega (arith, b .many)) k (omega arith) .0 (o .holds .1)) in
-            record { extract = o .at; given = k; in-set = test-is _ .0 (o .holds .0); link = r .0; lists = r .1 },
-        λ f. x .1 (λ i l.
-            let m = f i l in
-            let k = m .given in
-            let t = matched-exactly Q Ps (b .few-edges) i (m .extract) (omega (arith, b .many)) k (omega arith) .1 (by-link Q (linkOf qs i) (extractOf cs (m .extract)) (m .link) (m .lists)) in
-            record { at = m .extract; below = k; holds = (test-is _ .1 (m .in-set), t) }),
-      )
+  -- the table says of a set which edges its views match
+  module _ (set : ℕ) where
+    matched-plain : (i : ℕ) → i < edgesOf qs → MatchedBy (table qs cs) set i (length (extracts cs)) ↔ MatchedIn (patternOf qs) (extracts cs) set (linkOf qs i)
+    matched-plain i l =
+        let Q = patternOf qs in
+        let Ps = extracts cs in
+        let b = question-bounds q qs p in
+        let n = few-views c cs d in
+        let h : i < length (Q .edges) = omega (arith, b .many) in (
+          λ o.
+              let k = o .below in
+              let r = link-of Q (linkOf qs i) (extractOf cs (o .at)) (matched-exactly Q Ps (b .few-edges) i (o .at) h k (omega arith) .0 (o .holds .1)) in
+              record { extract = o .at; given = k; in-set = test-is _ .0 (o .holds .0); link = r .0; lists = r .1 },
+          λ m.
+              let k = m .given in
+              let t = matched-exactly Q Ps (b .few-edges) i (m .extract) h k (omega arith) .1 (by-link Q (linkOf qs i) (extractOf cs (m .extract)) (m .link) (m .lists)) in
+              record { at = m .extract; below = k; holds = (test-is _ .1 (m .in-set), t) },
+        )
+
+    pub covers-plain : Covers set qs cs ↔ ((i : ℕ) → i < edgesOf qs → MatchedIn (patternOf qs) (extracts cs) set (linkOf qs i))
+    covers-plain =
+        let x = covers-exactly (table qs cs) set (length (extracts cs)) (edgesOf qs) in
+        (λ h i l. matched-plain i l .0 (x .0 h i l), λ f. x .1 (λ i l. matched-plain i l .1 (f i l)))
+
+    pub lowest-plain : Leaves set qs cs → LowestUnmatched qs (MatchedIn (patternOf qs) (extracts cs) set) (lackingIn set qs cs)
+    lowest-plain n =
+        let k = length (extracts cs) in
+        let l = lowest-below (table qs cs) set k (edgesOf qs) .1 n in
+        let f = lowest-is (table qs cs) set k (edgesOf qs) in
+        record {
+          below = l;
+          unmatched = λ m. never (sym (matched-by-table (table qs cs) set _ k (matched-plain _ l .1 m)) ∙ f .here l);
+          lower = λ e h. matched-plain e (omega arith) .0 (matched-in-table (table qs cs) set e k (f .lower e h));
+        }
 
   pub shown-both : Uncovered qs cs → (room room′ : ℕ) → showOutcome q c room room′ ≡ fitBoth room room′ (recordBytes (firstOf qs)) (recordBytes (secondOf qs cs))
   unfolding showOutcome showFor judged
@@ -464,32 +484,28 @@ module _ (q c qs cs : List ℕ) (p : Question q qs) (d : Catalogue c cs) where
   pub full-shown : (room room′ : ℕ) → Full (showOutcome q c room room′) → Uncovered qs cs
   full-shown room room′ f = ⊎-elim (λ h. absurd (no-full (full-same (shown-none h room room′) f))) (λ n. n) (test-cases (coveredBy qs cs))
 
-  -- ---- accepted books
-  module _ (b bs : List ℕ) (k : Book cs b bs) where
-    pub refused-by : Uncovered qs cs → (room : ℕ) → answerOutcome q c b room ≡ refuse 11 (lacking qs cs)
-    unfolding answerOutcome
-    refused-by n room =
-        let e = used-all qs cs n in
-        answer-uncovered q c qs cs p d b bs k usedFor room (rw e n) ∙ ap (λ (set : ℕ). refuse 11 (lackingIn set qs cs)) e
+  -- ---- accepted books, by a set of views
+  module _ (b bs : List ℕ) (k : Book cs b bs) (choose : Choose) (room : ℕ) where
+    pub given-by : Covers (choose qs cs) qs cs → answerBy choose q c b room ≡ fitFile room (sheetBytes (answerOf (choose qs cs) qs cs bs))
+    unfolding answerBytes
+    given-by h = answer-covered q c qs cs p d b bs k choose room h
 
-    pub given-by : Covered qs cs → (room : ℕ) → answerOutcome q c b room ≡ fitFile room (sheetBytes (answerOf (chosenOf qs cs) qs cs bs))
-    unfolding answerOutcome answerBytes
-    given-by h room =
-        answer-covered q c qs cs p d b bs k usedFor room (used-covers qs cs h)
-        ∙ ap (λ (set : ℕ). fitFile room (sheetBytes (answerOf set qs cs bs))) (used-chosen qs cs h)
+    pub refused-by : Leaves (choose qs cs) qs cs → answerBy choose q c b room ≡ refuse 11 (lackingIn (choose qs cs) qs cs)
+    refused-by n = answer-uncovered q c qs cs p d b bs k choose room n
 
-    -- 11 falls exactly to an uncovered query
-    pub refused-exactly : (room words e : ℕ) → (withWorkspace words (answerOutcome q c b room) ≡ refuse 11 e) ↔ ((16384 ≤ words) × Uncovered qs cs × (e ≡ lacking qs cs))
-    refused-exactly room words e = (
+    -- 11 falls exactly to a set that leaves an edge unmatched
+    pub refused-exactly : (words e : ℕ)
+        → (withWorkspace words (answerBy choose q c b room) ≡ refuse 11 e) ↔ ((16384 ≤ words) × Leaves (choose qs cs) qs cs × (e ≡ lackingIn (choose qs cs) qs cs))
+    refused-exactly words e = (
       λ x.
-          let w = enough-for words (answerOutcome q c b room) (λ z. let y = number-same z in omega arith) x in
+          let w = enough-for words (answerBy choose q c b room) (λ z. let y = number-same z in omega arith) x in
           ⊎-elim
-          (λ h. absurd (⊎-elim (λ y. omega arith) (λ y. omega arith) (no-other (fitted-file (answerOutcome q c b room) words room _ (given-by h room)) x)))
-          (λ n. (w .0, n, sym (detail-same (sym (refused-by n room) ∙ w .1))))
-          (test-cases (coveredBy qs cs)),
-      λ x. enough-words words _ (x .0) ∙ refused-by (x .1) room ∙ ap (refuse 11) (sym (x .2)),
+          (λ h. absurd (⊎-elim (λ y. omega arith) (λ y. omega arith) (no-other (fitted-file (answerBy choose q c b room) words room _ (given-by h)) x)))
+          (λ n. (w .0, n, sym (detail-same (sym (refused-by n) ∙ w .1))))
+          (test-cases (coveredIn (choose qs cs) qs cs)),
+      λ x. enough-words words _ (x .0) ∙ refused-by (x .1) ∙ ap (refuse 11) (sym (x .2)),
     )
 
-    -- an answer is given to a covered query alone
-    pub full-answered : (room : ℕ) → Full (answerOutcome q c b room) → Covered qs cs
-    full-answered room f = ⊎-elim (λ h. h) (λ n. absurd (no-full (full-same (refused-by n room) f))) (test-cases (coveredBy qs cs))
+    -- an answer is given by a set that covers the query alone
+    pub full-answered : Full (answerBy choose q c b room) → Covers (choose qs cs) qs cs
+    full-answered f = ⊎-elim (λ h. h) (λ n. absurd (no-full (full-same (refused-by n) f))) (test-cases (coveredIn (choose qs cs) qs cs))

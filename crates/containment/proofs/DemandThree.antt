@@ -1,35 +1,31 @@
 -- The third demand, and what else holds of answers.
-use Prim.Native.Nat.{ℕ, _≤_}
+use Prim.Native.Nat.{ℕ, _<_, _≤_}
 use mathlib.Core.Path.{_≡_, refl, sym, ap, ap₂, _∙_}
-use mathlib.Core.Logic.{⊎-elim}
+use mathlib.Core.Logic.{_↔_, ⊎-elim}
 use mathlib.Core.List.{List, [], _∷_, map}
 use lib.ListN.{length, getD}
 use lib.Dec.{T}
 use native.Mathlib.Omega.{arith}
 use Rattle.packed.specs.Contents.{edgeCounts, viewsOf, fieldsOf, sheetsIn}
-use Rattle.packed.specs.Calls.{give, withWorkspace, readSheet, fitFile}
+use Rattle.packed.specs.Calls.{Outcome, give, refuse, withWorkspace, Verdict, accepted, rejected, judged, readPattern, readSheet, readBook, fitFile}
 use Rattle.matching.specs.Lists.{In, here, there}
 use Rattle.matching.specs.Simulation.{Pattern, Graph, bit, patternOf, graphOf, matchSets, viewSheet}
 use Rattle.matching.specs.Join.{without, answerSets}
-use Rattle.matching.specs.Search.{sheetBytes, viewSheets, searchOutcome}
+use Rattle.matching.specs.Search.{sheetBytes, viewSheets}
 use Rattle.matching.proofs.BookBytes.{bookFields}
 use Rattle.matching.proofs.Uncovered.{uncovered-views}
-use Rattle.containment.specs.Answer.{answerBytes, usedFor, answerOutcome}
+use Rattle.containment.specs.Choice.{everyView}
+use Rattle.containment.specs.Answer.{answerBytes, Choose, answerBy, answerFrom, usedFor, answerOutcome}
 use Rattle.containment.specs.Show.{recordBytes}
-use Rattle.containment.specs.Demands.{Question, Catalogue, Record, Sheet, Book, extracts, Covered, Uncovered, bookOf, answerOf, lacking, linkOf, firstOf, secondOf, LowestUnmatched, Showing, Demand3, chosenOf, Answering}
+use Rattle.containment.specs.Demands.{Question, Catalogue, Record, Sheet, Book, extracts, Covers, Uncovered, answerOf, lackingIn, lacking, linkOf, firstOf, secondOf, Matched, LowestUnmatched, Showing, Demand3, Answering}
 use Rattle.containment.proofs.SetBits.{test-cases}
 use Rattle.containment.proofs.ShowLaws.{lowest-of, shows, shows-book}
-use Rattle.containment.proofs.CoveredBytes.{views-same, question-is, catalogue-is, question-bounds, made-sheets, made-book, coveredBy, answer-search, answer-back, given-file}
-use Rattle.containment.proofs.DemandRules.{not-refused, matched-whole, shown-both, shown-exactly, used-covers, refused-by, given-by, refused-exactly}
+use Rattle.containment.proofs.CoveredBytes.{views-same, question-is, catalogue-is, question-bounds, made-sheets, made-book, answer-alike, coveredIn, answer-search, answer-back, given-file}
+use Rattle.containment.proofs.DemandRules.{not-refused, matched-whole, shown-both, shown-exactly, used-chosen, used-all, used-covers, used-leaves, lowest-plain, refused-by, given-by, refused-exactly}
 use Rattle.containment.proofs.DemandSheets.{answer-size}
 use Rattle.containment.proofs.DemandJoin.{answer-joins}
 
 module _ (q c qs cs : List ℕ) (p : Question q qs) (d : Catalogue c cs) where
-  -- ---- a covered query
-  from-book : (r rs : List ℕ) → Record r rs → Covered qs cs → length (bookOf cs rs) ≤ 65536 → (room : ℕ) → answerOutcome q c (bookOf cs rs) room ≡ searchOutcome q r room
-  unfolding answerOutcome
-  from-book r rs f h l room = answer-search q c qs cs p d r rs f usedFor (used-covers qs cs h) l room
-
   -- ---- an uncovered query
   shown-by : Uncovered qs cs → Showing qs cs
   shown-by n =
@@ -47,8 +43,8 @@ module _ (q c qs cs : List ℕ) (p : Question q qs) (d : Catalogue c cs) where
       }
 
   -- the link that the second record lacks
-  lowest-by : Uncovered qs cs → LowestUnmatched qs cs
-  lowest-by n =
+  lowest-whole : Uncovered qs cs → LowestUnmatched qs (Matched (patternOf qs) (extracts cs)) (lacking qs cs)
+  lowest-whole n =
       let Q = patternOf qs in
       let Ps = extracts cs in
       let l = lowest-of q c qs cs (question-is q qs p) (catalogue-is c cs d) n in
@@ -69,16 +65,25 @@ module _ (q c qs cs : List ℕ) (p : Question q qs) (d : Catalogue c cs) where
 
   -- ---- accepted books
   module _ (b bs : List ℕ) (k : Book cs b bs) where
-    read-back : (out : List ℕ) (room : ℕ) → answerOutcome q c b room ≡ give [] (out ∷ [])
-        → Sheet qs out (fieldsOf (answerOf (chosenOf qs cs) qs cs bs))
+    read-back : (choose : Choose) (out : List ℕ) (room : ℕ) → answerBy choose q c b room ≡ give [] (out ∷ [])
+        → Sheet qs out (fieldsOf (answerOf (choose qs cs) qs cs bs))
     unfolding answerBytes
-    read-back out room e =
+    read-back choose out room e =
         ⊎-elim
         (λ h.
-        let g = given-file room _ out (sym (given-by q c qs cs p d b bs k h room) ∙ e) in
-        ap (readSheet qs) (g .0) ∙ answer-back cs b bs k q qs p (chosenOf qs cs) (g .1))
-        (λ n. absurd (not-refused (sym e ∙ refused-by q c qs cs p d b bs k n room)))
-        (test-cases (coveredBy qs cs))
+        let g = given-file room _ out (sym (given-by q c qs cs p d b bs k choose room h) ∙ e) in
+        ap (readSheet qs) (g .0) ∙ answer-back cs b bs k q qs p (choose qs cs) (g .1))
+        (λ n. absurd (not-refused (sym e ∙ refused-by q c qs cs p d b bs k choose room n)))
+        (test-cases (coveredIn (choose qs cs) qs cs))
+
+    -- 11 without a set of the client's
+    refused-whole : (room words e : ℕ) → (withWorkspace words (answerOutcome q c b room) ≡ refuse 11 e) ↔ ((16384 ≤ words) × Uncovered qs cs × (e ≡ lacking qs cs))
+    refused-whole room words e =
+        let x = refused-exactly q c qs cs p d b bs k (usedFor everyView) room words e in
+        let all : Uncovered qs cs → lackingIn (usedFor everyView qs cs) qs cs ≡ lacking qs cs = λ n. ap (λ (set : ℕ). lackingIn set qs cs) (used-all qs cs n) in (
+          λ y. let z = x .0 y in let n = used-leaves qs cs (z .1) in (z .0, n, z .2 ∙ all n),
+          λ z. x .1 (z .0, rw (used-all qs cs (z .1)) (z .1), z .2 ∙ sym (all (z .1))),
+        )
 
 -- the sheets of views whose lists are the same in two graphs
 same-sheets : (G H : Graph) (vs : List (List ℕ)) → ((P : Pattern) → In P (map patternOf vs) → viewSheet P G ≡ viewSheet P H)
@@ -86,17 +91,30 @@ same-sheets : (G H : Graph) (vs : List (List ℕ)) → ((P : Pattern) → In P (
 same-sheets G H [] h = refl
 same-sheets G H (v ∷ vs) h = ap₂ (λ (x : List (List ℕ)) (l : List (List (List ℕ))). x ∷ l) (h (patternOf v) (here refl)) (same-sheets G H vs (λ P i. h P (there i)))
 
-same-answer : (q c qs cs b b′ bs bs′ : List ℕ) → Question q qs → Catalogue c cs → Book cs b bs → Book cs b′ bs′
-    → ((a : ℕ) → T (bit (chosenOf qs cs) a) → getD (sheetsIn (edgeCounts cs) bs) a [] ≡ getD (sheetsIn (edgeCounts cs) bs′) a [])
-    → (room : ℕ) → answerOutcome q c b room ≡ answerOutcome q c b′ room
-same-answer q c qs cs b b′ bs bs′ p d k k′ s room =
+same-answer : (choose : Choose) (q c qs cs b b′ bs bs′ : List ℕ) → Question q qs → Catalogue c cs → Book cs b bs → Book cs b′ bs′
+    → (Covers (choose qs cs) qs cs → (a : ℕ) → a < length (extracts cs) → T (bit (choose qs cs) a)
+    → getD (sheetsIn (edgeCounts cs) bs) a [] ≡ getD (sheetsIn (edgeCounts cs) bs′) a [])
+    → (room : ℕ) → answerBy choose q c b room ≡ answerBy choose q c b′ room
+same-answer choose q c qs cs b b′ bs bs′ p d k k′ s room =
+    let set = choose qs cs in
     ⊎-elim
     (λ h.
-    given-by q c qs cs p d b bs k h room
-    ∙ ap (λ vs. fitFile room (sheetBytes (answerSets (patternOf qs) vs))) (views-same (chosenOf qs cs) (extracts cs) (sheetsIn (edgeCounts cs) bs) (sheetsIn (edgeCounts cs) bs′) s)
-    ∙ sym (given-by q c qs cs p d b′ bs′ k′ h room))
-    (λ n. refused-by q c qs cs p d b bs k n room ∙ sym (refused-by q c qs cs p d b′ bs′ k′ n room))
-    (test-cases (coveredBy qs cs))
+    given-by q c qs cs p d b bs k choose room h
+    ∙ ap (λ vs. fitFile room (sheetBytes (answerSets (patternOf qs) vs))) (views-same set set (extracts cs) (sheetsIn (edgeCounts cs) bs) (sheetsIn (edgeCounts cs) bs′) (λ a l. refl) (s h))
+    ∙ sym (given-by q c qs cs p d b′ bs′ k′ choose room h))
+    (λ n. refused-by q c qs cs p d b bs k choose room n ∙ sym (refused-by q c qs cs p d b′ bs′ k′ choose room n))
+    (test-cases (coveredIn set qs cs))
+
+-- bits that name no view count for nothing
+judged-same : (v : Verdict) {k k′ : List ℕ → Outcome} → ((ws : List ℕ) → v ≡ accepted ws → k ws ≡ k′ ws) → judged v k ≡ judged v k′
+unfolding judged
+judged-same (accepted ws) f = f ws refl
+judged-same (rejected n d) f = refl
+
+ignored : (c cs : List ℕ) → Catalogue c cs → (set set′ : ℕ) → ((a : ℕ) → a < length (extracts cs) → bit set a ≡ bit set′ a) → (q b : List ℕ) (room : ℕ)
+    → answerFrom q c set b room ≡ answerFrom q c set′ b room
+unfolding answerBy judged
+ignored c cs d set set′ f q b room = rw d (judged-same (readPattern q) (λ qs _. judged-same (readBook cs b) (λ bs _. answer-alike set set′ qs cs bs room f)))
 
 no-function : (q c qs cs : List ℕ) → Question q qs → Catalogue c cs → Uncovered qs cs → (F : List (List (List ℕ)) → List ℕ)
     → ((r rs : List ℕ) → Record r rs → F (viewSheets cs (graphOf rs)) ≡ sheetBytes (matchSets (patternOf qs) (graphOf rs))) → ⊥
@@ -111,20 +129,25 @@ no-function q c qs cs p d n F h =
 pub demand-3 : Demand3
 demand-3 = record {
   covered-by = λ q c r qs cs rs p d f set h l room words. ap (withWorkspace words) (answer-search q c qs cs p d r rs f (λ _ _. set) h l room);
-  covered = λ q c r qs cs rs p d f h l room words. ap (withWorkspace words) (from-book q c qs cs p d r rs f h l room);
+  refused-by = λ q c b qs cs bs p d k set room words e. refused-exactly q c qs cs p d b bs k (λ _ _. set) room words e;
+  lowest-by = λ q c qs cs p d set n. lowest-plain q c qs cs p d set n;
+  covered = λ q c r qs cs rs p d f h l room words. ap (withWorkspace words) (answer-search q c qs cs p d r rs f (usedFor everyView) (used-covers qs cs h) l room);
   fits = λ c r cs rs d f l. (bookFields (viewSheets cs (graphOf rs)), made-book c r cs rs d f l, made-sheets c r cs rs d f);
   shows = λ q c qs cs p d n room room′ words. ap (withWorkspace words) (shown-both q c qs cs p d n room room′);
   uncovered = λ q c qs cs p d n. shown-by q c qs cs p d n;
-  lowest = λ q c qs cs p d n. lowest-by q c qs cs p d n;
+  lowest = λ q c qs cs p d n. lowest-whole q c qs cs p d n;
   shows-covered = λ q c qs cs p d room room′ words e. shown-exactly q c qs cs p d room room′ words e;
-  refused = λ q c b qs cs bs p d k room words e. refused-exactly q c qs cs p d b bs k room words e;
+  refused = λ q c b qs cs bs p d k room words e. refused-whole q c qs cs p d b bs k room words e;
 }
 
 pub answers : Answering
 answers = record {
   joins = answer-joins;
   same = same-answer;
-  back = λ q c b qs cs bs out p d k room e. read-back q c qs cs p d b bs k out room e;
+  chooses = used-chosen;
+  chooses-all = used-all;
+  ignores = ignored;
+  back = λ choose q c b qs cs bs out p d k room e. read-back q c qs cs p d b bs k choose out room e;
   answer-length = answer-size;
   no-other-way = no-function;
 }

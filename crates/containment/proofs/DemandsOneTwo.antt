@@ -25,7 +25,7 @@ use Rattle.matching.proofs.AllOrNone.{sets-even}
 use Rattle.matching.proofs.RecordLaws.{graph-narrow}
 use Rattle.containment.specs.Choice.{everyView, coversIn}
 use Rattle.containment.specs.Quote.{QuoteValues, flat, one, mapping, valuesFrom, quoteValues, quoteOutcome}
-use Rattle.containment.specs.Answer.{answerIn, answerBy, usedFor, answerOutcome}
+use Rattle.containment.specs.Answer.{answerIn, answerBy}
 use Rattle.containment.specs.Cheapest.{cheapestFrom, cheapestFor, cheapestOutcome}
 use Rattle.containment.specs.Show.{showFor, showOutcome}
 use Rattle.containment.specs.Listing.{lineOf, lineAnswer}
@@ -88,7 +88,7 @@ book-exactly cs s ws = (
 )
 
 pub demand-1 : Demand1
-unfolding fronts patternRead catalogueRead recordRead sheetRead bookRead patternWritten catalogueWritten recordWritten sheetWritten bookWritten searchOutcome makeBookOutcome quoteOutcome cheapestOutcome answerBy answerOutcome showOutcome lineAnswer toldOf outputsOf
+unfolding fronts patternRead catalogueRead recordRead sheetRead bookRead patternWritten catalogueWritten recordWritten sheetWritten bookWritten searchOutcome makeBookOutcome quoteOutcome cheapestOutcome answerBy showOutcome lineAnswer toldOf outputsOf
 demand-1 = record {
   read-pattern = λ s room words. workspace-settles words (pattern-first s (fit-settles room));
   read-catalogue = λ s room words. workspace-settles words (catalogue-first s (fit-settles room));
@@ -108,9 +108,9 @@ demand-1 = record {
   make-book = λ c r room words. workspace-settles words (catalogue-first c (λ cs. record-first r (λ rs. fitFile-settles room _)));
   quote = λ q c words. workspace-settles words (pattern-first q (λ qs. catalogue-first c (λ cs. gives _ [])));
   cheapest = λ q c charges words. workspace-settles words (pattern-first q (λ qs. catalogue-first c (λ cs. cheapest-settles qs cs charges)));
-  answer = λ q c b room words.
+  answer = λ choose q c b room words.
       workspace-settles words
-      (pattern-first q (λ qs. catalogue-first c (λ cs. read-settles 65536 4 (book-faults (edgeCounts cs)) b (λ bs. answer-settles (usedFor qs cs) qs cs bs room))));
+      (pattern-first q (λ qs. catalogue-first c (λ cs. read-settles 65536 4 (book-faults (edgeCounts cs)) b (λ bs. answer-settles (choose qs cs) qs cs bs room))));
   show = λ q c room room′ words. workspace-settles words (pattern-first q (λ qs. catalogue-first c (λ cs. show-settles everyView qs (extracts cs) room room′)));
   line = λ q k room. fit-settles room (lineOf q k);
   desk = λ a words. few-words words a;
@@ -138,13 +138,13 @@ demand-1 = record {
   make-book-gives = λ c r cs rs e f room words. fitted-file _ words room _ (book-made c r cs rs e f room);
   make-book-only = λ c r room words f. let t = full-twice _ _ _ (full-words words _ f) in (t .0, t .1, t .2, t .3);
   quote-only = λ q c words f. let t = full-twice _ _ _ (full-words words _ f) in (t .0, t .1, t .2, t .3);
-  answer-gives = λ q c b qs cs bs e f k h room words. fitted-file _ words room _ (given-by q c qs cs e f b bs k h room);
-  answer-only = λ q c b room words f.
-      let w = full-words words (answerOutcome q c b room) f in
+  answer-gives = λ choose q c b qs cs bs e f k h room words. fitted-file _ words room _ (given-by q c qs cs e f b bs k choose room h);
+  answer-only = λ choose q c b room words f.
+      let w = full-words words (answerBy choose q c b room) f in
       let t = full-twice _ _ _ w in
       let z = full-judged _ _ (t .4) in
       let k : Book (t .1) b (z .0) = record { read = z .1; few = full-answer _ _ _ _ room (z .2) } in
-      (t .0, t .1, z .0, t .2, t .3, k, full-answered q c (t .0) (t .1) (t .2) (t .3) b (z .0) k room w);
+      (t .0, t .1, z .0, t .2, t .3, k, full-answered q c (t .0) (t .1) (t .2) (t .3) b (z .0) k choose room w);
   show-gives = λ q c qs cs e f n room room′ words. fitted-both _ words room room′ _ _ (shown-both q c qs cs e f n room room′);
   show-only = λ q c room room′ words f.
       let w = full-words words (showOutcome q c room room′) f in
@@ -233,7 +233,7 @@ demand-2 = record {
   patterns-sound = λ p ps e. question-bounds p ps e .sound;
   extracts-sound = views-sound;
   quotes = quote-exactly;
-  covers = λ q c qs cs eq ec. covers-plain q c qs cs eq ec;
+  covers = λ q c qs cs eq ec set. covers-plain q c qs cs eq ec set;
   says-covered = λ q c qs cs eq ec words. quote-says q c qs cs eq ec true words;
   says-uncovered = λ q c qs cs eq ec words. quote-says q c qs cs eq ec false words;
   values-covered = λ q c qs cs eq ec h. quote-values q c qs cs eq ec true h;

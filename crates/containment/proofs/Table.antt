@@ -20,7 +20,7 @@ use Rattle.matching.specs.Join.{listsEdge as listsHere, pairOf, under, candidat
 use Rattle.containment.specs.Choice.{matches, matchedIn, coversIn, lowestUnmatched, addsTo, taken, kept, chosen, used}
 use Rattle.containment.specs.Quote.{maskIn, matchMask, maskAt, mapping, valuesFrom, quoteValues, flat, quoteOutcome}
 use Rattle.containment.specs.Cheapest.{weigh, cost, lesser, better, misses, ahead, foremost, cheapest, cheapestFrom, cheapestFor, cheapestOutcome}
-use Rattle.containment.specs.Answer.{viewsIn, answerBytes, answerIn, answerBy, usedFor, answerOutcome}
+use Rattle.containment.specs.Answer.{viewsIn, answerBytes, answerIn, answerBy, answerFrom, usedFor, answerOutcome}
 use Rattle.containment.specs.Show.{graphFields, fewerFields, recordBytes, fitBoth, showFor, showOutcome}
 
 -- ---- how a case is written
@@ -163,6 +163,16 @@ b9 = hex "00 04 00 00 04 00 04 00 00 04 00 10 01 00 20 00 04 00 00 04 00 10 01 0
 
 abbrev pub bn : List ℕ
 bn = hex "00 04 00 00 04 00 04 00 00 04 00 10 01 00 20 00 04 00 00 04 00 10 03 00 20"
+
+-- another of no record: (0, 3) stands in extract 0 but not in extract 1, though (3, 2) does; and what extracts 1 and 2 answer from it, and all three
+abbrev pub bw : List ℕ
+bw = hex "00 08 00 00 04 00 00 0c 00 04 00 00 04 00 20 01 00 20 03 00 20 00 04 00 00 04 00 10 01 00 20"
+
+abbrev pub sw12 : List ℕ
+sw12 = hex "00 04 00 00 04 00 10 00 00 10 00 80 04 00 80 0c 00 80 01 00 10 02"
+
+abbrev pub sw012 : List ℕ
+sw012 = hex "00 08 00 00 04 00 00 0c 00 10 00 00 10 00 80 04 00 80 0c 00 80 01 00 10 02"
 
 abbrev pub b3 : List ℕ
 b3 = hex "00 04 00 00 04 00 10 01 00 20"
@@ -568,11 +578,28 @@ answers =
     -- too little room, by one; too few words
     ∷ call (answerOutcome d c b9 18) (refuse 12 19)
     ∷ case (withWorkspace 16383 (answerOutcome d c b9 19)) (refuse 14 0)
+    -- K9 by two sets that cover D; bits that name no extract are ignored
+    ∷ call (answerFrom d c 6 b9 19) (output s9)
+    ∷ call (answerFrom d c 7 b9 19) (output s9)
+    ∷ call (answerFrom d c 65534 b9 19) (output s9)
+    -- a set that doesn't cover D, though C does: 11 with the lowest link that the set leaves unmatched, before too little room
+    ∷ call (answerFrom d c 5 b9 19) (refuse 11 2)
+    ∷ call (answerFrom d c 3 b9 19) (refuse 11 1)
+    ∷ call (answerFrom d c 65528 b9 0) (refuse 11 0)
+    -- and one for K3, which is uncovered
+    ∷ call (answerFrom d c3 65535 b3 19) (refuse 11 1)
+    -- from a book of no record each covering set has its own answer, since all of a named set gives candidates; without a set the chosen one has
+    ∷ call (answerFrom d c 6 bw 22) (output sw12)
+    ∷ call (answerFrom d c 7 bw 25) (output sw012)
+    ∷ call (answerOutcome d c bw 22) (output sw12)
+    -- too little room, by one; too few words
+    ∷ call (answerFrom d c 7 bw 24) (refuse 12 25)
+    ∷ case (withWorkspace 16383 (answerFrom d c 6 b9 19)) (refuse 14 0)
     ∷ []
 
 unfoldable pub table : List (List Case)
 table = patterns ∷ catalogues ∷ records ∷ sheets ∷ books ∷ searches ∷ quotes ∷ cheapests ∷ showings ∷ answers ∷ []
 
 pub cases : Agree table
-unfolding Agree table patterns catalogues records sheets books searches quotes cheapests showings answers digit hex next turned numbers bitsOf num numFrom bits zeros gap then times whole within scan lay bytesOf decode encode linked edges isEnd allEnds label joined pattern catalogue labels record′ pairs lists sheet book patternSize patternsIn viewsOf edgeCounts codesIn listsIn afterLists ends fieldsOf sheetsIn pairsIn sum member insert distinct withWorkspace readFile writeFile judged pairsOf uncrowdedBy fit fitFile patternRead catalogueRead recordRead sheetRead bookRead patternWritten catalogueWritten recordWritten sheetWritten bookWritten _and_ _or_ _implies_ every some keep gather each below upTo settle greatest same has sameEdge allPairs bit edgesIn patternOf graphOf asGraph fits follows sim total row ascending matchSets viewSheet sheetBytes bookBytes searchOutcome viewSheets makeBookOutcome pairOf listsHere under candidates supported join complete keptFor answerSets matches matchedIn coversIn lowestUnmatched addsTo taken kept chosen used maskIn matchMask maskAt mapping valuesFrom quoteValues flat quoteOutcome viewsIn answerBytes answerIn answerBy usedFor answerOutcome graphFields fewerFields recordBytes fitBoth showFor showOutcome weigh lesser better misses ahead foremost cheapest cheapestFrom cheapestFor cheapestOutcome
+unfolding Agree table patterns catalogues records sheets books searches quotes cheapests showings answers digit hex next turned numbers bitsOf num numFrom bits zeros gap then times whole within scan lay bytesOf decode encode linked edges isEnd allEnds label joined pattern catalogue labels record′ pairs lists sheet book patternSize patternsIn viewsOf edgeCounts codesIn listsIn afterLists ends fieldsOf sheetsIn pairsIn sum member insert distinct withWorkspace readFile writeFile judged pairsOf uncrowdedBy fit fitFile patternRead catalogueRead recordRead sheetRead bookRead patternWritten catalogueWritten recordWritten sheetWritten bookWritten _and_ _or_ _implies_ every some keep gather each below upTo settle greatest same has sameEdge allPairs bit edgesIn patternOf graphOf asGraph fits follows sim total row ascending matchSets viewSheet sheetBytes bookBytes searchOutcome viewSheets makeBookOutcome pairOf listsHere under candidates supported join complete keptFor answerSets matches matchedIn coversIn lowestUnmatched addsTo taken kept chosen used maskIn matchMask maskAt mapping valuesFrom quoteValues flat quoteOutcome viewsIn answerBytes answerIn answerBy usedFor graphFields fewerFields recordBytes fitBoth showFor showOutcome weigh lesser better misses ahead foremost cheapest cheapestFrom cheapestFor cheapestOutcome
 cases = (refl, (refl, (refl, (refl, (refl, (refl, (refl, (refl, (refl, (refl, tt))))))))))

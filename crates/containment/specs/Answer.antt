@@ -39,10 +39,14 @@ Choose = List ℕ → List ℕ → ℕ
 unfoldable pub answerBy : Choose → List ℕ → List ℕ → List ℕ → ℕ → Outcome
 answerBy choose q c b room = judged (readPattern q) (λ qs. judged (readCatalogue c) (λ cs. judged (readBook cs b) (λ bs. answerIn (choose qs cs) qs cs bs room)))
 
--- the chosen set; for a query that is not covered, all views, so that 11 has the lowest edge that none of them matches
-unfoldable pub usedFor : Choose
-usedFor qs cs = used (mapping (patternOf qs) (map patternOf (viewsOf cs))) everyView (edgesOf qs) (length (map patternOf (viewsOf cs)))
+-- answering by a set that the client names: all of it gives the candidates
+abbrev pub answerFrom : List ℕ → List ℕ → ℕ → List ℕ → ℕ → Outcome
+answerFrom q c set b room = answerBy (λ qs cs. set) q c b room
 
--- answering by that set
-unfoldable pub answerOutcome : List ℕ → List ℕ → List ℕ → ℕ → Outcome
-answerOutcome q c b room = answerBy usedFor q c b room
+-- those chosen from a set; for a query that it doesn't cover, all of it, so that 11 has the lowest edge that none of them matches
+unfoldable pub usedFor : ℕ → Choose
+usedFor set qs cs = used (mapping (patternOf qs) (map patternOf (viewsOf cs))) set (edgesOf qs) (length (map patternOf (viewsOf cs)))
+
+-- answering by those chosen from all views
+abbrev pub answerOutcome : List ℕ → List ℕ → List ℕ → ℕ → Outcome
+answerOutcome q c b room = answerBy (usedFor everyView) q c b room

@@ -24,7 +24,7 @@ use Rattle.matching.specs.Join.{without, answerSets}
 use Rattle.matching.specs.Search.{sheetBytes, bookBytes, viewSheets, searchOutcome, makeBookOutcome}
 use Rattle.containment.specs.Choice.{everyView, coversIn, lowestUnmatched, chosen}
 use Rattle.containment.specs.Quote.{noPattern, mapping, QuoteValues, flat, blank, quoteOutcome, quoteTold}
-use Rattle.containment.specs.Answer.{viewsIn, answerBy, answerOutcome}
+use Rattle.containment.specs.Answer.{viewsIn, Choose, answerBy, answerFrom, usedFor, answerOutcome}
 use Rattle.containment.specs.Cheapest.{cost, IsCheapest, cheapestOutcome}
 use Rattle.containment.specs.Show.{graphFields, fewerFields, recordBytes, fitBoth, showOutcome}
 use Rattle.containment.specs.Listing.{bytes, linkLine, lineOf, lineAnswer}
@@ -184,7 +184,8 @@ pub record Demand1 : Type 0 where
   pub search : (p r : List ℕ) (room words : ℕ) → Settles (withWorkspace words (searchOutcome p r room))
   pub make-book : (c r : List ℕ) (room words : ℕ) → Settles (withWorkspace words (makeBookOutcome c r room))
   pub quote : (q c : List ℕ) (words : ℕ) → Settles (withWorkspace words (quoteOutcome q c))
-  pub answer : (q c b : List ℕ) (room words : ℕ) → Settles (withWorkspace words (answerOutcome q c b room))
+  -- both calls that answer: `answerFrom` and `answerOutcome` are `answerBy` with the set that the client names and with the one that is used else
+  pub answer : (choose : Choose) (q c b : List ℕ) (room words : ℕ) → Settles (withWorkspace words (answerBy choose q c b room))
   pub show : (q c : List ℕ) (room room′ words : ℕ) → Settles (withWorkspace words (showOutcome q c room room′))
   pub cheapest : (q c charges : List ℕ) (words : ℕ) → Settles (withWorkspace words (cheapestOutcome q c charges))
   pub line : (q : Quote) (k room : ℕ) → Settles (lineAnswer q k room)
@@ -214,8 +215,8 @@ pub record Demand1 : Type 0 where
       → (withWorkspace words (bookRead c s room) ≡ refuse 10 d) ↔ ((workspace ≤ words) × Crowded cs ws × (d ≡ 4))
   pub write-crowded : (c cs s ws : List ℕ) → Catalogue c cs → Below 256 s → BookFile (edgeCounts cs) s ws → (room words d : ℕ)
       → (withWorkspace words (bookWritten c ws room) ≡ refuse 10 d) ↔ ((workspace ≤ words) × Crowded cs ws × (d ≡ 4))
-  pub answer-crowded : (q c b qs cs bs : List ℕ) → Question q qs → Catalogue c cs → readBook cs b ≡ accepted bs → (room words d : ℕ)
-      → (withWorkspace words (answerOutcome q c b room) ≡ refuse 10 d) ↔ ((workspace ≤ words) × Crowded cs bs × (d ≡ 4))
+  pub answer-crowded : (choose : Choose) (q c b qs cs bs : List ℕ) → Question q qs → Catalogue c cs → readBook cs b ≡ accepted bs → (room words d : ℕ)
+      → (withWorkspace words (answerBy choose q c b room) ≡ refuse 10 d) ↔ ((workspace ≤ words) × Crowded cs bs × (d ≡ 4))
   -- a search gives the sheet of accepted files, making a book the book, and neither anything of others
   pub search-gives : (p r ps rs : List ℕ) → Question p ps → Record r rs → (room words : ℕ)
       → Fitted words (OverFile room (sheetOf (patternOf ps) rs)) (sheetOf (patternOf ps) rs ∷ []) (withWorkspace words (searchOutcome p r room))
@@ -227,12 +228,12 @@ pub record Demand1 : Type 0 where
       → (cs : List ℕ) × (rs : List ℕ) × Catalogue c cs × Record r rs
   -- a quote is given of accepted files alone (what it says is in demand 2); it has no output to fit
   pub quote-only : (q c : List ℕ) (words : ℕ) → Full (withWorkspace words (quoteOutcome q c)) → (qs : List ℕ) × (cs : List ℕ) × Question q qs × Catalogue c cs
-  -- answering gives the answer from the book to a covered question, showing the two records of an uncovered one
-  pub answer-gives : (q c b qs cs bs : List ℕ) → Question q qs → Catalogue c cs → Book cs b bs → Covered qs cs → (room words : ℕ)
-      → Fitted words (OverFile room (sheetBytes (answerOf (chosenOf qs cs) qs cs bs))) (sheetBytes (answerOf (chosenOf qs cs) qs cs bs) ∷ [])
-      (withWorkspace words (answerOutcome q c b room))
-  pub answer-only : (q c b : List ℕ) (room words : ℕ) → Full (withWorkspace words (answerOutcome q c b room))
-      → (qs : List ℕ) × (cs : List ℕ) × (bs : List ℕ) × Question q qs × Catalogue c cs × Book cs b bs × Covered qs cs
+  -- answering gives the answer from the book by a set that covers the question, showing the two records of an uncovered one
+  pub answer-gives : (choose : Choose) (q c b qs cs bs : List ℕ) → Question q qs → Catalogue c cs → Book cs b bs → Covers (choose qs cs) qs cs → (room words : ℕ)
+      → Fitted words (OverFile room (sheetBytes (answerOf (choose qs cs) qs cs bs))) (sheetBytes (answerOf (choose qs cs) qs cs bs) ∷ [])
+      (withWorkspace words (answerBy choose q c b room))
+  pub answer-only : (choose : Choose) (q c b : List ℕ) (room words : ℕ) → Full (withWorkspace words (answerBy choose q c b room))
+      → (qs : List ℕ) × (cs : List ℕ) × (bs : List ℕ) × Question q qs × Catalogue c cs × Book cs b bs × Covers (choose qs cs) qs cs
   pub show-gives : (q c qs cs : List ℕ) → Question q qs → Catalogue c cs → Uncovered qs cs → (room room′ words : ℕ)
       → Fitted words (OverEither room room′ (recordBytes (firstOf qs)) (recordBytes (secondOf qs cs))) (recordBytes (firstOf qs) ∷ recordBytes (secondOf qs cs) ∷ [])
       (withWorkspace words (showOutcome q c room room′))
@@ -353,11 +354,11 @@ pub record Demand2 : Type 1 where
 -- uncovered, the two shown records are accepted, the second lacks just one link of the first, every extract's lists are byte for byte equal on
 -- both, and the question's sheets differ."
 
--- the link of the question that the second shown record lacks
-pub record LowestUnmatched (qs cs : List ℕ) : Type 0 where
-  pub below : lacking qs cs < edgesOf qs
-  pub unmatched : Matched (patternOf qs) (extracts cs) (linkOf qs (lacking qs cs)) → ⊥
-  pub lower : (e : ℕ) → e < lacking qs cs → Matched (patternOf qs) (extracts cs) (linkOf qs e)
+-- i is the lowest link of the question that isn't matched
+pub record LowestUnmatched (qs : List ℕ) (IsMatched : Edge → Type 0) (i : ℕ) : Type 0 where
+  pub below : i < edgesOf qs
+  pub unmatched : IsMatched (linkOf qs i) → ⊥
+  pub lower : (e : ℕ) → e < i → IsMatched (linkOf qs e)
 
 -- what is shown of an uncovered question
 pub record Showing (qs cs : List ℕ) : Type 0 where
@@ -377,12 +378,17 @@ pub record Showing (qs cs : List ℕ) : Type 0 where
   pub differ : sheetOf (patternOf qs) (firstOf qs) ≡ sheetOf (patternOf qs) (secondOf qs cs) → ⊥
 
 pub record Demand3 : Type 0 where
-  -- "for every accepted question and catalogue and every accepted record: if covered" (here by the extracts in any set), "and the extract lists
-  -- made from the record fit in a book, answering from that book alone equals searching the record": the same answer, for all lengths of
-  -- output and workspace lent to both
+  -- "for every accepted question and catalogue and every accepted record: if covered" by the extracts in a set, whichever, "and the extract
+  -- lists made from the record fit in a book, answering from that book alone" by that set "equals searching the record": the same answer, for
+  -- all lengths of output and workspace lent to both
   pub covered-by : (q c r qs cs rs : List ℕ) → Question q qs → Catalogue c cs → Record r rs → (set : ℕ) → Covers set qs cs → length (bookOf cs rs) ≤ bookMost
-      → (room words : ℕ) → withWorkspace words (answerBy (λ _ _. set) q c (bookOf cs rs) room) ≡ withWorkspace words (searchOutcome q r room)
-  -- the same by the chosen set, which is what the call that answers uses
+      → (room words : ℕ) → withWorkspace words (answerFrom q c set (bookOf cs rs) room) ≡ withWorkspace words (searchOutcome q r room)
+  -- and by no other set: 11 is given exactly to one that leaves a link unmatched, with the lowest such link
+  pub refused-by : (q c b qs cs bs : List ℕ) → Question q qs → Catalogue c cs → Book cs b bs → (set room words d : ℕ)
+      → (withWorkspace words (answerFrom q c set b room) ≡ refuse 11 d) ↔ ((workspace ≤ words) × Leaves set qs cs × (d ≡ lackingIn set qs cs))
+  pub lowest-by : (q c qs cs : List ℕ) → Question q qs → Catalogue c cs → (set : ℕ) → Leaves set qs cs
+      → LowestUnmatched qs (MatchedIn (patternOf qs) (extracts cs) set) (lackingIn set qs cs)
+  -- the same by the chosen set, which answers where the client names none
   pub covered : (q c r qs cs rs : List ℕ) → Question q qs → Catalogue c cs → Record r rs → Covered qs cs → length (bookOf cs rs) ≤ bookMost
       → (room words : ℕ) → withWorkspace words (answerOutcome q c (bookOf cs rs) room) ≡ withWorkspace words (searchOutcome q r room)
   -- that book is an accepted one, whose sheets are the extracts' lists
@@ -392,12 +398,12 @@ pub record Demand3 : Type 0 where
   pub shows : (q c qs cs : List ℕ) → Question q qs → Catalogue c cs → Uncovered qs cs → (room room′ words : ℕ)
       → withWorkspace words (showOutcome q c room room′) ≡ withWorkspace words (fitBoth room room′ (recordBytes (firstOf qs)) (recordBytes (secondOf qs cs)))
   pub uncovered : (q c qs cs : List ℕ) → Question q qs → Catalogue c cs → Uncovered qs cs → Showing qs cs
-  -- "its lowest unmatched link"
-  pub lowest : (q c qs cs : List ℕ) → Question q qs → Catalogue c cs → Uncovered qs cs → LowestUnmatched qs cs
+  -- "its lowest unmatched link", which the second record lacks
+  pub lowest : (q c qs cs : List ℕ) → Question q qs → Catalogue c cs → Uncovered qs cs → LowestUnmatched qs (Matched (patternOf qs) (extracts cs)) (lacking qs cs)
   -- 13, "a showing was wanted for a covered question", exactly then
   pub shows-covered : (q c qs cs : List ℕ) → Question q qs → Catalogue c cs → (room room′ words d : ℕ)
       → (withWorkspace words (showOutcome q c room room′) ≡ refuse 13 d) ↔ ((workspace ≤ words) × Covered qs cs × (d ≡ 0))
-  -- 11, "an answer was wanted and the question isn't covered", exactly then, with "the lowest unmatched link"
+  -- 11, "an answer was wanted and the question isn't covered", exactly then, with "the lowest unmatched link": where the client names no set
   pub refused : (q c b qs cs bs : List ℕ) → Question q qs → Catalogue c cs → Book cs b bs → (room words d : ℕ)
       → (withWorkspace words (answerOutcome q c b room) ≡ refuse 11 d) ↔ ((workspace ≤ words) × Uncovered qs cs × (d ≡ lacking qs cs))
 
@@ -436,13 +442,20 @@ pub record Joins (set : ℕ) (qs cs bs : List ℕ) : Type 1 where
 pub record Answering : Type 1 where
   -- "the answer is the greatest choice ..", from any book, also one "that belongs to no record"
   pub joins : (set : ℕ) (qs cs bs : List ℕ) → Joins set qs cs bs
-  -- "two accepted books that agree on the chosen sheets give the same answer"
-  pub same : (q c qs cs b b′ bs bs′ : List ℕ) → Question q qs → Catalogue c cs → Book cs b bs → Book cs b′ bs′
-      → ((a : ℕ) → T (bit (chosenOf qs cs) a) → getD (sheetsIn (edgeCounts cs) bs) a [] ≡ getD (sheetsIn (edgeCounts cs) bs′) a [])
-      → (room : ℕ) → answerOutcome q c b room ≡ answerOutcome q c b′ room
+  -- "two accepted books that agree on the chosen sheets give the same answer": on those of the set that answers, where it covers the question
+  pub same : (choose : Choose) (q c qs cs b b′ bs bs′ : List ℕ) → Question q qs → Catalogue c cs → Book cs b bs → Book cs b′ bs′
+      → (Covers (choose qs cs) qs cs → (a : ℕ) → a < length (extracts cs) → T (bit (choose qs cs) a)
+      → getD (sheetsIn (edgeCounts cs) bs) a [] ≡ getD (sheetsIn (edgeCounts cs) bs′) a [])
+      → (room : ℕ) → answerBy choose q c b room ≡ answerBy choose q c b′ room
+  -- the set that answers where the client names none: the chosen one, or all extracts for an uncovered question
+  pub chooses : (qs cs : List ℕ) → Covered qs cs → usedFor everyView qs cs ≡ chosenOf qs cs
+  pub chooses-all : (qs cs : List ℕ) → Uncovered qs cs → usedFor everyView qs cs ≡ everyView
+  -- of a set that the client names, "bits that name no extract are ignored"
+  pub ignores : (c cs : List ℕ) → Catalogue c cs → (set set′ : ℕ) → ((a : ℕ) → a < length (extracts cs) → bit set a ≡ bit set′ a) → (q b : List ℕ) (room : ℕ)
+      → answerFrom q c set b room ≡ answerFrom q c set′ b room
   -- an answer, also from a book of no record, is read back as its content, and is as long as such a sheet
-  pub back : (q c b qs cs bs out : List ℕ) → Question q qs → Catalogue c cs → Book cs b bs → (room : ℕ) → answerOutcome q c b room ≡ give [] (out ∷ [])
-      → Sheet qs out (fieldsOf (answerOf (chosenOf qs cs) qs cs bs))
+  pub back : (choose : Choose) (q c b qs cs bs out : List ℕ) → Question q qs → Catalogue c cs → Book cs b bs → (room : ℕ)
+      → answerBy choose q c b room ≡ give [] (out ∷ []) → Sheet qs out (fieldsOf (answerOf (choose qs cs) qs cs bs))
   pub answer-length : (q qs cs b bs : List ℕ) → Question q qs → Book cs b bs → (set : ℕ)
       → length (sheetBytes (answerOf set qs cs bs)) ≡ (14 * edgesOf qs + 24 * pairCount (answerOf set qs cs bs) + 7) / 8
   -- for an uncovered question no function whatsoever of the extracts' lists gives the question's sheet on every record
@@ -479,6 +492,9 @@ pub record Cheapests : Type 0 where
   -- 11, for an uncovered question, exactly then
   pub refused : (q c qs cs charges : List ℕ) → Question q qs → Catalogue c cs → (words d : ℕ)
       → (withWorkspace words (cheapestOutcome q c charges) ≡ refuse 11 d) ↔ ((workspace ≤ words) × Charged charges cs × Uncovered qs cs × (d ≡ lacking qs cs))
+  -- demand 3 by that set: "for sheets truly made from one record, all covering sets are to give the same bytes", the cheapest included
+  pub answers : (q c r qs cs rs charges : List ℕ) → Question q qs → Catalogue c cs → Record r rs → (set : ℕ) → CheapestOf qs cs charges set → length (bookOf cs rs) ≤ bookMost
+      → (room words : ℕ) → withWorkspace words (answerFrom q c set (bookOf cs rs) room) ≡ withWorkspace words (searchOutcome q r room)
   -- nothing is given of other files
   pub only : (q c charges : List ℕ) (words : ℕ) → Full (withWorkspace words (cheapestOutcome q c charges)) → (qs : List ℕ) × (cs : List ℕ) × Question q qs × Catalogue c cs
 

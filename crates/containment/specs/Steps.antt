@@ -1,6 +1,7 @@
 -- inner: what the steps of quoting, of answering and of showing promise one another.
 use Prim.Native.Nat.{ℕ, zero, suc, _+_, _-_, _*_, _/_, _%_, _^_, _<_, _≤_}
 use mathlib.Core.Path.{_≡_}
+use mathlib.Core.Bool.{Bool}
 use mathlib.Core.List.{List, [], _∷_, _++_, map}
 use lib.ListN.{length, getD, take}
 use lib.Seq.{sets}
@@ -13,6 +14,7 @@ use Rattle.packed.specs.Calls.{Outcome, toldOf, outputsOf}
 use Rattle.packed.specs.Refusals.{Told}
 use Rattle.packed.specs.declared.by_value.Pattern.{Pattern as Given}
 use Rattle.matching.specs.Sweeps.{OneOf, Has}
+use Rattle.containment.specs.Answer.{Choose, usedFor}
 use Rattle.containment.specs.Show.{graphFields, fewerFields, recordBytes}
 use Rattle.containment.specs.declared.query.Fields.{Fields}
 
@@ -35,6 +37,10 @@ pub record ViewCounts (counts : List ℕ) (k : ℕ) : Type 0 where
   pub views : Views bytes k
   pub are : take k counts ≡ edgeCounts (views .content)
   pub small : Small counts
+
+-- the views of a set that answer a query: all of them, or those chosen from them
+abbrev pub wholeOrChosen : Bool → ℕ → Choose
+wholeOrChosen whole set qs cs = pick whole set (usedFor set qs cs)
 
 -- with the workspace aside: the result and the outputs
 pub record FulfilsAll (blank : List ℕ) (a : Outcome) (r : Told) (outs outs′ : List (List ℕ)) : Type 0 where

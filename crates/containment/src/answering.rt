@@ -12,8 +12,8 @@ ghost use Rattle.matching.specs.Join.{View, answerSets};
 ghost use Rattle.matching.specs.Candidates.{Booked};
 ghost use Rattle.matching.specs.Joining.{Agrees};
 ghost use Rattle.containment.specs.Quote.{mapping};
-ghost use Rattle.containment.specs.Answer.{answerIn, usedFor, answerOutcome};
-ghost use Rattle.containment.specs.Steps.{Query, ViewCounts};
+ghost use Rattle.containment.specs.Answer.{answerIn, answerBy};
+ghost use Rattle.containment.specs.Steps.{Query, ViewCounts, wholeOrChosen};
 use crate::choose;
 use crate::mapping;
 use matching::join;
@@ -27,7 +27,7 @@ use packed::reply::Refusal;
 use packed::reply::Reply;
 
 // Answers from the pairs of a book that stand in the workspace, by the views in the set.
-fn answer_from(
+fn answer_pairs(
     q: Pattern,
     table: &[u32; 512],
     set: u32,
@@ -74,15 +74,24 @@ fn answer_book(
         return Reply::Refused(Refusal::TooManyPairs(4));
     }
     if choose::is_cover(table, set, k, q.edges) {
-        return answer_from(q, table, set, book, counts, k, d, out, work);
+        return answer_pairs(q, table, set, book, counts, k, d, out, work);
     }
     let e = choose::lowest_unmatched(table, set, k, q.edges) as u32;
     Reply::Refused(Refusal::NotContained(e))
 }
 
-fn answer_for(q: Pattern, catalogue: &[u8], book: &[u8], out: &mut [u8], work: &mut [u32]) -> Reply
+// Answers by the whole set, or by the views chosen from it.
+fn answer_for(
+    q: Pattern,
+    catalogue: &[u8],
+    set: u32,
+    whole: bool,
+    book: &[u8],
+    out: &mut [u8],
+    work: &mut [u32],
+) -> Reply
     requires { ⌜ Query q × (length (now work) ≡ 16384) ⌝ }
-    ensures { λ r. ⌜ ((t : Query q) → Fulfils (judged (readCatalogue (now (catalogue .entry))) (λ cs. judged (readBook cs (now (book .entry))) (λ bs. answerIn (usedFor (t .content) cs) (t .content) cs bs (length (now (out .entry)))))) (replyTold r) (now (out .entry)) (now (out .exit))) ⌝ }
+    ensures { λ r. ⌜ ((t : Query q) → Fulfils (judged (readCatalogue (now (catalogue .entry))) (λ cs. judged (readBook cs (now (book .entry))) (λ bs. answerIn (wholeOrChosen whole set (t .content) cs) (t .content) cs bs (length (now (out .entry)))))) (replyTold r) (now (out .entry)) (now (out .exit))) ⌝ }
 {
     let CatalogueFile {
         verdict,
@@ -93,24 +102,26 @@ fn answer_for(q: Pattern, catalogue: &[u8], book: &[u8], out: &mut [u8], work: &
         return verdict;
     };
     let table = mapping::map_views(q, catalogue, views, work);
-    let set = choose::use_views(&table, choose::EVERY_VIEW, views, q.edges);
-    answer_book(q, &table, set, edges, views, book, out, work)
+    let used = choose::use_views(&table, set, whole, views, q.edges);
+    answer_book(q, &table, used, edges, views, book, out, work)
 }
 
 pub fn answer(
     question: &[u8],
     catalogue: &[u8],
+    set: u32,
+    whole: bool,
     book: &[u8],
     out: &mut [u8],
     work: &mut [u32],
 ) -> Reply
     requires { ⌜ length (now work) ≡ 16384 ⌝ }
-    ensures { λ r. ⌜ Fulfils (answerOutcome (now (question .entry)) (now (catalogue .entry)) (now (book .entry)) (length (now (out .entry)))) (replyTold r) (now (out .entry)) (now (out .exit)) ⌝ }
+    ensures { λ r. ⌜ Fulfils (answerBy (wholeOrChosen whole set) (now (question .entry)) (now (catalogue .entry)) (now (book .entry)) (length (now (out .entry)))) (replyTold r) (now (out .entry)) (now (out .exit)) ⌝ }
 {
     let f = accept::accept_pattern(question, work);
     let verdict = f.verdict;
     let Reply::Done(_) = verdict else {
         return verdict;
     };
-    answer_for(f.pattern, catalogue, book, out, work)
+    answer_for(f.pattern, catalogue, set, whole, book, out, work)
 }

@@ -1,6 +1,7 @@
 // Coverage and the chosen views, from the masks of a quote. A set says which views may be used.
 ghost use mathlib.Core.Path.{_≡_};
 ghost use Prim.Native.Nat.{_^_, _<_, _≤_};
+ghost use Rattle.packed.specs.Format.{pick};
 ghost use Rattle.matching.specs.Simulation.{bit};
 ghost use Rattle.containment.specs.Choice.{matchedIn, coversIn, lowestUnmatched, addsTo, taken, kept, chosen, used};
 
@@ -131,11 +132,14 @@ pub fn choose(mapping: &[u32; 512], set: u32, k: usize, m: usize) -> u32
     0
 }
 
-// The views that answer a query: those chosen from the set, or the whole set where it doesn't cover the query.
-pub fn use_views(mapping: &[u32; 512], set: u32, k: usize, m: usize) -> u32
+// The views that answer a query: the whole set where that is asked for, or where it doesn't cover the query; else those chosen from it.
+pub fn use_views(mapping: &[u32; 512], set: u32, whole: bool, k: usize, m: usize) -> u32
     requires { ⌜ (m ≤ 32) × (k ≤ 16) ⌝ }
-    ensures { λ r. ⌜ r ≡ used (now (mapping .entry)) set m k ⌝ }
+    ensures { λ r. ⌜ r ≡ pick whole set (used (now (mapping .entry)) set m k) ⌝ }
 {
+    if whole {
+        return set;
+    }
     if is_cover(mapping, set, k, m) {
         return choose(mapping, set, k, m);
     }

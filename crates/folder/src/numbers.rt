@@ -1,4 +1,5 @@
-// Text files of decimal numbers, one a line, read a byte at a time: a file of any length is read to its end, and its lines are counted.
+// Text files of decimal numbers, read a byte at a time: a file of any length is read to its end, and its lines are counted. A list has one number
+// a line. In a set spaces and line ends stand between the numbers, which are below 16.
 
 // A number is at most this.
 const MOST: u64 = 0xffff_ffff;
@@ -6,28 +7,34 @@ const MOST: u64 = 0xffff_ffff;
 // So many parts of a file at most: no file has as many.
 const PARTS: u64 = 0xffff_ffff_ffff_ffff;
 
-// A text so far: how many lines it has, whether all are numbers, and the line that has begun.
+// A text so far: how many lines it has, whether they are as they should be, the numbers of a set, and the number that has begun.
 pub struct Text {
     pub count: usize,
     pub good: bool,
+    pub set: u16,
+    is_list: bool,
     begun: bool,
     value: u64,
 }
 
-fn empty() -> Text {
+fn empty(is_list: bool) -> Text {
     Text {
         count: 0,
         good: true,
+        set: 0,
+        is_list,
         begun: false,
         value: 0,
     }
 }
 
-// A line is no number: it is the last that counts.
-fn bad(text: Text) -> Text {
+// A line has ended, good or not: a bad one is the last that counts.
+fn with_line(text: Text, good: bool) -> Text {
     Text {
         count: std::num::wrapping_add_usize(text.count, 1),
-        good: false,
+        good,
+        set: text.set,
+        is_list: text.is_list,
         begun: false,
         value: 0,
     }
@@ -42,6 +49,8 @@ fn with_digit(text: Text, digit: u8) -> Text {
     Text {
         count: text.count,
         good: text.good,
+        set: text.set,
+        is_list: text.is_list,
         begun: true,
         value: value * 10 + digit as u64,
     }
@@ -53,22 +62,53 @@ fn put(out: &mut [u32], i: usize, x: u32) {
     }
 }
 
-// The line is at its end. Its number goes to its place, where there is one.
+// A line of a list is at its end. Its number goes to its place, where there is one.
 fn end_line(text: Text, out: &mut [u32]) -> Text {
     let value = text.value;
     if MOST < value {
-        return bad(text);
+        return with_line(text, false);
     }
     if !text.begun {
-        return bad(text);
+        return with_line(text, false);
     }
     put(out, text.count, value as u32);
+    with_line(text, true)
+}
+
+// A number of a set is at its end, if one has begun.
+fn end_member(text: Text) -> Text {
+    let value = text.value;
+    if !text.begun {
+        return text;
+    }
+    if 15 < value {
+        return with_line(text, false);
+    }
     Text {
-        count: std::num::wrapping_add_usize(text.count, 1),
+        count: text.count,
         good: true,
+        set: text.set | 1 << value as u16,
+        is_list: false,
         begun: false,
         value: 0,
     }
+}
+
+// The next byte of a set.
+fn next_in_set(text: Text, byte: u8) -> Text {
+    let ended = end_member(text);
+    if !ended.good | (byte == b' ') {
+        return ended;
+    }
+    with_line(ended, byte == b'\n')
+}
+
+// The next byte of a list.
+fn next_in_list(text: Text, byte: u8, out: &mut [u32]) -> Text {
+    if byte == b'\n' {
+        return end_line(text, out);
+    }
+    with_line(text, false)
 }
 
 fn next(text: Text, byte: u8, out: &mut [u32]) -> Text {
@@ -77,8 +117,13 @@ fn next(text: Text, byte: u8, out: &mut [u32]) -> Text {
     }
     match byte {
         b'0'..=b'9' => with_digit(text, byte - b'0'),
-        b'\n' => end_line(text, out),
-        _ => bad(text),
+        _ => {
+            if text.is_list {
+                next_in_list(text, byte, out)
+            } else {
+                next_in_set(text, byte)
+            }
+        }
     }
 }
 
@@ -95,7 +140,7 @@ fn take(bytes: &[u8], before: Text, out: &mut [u32]) -> Text {
 // The last line may lack its line end.
 fn end(text: Text, out: &mut [u32]) -> Text {
     if text.begun {
-        return end_line(text, out);
+        return next(text, b'\n', out);
     }
     text
 }
@@ -115,8 +160,8 @@ fn take_part(fd: i32, before: Text, out: &mut [u32]) -> Part {
     }
 }
 
-fn take_parts(fd: i32, out: &mut [u32]) -> Text {
-    let mut text = empty();
+fn take_parts(fd: i32, is_list: bool, out: &mut [u32]) -> Text {
+    let mut text = empty(is_list);
     let mut left = PARTS;
     while 0 < left {
         let part = take_part(fd, text, out);
@@ -126,14 +171,24 @@ fn take_parts(fd: i32, out: &mut [u32]) -> Text {
     end(text, out)
 }
 
-// The numbers of a file, as far as the output goes, and how many lines it has; or the line that is no number. A file that can't be opened has
-// none.
-pub fn read(name: &[u8], out: &mut [u32]) -> Text {
+fn read(name: &[u8], is_list: bool, out: &mut [u32]) -> Text {
     let fd = os::open_read(name);
     if fd < 0 {
-        return empty();
+        return empty(is_list);
     }
-    let text = take_parts(fd, out);
+    let text = take_parts(fd, is_list, out);
     libc::close(fd);
     text
+}
+
+// The numbers of a list, as far as the output goes, and how many lines it has; or the line that is no number. A file that can't be opened has
+// none.
+pub fn read_list(name: &[u8], out: &mut [u32]) -> Text {
+    read(name, true, out)
+}
+
+// The numbers of a set, as bits; or the line that has something else. A file that can't be opened has none.
+pub fn read_set(name: &[u8]) -> Text {
+    let mut none = [0u32; 1];
+    read(name, false, &mut none)
 }

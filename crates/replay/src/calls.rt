@@ -40,6 +40,8 @@ pub const SHOW_UNCOVERED: usize = 14;
 
 pub const CHEAPEST: usize = 15;
 
+pub const ANSWER_FROM: usize = 16;
+
 // The search that is made apart.
 pub const PLAIN: usize = 31;
 
@@ -328,6 +330,7 @@ fn make(
     catalogue: &[u8],
     record: &[u8],
     book: &[u8],
+    set: u16,
     out: &mut [u8],
     work: &mut [u32],
 ) -> Outcome {
@@ -341,6 +344,10 @@ fn make(
     }
     if k == ANSWER {
         let r = yuthaqim::yuthaqim_answer(question, catalogue, book, out, work);
+        return wrote_bytes(r.number, r.value, out);
+    }
+    if k == ANSWER_FROM {
+        let r = yuthaqim::yuthaqim_answer_from(question, catalogue, set, book, out, work);
         return wrote_bytes(r.number, r.value, out);
     }
     quote(question, catalogue, work)
@@ -378,7 +385,8 @@ fn on_parts(
     if k == SHOW_UNCOVERED {
         return show(a, b, registers, out, work);
     }
-    make(k, a, b, c, d, &mut out[0..n], work)
+    let set = (cells::number(registers, cells::SET) % 0x1_0000) as u16;
+    make(k, a, b, c, d, set, &mut out[0..n], work)
 }
 
 // The end of a part and its start, both within the memory.

@@ -46,6 +46,9 @@ pub const STEP: usize = 23;
 
 pub const GAP: usize = 24;
 
+// The set that a client answers from.
+pub const SET: usize = 25;
+
 // So many registers can be set by an instruction.
 pub const REGISTERS: usize = 32;
 

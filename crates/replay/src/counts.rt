@@ -31,8 +31,9 @@ fn is_listing(k: usize, o: Outcome, out: &[u8]) -> bool {
         return o.value == 1;
     }
     let count = (slices::byte_at(out, 0) != 0) | (3 < slices::byte_at(out, 1));
-    let sheet = (k == calls::SEARCH) | (k == calls::ANSWER) | (k == calls::PLAIN);
-    sheet & count
+    let answer = (k == calls::ANSWER) | (k == calls::ANSWER_FROM);
+    let search = (k == calls::SEARCH) | (k == calls::PLAIN);
+    (answer | search) & count
 }
 
 // A cell of a call's block, in its group and of all groups.

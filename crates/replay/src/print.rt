@@ -146,6 +146,7 @@ fn say_call(k: usize) {
         13 => say(b"  answer: "),
         14 => say(b"  show_uncovered: "),
         15 => say(b"  cheapest: "),
+        16 => say(b"  answer_from: "),
         _ => say(b"  plain search: "),
     }
 }

@@ -6,7 +6,7 @@ ghost use lib.ListN.{length};
 ghost use Rattle.packed.specs.Calls.{OneOutput, Settled, withWorkspace, patternRead, catalogueRead, recordRead, sheetRead, bookRead, patternWritten, catalogueWritten, recordWritten, sheetWritten, bookWritten};
 ghost use Rattle.matching.specs.Search.{searchOutcome, makeBookOutcome};
 ghost use Rattle.containment.specs.Quote.{quoteOutcome, blank};
-ghost use Rattle.containment.specs.Answer.{answerOutcome};
+ghost use Rattle.containment.specs.Answer.{answerOutcome, answerFrom};
 ghost use Rattle.containment.specs.Show.{showOutcome};
 ghost use Rattle.containment.specs.Cheapest.{cheapestOutcome};
 ghost use Rattle.yuthaqim.specs.Numbered.{numberedReplyTold, numberedQuoteTold, numberedShownTold, numberedCheapestTold, QuoteZeros, ShownZeros, CheapestZeros};
@@ -189,6 +189,21 @@ pub extern "C" fn yuthaqim_answer(
     ensures { λ r. ⌜ OneOutput (answerOutcome (now (question .entry)) (now (catalogue .entry)) (now (book .entry))) (numberedReplyTold r) (now (out .entry)) (now (out .exit)) (now (work .entry)) (now (work .exit)) ⌝ }
 {
     numbered::reply(containment::answer(question, catalogue, book, out, work))
+}
+
+// Answers a question from a book by a set of extracts: writes the question's sheet.
+#[no_mangle]
+pub extern "C" fn yuthaqim_answer_from(
+    question: &[u8],
+    catalogue: &[u8],
+    set: u16,
+    book: &[u8],
+    out: &mut [u8],
+    work: &mut [u32],
+) -> NumberedReply
+    ensures { λ r. ⌜ OneOutput (answerFrom (now (question .entry)) (now (catalogue .entry)) set (now (book .entry))) (numberedReplyTold r) (now (out .entry)) (now (out .exit)) (now (work .entry)) (now (work .exit)) ⌝ }
+{
+    numbered::reply(containment::answer_from(question, catalogue, set, book, out, work))
 }
 
 // Shows why a question is not covered: writes it as a record, and the same without its lowest unmatched link.

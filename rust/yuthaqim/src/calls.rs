@@ -3,18 +3,23 @@
 use crate::{Cheapest, Priced, Quote, Quoted, Refusal, Replied, Showed};
 
 /// Each call with its function in the archive, the items of its inputs and of its outputs, what that function answers and
-/// what the call gives. Every parameter of a function in the archive is a slice, as its pointer and its length.
+/// what the call gives. A parameter of a function in the archive is a slice, as its pointer and its length; a number among
+/// the inputs stands in brackets.
 macro_rules! calls {
     ($(
         $(#[$doc:meta])*
-        $name:ident = $symbol:ident($($input:ident: $read:ty),*; $($output:ident: $written:ty),*) -> $answer:ty, $given:ty;
+        $name:ident = $symbol:ident(
+            $($input:ident: $read:ty),* $([$number:ident: $plain:ty] $($later:ident: $later_read:ty),*)?;
+            $($output:ident: $written:ty),*
+        ) -> $answer:ty, $given:ty;
     )*) => {
         $(
             $(#[$doc])*
             pub fn $name(
-                $($input: &[$read],)* $($output: &mut [$written],)* work: &mut [u32],
+                $($input: &[$read],)* $($number: $plain, $($later: &[$later_read],)*)?
+                $($output: &mut [$written],)* work: &mut [u32],
             ) -> Result<$given, Refusal> {
-                raw::$name($($input,)* $($output,)* work).result()
+                raw::$name($($input,)* $($number, $($later,)*)? $($output,)* work).result()
             }
         )*
 
@@ -25,17 +30,19 @@ macro_rules! calls {
             $(
                 $(#[$doc])*
                 pub fn $name(
-                    $($input: &[$read],)* $($output: &mut [$written],)* work: &mut [u32],
+                    $($input: &[$read],)* $($number: $plain, $($later: &[$later_read],)*)?
+                    $($output: &mut [$written],)* work: &mut [u32],
                 ) -> $answer {
                     extern "C" {
                         fn $symbol(
-                            $(_: *const $read, _: usize,)* $(_: *mut $written, _: usize,)* _: *mut u32, _: usize,
+                            $(_: *const $read, _: usize,)* $(_: $plain, $(_: *const $later_read, _: usize,)*)?
+                            $(_: *mut $written, _: usize,)* _: *mut u32, _: usize,
                         ) -> $answer;
                     }
                     // SAFETY: the types are those of include/yuthaqim.h, and each pointer and length are a slice's own.
                     unsafe {
                         $symbol(
-                            $($input.as_ptr(), $input.len(),)*
+                            $($input.as_ptr(), $input.len(),)* $($number, $($later.as_ptr(), $later.len(),)*)?
                             $($output.as_mut_ptr(), $output.len(),)*
                             work.as_mut_ptr(), work.len(),
                         )
@@ -76,6 +83,9 @@ calls! {
     /// Answers a covered question from a book: writes the question's sheet, the one that searching the record gives if
     /// the book was made from a record.
     answer = yuthaqim_answer(question: u8, catalogue: u8, book: u8; out: u8) -> Replied, usize;
+    /// Answers a question from a book by a set of extracts that the client names, the bit worth 2^a for extract a; bits that
+    /// name none are ignored. If the book was made from a record, every set that covers the question gives the same.
+    answer_from = yuthaqim_answer_from(question: u8, catalogue: u8 [set: u16] book: u8; out: u8) -> Replied, usize;
     /// Shows why a question is uncovered: writes the question read as a record, and the same without its lowest
     /// unmatched link. Every extract lists the same on both, the question doesn't.
     show_uncovered = yuthaqim_show_uncovered(question: u8, catalogue: u8; first: u8, second: u8) -> Showed, (usize, usize);

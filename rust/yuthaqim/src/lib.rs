@@ -26,11 +26,17 @@
 //! let record = &record[..length];
 //! let mut book = [0; yuthaqim::BOOK_BYTES];
 //! let length = yuthaqim::make_book(&catalogue, record, &mut book, &mut work)?;
+//! let book = &book[..length];
 //! let mut sheet = [0; yuthaqim::SHEET_BYTES];
-//! let length = yuthaqim::answer(&question, &catalogue, &book[..length], &mut sheet, &mut work)?;
+//! let length = yuthaqim::answer(&question, &catalogue, book, &mut sheet, &mut work)?;
 //! let mut content = [0; yuthaqim::SHEET_WORDS];
 //! let length = yuthaqim::read_sheet(&question, &sheet[..length], &mut content, &mut work)?;
 //! assert_eq!(content[..length], [1, 0, 1, 1, 0, 1, 1, 1, 2, 1, 1, 2]);
+//!
+//! // Any set that covers the question answers it: here the cheapest.
+//! let mut same = [0; yuthaqim::SHEET_BYTES];
+//! let length = yuthaqim::answer_from(&question, &catalogue, cheapest.set, book, &mut same, &mut work)?;
+//! assert_eq!(same[..length], sheet[..length]);
 //! # Ok(())
 //! # }
 //! ```
@@ -103,7 +109,7 @@ pub struct Refusal {
     /// 1 to 15.
     pub number: usize,
     /// Of 1 to 10 the file at fault (1 a pattern, 2 a catalogue, 3 a record, 4 a book or sheet), of [`UNCOVERED`] the
-    /// lowest unmatched link, of [`NO_FIT`] how much the output needs, of [`CHARGES`] how many charges there were, of the
+    /// lowest link that is unmatched, by the set that was named where one was, of [`NO_FIT`] how much the output needs, of [`CHARGES`] how many charges there were, of the
     /// others zero.
     pub detail: usize,
 }

@@ -2,7 +2,7 @@
 
 use crate::files::*;
 use crate::matching::fields;
-use crate::quoting::{quote, Quote};
+use crate::quoting::{lowest_unmatched, quote};
 use std::collections::BTreeSet;
 
 /// The number of the refusal of an answer to an uncovered question.
@@ -11,12 +11,12 @@ pub const UNCOVERED: u32 = 11;
 /// For each question link the pairs of a choice.
 type Choice = Vec<BTreeSet<(u32, u32)>>;
 
-/// For each question link the pairs listed under those links of chosen extracts that match it.
-fn candidates(quote: &Quote, book: &Book) -> Choice {
+/// For each question link the pairs listed under those links of the set's extracts that match it.
+fn candidates(mapping: &[Vec<(usize, usize)>], set: &[usize], book: &Book) -> Choice {
     let mut candidates = Choice::new();
-    for matches in &quote.mapping {
-        let chosen = matches.iter().filter(|(a, _)| quote.chosen.contains(a));
-        candidates.push(chosen.flat_map(|&(a, b)| &book[a][b]).copied().collect());
+    for matches in mapping {
+        let named = matches.iter().filter(|(a, _)| set.contains(a));
+        candidates.push(named.flat_map(|&(a, b)| &book[a][b]).copied().collect());
     }
     candidates
 }
@@ -52,6 +52,19 @@ fn sheet(choice: Choice) -> Sheet {
     choice.into_iter().map(|pairs| pairs.into_iter().collect()).collect()
 }
 
+/// The answer from the whole of a set that covers: 12 if it doesn't fit.
+fn written(
+    question: &[u8],
+    mapping: &[Vec<(usize, usize)>],
+    set: &[usize],
+    book: &Book,
+    room: usize,
+    work_words: usize,
+) -> Result<Vec<u8>, Refusal> {
+    let choice = greatest_choice(&judge_pattern(question)?, candidates(mapping, set, book));
+    write_sheet(question, &fields(&sheet(choice)), room, work_words)
+}
+
 /// 14, the question, the catalogue, the book, then 10, 11 and 12.
 pub fn answer(
     question: &[u8],
@@ -65,8 +78,27 @@ pub fn answer(
     if let Some(lowest) = quote.lowest_unmatched {
         return refused(UNCOVERED, lowest);
     }
-    let choice = greatest_choice(&judge_pattern(question)?, candidates(&quote, &book));
-    write_sheet(question, &fields(&sheet(choice)), room, work_words)
+    written(question, &quote.mapping, &quote.chosen, &book, room, work_words)
+}
+
+/// The same from a set that the client names: the bit worth 2^j for extract j, and bits that name none are ignored. 11 has
+/// the lowest link that this set leaves unmatched.
+pub fn answer_from(
+    question: &[u8],
+    catalogue: &[u8],
+    set: u16,
+    book: &[u8],
+    room: usize,
+    work_words: usize,
+) -> Result<Vec<u8>, Refusal> {
+    let mapping = quote(question, catalogue, work_words)?.mapping;
+    let catalogue = judge_catalogue(catalogue)?;
+    let book = judge_book(&catalogue, book)?;
+    let set: Vec<usize> = (0..catalogue.len()).filter(|j| set >> j & 1 == 1).collect();
+    if let Some(lowest) = lowest_unmatched(&mapping, &set) {
+        return refused(UNCOVERED, lowest);
+    }
+    written(question, &mapping, &set, &book, room, work_words)
 }
 
 #[cfg(test)]
@@ -112,6 +144,35 @@ mod tests {
         assert_eq!(answered(&book(&sheets)), [0, 0, 0, 0]);
     }
 
+    fn answered_from(set: u16, book: &[u8]) -> Vec<u32> {
+        let sheet = answer_from(&D, &C, set, book, ROOM, WORK).unwrap();
+        read_sheet(&D, &sheet, ROOM, WORK).unwrap()
+    }
+
+    #[test]
+    fn the_client_may_choose() {
+        let k9 = write_record(&[3, 2, 1, 6, 8, 0, 1, 1, 2], ROOM, WORK).unwrap();
+        let made = make_book(&C, &k9, ROOM, WORK).unwrap();
+        for set in [6, 7, 0xffff, 0xfffe] {
+            assert_eq!(answer_from(&D, &C, set, &made, ROOM, WORK), search(&D, &k9, ROOM, WORK));
+        }
+        for (set, lowest) in [(0, 0), (0xfff8, 0), (1, 1), (2, 1), (3, 1), (4, 0), (5, 2)] {
+            assert_eq!(answer_from(&D, &C, set, &made, ROOM, WORK), refused(UNCOVERED, lowest));
+        }
+        // Where the book is of no record, extract 0 adds a slow run whose reading extract 1 lists.
+        let sheets = book(&[1, 0, 3, 1, 0, 1, 2, 1, 2, 3, 4, 1, 0, 1, 1, 1, 5]);
+        assert_eq!(answered_from(6, &sheets), [1, 0, 1, 1, 0, 1, 2, 1, 2, 3, 4, 1, 1, 5]);
+        assert_eq!(answered_from(7, &sheets), [2, 0, 1, 0, 3, 1, 0, 1, 2, 1, 2, 3, 4, 1, 1, 5]);
+    }
+
+    #[test]
+    fn an_uncovered_question_has_the_lowest_link_of_the_set() {
+        // Link 1 is unmatched by all, link 0 by none of the set.
+        assert_eq!(answer(&D, &SLOW, &[0; 4], ROOM, WORK), refused(UNCOVERED, 1));
+        assert_eq!(answer_from(&D, &SLOW, 1, &[0; 4], ROOM, WORK), refused(UNCOVERED, 1));
+        assert_eq!(answer_from(&D, &SLOW, 0, &[0; 4], ROOM, WORK), refused(UNCOVERED, 0));
+    }
+
     #[test]
     fn refusals_in_order() {
         let mut crowd = vec![8_192];
@@ -133,6 +194,7 @@ mod tests {
             (&D, &C, &[0; 10], WORK, NO_FIT, 7),
         ] {
             assert_eq!(answer(question, catalogue, book, 0, work), refused(number, detail));
+            assert_eq!(answer_from(question, catalogue, 0xffff, book, 0, work), refused(number, detail));
         }
         assert_eq!(answer(&D, &C, &[0; 10], 6, WORK), refused(NO_FIT, 7));
         assert_eq!(answer(&D, &C, &[0; 10], 7, WORK), Ok(vec![0; 7]));

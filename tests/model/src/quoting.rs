@@ -53,7 +53,12 @@ fn is_matched(matches: &[(usize, usize)], set: &[usize]) -> bool {
 
 /// Whether the extracts of the set match every link.
 pub fn covers(mapping: &[Vec<(usize, usize)>], set: &[usize]) -> bool {
-    mapping.iter().all(|matches| is_matched(matches, set))
+    lowest_unmatched(mapping, set).is_none()
+}
+
+/// The lowest link that the extracts of the set leave unmatched.
+pub fn lowest_unmatched(mapping: &[Vec<(usize, usize)>], set: &[usize]) -> Option<usize> {
+    mapping.iter().position(|matches| !is_matched(matches, set))
 }
 
 /// The chosen set of a covered question: taken going up, then dropped going up again.

@@ -4,7 +4,7 @@
 mod counts;
 mod outcome;
 
-use crate::answering::answer;
+use crate::answering::{answer, answer_from};
 use crate::cheapest::cheapest;
 use crate::files::*;
 use crate::matching::{make_book, search};
@@ -34,6 +34,7 @@ const MOST: usize = 21;
 const FIRST: usize = 22;
 const STEP: usize = 23;
 const GAP: usize = 24;
+pub const SET: usize = 25;
 
 /// The instructions.
 const BYTES: usize = 32;
@@ -73,6 +74,7 @@ pub const QUOTE: usize = 12;
 pub const ANSWER: usize = 13;
 pub const SHOW_UNCOVERED: usize = 14;
 pub const CHEAPEST: usize = 15;
+pub const ANSWER_FROM: usize = 16;
 /// The search that the program makes apart from the library's. To the model it is the same.
 pub const PLAIN: usize = 31;
 
@@ -80,7 +82,7 @@ pub const PLAIN: usize = 31;
 const NUMBERS: usize = 32;
 
 /// The names of the library's calls, in the order of these numbers.
-pub const CALLS: [&str; 16] = [
+pub const CALLS: [&str; 17] = [
     "read_pattern",
     "read_catalogue",
     "read_record",
@@ -97,6 +99,7 @@ pub const CALLS: [&str; 16] = [
     "answer",
     "show_uncovered",
     "cheapest",
+    "answer_from",
 ];
 
 /// The name of a call, the plain search too.
@@ -346,6 +349,10 @@ impl Script {
             QUOTE => Outcome::quoted(quote(question, catalogue, work)),
             ANSWER => Outcome::bytes(answer(question, catalogue, book, room, work)),
             CHEAPEST => Outcome::priced(cheapest(question, catalogue, content, work)),
+            ANSWER_FROM => {
+                let set = self.registers[SET] as u16;
+                Outcome::bytes(answer_from(question, catalogue, set, book, room, work))
+            }
             _ => {
                 let second = self.registers[SECOND];
                 Outcome::shown(show(question, catalogue, room.min(200), second.min(200), work))

@@ -5,8 +5,10 @@ use crate::draw::{draw_size, Draw, Size};
 use crate::graphs::{draw_book, draw_catalogue, draw_charges, draw_pattern, draw_record, Kinds};
 use crate::layout::{content, file, of_book, of_catalogue, of_pattern, of_record};
 use crate::tally::Call;
-use model::files::{Catalogue, Pattern, WORK_WORDS};
-use model::{answering, files, matching};
+use model::cheapest::cheapest;
+use model::files::{Catalogue, Pattern, Refusal, WORK_WORDS};
+use model::{answering, files, matching, quoting};
+use std::fmt::Debug;
 use yuthaqim::{BOOK_BYTES, CATALOGUE_BYTES, PATTERN_BYTES, RECORD_BYTES};
 
 /// What is at hand for the calls.
@@ -57,6 +59,30 @@ impl Subject {
     }
 }
 
+/// A set to answer from: any, a cheapest one, or one with extracts beside it. A question that can't be read, or isn't
+/// covered, has any.
+fn draw_set(draw: &mut Draw, question: &[u8], catalogue: &[u8]) -> u16 {
+    let any = draw.word() as u16;
+    let extracts = files::judge_catalogue(catalogue).map_or(0, |extracts| extracts.len());
+    let charges: Vec<u32> = (0..extracts).map(|_| draw.word() >> 8).collect();
+    let Ok(cheapest) = cheapest(question, catalogue, &charges, WORK_WORDS) else {
+        return any;
+    };
+    let set: u16 = cheapest.set.iter().map(|a| 1 << a).sum();
+    match draw.below(4) {
+        0 => any,
+        1 => set,
+        _ => set | any,
+    }
+}
+
+/// Whether the extracts of a set cover a question.
+fn covers(question: &[u8], catalogue: &[u8], set: u16) -> bool {
+    let mapping = quoting::quote(question, catalogue, WORK_WORDS).unwrap().mapping;
+    let set: Vec<usize> = (0..16).filter(|a| set >> a & 1 == 1).collect();
+    quoting::covers(&mapping, &set)
+}
+
 impl Test {
     pub fn new(shown: bool) -> Test {
         Test { bytes: Desk::new(), words: Desk::new(), notes: Notes { tally: Default::default(), shown } }
@@ -75,7 +101,8 @@ impl Test {
             85..=87 => self.quote(draw),
             88..=89 => self.show(draw),
             90..=92 => self.cheapest(draw),
-            93..=95 => self.answer(draw),
+            93..=94 => self.answer(draw),
+            95..=96 => self.answer_from(draw),
             _ => self.answer_and_search(draw),
         }
     }
@@ -215,6 +242,43 @@ impl Test {
         Ok(())
     }
 
+    /// From a book that belongs to no record, by any set: it gives what its own candidates give.
+    fn answer_from(&mut self, draw: &mut Draw) -> Result<(), Difference> {
+        let covered = !draw.one_in(8);
+        let subject = draw_subject(draw, covered);
+        let lent = Lent::draw(draw);
+        let question = subject.question(draw, 16);
+        let catalogue = subject.catalogue(draw, 16);
+        let set = draw_set(draw, &question, &catalogue);
+        let sheets = draw_book(draw, subject.size, &subject.catalogue);
+        let book = file(draw, of_book(&sheets), 8, BOOK_BYTES);
+        let model = |room, work| answering::answer_from(&question, &catalogue, set, &book, room, work);
+        let (lent, _) = fitted(draw, lent, model);
+        let from = self.from_set(draw, lent, &question, &catalogue, set, &book)?;
+        if from.is_ok() && from != answering::answer(&question, &catalogue, &book, lent.room, lent.work) {
+            self.notes.tally.apart += 1;
+        }
+        Ok(())
+    }
+
+    fn from_set(
+        &mut self,
+        draw: &mut Draw,
+        lent: Lent,
+        question: &[u8],
+        catalogue: &[u8],
+        set: u16,
+        book: &[u8],
+    ) -> Result<Result<Vec<u8>, Refusal>, Difference> {
+        let expected = answering::answer_from(question, catalogue, set, book, lent.room, lent.work);
+        let inputs: [(_, &dyn Debug); 4] =
+            [("question", &question), ("catalogue", &catalogue), ("set", &set), ("book", &book)];
+        let asked = Asked { call: Call::AnswerFrom, inputs: &inputs, lent };
+        let library =
+            |out: &mut [u8], work: &mut [u32]| yuthaqim::answer_from(question, catalogue, set, book, out, work);
+        Ok(self.bytes.reply(&mut self.notes, draw, asked, expected, library)?.outcome)
+    }
+
     /// From the book of a record, and the record searched: where the question is covered, both are the same, down to the
     /// refusal.
     fn answer_and_search(&mut self, draw: &mut Draw) -> Result<(), Difference> {
@@ -236,6 +300,14 @@ impl Test {
             return Err(format!("answer: {:?}\nsearch: {:?}\n", answered.outcome, searched.outcome));
         }
         self.notes.tally.answered += 1;
+        let set = draw_set(draw, &question, &catalogue);
+        let from = self.from_set(draw, lent, &question, &catalogue, set, &book)?;
+        if covers(&question, &catalogue, set) {
+            if from != searched.outcome {
+                return Err(format!("from {set:#x}: {from:?}\nsearch: {:?}\n", searched.outcome));
+            }
+            self.notes.tally.from_sets += 1;
+        }
         if answered.outcome.is_ok_and(|sheet| sheet.iter().any(|&byte| byte != 0)) {
             self.notes.tally.with_pairs += 1;
         }

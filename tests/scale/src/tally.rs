@@ -22,6 +22,7 @@ pub enum Call {
     Answer,
     ShowUncovered,
     Cheapest,
+    AnswerFrom,
 }
 
 impl Call {
@@ -44,6 +45,10 @@ pub struct Tally {
     pub answered: u64,
     /// Those of them whose sheet has pairs.
     pub with_pairs: u64,
+    /// Answers from a set that covers, of a book of a record, and the record searched.
+    pub from_sets: u64,
+    /// Answers from a set that covers, of a book of no record, that are not what the chosen set gives.
+    pub apart: u64,
     /// Cheapest sets, and those of them that an ordinary quote doesn't choose.
     pub cheapest: u64,
     pub not_chosen: u64,
@@ -70,11 +75,13 @@ impl fmt::Display for Tally {
             line(f, name, counts)?;
         }
         line(f, "all", &std::array::from_fn(|number| self.counts.iter().map(|counts| counts[number]).sum()))?;
-        let Tally { answered, with_pairs, cheapest, not_chosen, .. } = self;
+        let Tally { answered, with_pairs, from_sets, apart, cheapest, not_chosen, .. } = self;
         writeln!(
             f,
             "{answered} covered questions answered as the record is searched, {with_pairs} of them with pairs"
         )?;
+        writeln!(f, "{from_sets} of them also by a set drawn apart that covers")?;
+        writeln!(f, "{apart} answers from books of no record that are not those of the chosen set")?;
         writeln!(f, "{cheapest} cheapest sets, {not_chosen} of them not the chosen one")
     }
 }

@@ -5,12 +5,12 @@ use super::searches::{lay_record, places};
 use super::*;
 use crate::drawing::*;
 use crate::files::*;
-use crate::quoting::quote;
+use crate::quoting::{quote, Quote};
 
 /// The most items of a question, whether question and catalogue are as large as can be, the most items of a record; how
 /// many questions, how many of them have a record, and how many a book of no record.
 const GROUPS: [(u32, bool, u32, u32, u32, u32); 9] = [
-    (2, false, 4, 45, 45, 0),
+    (2, false, 4, 40, 40, 0),
     (4, false, 16, 50, 50, 50),
     (4, false, 1_024, 30, 30, 30),
     (4, false, 4_096, 20, 20, 20),
@@ -43,8 +43,12 @@ impl Files {
         script.place(QUESTION_PART, start, start + self.question.len());
     }
 
+    fn quote(&self) -> Quote {
+        quote(&self.question, &self.catalogue, WORK_WORDS).unwrap()
+    }
+
     fn is_covered(&self) -> bool {
-        quote(&self.question, &self.catalogue, WORK_WORDS).unwrap().covered
+        self.quote().covered
     }
 }
 
@@ -72,7 +76,27 @@ fn answers(script: &mut Script, rule: &mut Rule, files: &Files, items: u32, kind
         script.hold();
         script.round(SEARCH);
         script.same();
+        script.set(SET, usize::from(covering(rule, files)));
+        script.round(ANSWER_FROM);
+        script.same();
     }
+}
+
+/// A set that covers: the chosen one and any others, or all.
+fn covering(rule: &mut Rule, files: &Files) -> u16 {
+    let chosen: u16 = files.quote().chosen.iter().map(|a| 1 << a).sum();
+    match rule.draw(4) {
+        0 => 0xffff,
+        _ => chosen | rule.draw(65_536) as u16,
+    }
+}
+
+/// Answers from the chosen set and from any other.
+fn both_answers(script: &mut Script, rule: &mut Rule, files: &Files) {
+    script.round(ANSWER);
+    let set = if rule.draw(2) == 0 { covering(rule, files) } else { rule.draw(65_536) as u16 };
+    script.set(SET, set.into());
+    script.round(ANSWER_FROM);
 }
 
 /// A book that may belong to no record, sheet by sheet: a crowded one can't be written whole. One sheet in eight has no
@@ -122,9 +146,9 @@ fn case(script: &mut Script, rule: &mut Rule, size: u32, full: bool, record: Opt
     }
     if book {
         lay_book(script, rule, &files);
-        script.round(ANSWER);
+        both_answers(script, rule, &files);
         damage(script, rule, BOOK_PART, ROOM_MOST);
-        script.round(ANSWER);
+        both_answers(script, rule, &files);
     }
     for (part, room) in [(CATALOGUE_PART, CATALOGUE_ROOM), (QUESTION_PART, QUESTION_ROOM)] {
         damage(script, rule, part, room);
@@ -134,6 +158,7 @@ fn case(script: &mut Script, rule: &mut Rule, size: u32, full: bool, record: Opt
         quotes(script);
         if book {
             script.round(ANSWER);
+            script.once(ANSWER_FROM);
         }
     }
     files.is_covered()

@@ -5,7 +5,7 @@ use super::*;
 use crate::files::*;
 
 /// The calls that read files, and which.
-const CALLS: [(usize, &[usize]); 13] = [
+const CALLS: [(usize, &[usize]); 14] = [
     (READ_PATTERN, &[QUESTION_PART]),
     (READ_CATALOGUE, &[CATALOGUE_PART]),
     (READ_RECORD, &[RECORD_PART]),
@@ -19,6 +19,7 @@ const CALLS: [(usize, &[usize]); 13] = [
     (ANSWER, &[QUESTION_PART, CATALOGUE_PART, BOOK_PART]),
     (SHOW_UNCOVERED, &[QUESTION_PART, CATALOGUE_PART]),
     (CHEAPEST, &[QUESTION_PART, CATALOGUE_PART]),
+    (ANSWER_FROM, &[QUESTION_PART, CATALOGUE_PART, BOOK_PART]),
 ];
 
 /// A file for each refusal that falls to it.
@@ -166,6 +167,7 @@ fn lay_content(script: &mut Script, call: usize) {
 }
 
 pub fn write(script: &mut Script) {
+    script.set(SET, 0xffff);
     for (call, parts) in CALLS {
         let good = small(call);
         good.lay_all(script);
@@ -191,7 +193,7 @@ pub fn write(script: &mut Script) {
     good.lay_all(script);
     script.content(&[u32::MAX]);
     for (call, parts) in CALLS {
-        if [SEARCH, MAKE_BOOK, QUOTE, ANSWER, CHEAPEST].contains(&call) {
+        if [SEARCH, MAKE_BOOK, QUOTE, ANSWER, CHEAPEST, ANSWER_FROM].contains(&call) {
             for &part in parts {
                 sweep(script, call, part, if part == BOOK_PART { 101 } else { 1 });
             }

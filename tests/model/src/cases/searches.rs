@@ -7,7 +7,7 @@ use crate::files::*;
 
 /// How many items at most, and how many searches and records at least.
 const SIZES: [(u32, usize, usize); 7] =
-    [(0, 33, 4), (4, 240, 28), (16, 220, 28), (64, 200, 24), (256, 150, 16), (1_024, 92, 12), (4_096, 116, 16)];
+    [(0, 33, 4), (4, 180, 22), (16, 170, 22), (64, 160, 20), (256, 130, 14), (1_024, 92, 12), (4_096, 116, 16)];
 
 /// Where the extracts of a catalogue stand in its file.
 pub fn places(extracts: &[Vec<u8>]) -> Vec<(usize, usize)> {

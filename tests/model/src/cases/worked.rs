@@ -130,6 +130,28 @@ fn beside_plain(script: &mut Script, name: &str) {
     script.same();
 }
 
+/// An answer from a set.
+fn answered_from(script: &mut Script, name: &str, set: usize) {
+    script.set(SET, set);
+    say(script, &format!("{name}, answer from {set}"), ANSWER_FROM);
+}
+
+/// D by C on K9: every set that covers answers as the search, bits that name no extract are ignored, and the others leave
+/// a link unmatched. From a book of no record two sets that cover give different answers.
+fn chosen_by_the_client(script: &mut Script, name: &str) {
+    for set in 0..8 {
+        answered_from(script, name, set);
+    }
+    for set in [0xffff, 0xfffe, 0xfff8] {
+        answered_from(script, name, set);
+    }
+    script.content(&[1, 0, 3, 1, 0, 1, 2, 1, 2, 3, 4, 1, 0, 1, 1, 1, 5]);
+    script.once(WRITE_BOOK);
+    keep_as(script, BOOK_PART);
+    answered_from(script, "a book of no record", 6);
+    answered_from(script, "a book of no record", 7);
+}
+
 /// The book of a record, the answer from it, and the search.
 fn answered(script: &mut Script, name: &str) {
     say(script, &format!("{name}, make_book"), MAKE_BOOK);
@@ -160,6 +182,7 @@ fn crowd(script: &mut Script, name: &str, other: u32) {
     script.once(WRITE_SHEET);
     script.keep(BOOK_PART);
     say(script, &format!("{name}, answer"), ANSWER);
+    answered_from(script, name, 2);
     say(script, &format!("{name}, read"), READ_BOOK);
     if script.is_accepted() {
         say(script, &format!("{name}, write"), WRITE_BOOK);
@@ -191,11 +214,14 @@ pub fn write(script: &mut Script) {
     script.bytes(CATALOGUE_PART, &C);
     script.bytes(RECORD_PART, &k9);
     answered(script, "K9: D by C");
+    chosen_by_the_client(script, "K9: D by C");
     script.bytes(RECORD_PART, &k6);
     answered(script, "K6: D by C");
     script.bytes(CATALOGUE_PART, &SLOW);
     script.bytes(RECORD_PART, &k9);
     answered(script, "K9: D by extract 1 of C");
+    answered_from(script, "K9: D by extract 1 of C", 0);
+    answered_from(script, "K9: D by extract 1 of C", 1);
 
     script.bytes(QUESTION_PART, &pattern(&ring(8, 0)));
     script.bytes(CATALOGUE_PART, &catalogue(&[1, 1, 1, 0, 0, 0]));

@@ -1,6 +1,6 @@
 //! What a call answered, as the program has it.
 
-use super::{ANSWER, PLAIN, QUOTE, SEARCH};
+use super::{ANSWER, ANSWER_FROM, PLAIN, QUOTE, SEARCH};
 use crate::cheapest::Cheapest;
 use crate::files::Refusal;
 use crate::quoting::Quote;
@@ -139,7 +139,7 @@ impl Outcome {
     pub fn is_listing(&self, call: usize) -> bool {
         match &self.output {
             _ if self.number != 0 => false,
-            Output::Bytes(sheet) if [SEARCH, ANSWER, PLAIN].contains(&call) => sheet[0] != 0 || sheet[1] >= 4,
+            Output::Bytes(sheet) if [SEARCH, ANSWER, ANSWER_FROM, PLAIN].contains(&call) => sheet[0] != 0 || sheet[1] >= 4,
             _ => call == QUOTE && self.value == 1,
         }
     }

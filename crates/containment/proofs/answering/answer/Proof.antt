@@ -2,7 +2,8 @@
 use mathlib.Core.Path.{refl, _∙_}
 use lib.ListN.{length}
 use Rattle.packed.proofs.CallLaws.{body-refused, body-goes-on}
-use Rattle.containment.specs.Answer.{answerBy, answerOutcome}
+use Rattle.containment.specs.Answer.{answerBy}
+use Rattle.containment.specs.Steps.{wholeOrChosen}
 use Rattle.containment.proofs.AnswerLaws.{query-by}
 use Rattle.containment.proofs.AnsweringLaws.{answerOn}
 use borrow.Author.Needs.{needs}
@@ -22,13 +23,13 @@ same-length : tie.Need-same-length
 same-length c = search needs
 
 returns : tie.Need-returns
-unfolding answerOutcome answerBy
+unfolding answerBy
 returns c =
     let args = c .before .before .before .before .before .before .before .before .before .before .before .args in
     let accept-pattern = c .before .before .before .before .accept-pattern in
     let a = args in
     let e = c .enum-told2 .given .1 in
-    rw e (body-refused (answerOn (a .catalogue .now) (a .book .now) (length (a .out .now))) (a .out .now) refl (c .enum-told2 .given .0 .0) (rw e at (accept-pattern .ensures)))
+    rw e (body-refused (answerOn (wholeOrChosen (a .whole) (a .set)) (a .catalogue .now) (a .book .now) (length (a .out .now))) (a .out .now) refl (c .enum-told2 .given .0 .0) (rw e at (accept-pattern .ensures)))
 
 answer-for-requires : tie.Need-answer-for-requires
 answer-for-requires c κs =
@@ -46,7 +47,7 @@ same-length-3 : tie.Need-same-length-3
 same-length-3 c = search needs
 
 returns-2 : tie.Need-returns-2
-unfolding answerOutcome answerBy
+unfolding answerBy
 returns-2 c =
     let args = c .before .before .before .before .before .before .before .before .before .before .before .before .before .before .before .before .before .before .args in
     let accept-pattern = c .before .before .before .before .before .before .before .before .before .before .before .accept-pattern in
@@ -54,7 +55,7 @@ returns-2 c =
     let answer-for = c .before .before .before .before .answer-for in
     let a = args in
     let q = rw (enum-told .given .1) at (accept-pattern .ensures) in
-    body-goes-on (answerOn (a .catalogue .now) (a .book .now) (length (a .out .now))) (q .is) (answer-for .ensures (query-by (a .question .now) q))
+    body-goes-on (answerOn (wholeOrChosen (a .whole) (a .set)) (a .catalogue .now) (a .book .now) (length (a .out .now))) (q .is) (answer-for .ensures (query-by (a .question .now) q))
 
 pub answer-spec : {M : Type 1} → statement M
 answer-spec =

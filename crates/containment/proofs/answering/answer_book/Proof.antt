@@ -77,8 +77,8 @@ is-cover-requires c κs =
     let pre = c .before .before .before .before .before .before .before .before .before .before .before .before .before .before .pre in
     (query-few (pre .0), views-few (pre .1 .views))
 
-answer-from-requires : tie.Need-answer-from-requires
-answer-from-requires c κs =
+answer-pairs-requires : tie.Need-answer-pairs-requires
+answer-pairs-requires c κs =
     let args = c .before .before .before .before .before .before .before .before .before .before .before .before .before .before .before .before .before .before .args in
     let pre = c .before .before .before .before .before .before .before .before .before .before .before .before .before .before .before .before .before .before .pre in
     let accept-book = c .before .before .before .before .before .before .before .before .before .before .before .before .before .accept-book in
@@ -104,10 +104,10 @@ returns-3 c =
     let if1 = c .before .before .before .before .before .before .before .before .before .if1 in
     let is-cover = c .before .before .before .before .before .before .before .before .is-cover in
     let if2 = c .before .before .before .before .before .before .before .if2 in
-    let answer-from = c .before .before .before .before .answer-from in
+    let answer-pairs = c .before .before .before .before .answer-pairs in
     let a = args in
     let r = rw (enum-told .given .1) at (accept-book .ensures) in
-    λ t v e. covered-answered t v (a .book .now) r (gather-book .ensures) e (a .set) (a .out .now) (if1 .left) (is-cover .ensures) (if2 .taken) (answer-from .ensures)
+    λ t v e. covered-answered t v (a .book .now) r (gather-book .ensures) e (a .set) (a .out .now) (if1 .left) (is-cover .ensures) (if2 .taken) (answer-pairs .ensures)
 
 lowest-unmatched-requires : tie.Need-lowest-unmatched-requires
 lowest-unmatched-requires c κs = (query-few (c .before .before .before .before .before .before .before .before .before .before .before .before .before .before .before .before .pre .0), (let k = views-few (c .before .before .before .before .before .before .before .before .before .before .before .before .before .before .before .before .pre .1 .views) in omega arith))
@@ -152,7 +152,7 @@ answer-book-spec =
     same-length-2
     returns-2
     is-cover-requires
-    answer-from-requires
+    answer-pairs-requires
     same-length-3
     same-length-4
     returns-3

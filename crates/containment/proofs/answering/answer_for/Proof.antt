@@ -3,6 +3,7 @@ use mathlib.Core.Path.{refl, _∙_}
 use native.Mathlib.Omega.{arith}
 use lib.ListN.{length}
 use Rattle.packed.proofs.CallLaws.{body-refused, body-goes-on}
+use Rattle.containment.specs.Steps.{wholeOrChosen}
 use Rattle.containment.proofs.AnswerLaws.{views-read, views-by, counts-by, query-few}
 use Rattle.containment.proofs.AnsweringLaws.{bookMade, used-is}
 use borrow.Author.Needs.{needs}
@@ -27,7 +28,7 @@ returns c =
     let accept-catalogue = c .before .before .before .before .before .accept-catalogue in
     let a = args in
     let e = c .enum-told2 .given .1 in
-    λ t. rw e (body-refused (bookMade (t .content) (a .book .now) (length (a .out .now))) (a .out .now) refl (c .enum-told2 .given .0 .0) (rw e at (accept-catalogue .ensures)))
+    λ t. rw e (body-refused (bookMade (wholeOrChosen (a .whole) (a .set)) (t .content) (a .book .now) (length (a .out .now))) (a .out .now) refl (c .enum-told2 .given .0 .0) (rw e at (accept-catalogue .ensures)))
 
 map-views-requires : tie.Need-map-views-requires
 map-views-requires c κs =
@@ -73,8 +74,8 @@ returns-2 c =
     let a = args in
     let q = rw (enum-told .given .1) at (accept-catalogue .ensures) in
     let v = counts-by (a .catalogue .now) q in
-    λ t. body-goes-on (bookMade (t .content) (a .book .now) (length (a .out .now))) (q .is)
-    (rw (used-is t {c = a .catalogue .now} (v .views) (map-views .ensures t (v .views)) (use-views .ensures)) at (answer-book .ensures t v (map-views .ensures t (v .views))))
+    λ t. body-goes-on (bookMade (wholeOrChosen (a .whole) (a .set)) (t .content) (a .book .now) (length (a .out .now))) (q .is)
+    (rw (used-is t {c = a .catalogue .now} (v .views) (map-views .ensures t (v .views)) (a .whole) (a .set) (use-views .ensures)) at (answer-book .ensures t v (map-views .ensures t (v .views))))
 
 pub answer-for-spec : {M : Type 1} → statement M
 answer-for-spec =

@@ -6,10 +6,10 @@ use Rattle.folder.proofs.numbers.take_parts.Statement.{statement}
 use Rattle.folder.proofs.numbers.take_parts.Tie as tie
 
 abbrev Inv-loop : tie.InvT-loop
-Inv-loop fd out₀ text₀ left₀ out text left = length out ≡ length out₀
+Inv-loop fd is-list out₀ text₀ left₀ out text left = length out ≡ length out₀
 
 abbrev μ-loop : tie.MeasureT-loop
-μ-loop fd out₀ text₀ left₀ out text left = left
+μ-loop fd is-list out₀ text₀ left₀ out text left = left
 
 empty-requires : tie.Need-empty-requires Inv-loop μ-loop
 empty-requires c κs = search needs

@@ -1,4 +1,4 @@
--- `containment::answering::answer_from` meets its contract.
+-- `containment::answering::answer_pairs` meets its contract.
 use mathlib.Core.Path.{refl, ap, _∙_}
 use lib.Seq.{sets}
 use Rattle.matching.specs.Steps.{patternIn}
@@ -7,8 +7,8 @@ use Rattle.matching.specs.Join.{answerSets}
 use Rattle.packed.proofs.CallLaws.{fitFile-fits, fitted-tight, fitted-given}
 use Rattle.containment.proofs.AnsweringLaws.{joined-marked, answer-size, answer-bytes}
 use borrow.Author.Needs.{needs}
-use Rattle.containment.proofs.answering.answer_from.Statement.{statement}
-use Rattle.containment.proofs.answering.answer_from.Tie as tie
+use Rattle.containment.proofs.answering.answer_pairs.Statement.{statement}
+use Rattle.containment.proofs.answering.answer_pairs.Tie as tie
 
 join-requires : tie.Need-join-requires
 join-requires c κs = search needs
@@ -58,8 +58,8 @@ returns-2 c =
     λ vs g. fitted-given fitFile-fits (a .out .now) (sheetBytes (answerSets (patternIn (a .q)) vs)) refl refl (sheet-size .ensures ∙ answer-size j (pre .1 .pool) vs g) (if1 .left)
     (x .front ∙ ap (sets (a .out .now) 0) (answer-bytes j (pre .1 .pool) vs g x))
 
-pub answer-from-spec : {M : Type 1} → statement M
-answer-from-spec =
+pub answer-pairs-spec : {M : Type 1} → statement M
+answer-pairs-spec =
     tie.close
     (tie.spec
     join-requires
