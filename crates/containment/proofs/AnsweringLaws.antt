@@ -5,12 +5,12 @@ use mathlib.Core.Bool.{Bool, true, false}
 use mathlib.Core.List.{List}
 use lib.ListN.{length, take}
 use native.Mathlib.Omega.{arith}
-use Rattle.packed.specs.Format.{ok, pick, decode}
-use Rattle.packed.specs.Formats.{book}
-use Rattle.packed.specs.Contents.{edgeCounts, pairsIn, sum, sheetsIn, pairCount}
+use Rattle.packed.specs.Format.{ok, pick, decode, encode}
+use Rattle.packed.specs.Formats.{book, sheet}
+use Rattle.packed.specs.Contents.{edgeCounts, pairsIn, sum, sheetsIn, fieldsOf}
 use Rattle.packed.specs.Accepting.{ContentTaken}
 use Rattle.packed.specs.Refusals.{Told, numberOf, detailOf, replyTold}
-use Rattle.packed.specs.Matches.{matchesOf, Marked, SheetWritten}
+use Rattle.packed.specs.Matches.{matchesOf, Marked}
 use Rattle.packed.specs.Walks.{bookPairs, Different}
 use Rattle.packed.specs.Calls.{Outcome, refuse, readFile, judged, readCatalogue, readBook, uncrowded, fitFile, Fulfils}
 use Rattle.packed.specs.declared.reply.Refusal.{Refusal}
@@ -31,7 +31,7 @@ use Rattle.matching.proofs.ListLaws.{length-each}
 use Rattle.matching.proofs.UpToLaws.{length-upTo}
 use Rattle.matching.proofs.JoinLaws.{answer-each}
 use Rattle.matching.proofs.PatternLaws.{pattern-same}
-use Rattle.matching.proofs.SheetBytes.{sheet-is, sheet-by}
+use Rattle.matching.proofs.SheetBytes.{sheet-is}
 use Rattle.containment.specs.Choice.{coversIn, lowestUnmatched, used}
 use Rattle.containment.specs.Quote.{mapping}
 use Rattle.containment.specs.Answer.{viewsIn, answerBytes, Choose, answerIn, usedFor}
@@ -66,16 +66,11 @@ module _ {q : Given} {table : List ℕ} {set : ℕ} {s counts : List ℕ} {k d :
         ∙ length-each (λ e. ascending (answerTo (patternIn q) vs e)) (patternIn q .edges)
         ∙ length-upTo _ (q .edges)
 
-    -- the bytes that are counted
-    pub answer-size : (14 * q .edges + 24 * pairCount kept + 7) / 8 ≡ length (sheetBytes (answerSets (patternIn q) vs))
-    answer-size =
-        let x = sheet-by (q .edges) kept kept-long (matches-encode d (q .edges) w′ joined-marked) in
-        let y = rw kept-long at (x .size) in
-        sym y ∙ ap (λ (ls : List (List ℕ)). length (sheetBytes ls)) (j .sets vs g)
-
     -- the bytes that are written
-    pub answer-bytes : {out out′ : List ℕ} {r : ℕ} (x : SheetWritten d (q .edges) w′ out r out′) → x .bytes ≡ sheetBytes (answerSets (patternIn q) vs)
-    answer-bytes x = sym (sheet-is (q .edges) kept (x .bytes) kept-long (x .is)) ∙ ap sheetBytes (j .sets vs g)
+    pub answer-encodes : encode (sheet (q .edges)) (fieldsOf kept) ≡ ok (sheetBytes (answerSets (patternIn q) vs))
+    answer-encodes =
+        let x = matches-encode d (q .edges) w′ joined-marked in
+        x .is ∙ ap ok (sym (sheet-is (q .edges) kept (x .bytes) kept-long (x .is)) ∙ ap sheetBytes (j .sets vs g))
 
 -- ---- how the call goes on, once the files before were accepted
 abbrev pub bookMade : Choose → List ℕ → List ℕ → ℕ → List ℕ → Outcome

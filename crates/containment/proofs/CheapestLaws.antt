@@ -226,20 +226,12 @@ module _ (charges : List ℕ) (k : ℕ) (few : k ≤ 16) where
   better-before : (a b : ℕ) → Better charges k a b → Before a b
   better-before a b = less-map (less-map (sooner-turned a b k few))
 
-  -- the test says it
-  pub better-exactly : (a b : ℕ) → (better charges k a b ≡ true → Better charges k a b) × (Better charges k a b → better charges k a b ≡ true)
-  better-exactly a b = (λ h. before-better a b (before-say a b h), λ h. before-by a b (better-before a b h))
-
   before-through : (a b c : ℕ) → Before a b → Before b c → Before a c
   before-through a b c = less-through (less-through (λ p q. omega arith))
 
   before-total : (a b : ℕ) → a < 2 ^ k → b < 2 ^ k → Before a b ⊎ (Before b a ⊎ (a ≡ b))
   before-total a b la lb =
       less-total _ _ (less-total _ _ (trichotomy (turned a k) (turned b k) (λ l. inr (inl l)) (λ e. inr (inr (turned-same a b k few la lb e))) (λ l. inl l)))
-
-  -- no set is better than one that is better than it
-  pub better-never : (a b : ℕ) → Better charges k a b → Better charges k b a → ⊥
-  better-never a b p q = less-never (less-never (λ x y. omega arith)) (better-before a b p) (better-before b a q)
 
   -- of two sets one is better
   pub better-total : (a b : ℕ) → a < 2 ^ k → b < 2 ^ k → Better charges k a b ⊎ (Better charges k b a ⊎ (a ≡ b))

@@ -28,7 +28,7 @@ use Rattle.containment.specs.Quote.{QuoteValues, flat, one, mapping, val
 use Rattle.containment.specs.Answer.{answerIn, answerBy}
 use Rattle.containment.specs.Cheapest.{cheapestFrom, cheapestFor, cheapestOutcome}
 use Rattle.containment.specs.Show.{showFor, showOutcome}
-use Rattle.containment.specs.Listing.{lineOf, lineAnswer}
+use Rattle.containment.specs.Listing.{lineOf, lineOutcome}
 use Rattle.containment.specs.Demands.{Full, Settles, Worked, Demand1, Question, Catalogue, Record, Uncrowded, Book, extracts, extractOf, linkOf, Covered, lacking, chosenOf, Matching, Matched, Demand2}
 use Rattle.containment.proofs.Numbered.{numbered, pattern-faults, catalogue-faults, record-faults, sheet-faults, book-faults, gives, refuses, either, workspace-settles, uncrowded-settles, fit-settles, fitFile-settles, fitBoth-settles, read-settles, write-settles}
 use Rattle.containment.proofs.SetBits.{never}
@@ -88,7 +88,7 @@ book-exactly cs s ws = (
 )
 
 pub demand-1 : Demand1
-unfolding fronts patternRead catalogueRead recordRead sheetRead bookRead patternWritten catalogueWritten recordWritten sheetWritten bookWritten searchOutcome makeBookOutcome quoteOutcome cheapestOutcome answerBy showOutcome lineAnswer toldOf outputsOf
+unfolding fronts patternRead catalogueRead recordRead sheetRead bookRead patternWritten catalogueWritten recordWritten sheetWritten bookWritten searchOutcome makeBookOutcome quoteOutcome cheapestOutcome answerBy showOutcome lineOutcome toldOf outputsOf
 demand-1 = record {
   read-pattern = λ s room words. workspace-settles words (pattern-first s (fit-settles room));
   read-catalogue = λ s room words. workspace-settles words (catalogue-first s (fit-settles room));

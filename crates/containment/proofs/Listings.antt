@@ -11,7 +11,7 @@ use Rattle.packed.specs.Calls.{give, toldOf, fronts, outputsOf, fit, judged, Se
 use Rattle.matching.specs.Simulation.{patternOf}
 use Rattle.containment.specs.Choice.{everyView, coversIn}
 use Rattle.containment.specs.Quote.{QuoteValues, flat, blank, one, mapping, valuesFrom, quoteValues, quoteOutcome, quoteTold}
-use Rattle.containment.specs.Listing.{linesAfter, chosenLine, lineOf, lineAnswer}
+use Rattle.containment.specs.Listing.{linesAfter, chosenLine, lineOf, lineOutcome}
 use Rattle.containment.specs.Demands.{Question, Catalogue, extracts, Uncovered, UncoveredListing, Listings}
 use Rattle.containment.specs.declared.quote_type.Coverage.{Coverage}
 use Rattle.containment.specs.declared.quote_type.Coverage.the-variants as coverage-is
@@ -82,16 +82,16 @@ module _ (q c qs cs : List ℕ) (eq : Question q qs) (ec : Catalogue c cs) (no :
       }
 
 -- ---- the call
-module _ (q : Quote) (k : ℕ) (r : Told) (out out′ : List ℕ) (a : Fulfils (lineAnswer q k (length out)) r out out′) where
+module _ (q : Quote) (k : ℕ) (r : Told) (out out′ : List ℕ) (a : Fulfils (lineOutcome q k (length out)) r out out′) where
   refuses : length out < length (lineOf q k) → (r ≡ told 12 (length (lineOf q k) ∷ [])) × (out′ ≡ out)
-  unfolding lineAnswer fit toldOf outputsOf
+  unfolding lineOutcome fit toldOf outputsOf
   refuses h =
       let e = lt-ltb (length out) (length (lineOf q k)) h in
       let o : out′ ∷ [] ≡ out ∷ [] = a .output ∙ rw e in
       (a .result ∙ rw e, cc)
 
   writes : length (lineOf q k) ≤ length out → (r ≡ told 0 (length (lineOf q k) ∷ [])) × (out′ ≡ lineOf q k ++ drop (length (lineOf q k)) out)
-  unfolding lineAnswer fit toldOf outputsOf fronts
+  unfolding lineOutcome fit toldOf outputsOf fronts
   writes h =
       let e = le-ltb (length out) (length (lineOf q k)) h in
       let o : out′ ∷ [] ≡ (lineOf q k ++ drop (length (lineOf q k)) out) ∷ [] = a .output ∙ rw e in

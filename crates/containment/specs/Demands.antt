@@ -27,7 +27,7 @@ use Rattle.containment.specs.Quote.{noPattern, mapping, QuoteValues, fla
 use Rattle.containment.specs.Answer.{viewsIn, Choose, answerBy, answerFrom, usedFor, answerOutcome}
 use Rattle.containment.specs.Cheapest.{cost, IsCheapest, cheapestOutcome}
 use Rattle.containment.specs.Show.{graphFields, fewerFields, recordBytes, fitBoth, showOutcome}
-use Rattle.containment.specs.Listing.{bytes, linkLine, lineOf, lineAnswer}
+use Rattle.containment.specs.Listing.{bytes, linkLine, lineOf, lineOutcome}
 use Rattle.containment.specs.declared.quote_type.Quote.{Quote}
 
 -- ---- Words of the requirements
@@ -188,7 +188,7 @@ pub record Demand1 : Type 0 where
   pub answer : (choose : Choose) (q c b : List ℕ) (room words : ℕ) → Settles (withWorkspace words (answerBy choose q c b room))
   pub show : (q c : List ℕ) (room room′ words : ℕ) → Settles (withWorkspace words (showOutcome q c room room′))
   pub cheapest : (q c charges : List ℕ) (words : ℕ) → Settles (withWorkspace words (cheapestOutcome q c charges))
-  pub line : (q : Quote) (k room : ℕ) → Settles (lineAnswer q k room)
+  pub line : (q : Quote) (k room : ℕ) → Settles (lineOutcome q k room)
   -- "under a fixed rule": 14, "fewer than 16,384 work words were lent", stands before all else
   pub desk : (a : Outcome) (words : ℕ) → words < workspace → withWorkspace words a ≡ refuse 14 0
   pub enough : (a : Outcome) (words : ℕ) → workspace ≤ words → withWorkspace words a ≡ a
@@ -515,9 +515,9 @@ pub record Listings : Type 0 where
       → Settled blank (withWorkspace (length work) (quoteOutcome q c)) (quoteTold r) [] [] work work′
       → UncoveredListing r (mapping (patternOf qs) (extracts cs)) (edgesOf qs)
   -- "an output needs more bytes than were lent": 12 with the length of the line, and the buffer is untouched; else the whole line
-  pub refuses : (q : Quote) (k : ℕ) (r : Told) (out out′ : List ℕ) → Fulfils (lineAnswer q k (length out)) r out out′ → length out < length (lineOf q k)
+  pub refuses : (q : Quote) (k : ℕ) (r : Told) (out out′ : List ℕ) → Fulfils (lineOutcome q k (length out)) r out out′ → length out < length (lineOf q k)
       → (r ≡ told 12 (length (lineOf q k) ∷ [])) × (out′ ≡ out)
-  pub writes : (q : Quote) (k : ℕ) (r : Told) (out out′ : List ℕ) → Fulfils (lineAnswer q k (length out)) r out out′ → length (lineOf q k) ≤ length out
+  pub writes : (q : Quote) (k : ℕ) (r : Told) (out out′ : List ℕ) → Fulfils (lineOutcome q k (length out)) r out out′ → length (lineOf q k) ≤ length out
       → (r ≡ told 0 (length (lineOf q k) ∷ [])) × (out′ ≡ lineOf q k ++ drop (length (lineOf q k)) out)
   -- 4,096 bytes take every line
   pub longest : (q : Quote) (k : ℕ) → length (lineOf q k) ≤ 4096

@@ -93,5 +93,5 @@ lineOf q k =
     (pick (eqb k (linesAfter q)) (chosenLine (q .chosen)) (linkLine (q .mapping) (k - 1))))
 
 -- what the call that writes line k answers: the whole line, or 12 and its length
-unfoldable pub lineAnswer : Quote → ℕ → ℕ → Outcome
-lineAnswer q k room = fit room (lineOf q k)
+unfoldable pub lineOutcome : Quote → ℕ → ℕ → Outcome
+lineOutcome q k room = fit room (lineOf q k)

@@ -42,13 +42,7 @@ fn answer_pairs(
     ensures { λ r. ⌜ ((vs : List View) → Agrees q (now (table .entry)) set (now (book .entry)) counts k vs → Fulfils (fitFile (length (now (out .entry))) (sheetBytes (answerSets (patternIn q) vs))) (replyTold r) (now (out .entry)) (now (out .exit))) ⌝ }
 {
     join::join(q, table, set, book, counts, k, d, work);
-    let m = q.edges as u32;
-    let size = matches::sheet_size(work, d, m);
-    if (out.len() < size) | (limits::BOOK_MOST < size) {
-        return Reply::Refused(Refusal::NoRoom(size));
-    }
-    matches::write_sheet(work, d, m, out);
-    Reply::Done(size)
+    matches::give_sheet(work, d, q.edges as u32, out)
 }
 
 // Answers from a book by the views in the set, once the query's table is known.

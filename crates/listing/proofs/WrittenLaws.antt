@@ -14,7 +14,7 @@ use Rattle.packed.specs.Format.{pick}
 use Rattle.packed.specs.Refusals.{told, numberOf, detailOf}
 use Rattle.packed.specs.declared.reply.Refusal.{Refusal}
 use Rattle.packed.proofs.Sets.{sets-append, sets-front}
-use Rattle.containment.specs.Listing.{decimal, concat, orNone, bytes, lineOf, lineAnswer}
+use Rattle.containment.specs.Listing.{decimal, concat, orNone, bytes, lineOf, lineOutcome}
 use Rattle.containment.specs.declared.quote_type.Quote.{Quote}
 use Rattle.containment.proofs.ListingLaws.{decimal-one, decimal-more}
 use Rattle.containment.proofs.Listings.{listings}
@@ -149,13 +149,13 @@ module _ (q : Quote) (k : ℕ) (out : List ℕ) (room : 4096 ≤ length out) whe
   fits : length (lineOf q k) ≤ length out
   fits = omega (arith, listings .longest q k)
 
-  pub line-whole : {n : ℕ} {out′ : List ℕ} → Fulfils (lineAnswer q k (length out)) (told 0 (n ∷ [])) out out′ → (take n out′ ≡ lineOf q k) × (n ≤ 4096)
+  pub line-whole : {n : ℕ} {out′ : List ℕ} → Fulfils (lineOutcome q k (length out)) (told 0 (n ∷ [])) out out′ → (take n out′ ≡ lineOf q k) × (n ≤ 4096)
   line-whole {n} {out′} a =
       let w = listings .writes q k (told 0 (n ∷ [])) out out′ a fits in
       let e : n ≡ length (lineOf q k) = cc (w .0) in
       (ap (take n) (w .1) ∙ take-at (lineOf q k) (drop (length (lineOf q k)) out) n (sym e), omega (arith, listings .longest q k))
 
-  pub line-never-refused : (x : Refusal) {out′ : List ℕ} → Fulfils (lineAnswer q k (length out)) (told (numberOf x) (detailOf x ∷ [])) out out′ → ⊥
+  pub line-never-refused : (x : Refusal) {out′ : List ℕ} → Fulfils (lineOutcome q k (length out)) (told (numberOf x) (detailOf x ∷ [])) out out′ → ⊥
   line-never-refused x {out′} a =
       let w = listings .writes q k (told (numberOf x) (detailOf x ∷ [])) out out′ a fits in
       let z : numberOf x ≡ 0 = cc (w .0) in

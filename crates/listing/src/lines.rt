@@ -7,7 +7,7 @@ ghost use Rattle.packed.specs.Calls.{Fulfils};
 ghost use Rattle.packed.specs.Format.{pick};
 ghost use Rattle.packed.specs.Refusals.{replyTold};
 ghost use Rattle.matching.specs.Simulation.{bit};
-ghost use Rattle.containment.specs.Listing.{bytes, decimal, edgeText, edgesText, viewsText, viewText, chosenText, linkLine, chosenLine, firstLine, linesAfter, lineOf, refusedLine, lineAnswer};
+ghost use Rattle.containment.specs.Listing.{bytes, decimal, edgeText, edgesText, viewsText, viewText, chosenText, linkLine, chosenLine, firstLine, linesAfter, lineOf, refusedLine, lineOutcome};
 ghost use Rattle.listing.specs.Written.{TextWritten};
 use containment::quote_type::Coverage;
 use containment::quote_type::Quote;
@@ -249,7 +249,7 @@ fn put_line(out: &mut [u8], q: Quote, k: usize) -> usize
 
 // Writes line k of the listing, empty beyond the last line: whole, or not at all if the buffer is too short for it.
 pub fn line(q: Quote, k: usize, out: &mut [u8]) -> Reply
-    ensures { λ r. ⌜ Fulfils (lineAnswer q k (length (now (out .entry)))) (replyTold r) (now (out .entry)) (now (out .exit)) ⌝ }
+    ensures { λ r. ⌜ Fulfils (lineOutcome q k (length (now (out .entry)))) (replyTold r) (now (out .entry)) (now (out .exit)) ⌝ }
 {
     let n = put_line(&mut out[0..0], q, k);
     if out.len() < n {

@@ -9,9 +9,9 @@ use borrow.Author.Count.{below-more}
 use native.Mathlib.Omega.{arith}
 use native.Mathlib.Nat.{add-zero, zero-add}
 use borrow.Rule.Slice.PartMut.{putMid, postOf}
-use Rattle.packed.specs.Format.{pick, ok, decode}
-use Rattle.packed.specs.Formats.{catalogue}
-use Rattle.packed.specs.Contents.{viewsOf, pairCount}
+use Rattle.packed.specs.Format.{pick, ok, decode, encode}
+use Rattle.packed.specs.Formats.{catalogue, sheet as sheetFormat}
+use Rattle.packed.specs.Contents.{viewsOf, fieldsOf, pairCount}
 use Rattle.packed.specs.Reading.{Stands}
 use Rattle.packed.specs.LoadedGraph.{Holds}
 use Rattle.packed.specs.Matches.{marked, markedFrom, anyEmpty, emptied, allOrNone, matchesOf, SheetWritten}
@@ -69,6 +69,12 @@ module _ {p : Given} {s : List ℕ} {n m : ℕ} {w : List ℕ} {d : ℕ} {w′ :
   -- the bytes that are written
   pub bytes-are : {out out′ : List ℕ} {r : ℕ} (x : SheetWritten d (p .edges) w′ out r out′) → x .bytes ≡ sheetBytes listed
   bytes-are x = sym (sheet-is (p .edges) made (x .bytes) made-long (x .is)) ∙ ap sheetBytes (q .sets)
+
+  -- and they are those of the sheet
+  pub encodes : encode (sheetFormat (p .edges)) (fieldsOf made) ≡ ok (sheetBytes listed)
+  encodes =
+      let x = matches-encode d (p .edges) w′ (q .marked) in
+      x .is ∙ ap ok (sym (sheet-is (p .edges) made (x .bytes) made-long (x .is)) ∙ ap sheetBytes (q .sets))
 
   -- what is kept of its size
   pub size-kept : (14 * p .edges + 24 * pairCount made + 7) / 8 ≡ sheetSize listed

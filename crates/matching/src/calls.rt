@@ -40,13 +40,7 @@ fn search_for(p: Pattern, record: &[u8], out: &mut [u8], work: &mut [u32]) -> Re
             let mut arrive = no_words();
             let mut held = no_words();
             matched::match_edges(record, n, m, p, work, &mut leave, &mut arrive, &mut held);
-            let edges = p.edges as u32;
-            let size = matches::sheet_size(work, m, edges);
-            if (out.len() < size) | (limits::BOOK_MOST < size) {
-                return Reply::Refused(Refusal::NoRoom(size));
-            }
-            matches::write_sheet(work, m, edges, out);
-            Reply::Done(size)
+            matches::give_sheet(work, m, p.edges as u32, out)
         }
         Graph::Refused(x) => Reply::Refused(x),
     }

@@ -13,9 +13,10 @@ use borrow.Author.Tests.{eq-eqb, ne-eqb}
 use native.Mathlib.Numerals.{add-one}
 use native.Mathlib.Nat.{add-zero, zero-add}
 use Rattle.packed.specs.Bits.{bits, bitsOf, gap}
-use Rattle.packed.specs.Format.{pick}
+use Rattle.packed.specs.Format.{pick, encode, ok}
+use Rattle.packed.specs.Formats.{sheet}
 use Rattle.packed.specs.Matches.{marks, marked, markedFrom, anyEmpty, emptied, allOrNone, codesOf, masksOf, matchesOf, Marked, Counts, SheetWritten, Added, anyZero, sumOf, Listed, pairBits, codedList, ListsWritten}
-use Rattle.packed.specs.Contents.{pairCount}
+use Rattle.packed.specs.Contents.{pairCount, fieldsOf}
 use Rattle.packed.proofs.BitsLaws.{length-bits, bitsOf-zero, bits-injective}
 use Rattle.packed.proofs.OrderCases.{lt-or-ge}
 use Rattle.packed.proofs.Sets.{sets-append}
@@ -307,3 +308,14 @@ sheet-written {n} {m} {w} {b₀} {k} {at} {b} {r} {b′} t l s e q y₀ y =
       number = omega (arith, e, ap gap a, length-bits (x .bytes), ap length (x .holds), length-append ls (replicate (gap (length ls)) false), length-replicate (gap (length ls)) false);
       front = bits-injective b′ (sets b₀ 0 (x .bytes)) y (bytes-sets b₀ 0 (x .bytes) y₀ (x .small)) (v ∙ sym (bits-sets b₀ 0 (x .bytes)));
     }
+
+-- the bytes of a sheet, however they were come by
+module _ (n m : ℕ) (w : List ℕ) (t : Marked n w) {o : List ℕ} (e : encode (sheet m) (fieldsOf (matchesOf n m w)) ≡ ok o) where
+  pub bytes-number : (14 * m + 24 * pairCount (matchesOf n m w) + 7) / 8 ≡ length o
+  bytes-number =
+      let x : Encoded m (matchesOf n m w) = matches-encode n m w t in
+      let y : x .bytes ≡ o = cc (x .is) in
+      sym (x .number) ∙ ap length y
+
+  pub bytes-front : {b b′ : List ℕ} {r : ℕ} → SheetWritten n m w b r b′ → b′ ≡ sets b 0 o
+  bytes-front {b} x = let y : x .bytes ≡ o = cc (x .is) in x .front ∙ ap (sets b 0) y

@@ -41,19 +41,19 @@ fn refused_pattern(x: Refusal) -> PatternFile
     }
 }
 
-// A pattern: its content stands at the front of the words.
-pub fn accept_pattern(s: &[u8], words: &mut [u32]) -> PatternFile
-    requires { ⌜ length (now words) ≡ 16384 ⌝ }
-    ensures { λ r. ⌜ AcceptsWith (λ ws. HoldsPattern ws (r .pattern)) (readPattern (now (s .entry))) (r .verdict) (now (words .exit)) ⌝ }
+// A pattern: its content stands at the front of the workspace.
+pub fn accept_pattern(s: &[u8], work: &mut [u32]) -> PatternFile
+    requires { ⌜ length (now work) ≡ 16384 ⌝ }
+    ensures { λ r. ⌜ AcceptsWith (λ ws. HoldsPattern ws (r .pattern)) (readPattern (now (s .entry))) (r .verdict) (now (work .exit)) ⌝ }
 {
     if limits::PATTERN_MOST < s.len() {
         return refused_pattern(Refusal::TooLong(1));
     }
-    let p = pattern::judge_pattern(s, words);
+    let p = pattern::judge_pattern(s, work);
     match p {
         Part::Upto(_, n) => PatternFile {
             verdict: Reply::Done(n),
-            pattern: by_value::pattern_of(&words[0..n]),
+            pattern: by_value::pattern_of(&work[0..n]),
         },
         Part::Refused(x) => refused_pattern(x),
     }
@@ -69,18 +69,18 @@ fn refused_catalogue(x: Refusal) -> CatalogueFile
     }
 }
 
-// A catalogue: its content stands at the front of the words.
-pub fn accept_catalogue(s: &[u8], words: &mut [u32]) -> CatalogueFile
-    requires { ⌜ length (now words) ≡ 16384 ⌝ }
-    ensures { λ r. ⌜ AcceptsWith (λ ws. HoldsViews ws (r .views) (r .edges)) (readCatalogue (now (s .entry))) (r .verdict) (now (words .exit)) ⌝ }
+// A catalogue: its content stands at the front of the workspace.
+pub fn accept_catalogue(s: &[u8], work: &mut [u32]) -> CatalogueFile
+    requires { ⌜ length (now work) ≡ 16384 ⌝ }
+    ensures { λ r. ⌜ AcceptsWith (λ ws. HoldsViews ws (r .views) (r .edges)) (readCatalogue (now (s .entry))) (r .verdict) (now (work .exit)) ⌝ }
 {
     if limits::CATALOGUE_MOST < s.len() {
         return refused_catalogue(Refusal::TooLong(2));
     }
-    let p = catalogue::judge_catalogue(s, words);
+    let p = catalogue::judge_catalogue(s, work);
     match p {
         Part::Upto(_, n) => {
-            let content = &words[0..n];
+            let content = &work[0..n];
             CatalogueFile {
                 verdict: Reply::Done(n),
                 views: catalogue::word_at(content, 0) as usize,

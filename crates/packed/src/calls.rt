@@ -34,50 +34,50 @@ fn give_words(words: &[u32], n: usize, out: &mut [u32]) -> Reply
     Reply::Done(n)
 }
 
-pub fn read_pattern(bytes: &[u8], out: &mut [u32], words: &mut [u32]) -> Reply
-    requires { ⌜ length (now words) ≡ 16384 ⌝ }
+pub fn read_pattern(bytes: &[u8], out: &mut [u32], work: &mut [u32]) -> Reply
+    requires { ⌜ length (now work) ≡ 16384 ⌝ }
     ensures { λ r. ⌜ Fulfils (patternRead (now (bytes .entry)) (length (now (out .entry)))) (replyTold r) (now (out .entry)) (now (out .exit)) ⌝ }
 {
-    let f = accept::accept_pattern(bytes, words);
+    let f = accept::accept_pattern(bytes, work);
     let verdict = f.verdict;
     let Reply::Done(n) = verdict else {
         return verdict;
     };
-    give_words(words, n, out)
+    give_words(work, n, out)
 }
 
-pub fn read_catalogue(bytes: &[u8], out: &mut [u32], words: &mut [u32]) -> Reply
-    requires { ⌜ length (now words) ≡ 16384 ⌝ }
+pub fn read_catalogue(bytes: &[u8], out: &mut [u32], work: &mut [u32]) -> Reply
+    requires { ⌜ length (now work) ≡ 16384 ⌝ }
     ensures { λ r. ⌜ Fulfils (catalogueRead (now (bytes .entry)) (length (now (out .entry)))) (replyTold r) (now (out .entry)) (now (out .exit)) ⌝ }
 {
-    let f = accept::accept_catalogue(bytes, words);
+    let f = accept::accept_catalogue(bytes, work);
     let verdict = f.verdict;
     let Reply::Done(n) = verdict else {
         return verdict;
     };
-    give_words(words, n, out)
+    give_words(work, n, out)
 }
 
 // A record, a sheet or a book is judged with no output at first, and once it is accepted and fits it is read again into the output.
-pub fn read_record(bytes: &[u8], out: &mut [u32], words: &mut [u32]) -> Reply
-    requires { ⌜ length (now words) ≡ 16384 ⌝ }
+pub fn read_record(bytes: &[u8], out: &mut [u32], work: &mut [u32]) -> Reply
+    requires { ⌜ length (now work) ≡ 16384 ⌝ }
     ensures { λ r. ⌜ Fulfils (recordRead (now (bytes .entry)) (length (now (out .entry)))) (replyTold r) (now (out .entry)) (now (out .exit)) ⌝ }
 {
-    let verdict = accept::accept_record(bytes, &mut out[0..0], words);
+    let verdict = accept::accept_record(bytes, &mut out[0..0], work);
     let Reply::Done(n) = verdict else {
         return verdict;
     };
     if out.len() < n {
         return Reply::Refused(Refusal::NoRoom(n));
     }
-    accept::accept_record(bytes, out, words)
+    accept::accept_record(bytes, out, work)
 }
 
-pub fn read_sheet(pattern: &[u8], bytes: &[u8], out: &mut [u32], words: &mut [u32]) -> Reply
-    requires { ⌜ length (now words) ≡ 16384 ⌝ }
+pub fn read_sheet(pattern: &[u8], bytes: &[u8], out: &mut [u32], work: &mut [u32]) -> Reply
+    requires { ⌜ length (now work) ≡ 16384 ⌝ }
     ensures { λ r. ⌜ Fulfils (sheetRead (now (pattern .entry)) (now (bytes .entry)) (length (now (out .entry)))) (replyTold r) (now (out .entry)) (now (out .exit)) ⌝ }
 {
-    let f = accept::accept_pattern(pattern, words);
+    let f = accept::accept_pattern(pattern, work);
     let first = f.verdict;
     let Reply::Done(_) = first else {
         return first;
@@ -93,15 +93,15 @@ pub fn read_sheet(pattern: &[u8], bytes: &[u8], out: &mut [u32], words: &mut [u3
     accept::accept_sheet(bytes, m, out)
 }
 
-pub fn read_book(catalogue: &[u8], bytes: &[u8], out: &mut [u32], words: &mut [u32]) -> Reply
-    requires { ⌜ length (now words) ≡ 16384 ⌝ }
+pub fn read_book(catalogue: &[u8], bytes: &[u8], out: &mut [u32], work: &mut [u32]) -> Reply
+    requires { ⌜ length (now work) ≡ 16384 ⌝ }
     ensures { λ r. ⌜ Fulfils (bookRead (now (catalogue .entry)) (now (bytes .entry)) (length (now (out .entry)))) (replyTold r) (now (out .entry)) (now (out .exit)) ⌝ }
 {
     let CatalogueFile {
         verdict: first,
         views,
         edges,
-    } = accept::accept_catalogue(catalogue, words);
+    } = accept::accept_catalogue(catalogue, work);
     let Reply::Done(_) = first else {
         return first;
     };
@@ -109,7 +109,7 @@ pub fn read_book(catalogue: &[u8], bytes: &[u8], out: &mut [u32], words: &mut [u
     let Reply::Done(n) = verdict else {
         return verdict;
     };
-    if limits::PAIRS_MOST < gather::gather_book(bytes, edges, views, words) {
+    if limits::PAIRS_MOST < gather::gather_book(bytes, edges, views, work) {
         return Reply::Refused(Refusal::TooManyPairs(4));
     }
     if out.len() < n {
@@ -152,17 +152,17 @@ pub fn write_catalogue(fields: &[u32], out: &mut [u8]) -> Reply
     }
 }
 
-pub fn write_record(fields: &[u32], out: &mut [u8], words: &mut [u32]) -> Reply
-    requires { ⌜ length (now words) ≡ 16384 ⌝ }
+pub fn write_record(fields: &[u32], out: &mut [u8], work: &mut [u32]) -> Reply
+    requires { ⌜ length (now work) ≡ 16384 ⌝ }
     ensures { λ r. ⌜ Fulfils (recordWritten (now (fields .entry)) (length (now (out .entry)))) (replyTold r) (now (out .entry)) (now (out .exit)) ⌝ }
 {
-    let p = record::judge_record_fields(fields, &mut out[0..0], words);
+    let p = record::judge_record_fields(fields, &mut out[0..0], work);
     match p {
         Part::Upto(n, _) => {
             if out.len() < n {
                 return Reply::Refused(Refusal::NoRoom(n));
             }
-            record::judge_record_fields(fields, out, words);
+            record::judge_record_fields(fields, out, work);
             Reply::Done(n)
         }
         Part::Refused(x) => Reply::Refused(x),
@@ -187,11 +187,11 @@ fn write_sheet_of(fields: &[u32], m: u32, out: &mut [u8]) -> Reply
     }
 }
 
-pub fn write_sheet(pattern: &[u8], fields: &[u32], out: &mut [u8], words: &mut [u32]) -> Reply
-    requires { ⌜ length (now words) ≡ 16384 ⌝ }
+pub fn write_sheet(pattern: &[u8], fields: &[u32], out: &mut [u8], work: &mut [u32]) -> Reply
+    requires { ⌜ length (now work) ≡ 16384 ⌝ }
     ensures { λ r. ⌜ Fulfils (sheetWritten (now (pattern .entry)) (now (fields .entry)) (length (now (out .entry)))) (replyTold r) (now (out .entry)) (now (out .exit)) ⌝ }
 {
-    let f = accept::accept_pattern(pattern, words);
+    let f = accept::accept_pattern(pattern, work);
     let verdict = f.verdict;
     let Reply::Done(_) = verdict else {
         return verdict;
@@ -219,15 +219,15 @@ fn write_book_of(
     counts: [u32; 16],
     k: usize,
     out: &mut [u8],
-    words: &mut [u32],
+    work: &mut [u32],
 ) -> Reply
-    requires { ⌜ (length (now words) ≡ 16384) × (k ≤ 16) × Small counts ⌝ }
+    requires { ⌜ (length (now work) ≡ 16384) × (k ≤ 16) × Small counts ⌝ }
     ensures { λ r. ⌜ Fulfils (judged (writeFile 4 (book (take k counts)) (now (fields .entry))) (λ s. uncrowdedBy (take k counts) (now (fields .entry)) (fitFile (length (now (out .entry))) s))) (replyTold r) (now (out .entry)) (now (out .exit)) ⌝ }
 {
     let p = sheet::judge_book_fields(fields, counts, k, &mut out[0..0]);
     match p {
         Part::Upto(n, _) => {
-            let different = gather::gather_fields(fields, list_count(counts, k), words);
+            let different = gather::gather_fields(fields, list_count(counts, k), work);
             if limits::PAIRS_MOST < different {
                 return Reply::Refused(Refusal::TooManyPairs(4));
             }
@@ -241,17 +241,17 @@ fn write_book_of(
     }
 }
 
-pub fn write_book(catalogue: &[u8], fields: &[u32], out: &mut [u8], words: &mut [u32]) -> Reply
-    requires { ⌜ length (now words) ≡ 16384 ⌝ }
+pub fn write_book(catalogue: &[u8], fields: &[u32], out: &mut [u8], work: &mut [u32]) -> Reply
+    requires { ⌜ length (now work) ≡ 16384 ⌝ }
     ensures { λ r. ⌜ Fulfils (bookWritten (now (catalogue .entry)) (now (fields .entry)) (length (now (out .entry)))) (replyTold r) (now (out .entry)) (now (out .exit)) ⌝ }
 {
     let CatalogueFile {
         verdict,
         views,
         edges,
-    } = accept::accept_catalogue(catalogue, words);
+    } = accept::accept_catalogue(catalogue, work);
     let Reply::Done(_) = verdict else {
         return verdict;
     };
-    write_book_of(fields, edges, views, out, words)
+    write_book_of(fields, edges, views, out, work)
 }

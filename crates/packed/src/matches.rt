@@ -3,13 +3,20 @@
 ghost use mathlib.Core.Path.{_≡_};
 ghost use Prim.Native.Nat.{ℕ, _+_, _*_, _/_, _%_, _^_, _<_, _≤_};
 ghost use lib.ListN.{length, getD, replicate};
+ghost use mathlib.Core.List.{List};
 ghost use Rattle.packed.specs.Bits.{bits};
+ghost use Rattle.packed.specs.Format.{encode, ok};
+ghost use Rattle.packed.specs.Formats.{sheet};
 ghost use Rattle.packed.specs.Matches.{matchesOf, Marked, Counts, SheetWritten, Added, CountsWritten, PairPut, scatters, ListsWritten, Listed, anyZero, sumOf};
-ghost use Rattle.packed.specs.Contents.{pairCount};
+ghost use Rattle.packed.specs.Contents.{pairCount, fieldsOf};
+ghost use Rattle.packed.specs.Refusals.{replyTold};
+ghost use Rattle.packed.specs.Calls.{Fulfils, fitFile};
 use crate::bits;
 use crate::cursor;
 use crate::field;
 use crate::limits;
+use crate::reply::Refusal;
+use crate::reply::Reply;
 
 fn no_counts() -> [u32; 32]
     ensures { λ r. ⌜ r ≡ replicate 32 0 ⌝ }
@@ -109,6 +116,15 @@ pub fn listed(work: &[u32], n: usize, m: u32) -> usize
     l.pairs
 }
 
+// How many bytes m lists with such counts take.
+fn size_of(c: [u32; 32], m: u32) -> usize
+    requires { ⌜ (m ≤ 32) × ((e : ℕ) → getD c e 0 ≤ 8192) ⌝ }
+    ensures { λ r. ⌜ r ≡ (14 * m + 24 * sumOf m c + 7) / 8 ⌝ }
+{
+    let t = sum(c, m);
+    cursor::byte_after(limits::COUNT_BITS * m as usize + limits::PAIR_BITS * t as usize)
+}
+
 // How many bytes the sheet for m edges takes.
 pub fn sheet_size(work: &[u32], n: usize, m: u32) -> usize
     requires { ⌜ (m ≤ 32) × (n ≤ 8192) × (16384 ≤ length (now work)) ⌝ }
@@ -116,8 +132,7 @@ pub fn sheet_size(work: &[u32], n: usize, m: u32) -> usize
 {
     let l = listing_of(work, n, m);
     let c = l.counts;
-    let t = sum(c, m);
-    cursor::byte_after(limits::COUNT_BITS * m as usize + limits::PAIR_BITS * t as usize)
+    size_of(c, m)
 }
 
 // The bits of x below the bit m.
@@ -203,4 +218,20 @@ pub fn write_sheet(work: &[u32], n: usize, m: u32, out: &mut [u8]) -> usize
     let c = l.counts;
     let at = write_lists(work, l.pairs, c, m, out);
     field::write_padding(out, at)
+}
+
+// The sheet for m edges as an output, whose lists are counted once: 12 where it is too long.
+pub fn give_sheet(work: &[u32], n: usize, m: u32, out: &mut [u8]) -> Reply
+    requires { ⌜ Marked n (now work) × (m ≤ 32) ⌝ }
+    ensures { λ r. ⌜ ((bytes : List ℕ) → encode (sheet m) (fieldsOf (matchesOf n m (now (work .entry)))) ≡ ok bytes → Fulfils (fitFile (length (now (out .entry))) bytes) (replyTold r) (now (out .entry)) (now (out .exit))) ⌝ }
+{
+    let l = listing_of(work, n, m);
+    let c = l.counts;
+    let size = size_of(c, m);
+    if (out.len() < size) | (limits::BOOK_MOST < size) {
+        return Reply::Refused(Refusal::NoRoom(size));
+    }
+    let at = write_lists(work, l.pairs, c, m, out);
+    field::write_padding(out, at);
+    Reply::Done(size)
 }

@@ -1,6 +1,6 @@
 -- `listing::line` meets its contract.
 use Rattle.packed.proofs.CallLaws.{none-lent}
-use Rattle.containment.specs.Listing.{lineAnswer}
+use Rattle.containment.specs.Listing.{lineOutcome}
 use Rattle.listing.proofs.WrittenLaws.{line-tight, line-given}
 use borrow.Author.Needs.{needs}
 use Rattle.listing.proofs.lines.line.Statement.{statement}
@@ -22,7 +22,7 @@ same-length : tie.Need-same-length
 same-length c = search needs
 
 returns : tie.Need-returns
-unfolding lineAnswer
+unfolding lineOutcome
 returns c =
     let args = c .before .before .before .before .before .before .args in
     let put-line = c .before .before .before .put-line in
@@ -38,7 +38,7 @@ same-length-2 : tie.Need-same-length-2
 same-length-2 c = search needs
 
 returns-2 : tie.Need-returns-2
-unfolding lineAnswer
+unfolding lineOutcome
 returns-2 c =
     let args = c .before .before .before .before .before .before .before .before .before .before .args in
     let put-line = c .before .before .before .before .before .before .before .put-line in

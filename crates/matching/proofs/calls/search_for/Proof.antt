@@ -1,15 +1,14 @@
 -- `matching::calls::search_for` meets its contract.
-use mathlib.Core.Path.{refl, ap, _∙_}
+use mathlib.Core.Path.{refl}
 use native.Mathlib.Omega.{arith}
 use lib.ListN.{length}
-use lib.Seq.{sets}
 use Rattle.packed.specs.Calls.{fitFile}
-use Rattle.packed.proofs.CallLaws.{fitFile-fits, fitted-tight, fitted-given, body-refused}
+use Rattle.packed.proofs.CallLaws.{body-refused}
 use Rattle.matching.specs.Simulation.{graphOf, matchSets}
 use Rattle.matching.specs.Search.{sheetBytes}
 use Rattle.matching.specs.Steps.{patternIn}
 use Rattle.matching.proofs.RecordLaws.{ready-by, rises-by}
-use Rattle.matching.proofs.BookLaws.{sheeted-by, size-is, bytes-are}
+use Rattle.matching.proofs.BookLaws.{sheeted-by, encodes}
 use Rattle.matching.proofs.AnswerFits.{search-found}
 use borrow.Author.Needs.{needs}
 use Rattle.matching.proofs.StartLaws.{room-blank}
@@ -52,61 +51,39 @@ match-edges-requires c κs =
     let r = ready-by (h .0) (omega (arith, h .1)) in
     (pre .1, pre .2, r, rises-by (h .0), room-blank 4096 _ (r .nodes) (no-words .ensures) (no-words2 .ensures) (no-words3 .ensures))
 
-cast-edges : tie.Need-cast-edges
-cast-edges c = search needs
+cast-give-sheet : tie.Need-cast-give-sheet
+cast-give-sheet c = search needs
 
-sheet-size-requires : tie.Need-sheet-size-requires
-sheet-size-requires c κs = search needs
-
-same-length : tie.Need-same-length
-same-length c = search needs
-
-returns : tie.Need-returns
-returns c =
-    let args = c .before .before .before .before .before .before .before .before .before .before .before .before .before .before .before .before .before .before .before .before .before .before .before .before .before .before .before .args in
-    let load-record = c .before .before .before .before .before .before .before .before .before .before .before .before .before .before .before .before .before .before .before .before .before .before .load-record in
-    let g = c .before .before .before .before .before .before .before .before .before .before .before .before .before .before .before .before .before .before .g in
-    let match-edges = c .before .before .before .before .before .before .before .before .before .match-edges in
-    let sheet-size = c .before .sheet-size in
-    let a = args in
-    let h = rw (g .given .1) at (load-record .ensures) in
-    fitted-tight fitFile-fits (a .out .now) _ refl (search-found (patternIn (a .p)) (length (a .out .now)) (h .1) (h .0)) (sheet-size .ensures ∙ size-is (sheeted-by (match-edges .ensures .0))) (c .if1 .taken)
-
-write-sheet-requires : tie.Need-write-sheet-requires
-write-sheet-requires c κs =
-    let pre = c .before .before .before .before .before .before .before .before .before .before .before .before .before .before .before .before .before .before .before .before .before .before .before .before .before .before .before .before .before .pre in
-    let match-edges = c .before .before .before .before .before .before .before .before .before .before .before .match-edges in
+give-sheet-requires : tie.Need-give-sheet-requires
+give-sheet-requires c κs =
+    let pre = c .before .before .before .before .before .before .before .before .before .before .before .before .before .before .before .before .before .before .before .before .before .before .before .before .before .before .pre in
+    let match-edges = c .before .before .before .before .before .before .before .before .match-edges in
     (match-edges .ensures .0 .marked, pre .1 .edges)
 
 enum-known-g-2 : tie.Need-enum-known-g-2
 enum-known-g-2 c = search needs
 
+same-length : tie.Need-same-length
+same-length c = search needs
+
 same-length-2 : tie.Need-same-length-2
 same-length-2 c = search needs
+
+returns : tie.Need-returns
+returns c =
+    let args = c .before .before .before .before .before .before .before .before .before .before .before .before .before .before .before .before .before .before .before .before .before .before .before .before .before .before .before .before .before .args in
+    let load-record = c .before .before .before .before .before .before .before .before .before .before .before .before .before .before .before .before .before .before .before .before .before .before .before .before .load-record in
+    let g = c .before .before .before .before .before .before .before .before .before .before .before .before .before .before .before .before .before .before .before .before .g in
+    let match-edges = c .before .before .before .before .before .before .before .before .before .before .before .match-edges in
+    let give-sheet = c .before .before .give-sheet in
+    let h = rw (g .given .1) at (load-record .ensures) in
+    rw (search-found (patternIn (args .p)) (length (args .out .now)) (h .1) (h .0)) (give-sheet .ensures _ (encodes (sheeted-by (match-edges .ensures .0))))
 
 same-length-3 : tie.Need-same-length-3
 same-length-3 c = search needs
 
 returns-2 : tie.Need-returns-2
 returns-2 c =
-    let args = c .before .before .before .before .before .before .before .before .before .before .before .before .before .before .before .before .before .before .before .before .before .before .before .before .before .before .before .before .before .before .before .before .args in
-    let load-record = c .before .before .before .before .before .before .before .before .before .before .before .before .before .before .before .before .before .before .before .before .before .before .before .before .before .before .before .load-record in
-    let g = c .before .before .before .before .before .before .before .before .before .before .before .before .before .before .before .before .before .before .before .before .before .before .before .g in
-    let match-edges = c .before .before .before .before .before .before .before .before .before .before .before .before .before .before .match-edges in
-    let sheet-size = c .before .before .before .before .before .before .sheet-size in
-    let if1 = c .before .before .before .before .before .if1 in
-    let write-sheet = c .before .before .write-sheet in
-    let a = args in
-    let h = rw (g .given .1) at (load-record .ensures) in
-    let q = sheeted-by (match-edges .ensures .0) in
-    let x = write-sheet .ensures in
-    fitted-given fitFile-fits (a .out .now) _ refl (search-found (patternIn (a .p)) (length (a .out .now)) (h .1) (h .0)) (sheet-size .ensures ∙ size-is q) (if1 .left) (x .front ∙ ap (sets (a .out .now) 0) (bytes-are q x))
-
-same-length-4 : tie.Need-same-length-4
-same-length-4 c = search needs
-
-returns-3 : tie.Need-returns-3
-returns-3 c =
     let args = c .before .before .before .before .before .before .before .before .before .before .args in
     let load-record = c .before .before .before .before .before .load-record in
     let g2 = c .before .g2 in
@@ -115,4 +92,4 @@ returns-3 c =
     body-refused (λ rs. fitFile (length (a .out .now)) (sheetBytes (matchSets (patternIn (a .p)) (graphOf rs)))) (a .out .now) refl (g2 .given .0 .0) q
 
 pub search-for-spec : {M : Type 1} → statement M
-search-for-spec = tie.close (tie.spec load-record-requires enum-known-g no-words-requires no-words-requires-2 no-words-requires-3 slice-aggregate-match-edges slice-aggregate-match-edges-2 slice-aggregate-match-edges-3 match-edges-requires cast-edges sheet-size-requires same-length returns write-sheet-requires enum-known-g-2 same-length-2 same-length-3 returns-2 same-length-4 returns-3)
+search-for-spec = tie.close (tie.spec load-record-requires enum-known-g no-words-requires no-words-requires-2 no-words-requires-3 slice-aggregate-match-edges slice-aggregate-match-edges-2 slice-aggregate-match-edges-3 match-edges-requires cast-give-sheet give-sheet-requires enum-known-g-2 same-length same-length-2 returns same-length-3 returns-2)
