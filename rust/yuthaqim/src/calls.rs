@@ -84,12 +84,14 @@ calls! {
     /// the book was made from a record.
     answer = yuthaqim_answer(question: u8, catalogue: u8, book: u8; out: u8) -> Replied, usize;
     /// Answers a question from a book by a set of extracts that the client names, the bit worth 2^a for extract a; bits that
-    /// name none are ignored. If the book was made from a record, every set that covers the question gives the same.
+    /// name none are ignored. If the book was made from a record, every set that covers the question gives the same. Of
+    /// [`UNCOVERED`](crate::UNCOVERED) the detail is the lowest link that this set leaves unmatched.
     answer_from = yuthaqim_answer_from(question: u8, catalogue: u8 [set: u16] book: u8; out: u8) -> Replied, usize;
     /// Shows why a question is uncovered: writes the question read as a record, and the same without its lowest
     /// unmatched link. Every extract lists the same on both, the question doesn't.
     show_uncovered = yuthaqim_show_uncovered(question: u8, catalogue: u8; first: u8, second: u8) -> Showed, (usize, usize);
-    /// Finds the cheapest set of extracts that covers a question, by one charge for each extract, in catalogue order. It has
-    /// no output.
+    /// Finds the cheapest set of extracts that covers a question, by one charge for each extract, in catalogue order. No set
+    /// that covers costs less; of those that cost as much it has the fewest extracts, and of those it comes first when the
+    /// numbers are read upward. It has no output.
     cheapest = yuthaqim_cheapest(question: u8, catalogue: u8, charges: u32;) -> Priced, Cheapest;
 }

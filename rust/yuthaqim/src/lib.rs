@@ -109,8 +109,8 @@ pub struct Refusal {
     /// 1 to 15.
     pub number: usize,
     /// Of 1 to 10 the file at fault (1 a pattern, 2 a catalogue, 3 a record, 4 a book or sheet), of [`UNCOVERED`] the
-    /// lowest link that is unmatched, by the set that was named where one was, of [`NO_FIT`] how much the output needs, of [`CHARGES`] how many charges there were, of the
-    /// others zero.
+    /// lowest link that is unmatched, by the set that was named where one was, of [`NO_FIT`] how much the output needs, of
+    /// [`CHARGES`] how many charges there were, of the others zero.
     pub detail: usize,
 }
 
