@@ -18,9 +18,9 @@
  * before a call. Afterwards the first YUTHAQIM_WORK_WORDS of them are zero and those beyond are as they were; on
  * YUTHAQIM_DESK all of them are as they were.
  *
- * The stack, as measured on large files: answering takes 99,788 bytes, searching and making a book 89,192, quoting 51,452,
- * reading a book 6,824, reading a record 4,536. The others were not measured; reckon with as much for showing as for
- * quoting.
+ * The stack, as measured on large files: answering 93,836 bytes, making a book 87,400, searching 86,616, quoting
+ * 47,148, the cheapest set 43,276, showing 43,180, reading a book 4,792, writing one 4,552, reading and writing a
+ * record under 2,500, the others under 1,500. So 96 KB suffice.
  *
  * Content is a file's fields in order, one word each, padding left out.
  */

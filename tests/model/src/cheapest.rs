@@ -20,6 +20,10 @@ fn sets(n: usize) -> impl Iterator<Item = Vec<usize>> {
     (0..1u32 << n).map(move |bits| (0..n).filter(|a| bits >> a & 1 == 1).collect())
 }
 
+fn sum(set: &[usize], charges: &[u32]) -> u64 {
+    set.iter().map(|&a| u64::from(charges[a])).sum()
+}
+
 /// 14, the question, the catalogue, then 15 and 11. Of the sets that cover, the one with the least sum; of those the ones
 /// with the fewest extracts; of those the one that comes first when its numbers are read upward.
 pub fn cheapest(question: &[u8], catalogue: &[u8], charges: &[u32], work_words: usize) -> Result<Cheapest, Refusal> {
@@ -31,10 +35,16 @@ pub fn cheapest(question: &[u8], catalogue: &[u8], charges: &[u32], work_words: 
     if let Some(lowest) = quote.lowest_unmatched {
         return refused(UNCOVERED, lowest);
     }
-    let sum = |set: &[usize]| set.iter().map(|&a| u64::from(charges[a])).sum::<u64>();
     let covering = sets(extracts).filter(|set| covers(&quote.mapping, set));
-    let set = covering.min_by_key(|set| (sum(set), set.len(), set.clone())).unwrap();
-    Ok(Cheapest { sum: sum(&set), set, chosen: quote.chosen })
+    let set = covering.min_by_key(|set| (sum(set, charges), set.len(), set.clone())).unwrap();
+    Ok(Cheapest { sum: sum(&set, charges), set, chosen: quote.chosen })
+}
+
+/// Whether another set that covers the question has the cheapest one's sum and number of extracts, so that its numbers decide.
+pub fn is_tied(question: &[u8], catalogue: &[u8], charges: &[u32], cheapest: &Cheapest) -> bool {
+    let mapping = quote(question, catalogue, WORK_WORDS).unwrap().mapping;
+    let is_equal = |set: &Vec<usize>| set.len() == cheapest.set.len() && sum(set, charges) == cheapest.sum;
+    sets(charges.len()).filter(is_equal).any(|set| set != cheapest.set && covers(&mapping, &set))
 }
 
 #[cfg(test)]

@@ -298,9 +298,10 @@ impl Desk<u8> {
         let inputs = &[("question", &question as _), ("catalogue", &catalogue as _), ("charges", &charges as _)];
         let asked = Asked { call: Call::Cheapest, inputs, lent };
         let held = [("answer", answered == priced(&expected)), ("workspace", self.work.is_cleared())];
-        if let Ok(Cheapest { set, chosen, .. }) = &expected {
+        if let Ok(found) = &expected {
             notes.tally.cheapest += 1;
-            notes.tally.not_chosen += u64::from(set != chosen);
+            notes.tally.not_chosen += u64::from(found.set != found.chosen);
+            notes.tally.tied += u64::from(cheapest::is_tied(question, catalogue, charges, found));
         }
         notes.end(&asked, &expected, &answered, expected.as_ref().err().copied(), &held)
     }

@@ -53,6 +53,13 @@ impl Subject {
         file(draw, of_catalogue(&self.catalogue), damaged_one_in, CATALOGUE_BYTES)
     }
 
+    /// Extracts once more, up to eight: of sets with one or the other copy each covers if one does.
+    fn repeat(&mut self) {
+        let more = 8usize.saturating_sub(self.catalogue.len());
+        let copies: Vec<Pattern> = self.catalogue.iter().take(more).cloned().collect();
+        self.catalogue.extend(copies);
+    }
+
     fn record(&self, draw: &mut Draw, damaged_one_in: usize, planted: &[Pattern]) -> Vec<u8> {
         let record = draw_record(draw, &self.kinds, self.size, planted);
         file(draw, of_record(&record), damaged_one_in, RECORD_BYTES)
@@ -221,7 +228,10 @@ impl Test {
 
     fn cheapest(&mut self, draw: &mut Draw) -> Result<(), Difference> {
         let covered = !draw.one_in(8);
-        let subject = draw_subject(draw, covered);
+        let mut subject = draw_subject(draw, covered);
+        if draw.one_in(2) {
+            subject.repeat();
+        }
         let lent = Lent::draw(draw);
         let question = subject.question(draw, 16);
         let catalogue = subject.catalogue(draw, 16);

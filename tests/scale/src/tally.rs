@@ -49,9 +49,10 @@ pub struct Tally {
     pub from_sets: u64,
     /// Answers from a set that covers, of a book of no record, that are not what the chosen set gives.
     pub apart: u64,
-    /// Cheapest sets, and those of them that an ordinary quote doesn't choose.
+    /// Cheapest sets, those of them that an ordinary quote doesn't choose, and those that only their numbers decide.
     pub cheapest: u64,
     pub not_chosen: u64,
+    pub tied: u64,
 }
 
 impl Tally {
@@ -75,13 +76,13 @@ impl fmt::Display for Tally {
             line(f, name, counts)?;
         }
         line(f, "all", &std::array::from_fn(|number| self.counts.iter().map(|counts| counts[number]).sum()))?;
-        let Tally { answered, with_pairs, from_sets, apart, cheapest, not_chosen, .. } = self;
+        let Tally { answered, with_pairs, from_sets, apart, cheapest, not_chosen, tied, .. } = self;
         writeln!(
             f,
             "{answered} covered questions answered as the record is searched, {with_pairs} of them with pairs"
         )?;
         writeln!(f, "{from_sets} of them also by a set drawn apart that covers")?;
         writeln!(f, "{apart} answers from books of no record that are not those of the chosen set")?;
-        writeln!(f, "{cheapest} cheapest sets, {not_chosen} of them not the chosen one")
+        writeln!(f, "{cheapest} cheapest sets, {not_chosen} of them not the chosen one, {tied} tied with another up to the numbers")
     }
 }
