@@ -163,7 +163,7 @@ fn cheapest_for(q: Pattern, catalogue: &[u8], charges: &[u32], work: &mut [u32])
     cheapest_of(&table, charges, k, q.edges)
 }
 
-pub fn find_cheapest(
+pub(crate) fn find_cheapest(
     question: &[u8],
     catalogue: &[u8],
     charges: &[u32],
