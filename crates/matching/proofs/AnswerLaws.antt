@@ -44,8 +44,8 @@ module _ (Q : Pattern) (vs : List View) where
   unfolding answerSets
   answer-all-or-none =
       cond-all-or-none (keptFor (join Q vs)) (Q .edges) (complete Q (join Q vs)) (
-        λ f. complete-by Q vs λ e i. let r = f e i in (r .0, kept-in Q vs (r .1)),
-        λ t e i. let r = complete-say Q vs t e i in (r .0, in-kept Q vs (r .1)),
+        λ f. complete-by Q vs λ e i. let r = f e i in (r .0, kept-in (join Q vs) (r .1)),
+        λ t e i. let r = complete-say Q vs t e i in (r .0, in-kept (join Q vs) (r .1)),
       )
 
   candidate-stands : (e : Edge) {f : Pair} → In f (candidates Q vs e) → AnswerStands vs (code (f .0) (f .1))

@@ -10,7 +10,7 @@ use Rattle.packed.specs.Formats.{code}
 use Rattle.matching.specs.Lists.{_and_, In, here, there, some, gather, each}
 use Rattle.matching.specs.Simulation.{Pair, Edge, sameEdge, asPair, Pattern, Graph, asGraph, ascending, viewSheet}
 use Rattle.matching.proofs.ByEdge.{rowOf, viewOf, answerTo}
-use Rattle.matching.specs.Join.{listsEdge, View, pairOf, under, candidates, Kept, supported, join, complete, keptFor, answerSets}
+use Rattle.matching.specs.Join.{listsEdge, View, pairOf, under, candidates, Kept, supported, Offer, choice, join, complete, keptFor, answerSets}
 use Rattle.matching.proofs.ListLaws.{and-left, and-right, both, use-if, make-if, cond-case, not-in-none, in-cast, every-in, in-every, some-in, in-some, keep-in, in-keep, append-in, in-append-left, in-append-right, gather-in, in-gather, each-in, in-each}
 use Rattle.matching.proofs.GreatestLaws.{greatest-part, greatest-ok, greatest-all}
 use Rattle.matching.proofs.SimLaws.{same-edge, same-edge-refl}
@@ -55,45 +55,61 @@ supported-more Q K L m s = record {
   head = λ g i q. let r = s .head g i q in (r .0, m g (r .0) (r .1), r .2);
 }
 
--- ---- the join is a choice from the candidates, is supported by itself, and holds every such choice
-module _ (Q : Pattern) (vs : List View) where
-  abbrev pub JoinedPair : Edge → Pair → Type 0
-  JoinedPair e f = In (e, f) (join Q vs)
+-- ---- the greatest choice is one from the candidates, is supported by itself, and holds every such choice
+module _ (Q : Pattern) (cs : Offer) where
+  abbrev pub ChoicePair : Edge → Pair → Type 0
+  ChoicePair e f = In (e, f) (choice Q cs)
 
-  pub join-candidate : {e : Edge} {f : Pair} → JoinedPair e f → In e (Q .edges) × In f (candidates Q vs e)
-  unfolding join
-  join-candidate {e} {f} i =
+  pub choice-candidate : {e : Edge} {f : Pair} → ChoicePair e f → In e (Q .edges) × In f (cs e)
+  choice-candidate {e} {f} i =
       let r = gather-in _ (Q .edges) (greatest-part _ _ (e, f) i) in
-      let s = each-in _ (candidates Q vs (r .0)) (r .2) in
+      let s = each-in _ (cs (r .0)) (r .2) in
       let p : e ≡ r .0 = ap (λ k. k .0) (s .2) in
       let q : f ≡ s .0 = ap (λ k. k .1) (s .2) in
-      (in-cast (sym p) (r .1), subst (λ z. In f (candidates Q vs z)) (sym p) (in-cast (sym q) (s .1)))
+      (in-cast (sym p) (r .1), subst (λ z. In f (cs z)) (sym p) (in-cast (sym q) (s .1)))
 
-  pub join-supported : {e : Edge} {f : Pair} → JoinedPair e f → Supported Q JoinedPair e f
-  unfolding join
-  join-supported {e} {f} i = supported-say Q _ (greatest-ok (supported Q) _ (e, f) i)
+  pub choice-supported : {e : Edge} {f : Pair} → ChoicePair e f → Supported Q ChoicePair e f
+  choice-supported {e} {f} i = supported-say Q _ (greatest-ok (supported Q) _ (e, f) i)
 
-  pub join-most : (K : Edge → Pair → Type 0) → ((e : Edge) (f : Pair) → K e f → In e (Q .edges) × In f (candidates Q vs e)) → ((e : Edge) (f : Pair) → K e f → Supported Q K e f) → (e : Edge) (f : Pair) → K e f → JoinedPair e f
-  unfolding join
-  join-most K c s e f k =
+  pub choice-most : (K : Edge → Pair → Type 0) → ((e : Edge) (f : Pair) → K e f → In e (Q .edges) × In f (cs e)) → ((e : Edge) (f : Pair) → K e f → Supported Q K e f) → (e : Edge) (f : Pair) → K e f → ChoicePair e f
+  choice-most K c s e f k =
       greatest-all (supported Q) (λ j. K (j .0) (j .1))
       (λ l m j q. supported-by Q l (supported-more Q K (λ g h. In (g, h) l) (λ g h r. m (g, h) r) (s (j .0) (j .1) q)))
       _
       (λ j q. let r = c (j .0) (j .1) q in in-gather _ (r .0) (in-each _ (r .1)))
       (e, f) k
 
-  -- ---- the lists of the answer
-  pub kept-in : {e : Edge} {f : Pair} → In f (keptFor (join Q vs) e) → JoinedPair e f
+-- ---- the pairs kept for an edge
+module _ (l : List Kept) where
+  pub kept-in : {e : Edge} {f : Pair} → In f (keptFor l e) → In (e, f) l
   unfolding keptFor
   kept-in {e} {f} i =
       let r = each-in _ _ i in
-      let s = keep-in _ (join Q vs) (r .1) in
-      subst (λ z. In (e, z) (join Q vs)) (sym (r .2)) (subst (λ z. In (z, r .0 .1) (join Q vs)) (same-edge (r .0 .0) e (s .1)) (s .0))
+      let s = keep-in _ l (r .1) in
+      subst (λ z. In (e, z) l) (sym (r .2)) (subst (λ z. In (z, r .0 .1) l) (same-edge (r .0 .0) e (s .1)) (s .0))
 
-  pub in-kept : {e : Edge} {f : Pair} → JoinedPair e f → In f (keptFor (join Q vs) e)
+  pub in-kept : {e : Edge} {f : Pair} → In (e, f) l → In f (keptFor l e)
   unfolding keptFor
   in-kept {e} {f} i = in-each (λ k. k .1) {x = (e, f)} (in-keep _ i (same-edge-refl e))
 
+-- ---- the join is the greatest choice from the views' candidates
+module _ (Q : Pattern) (vs : List View) where
+  abbrev pub JoinedPair : Edge → Pair → Type 0
+  JoinedPair e f = In (e, f) (join Q vs)
+
+  pub join-candidate : {e : Edge} {f : Pair} → JoinedPair e f → In e (Q .edges) × In f (candidates Q vs e)
+  unfolding join
+  join-candidate i = choice-candidate Q (candidates Q vs) i
+
+  pub join-supported : {e : Edge} {f : Pair} → JoinedPair e f → Supported Q JoinedPair e f
+  unfolding join
+  join-supported i = choice-supported Q (candidates Q vs) i
+
+  pub join-most : (K : Edge → Pair → Type 0) → ((e : Edge) (f : Pair) → K e f → In e (Q .edges) × In f (candidates Q vs e)) → ((e : Edge) (f : Pair) → K e f → Supported Q K e f) → (e : Edge) (f : Pair) → K e f → JoinedPair e f
+  unfolding join
+  join-most = choice-most Q (candidates Q vs)
+
+  -- ---- the lists of the answer
   pub complete-say : T (complete Q (join Q vs)) → (e : Edge) → In e (Q .edges) → (f : Pair) × JoinedPair e f
   unfolding complete
   complete-say t e i =
@@ -108,12 +124,12 @@ module _ (Q : Pattern) (vs : List View) where
   unfolding answerTo
   answer-say {e} {f} =
       cond-case (λ l. In f l → T (complete Q (join Q vs)) × JoinedPair e f) (complete Q (join Q vs)) (keptFor (join Q vs) e) []
-      (λ t i. (t, kept-in i))
+      (λ t i. (t, kept-in _ i))
       (λ t i. absurd (not-in-none i))
 
   pub answer-by : {e : Edge} {f : Pair} → T (complete Q (join Q vs)) → JoinedPair e f → In f (answerTo Q vs e)
   unfolding answerTo
-  answer-by {e} {f} t i = cond-case (λ l. In f l) (complete Q (join Q vs)) (keptFor (join Q vs) e) [] (λ h. in-kept i) (λ h. absurd (h t))
+  answer-by {e} {f} t i = cond-case (λ l. In f l) (complete Q (join Q vs)) (keptFor (join Q vs) e) [] (λ h. in-kept _ i) (λ h. absurd (h t))
 
   pub answer-each : answerSets Q vs ≡ each (λ e. ascending (answerTo Q vs e)) (Q .edges)
   unfolding answerSets answerTo

@@ -42,6 +42,9 @@ pub mod JoiningLaws
 pub mod FoundLaws
 -- the join and its candidates
 pub mod JoinLaws
+pub mod ComponentLaws
+pub mod ReachLaws
+pub mod SteppingLaws
 pub mod Taking
 pub mod TakingSheets
 pub mod JoinedLaws

@@ -111,6 +111,15 @@ module _ {A : Type 0} where
   any-step p y l true e f h = (y, here refl, e tt)
   any-step p y l false e f h = let r = f h in (r .0, there (r .1), r .2)
 
+  fails-step : (p : A → Bool) (x : A) (l : List A) → (T (p x) → (y : A) × In y l × (T (p y) → ⊥)) → T (p x) ⊎ (T (p x) → ⊥) → (y : A) × In y (x ∷ l) × (T (p y) → ⊥)
+  fails-step p x l f (inl t) = let r = f t in (r .0, there (r .1), r .2)
+  fails-step p x l f (inr n) = (x, here refl, n)
+
+  pub every-fails : (p : A → Bool) (l : List A) → (T (every p l) → ⊥) → (x : A) × In x l × (T (p x) → ⊥)
+  unfolding every
+  every-fails p [] h = absurd (h tt)
+  every-fails p (x ∷ l) h = fails-step p x l (λ t. every-fails p l (λ u. h (both (p x) (every p l) t u))) (decide (p x))
+
   pub some-in : (p : A → Bool) (l : List A) → T (some p l) → (x : A) × In x l × T (p x)
   unfolding some
   some-in p [] h = absurd h

@@ -12,7 +12,7 @@ use Rattle.matching.proofs.ListLaws.{decide}
 use Rattle.matching.proofs.MaskBits.{none-has, and-say, and-by, not-say, not-by}
 use Rattle.matching.proofs.SoundLaws.{sound-none, sound-then, swept-same, from-same, to-same, held-say, held-by, swept-sound, left-lost, Loses, loses-none, losing-sound}
 use Rattle.matching.specs.Sweeping.{fromOf, toOf, Ends, Starts, heldAt, Swept, missing, NodesSettled}
-use Rattle.matching.specs.Choices.{Falls, Rests, Prepared, Fixed}
+use Rattle.matching.specs.Choices.{Falls, Rests, Prepared, Fixed, Round}
 
 -- ---- one node
 module _ (due : ℕ) (leave out : List ℕ) (v e : ℕ) (s : getD out v 0 < 2 ^ 32) (l : e < 32) where
@@ -121,6 +121,19 @@ module _ {n free due d : ℕ} {leaving arriving w leave arrive out w′ out₁ :
         clear = E .clear;
         sound = λ from to m T₁ T₂ apart. sound-then from to m (swept-same (P .ends .most) W) (swept-sound (P .ends .most) W from to m due) (losing-sound loses from to m free T₁ T₂ apart);
         rests = rests;
+      }
+
+  pub round-once : Round n due d leaving w leave arrive w′ leave′
+  round-once =
+      record {
+        spares = λ i e l a b h. held-by (P .ends .most) W i e l h (inr (a, b));
+        offers = λ from m t v e l le y h. ⊎-elim
+            (λ (p : Has (getD out₁ v 0) e). let o = out-say P W v e l p in record { at = o .at; below = o .below; holds = (from-same (P .ends .most) W (o .at) (o .below) ∙ o .holds .0, o .holds .1) })
+            (λ (p : Has (getD out₁ v 0) e → ⊥).
+            let z = left-lost (E .leave-left v l) from from m t in
+            let x = miss-by due leave out₁ v e (E .short v l) (let f = t .few in omega arith) (z .part e h) y p in
+            absurd (z .gone e h (le, record { at = e; below = le; holds = (x, refl) })))
+            (decide (bit (getD out₁ v 0) e));
       }
 
 -- ---- rounds one after the other

@@ -93,11 +93,7 @@ pub record Fixed (n free due d : ℕ) (leaving arriving w leave arrive out : Lis
       → ((e : ℕ) → Has due e → Has free e → ⊥) → Sound from to m free due d w leave arrive w′ leave′ arrive′
   pub rests : r ≡ 0 → Rests n free due d w′ leave′ arrive′
 
--- what is left where no link was free and all are settled: each pair that is held for a link e is supported, by pairs that begin at its start for the links that
--- leave the start of e and by pairs that begin at its end for those that leave the end of e; and every choice that supports itself is still held
-pub record Chosen (from to : List ℕ) (m d : ℕ) (w w′ : List ℕ) : Type 0 where
-  pub falls : Falls 0 d w w′
-  pub tail : (i e k : ℕ) → i < d → e < m → k < m → Has (heldAt w′ i) e → getD from k 0 ≡ getD from e 0 → OneOf d (λ j. (fromOf w j ≡ fromOf w i) × Has (heldAt w′ j) k)
-  pub head : (i e k : ℕ) → i < d → e < m → k < m → Has (heldAt w′ i) e → getD from k 0 ≡ getD to e 0 → OneOf d (λ j. (fromOf w j ≡ toOf w i) × Has (heldAt w′ j) k)
-  pub stays : (S : ℕ → ℕ → Bool) → Supports from to m (λ e. Unit {0}) d w (λ u v. T (S u v)) → ((u v : ℕ) → T (S u v) → v < 4096) → (i e : ℕ) → i < d → e < m
-      → T (S (getD from e 0) (fromOf w i)) → T (S (getD to e 0) (toOf w i)) → Has (heldAt w i) e → Has (heldAt w′ i) e
+-- what one round keeps of the pairs that their ends allow, and that each link that may leave a node is held there
+pub record Round (n due d : ℕ) (leaving w leave arrive w′ leave′ : List ℕ) : Type 0 where
+  pub spares : (i e : ℕ) → i < d → Has (getD leave (fromOf w i) 0) e → Has (getD arrive (toOf w i) 0) e → Has (heldAt w i) e → Has (heldAt w′ i) e
+  pub offers : (from : List ℕ) (m : ℕ) → Tabled from from m leaving → (v e : ℕ) → v < n → e < m → Has due e → Has (getD leave′ v 0) e → OneOf d (λ i. (fromOf w′ i ≡ v) × Has (heldAt w′ i) e)

@@ -49,9 +49,16 @@ supported Q l k =
     and (eqb (g .from) (k .0 .to) implies some (λ j. sameEdge (j .0) g and eqb (j .1 .0) (k .1 .1)) l))
     (Q .edges)
 
--- the greatest choice of pairs from the candidates that is so supported
+-- candidates for each edge, from wherever they come
+abbrev pub Offer : Type 0
+Offer = Edge → List Pair
+
+-- the greatest choice of pairs from candidates that is so supported
+abbrev pub choice : Pattern → Offer → List Kept
+choice Q cs = greatest (supported Q) (gather (λ e. each (λ f. (e, f)) (cs e)) (Q .edges))
+
 unfoldable pub join : Pattern → List View → List Kept
-join Q vs = greatest (supported Q) (gather (λ e. each (λ f. (e, f)) (candidates Q vs e)) (Q .edges))
+join Q vs = choice Q (candidates Q vs)
 
 -- every edge of Q keeps some pair
 unfoldable pub complete : Pattern → List Kept → Bool

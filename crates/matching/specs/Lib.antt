@@ -3,6 +3,7 @@ pub mod Greatest
 pub mod Simulation
 pub mod Search
 pub mod Join
+pub mod Components
 -- inner
 pub mod Steps
 pub mod Sweeps
@@ -12,6 +13,7 @@ pub mod Candidates
 pub mod Joining
 pub mod Sweeping
 pub mod Choices
+pub mod Stepping
 pub mod Rows
 pub mod Starting
 pub mod Late

@@ -1,6 +1,7 @@
 // Matching by simulation: searching a record for a pattern, and making the book of a catalogue from a record.
 mod calls;
 mod candidates;
+mod components;
 mod ends;
 mod engine;
 mod index;
@@ -9,6 +10,7 @@ mod link_tables;
 mod marked;
 pub mod matched;
 mod start;
+pub mod steps;
 mod sweeps;
 mod turns;
 pub mod views;

@@ -4,7 +4,7 @@ ghost use mathlib.Core.Path.{_≡_};
 ghost use Prim.Native.Nat.{_+_, _<_, _≤_};
 ghost use lib.ListN.{length};
 ghost use Rattle.matching.specs.Sweeping.{Ends, Starts, Carried, Swept, LookedUp, Left, NodesSettled};
-ghost use Rattle.matching.specs.Choices.{Prepared, Fixed};
+ghost use Rattle.matching.specs.Choices.{Prepared, Fixed, Round};
 use packed::limits;
 
 // run, if the pair begins where the last one did.
@@ -103,7 +103,7 @@ pub fn settle(
 }
 
 // One sweep, and the nodes settled. The links that were missed.
-fn round(
+pub fn round(
     work: &mut [u32],
     d: usize,
     n: usize,
@@ -116,7 +116,7 @@ fn round(
     arriving: &[u32; 128],
 ) -> u32
     requires { ⌜ Prepared n d (now work) (now leave) (now arrive) (now out) ⌝ }
-    ensures { λ r. ⌜ Fixed n free due d (now (leaving .entry)) (now (arriving .entry)) (now (work .entry)) (now (leave .entry)) (now (arrive .entry)) (now (out .entry)) r (now (work .exit)) (now (leave .exit)) (now (arrive .exit)) (now (out .exit)) ⌝ }
+    ensures { λ r. ⌜ Fixed n free due d (now (leaving .entry)) (now (arriving .entry)) (now (work .entry)) (now (leave .entry)) (now (arrive .entry)) (now (out .entry)) r (now (work .exit)) (now (leave .exit)) (now (arrive .exit)) (now (out .exit)) × Round n due d (now (leaving .entry)) (now (work .entry)) (now (leave .entry)) (now (arrive .entry)) (now (work .exit)) (now (leave .exit)) ⌝ }
 {
     sweep(work, d, leave, arrive, free, out);
     settle(n, leave, arrive, out, due, leaving, arriving)

@@ -7,6 +7,7 @@ use crate::cells;
 use crate::digest;
 use crate::marks;
 use crate::slices;
+use crate::states;
 
 const READ_PATTERN: usize = 0;
 
@@ -42,6 +43,9 @@ pub const CHEAPEST: usize = 15;
 
 pub const ANSWER_FROM: usize = 16;
 
+// The states of a join after each of its steps, which no client sees.
+pub const STEPS: usize = 30;
+
 // The search that is made apart.
 pub const PLAIN: usize = 31;
 
@@ -50,6 +54,7 @@ pub const PLAIN: usize = 31;
 //
 // The value is the written length, or a refusal's detail. A showing has the second record's length beside it. A quote has 1 where the
 // question is covered, and the chosen views beside it, else the lowest unmatched link. The cheapest set has its sum, and itself beside it.
+// The steps of a join have their number, and the settled items beside it.
 pub struct Outcome {
     pub number: usize,
     pub value: usize,
@@ -378,6 +383,11 @@ fn on_parts(
     if k == CHEAPEST {
         let m = slices::least(cells::number(registers, cells::CONTENT), words.len());
         return cheapest(a, b, &words[0..m], work);
+    }
+    if k == STEPS {
+        let m = slices::least(cells::number(registers, cells::CONTENT), words.len());
+        let links = cells::number(registers, cells::LINKS);
+        return states::each(a, links, &words[0..m], work);
     }
     if k == PLAIN {
         return beside::search(a, c, &mut out[0..n], words, work);

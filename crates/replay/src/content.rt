@@ -1,4 +1,6 @@
 // The content that a writer takes: single fields, and lists of a sheet by a rule.
+ghost use mathlib.Core.Path.{_≡_};
+ghost use lib.ListN.{length};
 use crate::cells;
 use crate::draw;
 use crate::slices;
@@ -8,6 +10,37 @@ pub fn add(words: &mut [u32], cells: &mut [u64], x: usize) {
     let count = cells::number(cells, cells::CONTENT);
     slices::put_word(words, count, slices::low(x));
     cells::set(cells, cells::CONTENT, slices::plus(count, 1));
+}
+
+fn wide(b: u8) -> usize {
+    b as usize
+}
+
+fn add_each(s: &[u8], words: &mut [u32], cells: &mut [u64]) {
+    let mut i: usize = 0;
+    while i < s.len() {
+        add(words, cells, wide(slices::byte_at(s, i)));
+        i += 1;
+    }
+}
+
+fn add_bytes_in(fd: i32, size: usize, s: &mut [u8], words: &mut [u32], cells: &mut [u64]) {
+    let n = slices::least(size, s.len());
+    io::read_full(fd, &mut s[0..n]);
+    let m = slices::least(size, s.len());
+    add_each(&s[0..m], words, cells);
+}
+
+fn field_bytes() -> [u8; 256]
+    ensures { λ r. ⌜ 256 ≡ length r ⌝ }
+{
+    [0; 256]
+}
+
+// So many bytes of the cases, 256 at most, a field each.
+pub fn add_bytes(fd: i32, size: usize, words: &mut [u32], cells: &mut [u64]) {
+    let mut s = field_bytes();
+    add_bytes_in(fd, size, &mut s, words, cells);
 }
 
 // The last field's upper 8 bits.

@@ -11,6 +11,7 @@ use crate::print;
 use crate::records;
 use crate::rounds;
 use crate::slices;
+use crate::states;
 
 // Bytes that follow become the part of the last two bits' number.
 const BYTES: usize = 32;
@@ -45,6 +46,11 @@ const OUTCOME: usize = 46;
 const GROUP: usize = 47;
 
 const ALL: usize = 48;
+
+// The bytes that follow are added to the content, a field each; the content becomes so many pairs.
+const FIELDS: usize = 49;
+
+const PAIRS: usize = 50;
 
 // A single call, and a round, of the call that the last five bits say.
 const ONCE: usize = 64;
@@ -100,11 +106,13 @@ fn on_memory(fd: i32, op: usize, value: usize, memory: &mut [u8], out: &[u8], ce
 }
 
 // Those that make content.
-fn on_content(op: usize, value: usize, words: &mut [u32], cells: &mut [u64]) {
+fn on_content(fd: i32, op: usize, value: usize, words: &mut [u32], cells: &mut [u64]) {
     match op {
         FIELD => content::add(words, cells, value),
         HIGH => content::add_high(words, cells, value),
         LISTS => content::add_lists(value, words, cells),
+        FIELDS => content::add_bytes(fd, value, words, cells),
+        PAIRS => states::draw_pairs(value, words, cells),
         _ => records::draw(words, cells),
     }
 }
@@ -181,8 +189,8 @@ fn act(
         cells::set(cells, op, value);
     } else if (op <= KEEP) | (op == FLIP) {
         on_memory(fd, op, value, memory, out, cells);
-    } else if op < FLIP {
-        on_content(op, value, words, cells);
+    } else if (op < FLIP) | (op == FIELDS) | (op == PAIRS) {
+        on_content(fd, op, value, words, cells);
     } else if op < ONCE {
         on_cells(fd, op, value, memory, out, words, cells);
     } else {

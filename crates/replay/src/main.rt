@@ -18,6 +18,7 @@ mod print;
 mod records;
 mod rounds;
 mod slices;
+mod states;
 
 // So many instructions at most.
 const MOST: u32 = 1000000;

@@ -108,6 +108,10 @@ fn say_lengths(k: usize, cells: &[u64]) {
 fn say_accepted(k: usize, cells: &[u64], out: &[u8], words: &[u32]) {
     if (k == calls::QUOTE) | (k == calls::CHEAPEST) {
         say_quote(k, cells);
+    } else if k == calls::STEPS {
+        say_number(cells::number(cells, cells::VALUE));
+        say(b" steps");
+        say_digest(cells::at(cells, cells::DIGEST));
     } else {
         say_lengths(k, cells);
         say_output(k, cells, out, words);
@@ -147,6 +151,7 @@ fn say_call(k: usize) {
         14 => say(b"  show_uncovered: "),
         15 => say(b"  cheapest: "),
         16 => say(b"  answer_from: "),
+        30 => say(b"  steps: "),
         _ => say(b"  plain search: "),
     }
 }

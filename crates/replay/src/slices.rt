@@ -35,6 +35,11 @@ pub fn one_if(test: bool) -> usize {
     if test { 1 } else { 0 }
 }
 
+// 2 to the power of n, 0 where that is over 32.
+pub fn power(n: usize) -> usize {
+    if n < 33 { 1 << n as u32 } else { 0 }
+}
+
 // The low 32 bits of a number.
 pub fn low(a: usize) -> u32 {
     (a % 0x1_0000_0000) as u32

@@ -9,7 +9,7 @@ use std::collections::BTreeSet;
 pub const UNCOVERED: u32 = 11;
 
 /// For each question link the pairs of a choice.
-type Choice = Vec<BTreeSet<(u32, u32)>>;
+pub type Choice = Vec<BTreeSet<(u32, u32)>>;
 
 /// For each question link the pairs listed under those links of the set's extracts that match it.
 fn candidates(mapping: &[Vec<(usize, usize)>], set: &[usize], book: &Book) -> Choice {
@@ -23,7 +23,7 @@ fn candidates(mapping: &[Vec<(usize, usize)>], set: &[usize], book: &Book) -> Ch
 
 /// The greatest choice. A pair that lacks what is asked of it is dropped, until none is; a pair of any choice that
 /// has what is asked is never dropped.
-fn greatest_choice(question: &Pattern, candidates: Choice) -> Choice {
+pub fn greatest_choice(question: &Pattern, candidates: Choice) -> Choice {
     let mut kept = candidates;
     loop {
         let begins: Vec<BTreeSet<u32>> = kept.iter().map(|pairs| pairs.iter().map(|pair| pair.0).collect()).collect();

@@ -1,9 +1,10 @@
 //! The cases, by sections: files and contents written out, limits, damaged files, the worked cases, searches beside the
-//! plain one, questions and their answers, and the refusals of every call.
+//! plain one, questions and their answers, the steps of joins, and the refusals of every call.
 
 mod questions;
 mod refusals;
 mod searches;
+mod steps;
 mod table;
 mod worked;
 
@@ -17,6 +18,7 @@ pub fn written() -> (Vec<u8>, String) {
     worked::write(&mut script);
     searches::write(&mut script);
     questions::write(&mut script);
+    steps::write(&mut script);
     refusals::write(&mut script);
     script.name("all calls\n");
     script.all();

@@ -11,5 +11,6 @@ pub mod matching;
 pub mod quoting;
 mod replay;
 mod rule;
+pub mod steps;
 
 pub use replay::CALLS;

@@ -9,7 +9,7 @@ use crate::cheapest::cheapest;
 use crate::files::*;
 use crate::matching::{make_book, search};
 use crate::quoting::{quote, show};
-use crate::rule::{Drawn, Lists};
+use crate::rule::{Drawn, Lists, Pairs};
 use counts::Counts;
 use outcome::{Outcome, Output, DIGEST_START};
 use std::fmt::Write;
@@ -51,6 +51,8 @@ const NAME: usize = 45;
 const OUTCOME: usize = 46;
 const GROUP: usize = 47;
 const ALL: usize = 48;
+const FIELDS: usize = 49;
+const PAIRS: usize = 50;
 const ONCE: usize = 64;
 const ROUND: usize = 96;
 const CUTS: usize = 128;
@@ -75,6 +77,8 @@ pub const ANSWER: usize = 13;
 pub const SHOW_UNCOVERED: usize = 14;
 pub const CHEAPEST: usize = 15;
 pub const ANSWER_FROM: usize = 16;
+/// The states of a join after each step.
+pub const STEPS: usize = 30;
 /// The search that the program makes apart from the library's. To the model it is the same.
 pub const PLAIN: usize = 31;
 
@@ -102,9 +106,13 @@ pub const CALLS: [&str; 17] = [
     "answer_from",
 ];
 
-/// The name of a call, the plain search too.
+/// The name of a call, or of what the program does apart from them.
 fn name(call: usize) -> &'static str {
-    CALLS.get(call).copied().unwrap_or("plain search")
+    match call {
+        STEPS => "steps",
+        PLAIN => "plain search",
+        _ => CALLS[call],
+    }
 }
 
 /// The parts of the memory that the calls take: a pattern or question, a catalogue, a record, a sheet or book.
@@ -219,16 +227,27 @@ impl Script {
         self.registers[END + part] += self.last.needed();
     }
 
-    /// Fields are added to the content.
+    /// Fields are added to the content: those that are bytes together, the others one by one.
     pub fn fields(&mut self, fields: &[u32]) {
-        for &field in fields {
-            self.instruction(FIELD, field as usize % (1 << 24));
-            if field >> 24 != 0 {
-                self.instruction(HIGH, field as usize >> 24);
+        for alike in fields.chunk_by(|a, b| *a < 256 && *b < 256) {
+            match alike {
+                [field] => self.field(*field),
+                _ => alike.chunks(256).for_each(|bytes| self.small_fields(bytes)),
             }
-            self.words[self.registers[CONTENT]] = field;
-            self.registers[CONTENT] += 1;
         }
+        self.add(fields);
+    }
+
+    fn field(&mut self, field: u32) {
+        self.instruction(FIELD, field as usize % (1 << 24));
+        if field >> 24 != 0 {
+            self.instruction(HIGH, field as usize >> 24);
+        }
+    }
+
+    fn small_fields(&mut self, fields: &[u32]) {
+        self.instruction(FIELDS, fields.len());
+        self.file.extend(fields.iter().map(|&field| field as u8));
     }
 
     /// These fields become the content.
@@ -293,6 +312,23 @@ impl Script {
         self.add(&drawn.content());
     }
 
+    /// The content becomes pairs of a join.
+    pub fn pairs(&mut self, pairs: Pairs) {
+        for (register, value) in [
+            (SEED, pairs.seed as usize),
+            (ITEMS, pairs.items),
+            (FIRST, pairs.first),
+            (STEP, pairs.step),
+            (GAP, pairs.gap),
+            (LINK_FORM, pairs.form),
+        ] {
+            self.set(register, value);
+        }
+        self.instruction(PAIRS, pairs.count);
+        self.registers[CONTENT] = 0;
+        self.add(&pairs.content());
+    }
+
     /// One bit of a part is turned.
     pub fn flip(&mut self, part: usize, bit: usize) {
         let bit = self.registers[START + part] * 8 + bit;
@@ -349,6 +385,7 @@ impl Script {
             QUOTE => Outcome::quoted(quote(question, catalogue, work)),
             ANSWER => Outcome::bytes(answer(question, catalogue, book, room, work)),
             CHEAPEST => Outcome::priced(cheapest(question, catalogue, content, work)),
+            STEPS => Outcome::stepped(&judge_pattern(question).unwrap(), content),
             ANSWER_FROM => {
                 let set = self.registers[SET] as u16;
                 Outcome::bytes(answer_from(question, catalogue, set, book, room, work))
@@ -390,6 +427,12 @@ impl Script {
     fn begin(&mut self, instruction: usize, value: usize) {
         self.instruction(instruction, value);
         self.outcomes = DIGEST_START;
+    }
+
+    /// The states of a join of the question from the pairs that are the content.
+    pub fn steps(&mut self) {
+        self.set(LINKS, judge_pattern(self.part(QUESTION_PART)).unwrap().links.len());
+        self.once(STEPS);
     }
 
     /// A single call.
@@ -501,6 +544,7 @@ impl Script {
         let mut line = match (number, self.call) {
             (0, QUOTE) if *value == 1 => format!("covered, chosen {other}, digest {digest:016x}"),
             (0, QUOTE) => format!("uncovered, lowest {other}, digest {digest:016x}"),
+            (0, STEPS) => format!("{value} steps, digest {digest:016x}"),
             (0, CHEAPEST) => format!("cost {value}, set {other}, digest {digest:016x}"),
             (0, SHOW_UNCOVERED) => format!("{value} and {other} bytes"),
             (0, call) if call < WRITE_PATTERN => format!("{value} words"),

@@ -131,3 +131,44 @@ impl Lists {
         fields
     }
 }
+
+/// How the pairs of a join are drawn: so many codes from the first on, from each to the next as in a list, as far as they
+/// stand for pairs of items; and for each the links that it is a candidate for, by the form: any, few, many, all.
+#[derive(Clone, Copy, Debug, Default)]
+pub struct Pairs {
+    pub seed: u32,
+    pub count: usize,
+    pub first: usize,
+    pub step: usize,
+    pub gap: usize,
+    pub items: usize,
+    pub form: usize,
+}
+
+impl Pairs {
+    fn mask(&self, [a, b, c, d]: [u32; 4]) -> u32 {
+        let any = |a: u32, b: u32| (below(a, 65_536) * 65_536 + below(b, 65_536)) as u32;
+        match self.form {
+            0 => any(a, b),
+            1 => any(a, b) & any(c, d),
+            2 => any(a, b) | any(c, d),
+            _ => u32::MAX,
+        }
+    }
+
+    /// Each pair, 4,096 times its from and its to, and beside it its links.
+    pub fn content(&self) -> Vec<u32> {
+        let mut fields = Vec::new();
+        let (mut code, mut state) = (self.first, self.seed);
+        for _ in 0..self.count {
+            state = next(state);
+            let step = self.step + below(state, self.gap);
+            let mask = self.mask(four(&mut state));
+            if code < self.items * self.items {
+                fields.extend([(code / self.items * 4_096 + code % self.items) as u32, mask]);
+            }
+            code += step;
+        }
+        fields
+    }
+}

@@ -52,14 +52,10 @@ impl Files {
     }
 }
 
-/// A quote and the cheapest set, also with too few words to work in, and showings. The charges are what content there is.
+/// A quote, the cheapest set and showings. The charges are what content there is.
 fn quotes(script: &mut Script) {
-    script.once(QUOTE);
-    script.once(CHEAPEST);
-    script.set(WORK, WORK_WORDS - 1);
-    script.once(QUOTE);
-    script.once(CHEAPEST);
-    script.set(WORK, WORK_MOST);
+    script.round(QUOTE);
+    script.round(CHEAPEST);
     script.round(SHOW_UNCOVERED);
 }
 

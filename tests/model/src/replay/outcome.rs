@@ -1,9 +1,11 @@
 //! What a call answered, as the program has it.
 
 use super::{ANSWER, ANSWER_FROM, PLAIN, QUOTE, SEARCH};
+use crate::answering::Choice;
 use crate::cheapest::Cheapest;
-use crate::files::Refusal;
+use crate::files::{Pattern, Refusal};
 use crate::quoting::Quote;
+use crate::steps::{steps, Items};
 
 /// FNV-1a, a number at a time.
 pub const DIGEST_START: u64 = 0xcbf2_9ce4_8422_2325;
@@ -21,6 +23,11 @@ fn bits(set: &[usize]) -> u64 {
     set.iter().map(|a| 1 << a).sum()
 }
 
+/// A set of items likewise.
+fn items(set: &Items) -> u64 {
+    set.iter().map(|u| 1 << u).sum()
+}
+
 /// What a call wrote.
 #[derive(Clone, Debug, PartialEq)]
 pub enum Output {
@@ -30,7 +37,8 @@ pub enum Output {
 }
 
 /// 0 or the refusal's number; the written length, or a refusal's detail; a second length, or what a quote adds; and a
-/// digest of what was written. The cheapest set has its sum in the place of a length, and itself beside it.
+/// digest of what was written. The cheapest set has its sum in the place of a length, and itself beside it; the steps of a
+/// join have their number, and the settled items beside it.
 #[derive(Clone, Debug, PartialEq)]
 pub struct Outcome {
     pub number: u64,
@@ -113,6 +121,29 @@ impl Outcome {
             }
             Err(refusal) => Outcome { digest: over(DIGEST_START, &[0u64; 3]), ..Outcome::refused(refusal) },
         }
+    }
+
+    /// The states of a join from pairs and the links that each is a candidate for, from no step to sixteen, or as many as
+    /// there are: the digest has of each state the settled items and the links that each pair is kept for.
+    pub fn stepped(question: &Pattern, content: &[u32]) -> Outcome {
+        let pairs: Vec<(u32, u32)> = content.chunks(2).map(|pair| (pair[0] / 4_096, pair[0] % 4_096)).collect();
+        let candidates = (0..question.links.len()).map(|e| {
+            let are = content.chunks(2).map(|pair| pair[1] >> e & 1 == 1);
+            pairs.iter().zip(are).filter(|(_, is)| *is).map(|(pair, _)| *pair).collect()
+        });
+        let candidates: Choice = candidates.collect();
+        let steps = steps(question, &candidates);
+        let mut states = vec![(Items::new(), candidates)];
+        states.extend(steps.clone());
+        let mut digest = DIGEST_START;
+        for step in 0..=16 {
+            let (settled, state) = &states[step.min(steps.len())];
+            let kept = |pair| (0..state.len()).filter(|&e| state[e].contains(pair)).map(|e| 1 << e).sum();
+            let masks: Vec<u64> = pairs.iter().map(kept).collect();
+            digest = over(over(digest, &[items(settled)]), &masks);
+        }
+        let (settled, _) = &states[steps.len()];
+        Outcome { number: 0, value: steps.len() as u64, other: items(settled), digest, output: Output::Nothing }
     }
 
     pub fn written(&self) -> usize {

@@ -1,5 +1,6 @@
 -- `matching::join::join` meets its contract.
 use borrow.Author.Needs.{needs}
+use native.Mathlib.Omega.{arith}
 use Rattle.matching.proofs.Taking.{pool-keep}
 use Rattle.matching.proofs.TakingSheets.{booked-keep}
 use Rattle.matching.proofs.JoinedLaws.{joined-by}
@@ -15,25 +16,25 @@ take-book-requires c κs =
     let clear-masks = c .before .before .before .clear-masks in
     (pre .0 .edges, booked-keep (pre .1) (clear-masks .ensures .around))
 
-choose-requires : tie.Need-choose-requires
-choose-requires c κs =
-    let pre = c .before .before .before .before .before .before .before .before .before .before .before .before .before .before .before .pre in
-    let clear-masks = c .before .before .before .before .before .before .before .before .before .before .before .clear-masks in
-    let take-book = c .before .before .before .before .before .before .before .take-book in
-    (pool-keep (pool-keep (pre .1 .pool) (clear-masks .ensures .around)) (take-book .ensures .around), pre .0 .edges)
+run-requires : tie.Need-run-requires
+run-requires c κs =
+    let pre = c .before .before .before .before .before .before .before .before .before .before .before .pre in
+    let clear-masks = c .before .before .before .before .before .before .before .clear-masks in
+    let take-book = c .before .before .before .take-book in
+    (pre .0, pool-keep (pool-keep (pre .1 .pool) (clear-masks .ensures .around)) (take-book .ensures .around))
 
 same-length : tie.Need-same-length
 same-length c = search needs
 
 returns : tie.Need-returns
 returns c =
-    let pre = c .before .before .before .before .before .before .before .before .before .before .before .before .before .before .before .before .before .before .pre in
-    let clear-masks = c .before .before .before .before .before .before .before .before .before .before .before .before .before .before .clear-masks in
-    let take-book = c .before .before .before .before .before .before .before .before .before .before .take-book in
-    let choose = c .before .before .choose in
-    joined-by _ _ _ (pre .0) (pre .1) (clear-masks .ensures) (take-book .ensures) (choose .ensures)
+    let pre = c .before .before .before .before .before .before .before .before .before .before .before .before .before .before .pre in
+    let clear-masks = c .before .before .before .before .before .before .before .before .before .before .clear-masks in
+    let take-book = c .before .before .before .before .before .before .take-book in
+    let run = c .before .before .run in
+    joined-by _ _ _ (pre .0) (pre .1) (clear-masks .ensures) (take-book .ensures) (omega arith) (run .ensures)
 
 pub join-spec : {M : Type 1} → statement M
 join-spec =
     tie.close
-    (tie.spec clear-masks-requires take-book-requires choose-requires same-length returns)
+    (tie.spec clear-masks-requires take-book-requires run-requires same-length returns)

@@ -27,31 +27,31 @@ same-length : tie.Need-same-length Inv-loop μ-loop
 same-length c =
     let loop = c .before .before .before .before .before .before .before .before .before .before .before .before .before .before .before .loop in
     let round = c .before .before .before .before .before .before .before .before .before .round in
-    round .ensures .falls .long ∙ loop .inv .falls .long
+    round .ensures .0 .falls .long ∙ loop .inv .falls .long
 
 same-length-2 : tie.Need-same-length-2 Inv-loop μ-loop
 same-length-2 c =
     let loop = c .before .before .before .before .before .before .before .before .before .before .before .before .before .before .before .loop in
     let round = c .before .before .before .before .before .before .before .before .before .round in
-    round .ensures .leave-long ∙ loop .inv .leave-long
+    round .ensures .0 .leave-long ∙ loop .inv .leave-long
 
 same-length-3 : tie.Need-same-length-3 Inv-loop μ-loop
 same-length-3 c =
     let loop = c .before .before .before .before .before .before .before .before .before .before .before .before .before .before .before .loop in
     let round = c .before .before .before .before .before .before .before .before .before .round in
-    round .ensures .arrive-long ∙ loop .inv .arrive-long
+    round .ensures .0 .arrive-long ∙ loop .inv .arrive-long
 
 same-length-4 : tie.Need-same-length-4 Inv-loop μ-loop
 same-length-4 c =
     let loop = c .before .before .before .before .before .before .before .before .before .before .before .before .before .before .before .loop in
     let round = c .before .before .before .before .before .before .before .before .before .round in
-    round .ensures .out-long ∙ loop .inv .out-long
+    round .ensures .0 .out-long ∙ loop .inv .out-long
 
 returns : tie.Need-returns Inv-loop μ-loop
 returns c =
     let loop = c .before .before .before .before .before .before .before .before .before .before .before .before .before .before .before .loop in
     let round = c .before .before .before .before .before .before .before .before .before .round in
-    fixed-told (fixed-then (loop .inv) (round .ensures)) 0 (λ z. c .if1 .taken)
+    fixed-told (fixed-then (loop .inv) (round .ensures .0)) 0 (λ z. c .if1 .taken)
 
 sub-left : tie.Need-sub-left Inv-loop μ-loop
 sub-left c = search needs
@@ -60,7 +60,7 @@ loop-less : tie.Need-loop-less Inv-loop μ-loop
 loop-less c = search needs
 
 loop-again : tie.Need-loop-again Inv-loop μ-loop
-loop-again c = fixed-told (fixed-then (c .before .before .before .before .before .before .before .before .before .before .before .before .before .before .before .loop .inv) (c .before .before .before .before .before .before .before .before .before .round .ensures)) 1 (λ z. absurd (omega arith))
+loop-again c = fixed-told (fixed-then (c .before .before .before .before .before .before .before .before .before .before .before .before .before .before .before .loop .inv) (c .before .before .before .before .before .before .before .before .before .round .ensures .0)) 1 (λ z. absurd (omega arith))
 
 same-length-5 : tie.Need-same-length-5 Inv-loop μ-loop
 same-length-5 c = c .before .loop .inv .falls .long

@@ -1,4 +1,4 @@
-use Rattle.matching.proofs.RoundLaws.{round-fixed, prepared-ends, prepared-starts}
+use Rattle.matching.proofs.RoundLaws.{round-fixed, round-once, prepared-ends, prepared-starts}
 use borrow.Author.Needs.{needs}
 use Rattle.matching.proofs.sweeps.round.Statement.{statement}
 use Rattle.matching.proofs.sweeps.round.Tie as tie
@@ -28,7 +28,7 @@ returns c =
     let pre = c .before .before .before .before .before .before .before .before .before .before .before .before .before .before .before .before .before .before .before .before .before .before .before .pre in
     let sweep = c .before .before .before .before .before .before .before .before .before .before .before .before .before .before .sweep in
     let settle = c .before .before .before .before .before .before .settle in
-    round-fixed pre (sweep .ensures) (settle .ensures)
+    (round-fixed pre (sweep .ensures) (settle .ensures), round-once pre (sweep .ensures) (settle .ensures))
 
 pub round-spec : {M : Type 1} → statement M
 round-spec =

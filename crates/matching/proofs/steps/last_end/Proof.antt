@@ -1,4 +1,4 @@
--- `matching::join::last_end` meets its contract.
+-- `matching::steps::last_end` meets its contract.
 use borrow.Author.Needs.{needs}
 use mathlib.Core.Path.{_≡_, ap}
 use mathlib.Core.Logic.{⊎-elim}
@@ -6,8 +6,8 @@ use Prim.Native.Nat.{ℕ, _≤_, _<_, _-_}
 use native.Mathlib.Omega.{arith}
 use Rattle.packed.proofs.OrderCases.{lt-or-ge}
 use Rattle.matching.specs.Sweeping.{toOf}
-use Rattle.matching.proofs.join.last_end.Statement.{statement}
-use Rattle.matching.proofs.join.last_end.Tie as tie
+use Rattle.matching.proofs.steps.last_end.Statement.{statement}
+use Rattle.matching.proofs.steps.last_end.Tie as tie
 
 abbrev Inv-loop : tie.InvT-loop
 Inv-loop work d r₀ i₀ r i = (i ≤ d) × (r < 4096) × ((j : ℕ) → j < i → toOf work j ≤ r)

@@ -1,11 +1,11 @@
--- `matching::join::nodes` meets its contract.
+-- `matching::steps::nodes` meets its contract.
 use borrow.Author.Needs.{needs}
 use mathlib.Core.Path.{refl}
 use Prim.Native.Nat.{_-_}
 use native.Mathlib.Omega.{arith}
 use Rattle.matching.proofs.JoiningLaws.{no-ends, all-ends}
-use Rattle.matching.proofs.join.nodes.Statement.{statement}
-use Rattle.matching.proofs.join.nodes.Tie as tie
+use Rattle.matching.proofs.steps.nodes.Statement.{statement}
+use Rattle.matching.proofs.steps.nodes.Tie as tie
 
 returns : tie.Need-returns
 returns c = (omega arith, no-ends (c .before .before .pre) (omega arith))
