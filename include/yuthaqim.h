@@ -58,8 +58,9 @@ enum {
     YUTHAQIM_SHORT = 2,      /* short: its bits, or a writer's words, end before a field does */
     YUTHAQIM_COUNT = 3,      /* count: a count lies outside its range; for a writer also a kind or a pair's number */
     YUTHAQIM_STRAY = 4,      /* stray: a link's end is not an item of its file */
-    YUTHAQIM_TWICE = 5,      /* twice: a pattern or record link repeats an earlier one */
-    YUTHAQIM_ORDER = 6,      /* order: a sheet's pair doesn't exceed the one before */
+    YUTHAQIM_TWICE = 5,      /* twice: a pattern link repeats an earlier one; so does a link of an old record, where
+                              * one is sorted */
+    YUTHAQIM_ORDER = 6,      /* order: a record's link or a sheet's pair doesn't exceed the one before, by from, then to */
     YUTHAQIM_LOOSE = 7,      /* loose: a pattern item is at no link */
     YUTHAQIM_UNEVEN = 8,     /* uneven: a sheet has zero and nonzero counts */
     YUTHAQIM_TAIL = 9,       /* tail: a padding bit isn't zero, or bytes or words follow */
@@ -159,6 +160,12 @@ struct yuthaqim_reply yuthaqim_write_book(const uint8_t *catalogue, size_t catal
                                           size_t fields_length, uint8_t *out, size_t out_length, uint32_t *work,
                                           size_t work_length);
 
+/* Writes the record of a file that was stored before links had an order, with its links ascending by from, then to: the
+ * same items, the same links and the same sheets. The file is read by the rules of then: its links in any order,
+ * YUTHAQIM_TWICE for one that repeats an earlier one, and never YUTHAQIM_ORDER. */
+struct yuthaqim_reply yuthaqim_sort_record(const uint8_t *old, size_t old_length, uint8_t *out, size_t out_length,
+                                           uint32_t *work, size_t work_length);
+
 /* Searches a record for a pattern: writes the pattern's sheet. */
 struct yuthaqim_reply yuthaqim_search(const uint8_t *pattern, size_t pattern_length, const uint8_t *record,
                                       size_t record_length, uint8_t *out, size_t out_length, uint32_t *work,
@@ -195,7 +202,8 @@ struct yuthaqim_reply yuthaqim_answer_from(const uint8_t *question, size_t quest
                                            size_t work_length);
 
 /* Shows why a question is uncovered: writes the question read as a record, and the same without its lowest unmatched
- * link. Every extract lists the same on both, the question doesn't. */
+ * link, which is the lowest by its number in the question; the links of both records ascend. Every extract lists the same
+ * on both, the question doesn't. */
 struct yuthaqim_showing yuthaqim_show_uncovered(const uint8_t *question, size_t question_length,
                                                 const uint8_t *catalogue, size_t catalogue_length, uint8_t *first,
                                                 size_t first_length, uint8_t *second, size_t second_length,

@@ -82,6 +82,7 @@ fn depths(files: &Files) -> Vec<(&'static str, usize)> {
         "write a record": write_record(&record_words, &mut bytes, &mut work);
         "write a sheet": write_sheet(question, &sheet_words, &mut bytes, &mut work);
         "write a book": write_book(catalogue, &book_words, &mut bytes, &mut work);
+        "sort a record": sort_record(record, &mut bytes, &mut work);
         "search": search(question, record, &mut bytes, &mut work);
         "make a book": make_book(catalogue, record, &mut bytes, &mut work);
         "quote": raw::quote(question, catalogue, &mut work);

@@ -3,7 +3,7 @@
 
 use crate::baseline;
 use crate::workloads::*;
-use model::files::{read_book, read_record, Refusal, BOOK_BYTES, WORK_WORDS};
+use model::files::{pack_record, read_book, read_record, Refusal, BOOK_BYTES, WORK_WORDS};
 use model::{answering, cheapest, matching, quoting};
 
 const ROOM: usize = BOOK_BYTES;
@@ -126,6 +126,24 @@ fn part_of(rule: &mut Rule, (kinds, links): &Pattern) -> Pattern {
     (kinds, links.iter().map(|&(from, to)| (place(from), place(to))).collect())
 }
 
+/// A record whose first two links, if it has as many, changed places, or of which the first repeats the second.
+fn disordered(record: &[u8], question: &[u8]) {
+    let fields = read_record(record, ROOM, WORK_WORDS).unwrap();
+    let (items, links) = (fields[0] as usize, fields[1]);
+    if links > 1 {
+        let first = 2 + items;
+        let (mut turned, mut twice) = (fields.clone(), fields);
+        turned[first..first + 4].rotate_left(2);
+        twice.copy_within(first + 2..first + 4, first);
+        for fields in [turned, twice] {
+            let file = pack_record(&fields);
+            same("read a record out of order", baseline::read_record(&file, ROOM), read_record(&file, ROOM, WORK_WORDS));
+            let search = matching::search(question, &file, ROOM, WORK_WORDS);
+            same("search one", baseline::search(question, &file, ROOM), search);
+        }
+    }
+}
+
 #[test]
 fn on_small_graphs() {
     let mut rule = Rule::new(8);
@@ -141,6 +159,7 @@ fn on_small_graphs() {
             .map(|_| if rule.below(4) == 0 { some_pattern(&mut rule) } else { part_of(&mut rule, &question) })
             .collect();
         answered += usize::from(agree(&record, &pattern_file(&question), &catalogue_file(&extracts)));
+        disordered(&record, &pattern_file(&question));
     }
     assert!(answered > 500, "{answered} answered");
 }

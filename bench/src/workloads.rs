@@ -1,6 +1,6 @@
 //! The workloads: for each a record, a question and a catalogue of 15 or 16 extracts, at the full size of a record and at
-//! parts of it. They are drawn by a rule with a fixed seed. The links of every record stand in shuffled order, and so do
-//! the numbers of its items where an order of them would help.
+//! parts of it. They are drawn by a rule with a fixed seed. The numbers of a record's items are shuffled where an order of
+//! them would help.
 
 use crate::baseline::Writer;
 use std::collections::HashSet;
@@ -127,12 +127,15 @@ pub fn catalogue_file(extracts: &[Pattern]) -> Vec<u8> {
     writer.bytes()
 }
 
+/// The links ascending.
 pub fn record_file(kinds: &[u32], links: &[(usize, usize)]) -> Vec<u8> {
+    let mut links = links.to_vec();
+    links.sort();
     let mut writer = Writer::default();
     writer.field(13, kinds.len() as u32);
     writer.field(14, links.len() as u32);
     kinds.iter().for_each(|&kinds| writer.field(32, kinds));
-    for &(from, to) in links {
+    for (from, to) in links {
         writer.field(12, from as u32);
         writer.field(12, to as u32);
     }
@@ -143,12 +146,10 @@ pub fn record_file(kinds: &[u32], links: &[(usize, usize)]) -> Vec<u8> {
 fn workload(
     name: &'static str,
     about: &'static str,
-    rule: &mut Rule,
-    (kinds, mut links): (Vec<u32>, Vec<(usize, usize)>),
+    (kinds, links): (Vec<u32>, Vec<(usize, usize)>),
     question: Pattern,
     extracts: Vec<Pattern>,
 ) -> Workload {
-    rule.shuffle(&mut links);
     Workload {
         name,
         about,
@@ -199,7 +200,7 @@ fn layered(items: usize, links: usize) -> Workload {
     ];
     let about =
         "four layers, links to the next layer; question of 7 items and 8 links, 15 extracts that are parts of it";
-    workload("layered", about, &mut rule, (kinds, links), question, extracts)
+    workload("layered", about, (kinds, links), question, extracts)
 }
 
 /// One item in the middle, linked both ways with all others, which have one kind in common and one of 14 others.
@@ -211,7 +212,7 @@ fn star(items: usize, _: usize) -> Workload {
     let links = others.flat_map(|v| [(middle, v), (v, middle)]).collect();
     let extracts = (1..16).map(|kind| ring(&[0, kind])).collect();
     let about = "one item linked both ways with all others; question of 2 items linked both ways, 15 extracts like it";
-    workload("star", about, &mut rule, (kinds, links), ring(&[0, 1]), extracts)
+    workload("star", about, (kinds, links), ring(&[0, 1]), extracts)
 }
 
 /// A long chain of one kind, with links to the next item and to the one after, in shuffled order: nothing on it goes on
@@ -230,7 +231,7 @@ fn chain(items: usize, _: usize) -> Workload {
     extracts.extend((1..6).map(|kind| path(&[kind, kind + 1, kind + 3])));
     let about = "a chain through all items with links to the next and the one after, numbers shuffled; question of a \
                  self link, which nothing matches in the end; 15 extracts, 2 of which cascade like it";
-    workload("chain", about, &mut rule, (kinds, links), ring(&[0]), extracts)
+    workload("chain", about, (kinds, links), ring(&[0]), extracts)
 }
 
 /// A chain through all items of one kind, numbers shuffled, and a ring of sixteen items of that kind: each item of the
@@ -249,7 +250,7 @@ fn cascade(items: usize, _: usize) -> Workload {
     extracts.extend((1..6).map(|kind| path(&[kind, kind + 1, kind + 2])));
     let about = "a chain through all items, numbers shuffled; question of sixteen items of one kind in a ring, which nothing \
                  matches in the end; 15 extracts, 2 of which cascade like it";
-    workload("cascade", about, &mut rule, (kinds, links), ring(&zeros), extracts)
+    workload("cascade", about, (kinds, links), ring(&zeros), extracts)
 }
 
 /// All items of one kind. A sixteenth of them, the core, has two links each within the core; the others stand in three
@@ -278,7 +279,7 @@ fn one_kind(items: usize, links: usize) -> Workload {
     let about =
         "all items of one kind, a sixteenth of them in a ring with chords, the others in three layers; question \
                  of 16 items and 32 links, 15 extracts";
-    workload("one kind", about, &mut rule, (vec![1; items], all), question, extracts)
+    workload("one kind", about, (vec![1; items], all), question, extracts)
 }
 
 /// Eight kinds, and links from a kind to a greater one alone. The patterns ask for the other direction.
@@ -302,7 +303,7 @@ fn nothing(items: usize, links: usize) -> Workload {
     let about =
         "eight kinds, links from lesser to greater kinds alone; question of 8 items and 13 links the other way, \
                  16 extracts that are parts of it";
-    workload("nothing", about, &mut rule, (kind.iter().map(|kind| 1 << kind).collect(), all), question, extracts)
+    workload("nothing", about, (kind.iter().map(|kind| 1 << kind).collect(), all), question, extracts)
 }
 
 /// Sixteen kinds, and from each item two links to items of its own kind: every link is listed.
@@ -321,7 +322,7 @@ fn everything(items: usize, _: usize) -> Workload {
     let about =
         "sixteen kinds, two links from each item to items of its kind; question of 16 items with self links, 16 \
                  extracts of two items linked both ways; every link of the record is listed";
-    workload("everything", about, &mut rule, (kinds, links), question, extracts)
+    workload("everything", about, (kinds, links), question, extracts)
 }
 
 // Questions without a record, to find the cheapest set for.

@@ -144,6 +144,37 @@ static void files(void) {
                  K6_BOOK, sizeof K6_BOOK);
 }
 
+/* K6 with its links turned, as it could be stored before they had an order, and with one of them twice. */
+static const uint8_t OLD_K6[] = {0x00, 0x20, 0x00, 0x60, 0x00, 0x00, 0x00, 0x20, 0x00, 0x00, 0x00, 0x40, 0x00, 0x00, 0x01,
+                                 0x00, 0x00, 0x00, 0x00, 0x40, 0x02, 0x00, 0x40, 0x00, 0x00, 0x60, 0x00, 0x00, 0x20};
+static const uint32_t TURNED_FIELDS[] = {4, 3, 1, 2, 8, 2, 1, 2, 0, 3, 0, 1};
+
+static void sorting(void) {
+    static uint8_t twice[sizeof OLD_K6];
+    struct yuthaqim_reply r;
+
+    mark();
+    r = yuthaqim_sort_record(OLD_K6, sizeof OLD_K6, bytes, sizeof bytes, work, LENGTH(work));
+    expect_bytes("sort_record: K6 with its links turned", r, K6, sizeof K6);
+    mark();
+    r = yuthaqim_sort_record(K6, sizeof K6, bytes, sizeof K6, work, LENGTH(work));
+    expect_bytes("sort_record: K6 as it is", r, K6, sizeof K6);
+    mark();
+    r = yuthaqim_sort_record(OLD_K6, sizeof OLD_K6, bytes, sizeof K6 - 1, work, LENGTH(work));
+    expect_refusal("sort_record: no room", r.number, r.value, YUTHAQIM_NO_FIT, sizeof K6);
+    mark();
+    memcpy(twice, OLD_K6, sizeof twice);
+    memcpy(twice + 26, twice + 20, 3);
+    r = yuthaqim_sort_record(twice, sizeof twice, bytes, sizeof bytes, work, LENGTH(work));
+    expect_refusal("sort_record: a link twice", r.number, r.value, YUTHAQIM_TWICE, YUTHAQIM_IN_RECORD);
+    mark();
+    r = yuthaqim_read_record(OLD_K6, sizeof OLD_K6, words, LENGTH(words), work, LENGTH(work));
+    expect_refusal("read_record: links out of order", r.number, r.value, YUTHAQIM_ORDER, YUTHAQIM_IN_RECORD);
+    mark();
+    r = yuthaqim_write_record(TURNED_FIELDS, LENGTH(TURNED_FIELDS), bytes, sizeof bytes, work, LENGTH(work));
+    expect_refusal("write_record: links out of order", r.number, r.value, YUTHAQIM_ORDER, YUTHAQIM_IN_RECORD);
+}
+
 static void matching(void) {
     mark();
     expect_bytes("search: extract 1 on K6",
@@ -335,6 +366,7 @@ static void refusals(void) {
 
 int main(void) {
     files();
+    sorting();
     matching();
     quoting();
     charging();

@@ -91,9 +91,7 @@ pub fn parse_catalogue(bytes: &[u8]) -> Result<Vec<Pattern>, Refusal> {
 
 // Records.
 
-/// The kinds and, in their own order, the links. None of them stands twice: that is found by sorting a copy, which the
-/// standard library does faster than it fills a set.
-fn record(bytes: &[u8]) -> Result<(Record, Vec<Pair>), Refusal> {
+pub fn parse_record(bytes: &[u8]) -> Result<Record, Refusal> {
     let mut reader = Reader::new(bytes, RECORD_BYTES, RECORD)?;
     let items = reader.field(13)?;
     if items > 4_096 {
@@ -107,26 +105,20 @@ fn record(bytes: &[u8]) -> Result<(Record, Vec<Pair>), Refusal> {
     for _ in 0..items {
         kinds.push(reader.field(32)?);
     }
-    let mut in_order = Vec::with_capacity(number as usize);
+    let mut links: Vec<Pair> = Vec::with_capacity(number as usize);
     for _ in 0..number {
         let link = reader.field(24)?;
         if link >> 12 >= items || link & 4_095 >= items {
             return reader.refuse(STRAY);
         }
-        in_order.push(link);
-    }
-    let mut links = in_order.clone();
-    links.sort_unstable();
-    if links.windows(2).any(|two| two[0] == two[1]) {
-        return reader.refuse(TWICE);
+        if links.last().is_some_and(|&before| link <= before) {
+            return reader.refuse(ORDER);
+        }
+        links.push(link);
     }
     reader.padding()?;
     reader.end()?;
-    Ok((Record { kinds, links }, in_order))
-}
-
-pub fn parse_record(bytes: &[u8]) -> Result<Record, Refusal> {
-    Ok(record(bytes)?.0)
+    Ok(Record { kinds, links })
 }
 
 fn push_pair(content: &mut Vec<u32>, pair: Pair) {
@@ -135,10 +127,10 @@ fn push_pair(content: &mut Vec<u32>, pair: Pair) {
 
 /// Reads a record: gives its content.
 pub fn read_record(bytes: &[u8], room: usize) -> Result<Vec<u32>, Refusal> {
-    let (record, links) = record(bytes)?;
-    let mut content = Vec::with_capacity(2 + record.kinds.len() + 2 * links.len());
-    content.extend([record.kinds.len() as u32, links.len() as u32]);
-    content.extend(record.kinds);
+    let Record { kinds, links } = parse_record(bytes)?;
+    let mut content = Vec::with_capacity(2 + kinds.len() + 2 * links.len());
+    content.extend([kinds.len() as u32, links.len() as u32]);
+    content.extend(kinds);
     links.into_iter().for_each(|link| push_pair(&mut content, link));
     give(content, room)
 }

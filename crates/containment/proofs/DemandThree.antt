@@ -9,10 +9,11 @@ use native.Mathlib.Omega.{arith}
 use Rattle.packed.specs.Contents.{edgeCounts, viewsOf, fieldsOf, sheetsIn}
 use Rattle.packed.specs.Calls.{Outcome, give, refuse, withWorkspace, Verdict, accepted, rejected, judged, readPattern, readSheet, readBook, fitFile}
 use Rattle.matching.specs.Lists.{In, here, there}
-use Rattle.matching.specs.Simulation.{Pattern, Graph, bit, patternOf, graphOf, matchSets, viewSheet}
+use Rattle.matching.specs.Simulation.{Pattern, Graph, bit, patternOf, graphOf, asGraph, matchSets, viewSheet}
 use Rattle.matching.specs.Join.{without, answerSets}
 use Rattle.matching.specs.Search.{sheetBytes, viewSheets}
 use Rattle.matching.proofs.BookBytes.{bookFields}
+use Rattle.matching.proofs.SortedGraphs.{alike-views, alike-without}
 use Rattle.matching.proofs.Uncovered.{uncovered-views}
 use Rattle.containment.specs.Choice.{everyView}
 use Rattle.containment.specs.Answer.{answerBytes, Choose, answerBy, answerFrom, usedFor, answerOutcome}
@@ -28,12 +29,14 @@ use Rattle.containment.proofs.DemandJoin.{answer-joins}
 module _ (q c qs cs : List ℕ) (p : Question q qs) (d : Catalogue c cs) where
   -- ---- an uncovered query
   shown-by : Uncovered qs cs → Showing qs cs
+  unfolding asGraph
   shown-by n =
       let s = shows q c qs cs (question-is q qs p) (catalogue-is c cs d) n in
       record {
         first-accepted = s .first-read;
         second-accepted = s .second-read;
-        question = s .means;
+        items = s .means .0 .same-labels;
+        links = λ f. (s .means .0 .more f, s .means .1 .more f);
         lacks = s .lacks;
         in-first = s .in-first;
         not-in-second = s .not-second;
@@ -57,11 +60,13 @@ module _ (q c qs cs : List ℕ) (p : Question q qs) (d : Catalogue c cs) where
   -- the two shown records have the same lists
   same-lists : Uncovered qs cs → (P : Pattern) → In P (extracts cs) → viewSheet P (graphOf (firstOf qs)) ≡ viewSheet P (graphOf (secondOf qs cs))
   same-lists n P i =
-      let s = shown-by n in
+      let s = shows q c qs cs (question-is q qs p) (catalogue-is c cs d) n in
       let e = linkOf qs (lacking qs cs) in
-      ap (viewSheet P) (s .question)
+      let G = graphOf (firstOf qs) in
+      let H = asGraph (patternOf qs) in
+      alike-views P G H (s .means)
       ∙ uncovered-views (patternOf qs) (extracts cs) e (lowest-of q c qs cs (question-is q qs p) (catalogue-is c cs d) n .unmatched) P i
-      ∙ ap (viewSheet P) (sym (s .lacks ∙ ap (without e) (s .question)))
+      ∙ sym (ap (viewSheet P) (s .lacks) ∙ alike-views P (without e G) (without e H) (alike-without e G H (s .means)))
 
   -- ---- accepted books
   module _ (b bs : List ℕ) (k : Book cs b bs) where

@@ -12,6 +12,7 @@ use Rattle.packed.specs.Format.{pick}
 use Rattle.packed.specs.Formats.{code}
 use Rattle.packed.specs.Contents.{edgesOf, edgeCounts, ends, fieldsOf}
 use Rattle.packed.specs.Plain.{BookFile}
+use Rattle.packed.specs.OldRecord.{sortedFields, recordSorted}
 use Rattle.packed.specs.Calls.{Outcome, give, toldOf, fronts, outputsOf, workOf, withWorkspace, judged, readPattern, readCatalogue, readRecord, patternRead, catalogueRead, recordRead, sheetRead, bookRead, patternWritten, catalogueWritten, recordWritten, sheetWritten, bookWritten}
 use Rattle.packed.proofs.Accepted.{pattern-read, catalogue-read, record-read, sheet-read, book-read}
 use Rattle.packed.proofs.CallRoundTrips.{pattern-back, pattern-again, catalogue-back, catalogue-again, record-back, record-again, sheet-back, sheet-again, book-back, book-again}
@@ -30,7 +31,7 @@ use Rattle.containment.specs.Cheapest.{cheapestFrom, cheapestFor, cheape
 use Rattle.containment.specs.Show.{showFor, showOutcome}
 use Rattle.containment.specs.Listing.{lineOf, lineOutcome}
 use Rattle.containment.specs.Demands.{Full, Settles, Worked, Demand1, Question, Catalogue, Record, Uncrowded, Book, extracts, extractOf, linkOf, Covered, lacking, chosenOf, Matching, Matched, Demand2}
-use Rattle.containment.proofs.Numbered.{numbered, pattern-faults, catalogue-faults, record-faults, sheet-faults, book-faults, gives, refuses, either, workspace-settles, uncrowded-settles, fit-settles, fitFile-settles, fitBoth-settles, read-settles, write-settles}
+use Rattle.containment.proofs.Numbered.{numbered, pattern-faults, catalogue-faults, record-faults, old-faults, sheet-faults, book-faults, gives, refuses, either, workspace-settles, uncrowded-settles, fit-settles, fitFile-settles, fitBoth-settles, read-settles, write-settles}
 use Rattle.containment.proofs.SetBits.{never}
 use Rattle.containment.proofs.ChoiceLaws.{chosen-none, chosen-covers, chosen-needed}
 use Rattle.containment.proofs.CoveredBytes.{coveredBy, question-bounds, few-views, record-is}
@@ -88,7 +89,7 @@ book-exactly cs s ws = (
 )
 
 pub demand-1 : Demand1
-unfolding fronts patternRead catalogueRead recordRead sheetRead bookRead patternWritten catalogueWritten recordWritten sheetWritten bookWritten searchOutcome makeBookOutcome quoteOutcome cheapestOutcome answerBy showOutcome lineOutcome toldOf outputsOf
+unfolding recordSorted fronts patternRead catalogueRead recordRead sheetRead bookRead patternWritten catalogueWritten recordWritten sheetWritten bookWritten searchOutcome makeBookOutcome quoteOutcome cheapestOutcome answerBy showOutcome lineOutcome toldOf outputsOf
 demand-1 = record {
   read-pattern = λ s room words. workspace-settles words (pattern-first s (fit-settles room));
   read-catalogue = λ s room words. workspace-settles words (catalogue-first s (fit-settles room));
@@ -100,6 +101,7 @@ demand-1 = record {
   write-pattern = λ ws room words. workspace-settles words (write-settles 1 pattern-faults ws (fit-settles room));
   write-catalogue = λ ws room words. workspace-settles words (write-settles 2 catalogue-faults ws (fit-settles room));
   write-record = λ ws room words. workspace-settles words (write-settles 3 record-faults ws (fit-settles room));
+  sort-record = λ s room words. workspace-settles words (read-settles 40964 3 old-faults s (λ ws. write-settles 3 record-faults (sortedFields ws) (fit-settles room)));
   write-sheet = λ p ws room words. workspace-settles words (pattern-first p (λ ps. write-settles 4 (sheet-faults (edgesOf ps)) ws (fitFile-settles room)));
   write-book = λ c ws room words.
       workspace-settles words

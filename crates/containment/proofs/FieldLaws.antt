@@ -1,25 +1,31 @@
 -- The content of a query read as a record, made word by word.
-use Prim.Native.Nat.{ℕ, zero, suc, _+_, _-_, _*_, _^_, _<_, _≤_}
+use Prim.Native.Nat.{ℕ, zero, suc, _+_, _-_, _*_, _/_, _^_, _<_, _≤_}
 use mathlib.Core.Path.{_≡_, refl, sym, ap, ap₂, subst, _∙_}
 use mathlib.Core.Bool.{Bool}
 use mathlib.Core.Logic.{⊎-elim}
 use mathlib.Core.List.{List, [], _∷_, _++_, map, append-nil, append-assoc}
 use lib.ListN.{length, take, drop, getD, set, replicate, length-append, length-drop, length-set}
-use lib.Seq.{take-suc, take-suc-set, take-all, getD-drop}
+use lib.Seq.{sets, sets-eq, length-sets, take-at, take-suc, take-suc-set, take-all, getD-take, getD-drop, getD-set-same, getD-set-other, length-take-le}
 use native.Mathlib.Omega.{arith}
 use native.Mathlib.Numerals.{add-one}
 use borrow.Author.Tests.{eq-eqb, ne-eqb, lt-ltb, le-ltb}
-use Rattle.packed.specs.Plain.{PlainPattern, fromAt, toAt}
+use Rattle.packed.specs.Contents.{ends, distinct, codes, sortedEnds}
+use Rattle.packed.specs.Order.{Sorted}
+use Rattle.packed.specs.Plain.{PlainEdges, PlainPattern, fromAt, toAt}
 use Rattle.packed.specs.ByValue.{HoldsPattern}
 use Rattle.packed.specs.declared.by_value.Pattern.{Pattern as Given}
-use Rattle.packed.proofs.OrderCases.{lt-or-ge}
+use Rattle.packed.proofs.OrderCases.{lt-or-ge, eq-or-ne}
+use Rattle.packed.proofs.DistinctAbsorb.{sorted-front}
+use Rattle.packed.proofs.GraphLaws.{codes-length, codes-at, ends-length}
+use Rattle.packed.proofs.SortedEdges.{codes-differ}
 use Rattle.matching.specs.Simulation.{Edge, noEdge}
 use Rattle.matching.specs.Steps.{givenEdge as givenAt}
 use Rattle.matching.proofs.UpToLaws.{getD-upTo}
 use Rattle.matching.proofs.PatternLaws.{nodes-in, edges-in, edges-are, labels-same, edges-same}
 use Rattle.matching.proofs.EdgeLaws.{edgeAt}
-use Rattle.containment.specs.Steps.{powers, edgesBut, endsBut, labelFields, fieldsBut, Front, Extends, shownFields}
-use Rattle.containment.proofs.QueryGraph.{graph-fields, fewer-fields, edge-at}
+use Rattle.containment.specs.Steps.{powers, endsBut, CodesFront, labelFields, fieldsBut, Front, Extends, HoldsFields, shownFields}
+use Rattle.containment.specs.declared.query.Fields.{Fields}
+use Rattle.containment.proofs.QueryGraph.{graph-fields, fewer-plain, fewer-fields, edge-at}
 
 -- ---- words at the front of a table
 front-one : {words fs : List ℕ} {n : ℕ} (v : ℕ) → n < 82 → Front words n fs → Front (set words n v) (n + 1) (fs ++ (v ∷ []))
@@ -61,6 +67,26 @@ labels-more ls {u} {v} h k e x fs f =
     (front-one v (omega arith) (x fs f))
 
 -- ---- the ends of the edges
+codes-snoc : (k : ℕ) (es : List ℕ) (a b : ℕ) → length es ≡ 2 * k → codes (es ++ (a ∷ b ∷ [])) ≡ codes es ++ ((a * 4096 + b) ∷ [])
+unfolding codes
+codes-snoc k [] a b n = refl
+codes-snoc k (x ∷ []) a b n = absurd (omega arith)
+codes-snoc zero (x ∷ y ∷ es) a b n = absurd (omega arith)
+codes-snoc (suc k) (x ∷ y ∷ es) a b n = ap (λ (l : List ℕ). (x * 4096 + y) ∷ l) (codes-snoc k es a b (omega arith))
+
+-- so many words more, all at once
+pub front-sets : {words : List ℕ} {n : ℕ} (fs es : List ℕ) → n + length es ≤ 82 → Front words n fs → Front (sets words n es) (n + length es) (fs ++ es)
+front-sets {words} {n} fs es h f =
+    let t : length (take n words) ≡ n = length-take-le n words (omega (arith, f .long)) in
+    record {
+      long = length-sets words n es ∙ f .long;
+      number = omega (arith, f .number, length-append fs es);
+      is =
+          ap (take (n + length es)) (sets-eq es words n (omega (arith, f .long)))
+          ∙ take-at (take n words ++ es) (drop (n + length es) words) (n + length es) (length-append (take n words) es ∙ omega (arith, t))
+          ∙ ap (λ (l : List ℕ). l ++ es) (f .is);
+    }
+
 module _ (from to : List ℕ) (skip : ℕ) where
   but-none : (e : ℕ) → e ≡ skip → endsBut from to skip (e + 1) ≡ endsBut from to skip e
   unfolding endsBut
@@ -70,34 +96,42 @@ module _ (from to : List ℕ) (skip : ℕ) where
   unfolding endsBut
   but-one e q = rw (add-one, ne-eqb e skip q)
 
-  -- the ends of the first e edges have gone to the words up to at
-  pub record Ending (n e at : ℕ) (words₀ words : List ℕ) : Type 0 where
-    pub least : n ≤ at
-    pub most : at ≤ n + 2 * e
-    pub held : (fs : List ℕ) → Front words₀ n fs → Front words at (fs ++ endsBut from to skip e)
-
-  pub ends-start : (n : ℕ) (words : List ℕ) → Ending n 0 n words words
+  but-even : (e : ℕ) → (k : ℕ) × (length (endsBut from to skip e) ≡ 2 * k) × (k ≤ e)
   unfolding endsBut
-  ends-start n words = record { least = omega arith; most = omega arith; held = λ fs f. front-cast refl (sym (append-nil fs)) f }
+  but-even zero = (0, refl, omega arith)
+  but-even (suc e) =
+      let r = but-even e in
+      ⊎-elim
+      (λ (q : e ≡ skip). (r .0, ap length (rw (add-one e) at (but-none e q)) ∙ r .1, omega (arith, r .2)))
+      (λ (q : e ≡ skip → ⊥). (suc (r .0), ap length (rw (add-one e) at (but-one e q)) ∙ length-append (endsBut from to skip e) (getD from e 0 ∷ getD to e 0 ∷ []) ∙ omega (arith, r .1), omega (arith, r .2)))
+      (eq-or-ne e skip)
 
-  module _ {n e at : ℕ} {words₀ words : List ℕ} (x : Ending n e at words₀ words) where
-    pub ends-skip : e ≡ skip → Ending n (e + 1) at words₀ words
-    ends-skip q =
-        record {
-          least = x .least;
-          most = omega (arith, x .most);
-          held = λ fs f. front-cast refl (ap (λ (l : List ℕ). fs ++ l) (sym (but-none e q))) (x .held fs f);
-        }
+  -- the codes of the first e edges, as they are loaded
+  pub codes-none : (w : List ℕ) → length w ≡ 16384 → CodesFront (codes (endsBut from to skip 0)) 0 w
+  unfolding endsBut codes
+  codes-none w l = record { long = l; few = omega arith; is = refl; small = λ j h. absurd (omega arith) }
 
-    pub ends-more : (e ≡ skip → ⊥) → {words′ : List ℕ} → Extends at 2 (getD from e 0 ∷ getD to e 0 ∷ []) words words′ → Ending n (e + 1) (at + 2) words₀ words′
-    ends-more q y =
+  module _ {e k : ℕ} {w : List ℕ} (x : CodesFront (codes (endsBut from to skip e)) k w) where
+    pub codes-skip : e ≡ skip → CodesFront (codes (endsBut from to skip (e + 1))) k w
+    codes-skip q = rw (but-none e q) x
+
+    pub codes-one : (e ≡ skip → ⊥) → k < 32 → getD from e 0 < 4096 → getD to e 0 < 4096
+        → CodesFront (codes (endsBut from to skip (e + 1))) (k + 1) (set w k (getD from e 0 * 4096 + getD to e 0))
+    codes-one q h f g =
+        let c : ℕ = getD from e 0 * 4096 + getD to e 0 in
+        let b = but-even e in
+        let z : codes (endsBut from to skip (e + 1)) ≡ codes (endsBut from to skip e) ++ (c ∷ []) =
+        ap codes (but-one e q) ∙ codes-snoc (b .0) (endsBut from to skip e) (getD from e 0) (getD to e 0) (b .1) in
         record {
-          least = omega (arith, x .least);
-          most = omega (arith, x .most);
-          held = λ fs f.
-              front-cast refl
-              (append-assoc fs (endsBut from to skip e) (getD from e 0 ∷ getD to e 0 ∷ []) ∙ ap (λ (l : List ℕ). fs ++ l) (sym (but-one e q)))
-              (y (fs ++ endsBut from to skip e) (x .held fs f));
+          long = length-set w k c ∙ x .long;
+          few = omega arith;
+          is = rw add-one (take-suc-set w k c (omega (arith, x .long)) ∙ ap (λ (l : List ℕ). l ++ (c ∷ [])) (x .is)) ∙ sym z;
+          small = λ j l. ⊎-elim
+              (λ (p : j < k). rw (getD-set-other w k j c 0 (λ (y : j ≡ k). omega arith)) (x .small j p))
+              (λ (p : k ≤ j).
+              let y : j ≡ k = omega arith in
+              rw (y, getD-set-same w k c 0 (omega (arith, x .long))) (let z : c < 16777216 = omega arith in z))
+              (lt-or-ge j k);
         }
 
   -- ---- from the ends in order
@@ -163,23 +197,89 @@ module _ {ws : List ℕ} {bs : List Bool} (q : PlainPattern ws bs) {p : Given} (
   abbrev endsKept : ℕ → List ℕ
   endsKept skip = endsBut (p .from) (p .to) skip (q .number)
 
-  but-are : (skip : ℕ) → fieldsBut p skip ≡ q .nodes ∷ edgesBut (q .number) skip ∷ (powers (q .labels) ++ endsKept skip)
+  firsts : (e : ℕ) → e < q .number → getD (p .from) e 0 ≡ fromAt (q .ends) e
+  firsts e k = ap (λ (f : Edge). f .from) (edge-is e k)
+
+  seconds : (e : ℕ) → e < q .number → getD (p .to) e 0 ≡ toAt (q .ends) e
+  seconds e k = ap (λ (f : Edge). f .to) (edge-is e k)
+
+  kept-fewer : (skip : ℕ) → skip < q .number → endsKept skip ≡ take (2 * skip) (q .ends) ++ drop (2 * skip + 2) (q .ends)
+  kept-fewer skip l = ends-fewer (p .from) (p .to) skip (q .ends) (q .number) (q .edges .two-each) firsts seconds l
+
+  kept-whole : (skip : ℕ) → q .number ≤ skip → endsKept skip ≡ q .ends
+  kept-whole skip l = ends-whole (p .from) (p .to) skip (q .ends) (q .number) (q .edges .two-each) firsts seconds l
+
+  -- they are edges, each once
+  pub kept-plain : (skip : ℕ) → (k : ℕ) × PlainEdges (q .nodes) k (endsKept skip) × (k ≤ q .number)
+  kept-plain skip =
+      ⊎-elim
+      (λ (l : skip < q .number). (q .number - 1, rw (kept-fewer skip l) (fewer-plain q skip l), omega arith))
+      (λ (l : q .number ≤ skip). (q .number, rw (kept-whole skip l) (q .edges), omega arith))
+      (lt-or-ge skip (q .number))
+
+  but-are : (skip : ℕ) → fieldsBut p skip ≡ q .nodes ∷ length (endsKept skip) / 2 ∷ (powers (q .labels) ++ sortedEnds (endsKept skip))
   unfolding fieldsBut labelFields
   but-are skip = rw (labels-same q h, edges-are q h, h .nodes, nodes-in q)
 
   pub fields-are : (skip : ℕ) → fieldsBut p skip ≡ shownFields ws skip
-  unfolding shownFields edgesBut
+  unfolding shownFields
   fields-are skip =
       but-are skip
       ∙ ⊎-elim
       (λ (l : skip < q .number).
       let t = lt-ltb skip (q .number) l in
-      rw (edges-in q, t) (ap (λ (m : List ℕ). q .nodes ∷ (q .number - 1) ∷ (powers (q .labels) ++ m))
-      (ends-fewer (p .from) (p .to) skip (q .ends) (q .number) (q .edges .two-each) (λ e k. ap (λ (f : Edge). f .from) (edge-is e k)) (λ e k. ap (λ (f : Edge). f .to) (edge-is e k)) l)
-      ∙ sym (fewer-fields q skip)))
+      let n = fewer-plain q skip l .two-each in
+      let z : length (take (2 * skip) (q .ends) ++ drop (2 * skip + 2) (q .ends)) / 2 ≡ q .number - 1 = omega arith in
+      rw (edges-in q, t) (ap (λ (m : List ℕ). q .nodes ∷ length m / 2 ∷ (powers (q .labels) ++ sortedEnds m)) (kept-fewer skip l)
+      ∙ ap (λ (k : ℕ). q .nodes ∷ k ∷ (powers (q .labels) ++ sortedEnds (take (2 * skip) (q .ends) ++ drop (2 * skip + 2) (q .ends)))) z
+      ∙ sym (fewer-fields q skip l)))
       (λ (l : q .number ≤ skip).
       let t = le-ltb skip (q .number) l in
-      rw (edges-in q, t) (ap (λ (m : List ℕ). q .nodes ∷ q .number ∷ (powers (q .labels) ++ m))
-      (ends-whole (p .from) (p .to) skip (q .ends) (q .number) (q .edges .two-each) (λ e k. ap (λ (f : Edge). f .from) (edge-is e k)) (λ e k. ap (λ (f : Edge). f .to) (edge-is e k)) l)
+      let z : length (q .ends) / 2 ≡ q .number = omega (arith, q .edges .two-each) in
+      rw (edges-in q, t) (ap (λ (m : List ℕ). q .nodes ∷ length m / 2 ∷ (powers (q .labels) ++ sortedEnds m)) (kept-whole skip l)
+      ∙ ap (λ (k : ℕ). q .nodes ∷ k ∷ (powers (q .labels) ++ sortedEnds (q .ends))) z
       ∙ sym (graph-fields q)))
       (lt-or-ge skip (q .number))
+
+  -- the codes in the workspace, sorted, and their ends after the labels
+  module _ (skip k : ℕ) {w : List ℕ} (loaded : CodesFront (codes (endsBut (p .from) (p .to) skip (p .edges))) k w) where
+    c : CodesFront (codes (endsKept skip)) k w
+    c = subst (λ (m : ℕ). CodesFront (codes (endsBut (p .from) (p .to) skip m)) k w) (edges-are q h) loaded
+
+    kept-number : k ≡ length (endsKept skip) / 2
+    kept-number =
+        let r = kept-plain skip in
+        let n = r .1 .two-each in
+        let m = codes-length (r .0) (endsKept skip) n in
+        let t = length-take-le k w (omega (arith, c .long, c .few)) in
+        let l = ap length (c .is) in
+        omega arith
+
+    pub kept-sorted : {w′ : List ℕ} → Sorted k w w′ → take k w′ ≡ distinct (codes (endsKept skip))
+    kept-sorted {w′} s =
+        let r = kept-plain skip in
+        let m = codes-length (r .0) (endsKept skip) (r .1 .two-each) in
+        let t = length-take-le k w (omega (arith, c .long, c .few)) in
+        let l = ap length (c .is) in
+        let at : (i : ℕ) → i < k → getD w i 0 ≡ getD (codes (endsKept skip)) i 0 = λ i g. sym (getD-take k w i 0 g) ∙ ap (λ (x : List ℕ). getD x i 0) (c .is) in
+        sorted-front k w w′ (omega (arith, c .long, c .few))
+        (λ i j g f e.
+        codes-differ (omega (arith, q .most-nodes)) (r .1) i j g (omega arith)
+        (sym (codes-at (endsKept skip) i (omega arith)) ∙ sym (at i (omega arith)) ∙ e ∙ at j f ∙ codes-at (endsKept skip) j (omega arith))) s
+        ∙ ap distinct (c .is)
+
+    pub kept-fields : {w′ : List ℕ} {f : Fields} {words : List ℕ} → Sorted k w w′ → Front words (2 + p .nodes) (labelFields p k) → f .words ≡ sets words (2 + p .nodes) (ends (take k w′))
+        → f .number ≡ 2 + p .nodes + 2 * k → HoldsFields (fieldsBut p skip) f
+    unfolding fieldsBut sortedEnds
+    kept-fields {w′} {f} {words} s front put number =
+        let es : List ℕ = ends (take k w′) in
+        let n : length es ≡ 2 * k = ends-length (take k w′) ∙ ap (λ (i : ℕ). 2 * i) (length-take-le k w′ (omega (arith, s .long, c .long, c .few))) in
+        let few = c .few in
+        let b : p .nodes ≤ 16 = omega (arith, h .nodes, nodes-in q, q .most-nodes) in
+        let z : 2 + p .nodes + length es ≡ f .number = omega arith in
+        let fs : labelFields p k ++ es ≡ fieldsBut p skip =
+        ap₂ (λ (i : ℕ) (l : List ℕ). labelFields p i ++ ends l) kept-number (kept-sorted s) ∙ ap (λ (m : ℕ). labelFields p (length (endsBut (p .from) (p .to) skip m) / 2) ++ ends (distinct (codes (endsBut (p .from) (p .to) skip m)))) (sym (edges-are q h)) in
+        record {
+          front = rw put (front-cast z fs (front-sets (labelFields p k) es (omega arith) front));
+          most = omega arith;
+        }

@@ -29,6 +29,7 @@ pub mod DemandSheets
 pub mod DemandJoin
 pub mod DemandThree
 pub mod DemandsOneTwo
+pub mod Sorting
 -- the listing
 pub mod ListingLaws
 pub mod Listings

@@ -8,12 +8,12 @@ use native.Mathlib.Omega.{arith}
 use native.Mathlib.Numerals.{add-one}
 use Rattle.packed.specs.Format.{ok, decode}
 use Rattle.packed.specs.Formats.{record′, code}
-use Rattle.packed.specs.Contents.{nodesOf, edgesOf, viewsOf, distinct}
-use Rattle.packed.specs.Loading.{codes}
+use Rattle.packed.specs.Contents.{nodesOf, edgesOf, viewsOf, distinct, codes, sortedEnds}
 use Rattle.packed.specs.LoadedGraph.{Holds}
 use Rattle.packed.specs.Matches.{matchesOf}
 use Rattle.packed.specs.declared.by_value.Pattern.{Pattern as Given}
 use Rattle.packed.proofs.DistinctLaws.{member-distinct}
+use Rattle.packed.proofs.SortedEdges.{codes-ends}
 use Rattle.packed.proofs.AcceptedBounds.{catalogue-views}
 use Rattle.matching.specs.Lists.{In, here, there}
 use Rattle.matching.specs.Simulation.{Edge, noEdge, Pattern, patternOf, graphOf, asGraph, matchSets, viewSheet}
@@ -24,7 +24,8 @@ use Rattle.matching.specs.declared.views.View.{View}
 use Rattle.matching.proofs.ListLaws.{in-each}
 use Rattle.matching.proofs.CodeLaws.{in-member, member-in}
 use Rattle.matching.proofs.EdgeLaws.{edgeAt, at-edgesIn, codes-each}
-use Rattle.matching.proofs.PatternLaws.{edges-are, pattern-same}
+use Rattle.matching.proofs.PatternLaws.{edges-in, edges-are, pattern-same}
+use Rattle.matching.proofs.SortedGraphs.{alike-sets}
 use Rattle.matching.proofs.MatchSetLaws.{view-sheet}
 use Rattle.matching.proofs.RecordLaws.{sets-same, graph-again}
 use Rattle.matching.proofs.ViewLaws.{Ahead, Advanced, advance, all-ahead}
@@ -33,7 +34,7 @@ use Rattle.containment.specs.Show.{graphFields}
 use Rattle.containment.specs.Steps.{Query, Views, Present, Column, codeAt, powers}
 use Rattle.containment.proofs.QueryGraph.{graph-fields, graph-means, powers-length}
 use Rattle.containment.proofs.FieldLaws.{edge-is}
-use Rattle.containment.proofs.QueryLaws.{plain, fair, some-edges, few-edges, query-number, query-edge}
+use Rattle.containment.proofs.QueryLaws.{plain, some-edges, few-edges, query-number, query-edge}
 use Rattle.containment.proofs.MappingLaws.{column-map, mapping-none, mapping-more, mapping-length, column-clear}
 
 -- ---- the views
@@ -89,8 +90,7 @@ module _ {q : Given} {s : List ℕ} {n m : ℕ} {w : List ℕ} (t : Query q) (h 
   fields-same = let e = h .is in cc
 
   pub number-same : m ≡ q .edges
-  unfolding graphFields
-  number-same = h .edges ∙ ap edgesOf fields-same ∙ sym (t .holds .edges)
+  number-same = h .edges ∙ ap edgesOf (fields-same ∙ graph-fields (plain t)) ∙ sym (edges-in (plain t)) ∙ sym (t .holds .edges)
 
   pub number-some : 0 < m
   number-some = omega (arith, number-same, t .holds .edges, some-edges t)
@@ -99,22 +99,22 @@ module _ {q : Given} {s : List ℕ} {n m : ℕ} {w : List ℕ} (t : Query q) (h 
   number-few = omega (arith, number-same, t .holds .edges, few-edges t)
 
   pub nodes-few : n ≤ 16
-  unfolding graphFields
-  nodes-few =
-      let e : n ≡ q .nodes = h .nodes ∙ ap nodesOf fields-same ∙ sym (t .holds .nodes) in
-      let f = fair t .nodes in
-      omega arith
+  nodes-few = omega (arith, h .nodes, ap nodesOf (fields-same ∙ graph-fields (plain t)), plain t .most-nodes)
 
   sets-query : (P : Pattern) → matchSets P (graphIn s n m w) ≡ matchSets P (asGraph (patternOf (t .content)))
-  sets-query P = sets-same h P ∙ ap (matchSets P) (ap graphOf fields-same ∙ graph-means (plain t))
+  sets-query P =
+      sets-same h P ∙ ap (λ (ws : List ℕ). matchSets P (graphOf ws)) fields-same
+      ∙ alike-sets P (graphOf (graphFields (t .content))) (asGraph (patternOf (t .content))) (graph-means (plain t))
 
-  ends-same : drop (2 + nodesOf (h .fields)) (h .fields) ≡ plain t .ends
+  -- its edges ascend
+  ends-same : drop (2 + nodesOf (h .fields)) (h .fields) ≡ sortedEnds (plain t .ends)
   ends-same =
       let p = plain t in
+      let es : List ℕ = sortedEnds (p .ends) in
       let z : 2 + p .nodes ≡ suc (suc (p .nodes)) = omega arith in
       ap (λ (l : List ℕ). drop (2 + nodesOf l) l) (fields-same ∙ graph-fields p)
-      ∙ ap (λ (k : ℕ). drop k (p .nodes ∷ p .number ∷ (powers (p .labels) ++ p .ends))) z
-      ∙ drop-at (powers (p .labels)) (p .ends) (p .nodes) (powers-length (p .labels) ∙ p .label-each)
+      ∙ ap (λ (k : ℕ). drop k (p .nodes ∷ p .number ∷ (powers (p .labels) ++ es))) z
+      ∙ drop-at (powers (p .labels)) es (p .nodes) (powers-length (p .labels) ∙ p .label-each)
 
   -- each edge of the query stands there
   code-in : (e : ℕ) → e < q .edges → In (codeAt q e) (codes (plain t .ends))
@@ -126,8 +126,9 @@ module _ {q : Given} {s : List ℕ} {n m : ℕ} {w : List ℕ} (t : Query q) (h 
       (in-each (λ f. code (f .from) (f .to)) (at-edgesIn (p .ends) (p .number) (p .edges .two-each) e j)))
 
   front-in : (e : ℕ) → e < q .edges → In (codeAt q e) (take m w)
+  unfolding sortedEnds
   front-in e l =
-      subst (In (codeAt q e)) (sym (h .front ∙ ap (λ (l : List ℕ). distinct (codes l)) ends-same))
+      subst (In (codeAt q e)) (sym (h .front ∙ ap codes ends-same ∙ codes-ends (distinct (codes (plain t .ends)))))
       (member-in _ (member-distinct (codeAt q e) (codes (plain t .ends)) ∙ in-member (code-in e l)))
 
   pub query-present : {w′ : List ℕ} → Edges w w′ → Present q m w′

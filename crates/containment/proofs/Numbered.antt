@@ -9,6 +9,7 @@ use lib.Dec.{eqb, leb, ltb}
 use borrow.Author.Tests.{leb-true}
 use Rattle.packed.specs.Bits.{bitsOf, num, bits, zeros, gap}
 use Rattle.packed.specs.Format.{Format, done, ask, test, pad, then, times, whole, Got, got, fault, pick, push, within, scan, lay, Result, ok, bad, ended, inBytes, decode, encode}
+use Rattle.packed.specs.OldRecord.{oldRecord}
 use Rattle.packed.specs.Formats.{code, edges, label, joined, pattern, catalogue, labels, record′, pairs, lists, sheet, book}
 use Rattle.packed.specs.Refusals.{numberOf}
 use Rattle.packed.specs.declared.reply.Refusal.{Refusal}
@@ -144,21 +145,28 @@ pub catalogue-faults : Faults catalogue
 unfolding catalogue
 catalogue-faults = asks three (λ number. pads (times-faults number (whole-faults pattern-faults)))
 
+pairs-faults : (bound : ℕ) {e : ℕ} → Numbered e → (k least : ℕ) → Faults (pairs bound e k least)
+unfolding pairs
+pairs-faults bound h zero least = ends
+pairs-faults bound h (suc k) least = asks h (λ a. asks h (λ b. tests (numbered 6 refl refl) (pairs-faults bound h k (suc (code a b)))))
+
 pub record-faults : Faults record′
 unfolding record′ labels
 record-faults =
     asks three (λ nodes. asks three (λ number.
-    then-faults (times-faults nodes (asks three (λ v. ends))) (edges-faults 12 nodes (λ es. done) (λ es. ends) number [])))
+    then-faults (times-faults nodes (asks three (λ v. ends))) (pairs-faults nodes (numbered 4 refl refl) number 0)))
 
-pairs-faults : (k least : ℕ) → Faults (pairs k least)
-unfolding pairs
-pairs-faults zero least = ends
-pairs-faults (suc k) least = asks three (λ a. asks three (λ b. tests (numbered 6 refl refl) (pairs-faults k (suc (code a b)))))
+-- a record as it was stored before
+pub old-faults : Faults oldRecord
+unfolding oldRecord labels
+old-faults =
+    asks three (λ nodes. asks three (λ number.
+    then-faults (times-faults nodes (asks three (λ v. ends))) (edges-faults 12 nodes (λ es. done) (λ es. ends) number [])))
 
 lists-faults : (m : ℕ) (none some : Bool) → Faults (lists m none some)
 unfolding lists
 lists-faults zero none some = tests (numbered 8 refl refl) ends
-lists-faults (suc m) none some = asks three (λ n. then-faults (pairs-faults n 0) (lists-faults m (none || eqb n 0) (some || not (eqb n 0))))
+lists-faults (suc m) none some = asks three (λ n. then-faults (pairs-faults 4096 three n 0) (lists-faults m (none || eqb n 0) (some || not (eqb n 0))))
 
 pub sheet-faults : (m : ℕ) → Faults (sheet m)
 unfolding sheet

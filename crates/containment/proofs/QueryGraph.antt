@@ -12,8 +12,8 @@ use native.Mathlib.Omega.{arith}
 use Rattle.packed.specs.Bits.{bitsOf, gap}
 use Rattle.packed.specs.Format.{ok, whole, lay, got, bytesOf, decode, encode}
 use Rattle.packed.specs.Formats.{record′}
-use Rattle.packed.specs.Contents.{nodesOf}
-use Rattle.packed.specs.Plain.{Below, fieldBits, fromAt, toAt, PlainEdges, PlainPattern, PlainRecord}
+use Rattle.packed.specs.Contents.{nodesOf, sortedEnds}
+use Rattle.packed.specs.Plain.{Below, fieldBits, fromAt, toAt, PlainEdges, PlainPairs, PlainPattern, PlainRecord}
 use Rattle.packed.proofs.OrderCases.{lt-or-ge, trichotomy}
 use Rattle.packed.proofs.BitsLaws.{gap-small, length-bitsOf}
 use Rattle.packed.proofs.GraphLaws.{fields-length}
@@ -28,10 +28,12 @@ use Rattle.matching.specs.Join.{without}
 use Rattle.matching.specs.Search.{bytesIn}
 use Rattle.matching.proofs.ListLaws.{getD-each}
 use Rattle.matching.proofs.SimLaws.{same-edge, same-edge-refl}
-use Rattle.matching.proofs.PatternLaws.{nodes-in, edges-in, pattern-is}
+use Rattle.matching.proofs.PatternLaws.{nodes-in, pattern-is}
 use Rattle.matching.proofs.UpToLaws.{getD-upTo}
 use Rattle.matching.proofs.EdgeLaws.{edgeAt, edgesIn-upTo, edgesIn-length}
-use Rattle.containment.specs.Show.{graphFields, fewerFields, recordBytes}
+use Rattle.matching.proofs.SortedGraphs.{Alike, NarrowEdges, ends-narrow, sorted-in, sorted-but}
+use Rattle.packed.proofs.SortedEdges.{sorted-plain}
+use Rattle.containment.specs.Show.{asRecord, graphFields, fewerFields, recordBytes}
 use Rattle.containment.specs.Steps.{powers}
 
 -- ---- a record with given parts
@@ -47,8 +49,8 @@ bytes-are : (fs bytes : List ℕ) → encode record′ fs ≡ ok bytes → recor
 unfolding recordBytes
 bytes-are fs bytes e = ap bytesIn e
 
-module _ (nodes number : ℕ) (labels ends : List ℕ) (few : nodes ≤ 16) (few-edges : number ≤ 32) (each : length labels ≡ nodes) (are : Below (2 ^ 32) labels)
-    (edges : PlainEdges nodes number ends) where
+module _ (nodes number : ℕ) (labels ends : List ℕ) (few : nodes ≤ 4096) (few-edges : number ≤ 8192) (each : length labels ≡ nodes) (are : Below (2 ^ 32) labels)
+    (edges : PlainPairs nodes number ends) where
   abbrev all : List ℕ
   all = nodes ∷ number ∷ (labels ++ ends)
 
@@ -58,7 +60,7 @@ module _ (nodes number : ℕ) (labels ends : List ℕ) (few : nodes ≤ 16) (few
   abbrev laid : List Bool
   laid = body ++ replicate (gap (length body)) false
 
-  body-length : length body ≤ 1307
+  body-length : length body ≡ 27 + 32 * nodes + 24 * number
   body-length =
       let a = length-append (bitsOf 13 nodes) (bitsOf 14 number ++ (fieldBits 32 labels ++ fieldBits 12 ends)) in
       let b = length-append (bitsOf 14 number) (fieldBits 32 labels ++ fieldBits 12 ends) in
@@ -90,7 +92,7 @@ module _ (nodes number : ℕ) (labels ends : List ℕ) (few : nodes ≤ 16) (few
   unfolding encode
   encoded = rw laid-by
 
-  pub record-made : Made 164 all
+  pub record-made : Made ((34 + 32 * nodes + 24 * number) / 8) all
   record-made =
       let e = encoded in
       let q : recordBytes all ≡ bytesOf (length laid / 8) laid = bytes-are all (bytesOf (length laid / 8) laid) e in
@@ -102,6 +104,9 @@ module _ (nodes number : ℕ) (labels ends : List ℕ) (few : nodes ≤ 16) (few
         small = subst Bytes (sym q) (w .0);
         size = rw q (omega (arith, length-bytesOf (length laid / 8) laid, n, length-replicate (gap (length body)) false, gap-small (length body), body-length));
       }
+
+pub made-within : {a b : ℕ} {fs : List ℕ} → a ≤ b → Made a fs → Made b fs
+made-within h m = record { is = m .is; back = m .back; small = m .small; size = omega (arith, m .size) }
 
 -- ---- edges without one
 module _ (ends : List ℕ) (nodes number e : ℕ) (p : PlainEdges nodes number ends) (h : e < number) where
@@ -223,7 +228,7 @@ keep-others ends nodes number e p h =
     ∙ sym (edgesIn-fewer e ends number (p .two-each) h)
 
 -- ---- the content of an accepted query
-abbrev graph : List ℕ → List Edge → Graph
+abbrev pub graph : List ℕ → List Edge → Graph
 graph l es = record { labels = l; edges = es }
 
 map-each : (f : ℕ → ℕ) (l : List ℕ) → map f l ≡ each f l
@@ -247,7 +252,7 @@ powers-below ls h i l =
     rw q (pow-lt {j = 32} b)
 
 -- a record's content by its parts
-graph-is : (nodes number : ℕ) (labels ends : List ℕ) → length labels ≡ nodes → graphOf (nodes ∷ number ∷ (labels ++ ends)) ≡ graph labels (edgesIn ends)
+pub graph-is : (nodes number : ℕ) (labels ends : List ℕ) → length labels ≡ nodes → graphOf (nodes ∷ number ∷ (labels ++ ends)) ≡ graph labels (edgesIn ends)
 unfolding graphOf
 graph-is nodes number labels ends e =
     let z : 2 + nodes ≡ suc (suc nodes) = omega arith in
@@ -271,49 +276,70 @@ module _ {ws : List ℕ} {bs : List Bool} (q : PlainPattern ws bs) where
   abbrev parts : ℕ → List ℕ → List ℕ
   parts number ends = q .nodes ∷ number ∷ (powers (q .labels) ++ ends)
 
-  pub graph-fields : graphFields ws ≡ parts (q .number) (q .ends)
-  unfolding graphFields powers
-  graph-fields = rw (labels-of, ends-of, nodes-in q, edges-in q)
+  -- the query as a record with these edges
+  as-parts : (number : ℕ) (es : List ℕ) → length es ≡ 2 * number → asRecord ws es ≡ parts number (sortedEnds es)
+  unfolding asRecord powers
+  as-parts number es n = let z : length es / 2 ≡ number = omega arith in rw (labels-of, nodes-in q, z)
+
+  pub graph-fields : graphFields ws ≡ parts (q .number) (sortedEnds (q .ends))
+  unfolding graphFields
+  graph-fields = ap (asRecord ws) ends-of ∙ as-parts (q .number) (q .ends) (q .edges .two-each)
 
   abbrev fewerEnds : ℕ → List ℕ
   fewerEnds e = take (2 * e) (q .ends) ++ drop (2 * e + 2) (q .ends)
 
-  pub fewer-fields : (e : ℕ) → fewerFields ws e ≡ parts (q .number - 1) (fewerEnds e)
-  unfolding fewerFields powers
-  fewer-fields e =
-      let z : 2 + nodesOf ws + 2 * e + 2 ≡ 2 + nodesOf ws + (2 * e + 2) = omega arith in
-      let d : drop (2 + nodesOf ws + 2 * e + 2) ws ≡ drop (2 * e + 2) (q .ends) =
-      ap (λ (k : ℕ). drop k ws) z ∙ sym (drop-drop (2 * e + 2) (2 + nodesOf ws) ws) ∙ ap (drop (2 * e + 2)) ends-of in
-      rw (d, labels-of, ends-of, nodes-in q, edges-in q)
+  few-nodes : q .nodes ≤ 4096
+  few-nodes = omega (arith, q .most-nodes)
+
+  module _ (e : ℕ) (h : e < q .number) where
+    pub fewer-plain : PlainEdges (q .nodes) (q .number - 1) (fewerEnds e)
+    fewer-plain = fewer-edges (q .ends) (q .nodes) (q .number) e (q .edges) h
+
+    pub fewer-fields : fewerFields ws e ≡ parts (q .number - 1) (sortedEnds (fewerEnds e))
+    unfolding fewerFields
+    fewer-fields =
+        let z : 2 + nodesOf ws + 2 * e + 2 ≡ 2 + nodesOf ws + (2 * e + 2) = omega arith in
+        let d : drop (2 + nodesOf ws + 2 * e + 2) ws ≡ drop (2 * e + 2) (q .ends) =
+        ap (λ (k : ℕ). drop k ws) z ∙ sym (drop-drop (2 * e + 2) (2 + nodesOf ws) ws) ∙ ap (drop (2 * e + 2)) ends-of in
+        ap₂ (λ (x y : List ℕ). asRecord ws (take (2 * e) x ++ y)) ends-of d ∙ as-parts (q .number - 1) (fewerEnds e) (fewer-plain .two-each)
 
   pub graph-made : Made 164 (graphFields ws)
   graph-made =
       subst (Made 164) (sym graph-fields)
-      (record-made (q .nodes) (q .number) (powers (q .labels)) (q .ends) (q .most-nodes) (q .most-edges) (powers-length (q .labels) ∙ q .label-each)
-      (powers-below (q .labels) (q .are-labels)) (q .edges))
+      (made-within (omega (arith, q .most-nodes, q .most-edges)) (record-made (q .nodes) (q .number) (powers (q .labels)) (sortedEnds (q .ends)) few-nodes (omega (arith, q .most-edges)) (powers-length (q .labels) ∙ q .label-each)
+      (powers-below (q .labels) (q .are-labels)) (sorted-plain few-nodes (q .edges))))
 
   pub fewer-made : (e : ℕ) → e < q .number → Made 164 (fewerFields ws e)
   fewer-made e h =
-      subst (Made 164) (sym (fewer-fields e))
-      (record-made (q .nodes) (q .number - 1) (powers (q .labels)) (fewerEnds e) (q .most-nodes) (omega (arith, q .most-edges)) (powers-length (q .labels) ∙ q .label-each)
-      (powers-below (q .labels) (q .are-labels)) (fewer-edges (q .ends) (q .nodes) (q .number) e (q .edges) h))
+      subst (Made 164) (sym (fewer-fields e h))
+      (made-within (omega (arith, q .most-nodes, q .most-edges)) (record-made (q .nodes) (q .number - 1) (powers (q .labels)) (sortedEnds (fewerEnds e)) few-nodes (omega (arith, q .most-edges)) (powers-length (q .labels) ∙ q .label-each)
+      (powers-below (q .labels) (q .are-labels)) (sorted-plain few-nodes (fewer-plain e h))))
 
   as-graph : asGraph (patternOf ws) ≡ graph (powers (q .labels)) (edgesIn (q .ends))
   unfolding asGraph
   as-graph = rw (pattern-is q) (ap (λ (l : List ℕ). graph l (edgesIn (q .ends))) (sym (powers-each (q .labels))))
 
-  -- the content means the query as a graph
-  pub graph-means : graphOf (graphFields ws) ≡ asGraph (patternOf ws)
-  graph-means =
+  first-is : graphOf (graphFields ws) ≡ graph (powers (q .labels)) (edgesIn (sortedEnds (q .ends)))
+  first-is =
       ap graphOf graph-fields
-      ∙ graph-is (q .nodes) (q .number) (powers (q .labels)) (q .ends) (powers-length (q .labels) ∙ q .label-each)
-      ∙ sym as-graph
+      ∙ graph-is (q .nodes) (q .number) (powers (q .labels)) (sortedEnds (q .ends)) (powers-length (q .labels) ∙ q .label-each)
+
+  narrow : NarrowEdges (edgesIn (q .ends))
+  narrow = ends-narrow (q .ends) (q .nodes) (q .number) few-nodes (q .edges)
+
+  -- the content means the query as a graph, its edges in another order
+  pub graph-means : Alike (graphOf (graphFields ws)) (asGraph (patternOf ws))
+  graph-means =
+      rw (first-is, as-graph) (
+        record { same-labels = refl; more = λ f i. sorted-in (q .ends) narrow f .0 i },
+        record { same-labels = refl; more = λ f i. sorted-in (q .ends) narrow f .1 i },
+      )
 
   -- and the other the same without the edge
-  pub fewer-means : (e : ℕ) → e < q .number → graphOf (fewerFields ws e) ≡ without (edgeAt (q .ends) e) (asGraph (patternOf ws))
+  pub fewer-means : (e : ℕ) → e < q .number → graphOf (fewerFields ws e) ≡ without (edgeAt (q .ends) e) (graphOf (graphFields ws))
   unfolding without
   fewer-means e h =
-      ap graphOf (fewer-fields e)
-      ∙ graph-is (q .nodes) (q .number - 1) (powers (q .labels)) (fewerEnds e) (powers-length (q .labels) ∙ q .label-each)
-      ∙ ap (graph (powers (q .labels))) (sym (keep-others (q .ends) (q .nodes) (q .number) e (q .edges) h))
-      ∙ ap (λ (G : Graph). graph (G .labels) (keep (λ f. not (sameEdge (edgeAt (q .ends) e) f)) (G .edges))) (sym as-graph)
+      ap graphOf (fewer-fields e h)
+      ∙ graph-is (q .nodes) (q .number - 1) (powers (q .labels)) (sortedEnds (fewerEnds e)) (powers-length (q .labels) ∙ q .label-each)
+      ∙ ap (graph (powers (q .labels))) (sorted-but (edgeAt (q .ends) e) (q .ends) (fewerEnds e) narrow (sym (keep-others (q .ends) (q .nodes) (q .number) e (q .edges) h)))
+      ∙ ap (λ (G : Graph). graph (G .labels) (keep (λ f. not (sameEdge (edgeAt (q .ends) e) f)) (G .edges))) (sym first-is)

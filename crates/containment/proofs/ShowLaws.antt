@@ -22,6 +22,7 @@ use Rattle.matching.proofs.ListLaws.{in-at, keep-in}
 use Rattle.matching.proofs.SimLaws.{same-edge-refl}
 use Rattle.matching.proofs.MatchSetLaws.{sets-length}
 use Rattle.matching.proofs.EdgeLaws.{edgeAt}
+use Rattle.matching.proofs.SortedGraphs.{Alike, alike-sets, alike-views, alike-without}
 use Rattle.matching.proofs.PatternLaws.{pattern-is, edges-in, edges-many, sound-of}
 use Rattle.matching.proofs.RecordLaws.{graph-narrow, graph-few}
 use Rattle.matching.proofs.SheetBytes.{SheetFields, sets-sheet}
@@ -80,7 +81,7 @@ pub record Shows (qs : List ℕ) (Ps : List Pattern) (e : ℕ) : Type 0 where
   -- both are accepted as what they are
   pub first-read : readRecord (recordBytes (graphFields qs)) ≡ accepted (graphFields qs)
   pub second-read : readRecord (recordBytes (fewerFields qs e)) ≡ accepted (fewerFields qs e)
-  pub means : graphOf (graphFields qs) ≡ asGraph (patternOf qs)
+  pub means : Alike (graphOf (graphFields qs)) (asGraph (patternOf qs))
   pub lacks : graphOf (fewerFields qs e) ≡ without (queryEdge qs e) (graphOf (graphFields qs))
   pub in-first : In (queryEdge qs e) (graphOf (graphFields qs) .edges)
   pub not-second : In (queryEdge qs e) (graphOf (fewerFields qs e) .edges) → ⊥
@@ -116,15 +117,12 @@ module _ {qs : List ℕ} {bs : List Bool} (q : PlainPattern qs bs) where
     an-edge : In (queryEdge qs e) (patternOf qs .edges)
     an-edge = in-at (patternOf qs .edges) e noEdge h
 
-    second-means : graphOf (fewerFields qs e) ≡ without (queryEdge qs e) (asGraph (patternOf qs))
-    second-means = fewer-means q e below ∙ ap (λ f. without f (asGraph (patternOf qs))) (sym (edge-is e below))
+    lack : graphOf (fewerFields qs e) ≡ without (queryEdge qs e) (graphOf (graphFields qs))
+    lack = fewer-means q e below ∙ ap (λ f. without f (graphOf (graphFields qs))) (sym (edge-is e below))
 
     -- what the two mean
-    sets-first : (P : Pattern) → matchSets P (graphOf (graphFields qs)) ≡ matchSets P (asGraph (patternOf qs))
-    sets-first P = ap (matchSets P) (graph-means q)
-
-    sets-second : (P : Pattern) → matchSets P (graphOf (fewerFields qs e)) ≡ matchSets P (without (queryEdge qs e) (asGraph (patternOf qs)))
-    sets-second P = ap (matchSets P) second-means
+    second-means : Alike (graphOf (fewerFields qs e)) (without (queryEdge qs e) (asGraph (patternOf qs)))
+    second-means = rw lack (alike-without (queryEdge qs e) (graphOf (graphFields qs)) (asGraph (patternOf qs)) (graph-means q))
 
     pub shows-by : Shows qs Ps e
     unfolding asGraph
@@ -132,21 +130,24 @@ module _ {qs : List ℕ} {bs : List Bool} (q : PlainPattern qs bs) where
         let Q = patternOf qs in
         let first = graphOf (graphFields qs) in
         let second = graphOf (fewerFields qs e) in
-        let lack : second ≡ without (queryEdge qs e) first = second-means ∙ ap (without (queryEdge qs e)) (sym (graph-means q)) in
         record {
           first-read = made-read (omega arith) (graph-made q);
           second-read = made-read (omega arith) (fewer-made q e below);
           means = graph-means q;
           lacks = lack;
-          in-first = subst (λ (G : Graph). In (queryEdge qs e) (G .edges)) (sym (graph-means q)) an-edge;
+          in-first = graph-means q .1 .more (queryEdge qs e) an-edge;
           not-second = λ i. not-without (queryEdge qs e) first (subst (λ (G : Graph). In (queryEdge qs e) (G .edges)) lack i);
-          same = λ P i. ap sheetBytes (ap (viewSheet P) (graph-means q) ∙ uncovered-views Q Ps (queryEdge qs e) unmatched P i ∙ ap (viewSheet P) (sym second-means));
+          same = λ P i.
+              ap sheetBytes
+              (alike-views P first (asGraph Q) (graph-means q)
+              ∙ uncovered-views Q Ps (queryEdge qs e) unmatched P i
+              ∙ sym (alike-views P second (without (queryEdge qs e) (asGraph Q)) second-means));
           differs = λ b.
               uncovered-query Q (sound-of q) few-nodes (queryEdge qs e) an-edge
-              (sym (sets-first Q)
+              (sym (alike-sets Q first (asGraph Q) (graph-means q))
               ∙ bytes-injective (matchSets Q first) (matchSets Q second) (made-sheet (graph-made q)) (made-sheet (fewer-made q e below))
               (sets-length Q first ∙ sym (sets-length Q second)) b
-              ∙ sets-second Q);
+              ∙ alike-sets Q second (without (queryEdge qs e) (asGraph Q)) second-means);
         }
 
 -- ---- of an accepted question and an accepted catalogue

@@ -10,7 +10,8 @@ use lib.Dec.{eqb, ltb}
 use Rattle.packed.specs.Bits.{bitsOf, num, numFrom, bits, zeros, gap}
 use Rattle.packed.specs.Format.{pick, then, times, whole, within, scan, lay, bytesOf, decode, encode}
 use Rattle.packed.specs.Formats.{linked, edges, isEnd, allEnds, label, joined, pattern, catalogue, labels, record′, pairs, lists, sheet, book}
-use Rattle.packed.specs.Contents.{patternSize, patternsIn, viewsOf, edgeCounts, codesIn, listsIn, afterLists, ends, fieldsOf, sheetsIn, pairsIn, sum, member, insert, distinct}
+use Rattle.packed.specs.Contents.{patternSize, patternsIn, viewsOf, edgeCounts, codesIn, listsIn, afterLists, ends, fieldsOf, sheetsIn, pairsIn, sum, member, insert, distinct, codes, sortedEnds}
+use Rattle.packed.specs.OldRecord.{oldRecord, sortedFields, recordSorted}
 use Rattle.packed.specs.Calls.{Outcome, give, refuse, withWorkspace, readFile, writeFile, judged, pairsOf, uncrowdedBy, fit, fitFile, patternRead, catalogueRead, recordRead, sheetRead, bookRead, patternWritten, catalogueWritten, recordWritten, sheetWritten, bookWritten}
 use Rattle.matching.specs.Lists.{_and_, _or_, _implies_, every, some, keep, gather, each, below, upTo}
 use Rattle.matching.specs.Greatest.{settle, greatest}
@@ -21,7 +22,7 @@ use Rattle.containment.specs.Choice.{matches, matchedIn, coversIn, lowes
 use Rattle.containment.specs.Quote.{maskIn, matchMask, maskAt, mapping, valuesFrom, quoteValues, flat, quoteOutcome}
 use Rattle.containment.specs.Cheapest.{weigh, cost, lesser, better, misses, ahead, foremost, cheapest, cheapestFrom, cheapestFor, cheapestOutcome}
 use Rattle.containment.specs.Answer.{viewsIn, answerBytes, answerIn, answerBy, answerFrom, usedFor, answerOutcome}
-use Rattle.containment.specs.Show.{graphFields, fewerFields, recordBytes, fitBoth, showFor, showOutcome}
+use Rattle.containment.specs.Show.{asRecord, graphFields, fewerFields, recordBytes, fitBoth, showFor, showOutcome}
 
 -- ---- how a case is written
 
@@ -323,20 +324,26 @@ records =
     ∷ call (recordWritten (fields "2 1 0 0 2 0") 99) (refuse 4 3)
     ∷ call (recordRead (hex "00 10 00 20 00 00 00 00 00 00 00 00 00 00 40") 99) (refuse 4 3)
     ∷ call (recordWritten (fields "2 1 0 0 0 2") 99) (refuse 4 3)
-    -- a link twice: the first again, at once and with another between (0 → 1, 1 → 0, 0 → 1), and one that is not the first
-    ∷ call (recordRead (hex "00 10 00 40 00 00 00 00 00 00 00 00 00 00 20 00 00 20") 99) (refuse 5 3)
-    ∷ call (recordWritten (fields "2 2 0 0 0 1 0 1") 99) (refuse 5 3)
-    ∷ call (recordRead (hex "00 10 00 60 00 00 00 00 00 00 00 00 00 00 20 02 00 00 00 00 20") 99) (refuse 5 3)
-    ∷ call (recordWritten (fields "2 3 0 0 0 1 1 0 0 1") 99) (refuse 5 3)
-    ∷ call (recordRead (hex "00 10 00 60 00 00 00 00 00 00 00 00 02 00 00 00 00 20 00 00 20") 99) (refuse 5 3)
-    ∷ call (recordWritten (fields "2 3 0 0 1 0 0 1 0 1") 99) (refuse 5 3)
-    -- front to back: 5 before a later 4 and before a later 2, and 4 before a later 5
-    ∷ call (recordRead (hex "00 10 00 60 00 00 00 00 00 00 00 00 00 00 20 00 00 20 00 00 40") 99) (refuse 5 3)
-    ∷ call (recordWritten (fields "2 3 0 0 0 1 0 1 0 2") 99) (refuse 5 3)
-    ∷ call (recordRead (hex "00 10 00 60 00 00 00 00 00 00 00 00 00 00 20 00 00 20") 99) (refuse 5 3)
-    ∷ call (recordWritten (fields "2 3 0 0 0 1 0 1") 99) (refuse 5 3)
-    ∷ call (recordRead (hex "00 10 00 60 00 00 00 00 00 00 00 00 00 00 20 00 00 40 00 00 20") 99) (refuse 4 3)
-    ∷ call (recordWritten (fields "2 3 0 0 0 1 0 2 0 1") 99) (refuse 4 3)
+    -- links ascend by from, then to: equal neighbours, one out of order by its to, by its from, and one that repeats a link further up
+    ∷ call (recordRead (hex "00 10 00 40 00 00 00 00 00 00 00 00 00 00 20 00 00 20") 99) (refuse 6 3)
+    ∷ call (recordWritten (fields "2 2 0 0 0 1 0 1") 99) (refuse 6 3)
+    ∷ call (recordRead (hex "00 10 00 40 00 00 00 00 00 00 00 00 00 00 20 00 00 00") 99) (refuse 6 3)
+    ∷ call (recordWritten (fields "2 2 0 0 0 1 0 0") 99) (refuse 6 3)
+    ∷ call (recordRead (hex "00 10 00 40 00 00 00 00 00 00 00 00 02 00 00 00 00 20") 99) (refuse 6 3)
+    ∷ call (recordWritten (fields "2 2 0 0 1 0 0 1") 99) (refuse 6 3)
+    ∷ call (recordRead (hex "00 10 00 60 00 00 00 00 00 00 00 00 00 00 20 02 00 00 00 00 20") 99) (refuse 6 3)
+    ∷ call (recordWritten (fields "2 3 0 0 0 1 1 0 0 1") 99) (refuse 6 3)
+    ∷ call (recordRead (hex "00 10 00 60 00 00 00 00 00 00 00 00 00 00 00 00 00 20 02 00 00") 10) (output (fields "2 3 0 0 0 0 0 1 1 0"))
+    ∷ call (recordWritten (fields "2 3 0 0 0 0 0 1 1 0") 21) (output (hex "00 10 00 60 00 00 00 00 00 00 00 00 00 00 00 00 00 20 02 00 00"))
+    -- 4 at either end stands before 6; 6 stands before what is wrong at a later link
+    ∷ call (recordRead (hex "00 10 00 40 00 00 00 00 00 00 00 00 02 00 00 00 00 40") 99) (refuse 4 3)
+    ∷ call (recordWritten (fields "2 2 0 0 1 0 0 2") 99) (refuse 4 3)
+    ∷ call (recordRead (hex "00 10 00 40 00 00 00 00 00 00 00 00 02 00 00 04 00 00") 99) (refuse 4 3)
+    ∷ call (recordWritten (fields "2 2 0 0 1 0 2 0") 99) (refuse 4 3)
+    ∷ call (recordRead (hex "00 10 00 60 00 00 00 00 00 00 00 00 00 00 20 00 00 20 00 00 40") 99) (refuse 6 3)
+    ∷ call (recordWritten (fields "2 3 0 0 0 1 0 1 0 2") 99) (refuse 6 3)
+    ∷ call (recordRead (hex "00 10 00 60 00 00 00 00 00 00 00 00 00 00 20 00 00 20") 99) (refuse 6 3)
+    ∷ call (recordWritten (fields "2 3 0 0 0 1 0 1") 99) (refuse 6 3)
     -- an item at no link is right in a record
     ∷ call (recordRead (hex "00 10 00 20 00 00 00 00 00 00 00 00 00 00 00") 6) (output (fields "2 1 0 0 0 0"))
     ∷ call (recordWritten (fields "2 1 0 0 0 0") 15) (output (hex "00 10 00 20 00 00 00 00 00 00 00 00 00 00 00"))
@@ -351,6 +358,25 @@ records =
     ∷ call (recordWritten r6Fields 28) (refuse 12 29)
     ∷ case (withWorkspace 16383 (recordRead r6 12)) (refuse 14 0)
     ∷ case (withWorkspace 16383 (recordWritten r6Fields 29)) (refuse 14 0)
+    ∷ []
+
+-- records as they were stored before their links stood in order
+unfoldable pub sortings : List Case
+sortings =
+    -- the record of K6 with its links in another order, and as it stands
+    call (recordSorted (hex "00 20 00 60 00 00 00 20 00 00 00 40 00 00 01 00 00 00 00 40 02 00 40 00 00 60 00 00 20") 29) (output r6)
+    ∷ call (recordSorted r6 29) (output r6)
+    ∷ call (recordSorted r10 4) (output r10)
+    -- the old rules: no link twice, whatever stands between; never 6
+    ∷ call (recordSorted (hex "00 10 00 60 00 00 00 00 00 00 00 00 00 00 20 02 00 00 00 00 20") 99) (refuse 5 3)
+    ∷ call (recordSorted (hex "00 10 00 40 00 00 00 00 00 00 00 00 00 00 20 00 00 40") 99) (refuse 4 3)
+    ∷ call (recordSorted (hex "80 08 00 00") 99) (refuse 3 3)
+    ∷ call (recordSorted (hex "00 04 00 00") 99) (refuse 2 3)
+    ∷ call (recordSorted (r10 ++ hex "00") 99) (refuse 9 3)
+    ∷ call (recordSorted (replicate 40965 0) 99) (refuse 1 3)
+    -- too little room, by one; too few words
+    ∷ call (recordSorted r6 28) (refuse 12 29)
+    ∷ case (withWorkspace 16383 (recordSorted r6 29)) (refuse 14 0)
     ∷ []
 
 -- beside a pattern: extract 1 of C has two links
@@ -548,6 +574,8 @@ unfoldable pub showings : List Case
 showings =
     -- K3: the second shown record lacks 0 → 2
     call (showOutcome d c3 32 29) (give [] (first ∷ second ∷ []))
+    -- D with its links 2 → 3, 0 → 2, 1 → 3, 0 → 1 and no extracts: the shown links ascend, and the second lacks link 0, which is 2 → 3
+    ∷ call (showOutcome (hex "20 80 08 86 46 04 26 02") c4 32 29) (give [] (first ∷ hex "00 20 00 60 00 00 00 20 00 00 00 40 00 00 00 80 00 00 01 00 00 00 20 00 00 40 02 00 60" ∷ []))
     -- too little room, by one, for the first or for the second; the first that doesn't fit is told
     ∷ call (showOutcome d c3 31 29) (refuse 12 32)
     ∷ call (showOutcome d c3 32 28) (refuse 12 29)
@@ -598,8 +626,8 @@ answers =
     ∷ []
 
 unfoldable pub table : List (List Case)
-table = patterns ∷ catalogues ∷ records ∷ sheets ∷ books ∷ searches ∷ quotes ∷ cheapests ∷ showings ∷ answers ∷ []
+table = patterns ∷ catalogues ∷ records ∷ sortings ∷ sheets ∷ books ∷ searches ∷ quotes ∷ cheapests ∷ showings ∷ answers ∷ []
 
 pub cases : Agree table
-unfolding Agree table patterns catalogues records sheets books searches quotes cheapests showings answers digit hex next turned numbers bitsOf num numFrom bits zeros gap then times whole within scan lay bytesOf decode encode linked edges isEnd allEnds label joined pattern catalogue labels record′ pairs lists sheet book patternSize patternsIn viewsOf edgeCounts codesIn listsIn afterLists ends fieldsOf sheetsIn pairsIn sum member insert distinct withWorkspace readFile writeFile judged pairsOf uncrowdedBy fit fitFile patternRead catalogueRead recordRead sheetRead bookRead patternWritten catalogueWritten recordWritten sheetWritten bookWritten _and_ _or_ _implies_ every some keep gather each below upTo settle greatest same has sameEdge allPairs bit edgesIn patternOf graphOf asGraph fits follows sim total row ascending matchSets viewSheet sheetBytes bookBytes searchOutcome viewSheets makeBookOutcome pairOf listsHere under candidates supported join complete keptFor answerSets matches matchedIn coversIn lowestUnmatched addsTo taken kept chosen used maskIn matchMask maskAt mapping valuesFrom quoteValues flat quoteOutcome viewsIn answerBytes answerIn answerBy usedFor graphFields fewerFields recordBytes fitBoth showFor showOutcome weigh lesser better misses ahead foremost cheapest cheapestFrom cheapestFor cheapestOutcome
-cases = (refl, (refl, (refl, (refl, (refl, (refl, (refl, (refl, (refl, (refl, tt))))))))))
+unfolding Agree table patterns catalogues records sortings sheets books searches quotes cheapests showings answers digit hex next turned numbers bitsOf num numFrom bits zeros gap then times whole within scan lay bytesOf decode encode linked edges isEnd allEnds label joined pattern catalogue labels record′ pairs lists sheet book patternSize patternsIn viewsOf edgeCounts codesIn listsIn afterLists ends fieldsOf sheetsIn pairsIn sum member insert distinct codes sortedEnds oldRecord sortedFields recordSorted withWorkspace readFile writeFile judged pairsOf uncrowdedBy fit fitFile patternRead catalogueRead recordRead sheetRead bookRead patternWritten catalogueWritten recordWritten sheetWritten bookWritten _and_ _or_ _implies_ every some keep gather each below upTo settle greatest same has sameEdge allPairs bit edgesIn patternOf graphOf asGraph fits follows sim total row ascending matchSets viewSheet sheetBytes bookBytes searchOutcome viewSheets makeBookOutcome pairOf listsHere under candidates supported join complete keptFor answerSets matches matchedIn coversIn lowestUnmatched addsTo taken kept chosen used maskIn matchMask maskAt mapping valuesFrom quoteValues flat quoteOutcome viewsIn answerBytes answerIn answerBy usedFor asRecord graphFields fewerFields recordBytes fitBoth showFor showOutcome weigh lesser better misses ahead foremost cheapest cheapestFrom cheapestFor cheapestOutcome
+cases = (refl, (refl, (refl, (refl, (refl, (refl, (refl, (refl, (refl, (refl, (refl, tt)))))))))))

@@ -17,7 +17,8 @@ use Rattle.packed.specs.Formats.{code}
 use Rattle.packed.specs.Plain.{Below, PatternFile, CatalogueFile, RecordFile, SheetFile, BookFile}
 use Rattle.packed.specs.Contents.{edgesOf, viewsOf, edgeCounts, sheetsIn, ends, fieldsOf, pairCount}
 use Rattle.packed.specs.Refusals.{Told, told}
-use Rattle.packed.specs.Calls.{Outcome, give, refuse, fronts, Settled, Fulfils, withWorkspace, accepted, readPattern, readCatalogue, readRecord, readSheet, readBook, pairsOf, fitFile, patternRead, catalogueRead, recordRead, sheetRead, bookRead, patternWritten, catalogueWritten, recordWritten, sheetWritten, bookWritten}
+use Rattle.packed.specs.OldRecord.{readOldRecord, sortedFields, recordSorted}
+use Rattle.packed.specs.Calls.{Outcome, give, refuse, fronts, Settled, Fulfils, withWorkspace, accepted, readPattern, readCatalogue, readRecord, readSheet, readBook, pairsOf, fit, fitFile, patternRead, catalogueRead, recordRead, sheetRead, bookRead, patternWritten, catalogueWritten, recordWritten, sheetWritten, bookWritten}
 use Rattle.matching.specs.Lists.{In}
 use Rattle.matching.specs.Simulation.{Pair, Edge, asPair, noEdge, Pattern, Graph, patternOf, graphOf, asGraph, bit, IsSim, sim, sound, matchSets, viewSheet}
 use Rattle.matching.specs.Join.{without, answerSets}
@@ -179,6 +180,7 @@ pub record Demand1 : Type 0 where
   pub write-pattern : (ws : List ℕ) (room words : ℕ) → Settles (withWorkspace words (patternWritten ws room))
   pub write-catalogue : (ws : List ℕ) (room words : ℕ) → Settles (withWorkspace words (catalogueWritten ws room))
   pub write-record : (ws : List ℕ) (room words : ℕ) → Settles (withWorkspace words (recordWritten ws room))
+  pub sort-record : (s : List ℕ) (room words : ℕ) → Settles (withWorkspace words (recordSorted s room))
   pub write-sheet : (p ws : List ℕ) (room words : ℕ) → Settles (withWorkspace words (sheetWritten p ws room))
   pub write-book : (c ws : List ℕ) (room words : ℕ) → Settles (withWorkspace words (bookWritten c ws room))
   pub search : (p r : List ℕ) (room words : ℕ) → Settles (withWorkspace words (searchOutcome p r room))
@@ -349,6 +351,25 @@ pub record Demand2 : Type 1 where
   pub sheets : (p : List ℕ) → RoundTrip (sheetRead p) (sheetWritten p)
   pub all-books : (c : List ℕ) → RoundTrip (bookRead c) (bookWritten c)
 
+-- ---- Records that were stored before their links stood in order. "A converter sorts the files already stored, read by the old rules: the sorted
+-- record has the same links and the same sheets."
+
+-- a file that the old rules accept
+abbrev pub OldFile : List ℕ → List ℕ → Type 0
+OldFile s ws = readOldRecord s ≡ accepted ws
+
+pub record Sorting : Type 0 where
+  -- the converter writes the record with the sorted content, or gives 12
+  pub gives : (s ws : List ℕ) → OldFile s ws → (room : ℕ) → recordSorted s room ≡ fit room (recordBytes (sortedFields ws))
+  -- which is accepted
+  pub is-record : (s ws : List ℕ) → OldFile s ws → Record (recordBytes (sortedFields ws)) (sortedFields ws)
+  -- with the same items, and the same links
+  pub items : (s ws : List ℕ) → OldFile s ws → graphOf (sortedFields ws) .labels ≡ graphOf ws .labels
+  pub links : (s ws : List ℕ) → OldFile s ws → (f : Edge) → In f (graphOf (sortedFields ws) .edges) ↔ In f (graphOf ws .edges)
+  -- and every pattern has the same sheet on both, as a question and as an extract
+  pub sheets : (s ws : List ℕ) → OldFile s ws → (P : Pattern) → sheetOf P (sortedFields ws) ≡ sheetOf P ws
+  pub extract-sheets : (s ws : List ℕ) → OldFile s ws → (P : Pattern) → extractSheetOf P (sortedFields ws) ≡ extractSheetOf P ws
+
 -- ---- Demand 3. "For every accepted question and catalogue and every accepted record: if covered, and the extract lists made from the record
 -- fit in a book, answering from that book alone equals, byte for byte, searching the record, refusals included, alike in number and detail. If
 -- uncovered, the two shown records are accepted, the second lacks just one link of the first, every extract's lists are byte for byte equal on
@@ -365,8 +386,9 @@ pub record Showing (qs cs : List ℕ) : Type 0 where
   -- "the two shown records are accepted"
   pub first-accepted : Record (recordBytes (firstOf qs)) (firstOf qs)
   pub second-accepted : Record (recordBytes (secondOf qs cs)) (secondOf qs cs)
-  -- the first is the question read as a record
-  pub question : graphOf (firstOf qs) ≡ asGraph (patternOf qs)
+  -- the first is the question read as a record: the same items, and the same links, ascending
+  pub items : graphOf (firstOf qs) .labels ≡ asGraph (patternOf qs) .labels
+  pub links : (f : Edge) → In f (graphOf (firstOf qs) .edges) ↔ In f (patternOf qs .edges)
   -- "the second lacks just one link of the first"
   pub lacks : graphOf (secondOf qs cs) ≡ without (linkOf qs (lacking qs cs)) (graphOf (firstOf qs))
   pub in-first : In (linkOf qs (lacking qs cs)) (graphOf (firstOf qs) .edges)

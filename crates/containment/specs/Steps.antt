@@ -1,5 +1,5 @@
 -- inner: what the steps of quoting, of answering and of showing promise one another.
-use Prim.Native.Nat.{ℕ, zero, suc, _+_, _-_, _*_, _/_, _%_, _^_, _<_, _≤_}
+use Prim.Native.Nat.{ℕ, zero, suc, _+_, _*_, _/_, _%_, _^_, _<_, _≤_}
 use mathlib.Core.Path.{_≡_}
 use mathlib.Core.Bool.{Bool}
 use mathlib.Core.List.{List, [], _∷_, _++_, map}
@@ -8,7 +8,7 @@ use lib.Seq.{sets}
 use lib.Dec.{eqb, ltb}
 use Rattle.packed.specs.Format.{ok, pick, decode}
 use Rattle.packed.specs.Formats.{pattern, catalogue, code}
-use Rattle.packed.specs.Contents.{edgesOf, edgeCounts}
+use Rattle.packed.specs.Contents.{edgesOf, edgeCounts, sortedEnds}
 use Rattle.packed.specs.ByValue.{HoldsPattern, Small}
 use Rattle.packed.specs.Calls.{Outcome, toldOf, outputsOf}
 use Rattle.packed.specs.Refusals.{Told}
@@ -57,14 +57,17 @@ shownFields ws skip = pick (ltb skip (edgesOf ws)) (fewerFields ws skip) (graphF
 unfoldable pub powers : List ℕ → List ℕ
 powers ls = map (λ k. 2 ^ k) ls
 
--- how many of m edges are left without the edge skip, if there is one
-unfoldable pub edgesBut : ℕ → ℕ → ℕ
-edgesBut m skip = pick (ltb skip m) (m - 1) m
-
 -- the ends of the first e edges without the edge skip
 unfoldable pub endsBut : List ℕ → List ℕ → ℕ → ℕ → List ℕ
 endsBut from to skip zero = []
 endsBut from to skip (suc e) = endsBut from to skip e ++ pick (eqb e skip) [] (getD from e 0 ∷ getD to e 0 ∷ [])
+
+-- the first n words of the workspace are these codes, of 24 bits each
+pub record CodesFront (cs : List ℕ) (n : ℕ) (w : List ℕ) : Type 0 where
+  pub long : length w ≡ 16384
+  pub few : n ≤ 32
+  pub is : take n w ≡ cs
+  pub small : (j : ℕ) → j < n → getD w j 0 < 2 ^ 24
 
 -- the first n words are these
 pub record Front (words : List ℕ) (n : ℕ) (fs : List ℕ) : Type 0 where
@@ -80,7 +83,7 @@ unfoldable pub labelFields : Given → ℕ → List ℕ
 labelFields p left = (p .nodes ∷ left ∷ []) ++ powers (take (p .nodes) (p .labels))
 
 unfoldable pub fieldsBut : Given → ℕ → List ℕ
-fieldsBut p skip = labelFields p (edgesBut (p .edges) skip) ++ endsBut (p .from) (p .to) skip (p .edges)
+fieldsBut p skip = let es = endsBut (p .from) (p .to) skip (p .edges) in labelFields p (length es / 2) ++ sortedEnds es
 
 pub record HoldsFields (fs : List ℕ) (f : Fields) : Type 0 where
   pub front : Front (f .words) (f .number) fs

@@ -1,13 +1,16 @@
 // A query read as a record, in bytes.
 ghost use mathlib.Core.Path.{_≡_};
-ghost use mathlib.Core.List.{List, [], _∷_, _++_};
-ghost use Prim.Native.Nat.{ℕ, _+_, _^_, _≤_, _<_};
+ghost use mathlib.Core.List.{[], _∷_};
+ghost use Prim.Native.Nat.{_+_, _^_, _≤_, _<_};
 ghost use lib.ListN.{length, replicate, take};
+ghost use Rattle.packed.specs.Contents.{codes};
 ghost use Rattle.matching.specs.Steps.{Fair};
-ghost use Rattle.containment.specs.Steps.{Query, powers, edgesBut, endsBut, labelFields, fieldsBut, Front, Extends, HoldsFields, Graphed};
+ghost use Rattle.containment.specs.Steps.{Query, powers, endsBut, CodesFront, labelFields, fieldsBut, Front, Extends, HoldsFields, Graphed};
 use packed::by_value::Pattern;
+use packed::limits;
 use packed::record;
 use packed::reply::Part;
+use packed::sort;
 
 // The content of a record, at the front of a table.
 pub struct Fields {
@@ -57,31 +60,22 @@ fn with_labels(before: [u32; 82], p: Pattern) -> [u32; 82]
     words
 }
 
-// The words with the ends of the edges, after the counts and the labels, without the edge skip.
-fn with_ends(before: [u32; 82], p: Pattern, skip: usize) -> Fields
-    requires { ⌜ Fair p ⌝ }
-    ensures { λ r. ⌜ ((fs : List ℕ) → Front before (2 + p .nodes) fs → HoldsFields (fs ++ endsBut (p .from) (p .to) skip (p .edges)) r) ⌝ }
+// The codes of the edges, without the edge skip, if there is one, go to the front of the workspace; the result is how many there are.
+fn load_codes(p: Pattern, skip: usize, work: &mut [u32]) -> usize
+    requires { ⌜ Fair p × (length (now work) ≡ 16384) ⌝ }
+    ensures { λ r. ⌜ CodesFront (codes (endsBut (p .from) (p .to) skip (p .edges))) r (now (work .exit)) ⌝ }
 {
-    let mut words = before;
-    let mut at = 2 + p.nodes;
     let m = p.edges;
+    let mut k: usize = 0;
     let mut e: usize = 0;
     while e < m {
         if e != skip {
-            let more = with_two(words, at, p.from[e], p.to[e]);
-            words = more;
-            at += 2;
+            work[k] = p.from[e] * limits::NODES + p.to[e];
+            k += 1;
         }
         e += 1;
     }
-    Fields { words, number: at }
-}
-
-// How many of m edges are left without the edge skip, if there is one.
-fn edges_but(m: usize, skip: usize) -> usize
-    ensures { λ r. ⌜ (r ≡ edgesBut m skip) × (r ≤ m) ⌝ }
-{
-    if skip < m { m - 1 } else { m }
+    k
 }
 
 // The two counts and the labels.
@@ -93,13 +87,20 @@ fn label_fields(p: Pattern, edges: usize) -> [u32; 82]
     with_labels(counts, p)
 }
 
-// The content of the query read as a record, without the edge skip, if it has one.
-fn graph_fields(p: Pattern, skip: usize) -> Fields
-    requires { ⌜ Fair p ⌝ }
+// The content of the query read as a record, its edges ascending, without the edge skip, if it has one.
+fn graph_fields(p: Pattern, skip: usize, work: &mut [u32]) -> Fields
+    requires { ⌜ Query p × (length (now work) ≡ 16384) ⌝ }
     ensures { λ r. ⌜ HoldsFields (fieldsBut p skip) r ⌝ }
 {
-    let words = label_fields(p, edges_but(p.edges, skip));
-    with_ends(words, p, skip)
+    let k = load_codes(p, skip, work);
+    sort::sort(work, k);
+    let mut words = label_fields(p, k);
+    let at = 2 + p.nodes;
+    record::store_ends(work, k, &mut words, at);
+    Fields {
+        words,
+        number: at + 2 * k,
+    }
 }
 
 // The query read as a record, without the edge skip, if it has one, goes to the front of out, as far as it goes; the result is how many
@@ -108,10 +109,10 @@ pub fn write_graph(p: Pattern, skip: usize, out: &mut [u8], work: &mut [u32]) ->
     requires { ⌜ Query p × (length (now work) ≡ 16384) ⌝ }
     ensures { λ r. ⌜ ((t : Query p) → Graphed (t .content) skip r (now (out .entry)) (now (out .exit))) ⌝ }
 {
-    let f = graph_fields(p, skip);
+    let f = graph_fields(p, skip, work);
     let words = f.words;
     let n = f.number;
-    let r = record::judge_record_fields(&words[0..n], out, work);
+    let r = record::judge_record_fields(&words[0..n], out);
     match r {
         Part::Upto(size, _) => size,
         Part::Refused(_) => 0,

@@ -5,7 +5,7 @@ use mathlib.Core.List.{List, [], _∷_}
 use lib.ListN.{length}
 use native.Mathlib.Omega.{arith}
 use Rattle.packed.specs.Formats.{code}
-use Rattle.packed.specs.Loading.{codes}
+use Rattle.packed.specs.Contents.{codes}
 use Rattle.packed.specs.Plain.{fromAt, toAt}
 use Rattle.packed.proofs.AcceptedEdges.{from-cons, to-cons}
 use Rattle.matching.specs.Lists.{In, each, upTo}

@@ -16,6 +16,7 @@ pub mod MatchSetLaws
 pub mod Listed
 pub mod AllOrNone
 pub mod EdgeLaws
+pub mod SortedGraphs
 pub mod MatchedLaws
 -- files by value: patterns, views, records
 pub mod PatternLaws

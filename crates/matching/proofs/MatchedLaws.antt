@@ -151,7 +151,7 @@ module _ {p : Given} {s : List ℕ} {n m : ℕ} {w w₂ : List ℕ} (ready : Rea
         record {
           long = omega arith;
           most = ready .edges;
-          small = λ i l. rw (k .edges .same i (omega arith)) (ready .codes i (omega arith));
+          small = λ i l. rw (k .edges .same i (omega arith)) (let f = ready .from i l in let n = ready .nodes in omega arith);
           rises = λ i j l h. rw (k .edges .same i (omega arith), k .edges .same j (omega arith)) (rises i j l h);
         }
 

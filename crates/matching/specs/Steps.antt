@@ -1,5 +1,5 @@
 -- inner: what matching finds in the workspace: the codes of m edges from word 0 on.
-use Prim.Native.Nat.{ℕ, _+_, _*_, _/_, _%_, _^_, _<_, _≤_}
+use Prim.Native.Nat.{ℕ, _+_, _*_, _/_, _%_, _<_, _≤_}
 use mathlib.Core.Path.{_≡_}
 use mathlib.Core.List.{List}
 use lib.ListN.{length, getD, take}
@@ -41,7 +41,6 @@ pub record Ready (s : List ℕ) (n m : ℕ) (w : List ℕ) : Type 0 where
   pub nodes : n ≤ 4096
   pub edges : m ≤ 8192
   pub long : length w ≡ 16384
-  pub codes : (i : ℕ) → i < 8192 → getD w i 0 < 2 ^ 24
   pub from : (i : ℕ) → i < m → getD w i 0 / 4096 < n
   pub to : (i : ℕ) → i < m → getD w i 0 % 4096 < n
 

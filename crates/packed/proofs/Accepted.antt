@@ -13,11 +13,12 @@ use Rattle.packed.specs.Format.{Format, Result, ok, bad, pick, ended, la
 use Rattle.packed.specs.Formats.{pattern, catalogue, record′, sheet, book}
 use Rattle.packed.specs.Contents.{edgesOf, edgeCounts}
 use Rattle.packed.specs.Calls.{accepted, rejected, inFile, readFile, readPattern, readCatalogue, readRecord, readSheet, readBook}
+use Rattle.packed.specs.OldRecord.{oldRecord, OldRecordFile}
 use Rattle.packed.specs.Plain.{PlainSheet, PatternFile, CatalogueFile, RecordFile, SheetFile, BookFile}
 use Rattle.packed.proofs.RoundTrip.{Bytes, inBytes-ok, decode-encode, encode-decode}
 use Rattle.packed.proofs.Files.{bytes-bytesOf}
 use Rattle.packed.proofs.AcceptedLaws.{accepts-file, whole-same}
-use Rattle.packed.proofs.AcceptedGraphs.{accepts-pattern, accepts-record}
+use Rattle.packed.proofs.AcceptedGraphs.{accepts-pattern, accepts-record, accepts-old}
 use Rattle.packed.proofs.AcceptedTurns.{accepts-catalogue, catalogue-length, turns-length}
 use Rattle.packed.proofs.AcceptedSheets.{accepts-sheet, accepts-book}
 
@@ -31,6 +32,9 @@ catalogue-accepted s ws = Iff·trans (accepts-file catalogue accepts-catalogue s
 
 pub record-accepted : (s ws : List ℕ) → decode record′ s ≡ ok ws ↔ RecordFile s ws
 record-accepted s ws = accepts-file record′ (accepts-record 0) s ws
+
+pub old-accepted : (s ws : List ℕ) → decode oldRecord s ≡ ok ws ↔ OldRecordFile s ws
+old-accepted s ws = accepts-file oldRecord (accepts-old 0) s ws
 
 pub sheet-accepted : (m : ℕ) (s ws : List ℕ) → decode (sheet m) s ≡ ok ws ↔ SheetFile m s ws
 sheet-accepted m s ws = accepts-file (sheet m) (accepts-sheet m 0) s ws

@@ -9,10 +9,12 @@ use lib.Dec.{lit≤}
 use native.Mathlib.Omega.{arith}
 use Rattle.packed.specs.Bits.{bitsOf}
 use Rattle.packed.specs.Format.{Format, done, ask, then, times}
-use Rattle.packed.specs.Formats.{countField, edges, allEnds, label, joined, pattern, labels, nothing, record′}
-use Rattle.packed.specs.Plain.{Laid, Below, fieldBits, PlainEdges, PlainPattern, PlainRecord}
+use Rattle.packed.specs.Formats.{countField, edges, allEnds, label, joined, pattern, pairs, labels, record′}
+use Rattle.packed.specs.OldRecord.{nothing, oldRecord}
+use Rattle.packed.specs.Plain.{Laid, Below, fieldBits, PlainEdges, PlainPairs, PlainPattern, PlainGraph, PlainRecord}
 use Rattle.packed.proofs.AcceptedLaws.{Accepts, accepts-same, Nothing, accepts-done, Asked, accepts-ask, accepts-test, Then, accepts-then}
 use Rattle.packed.proofs.AcceptedEdges.{Fields, accepts-fields, EdgesLaid, accepts-edges, Met, all-met, met-all}
+use Rattle.packed.proofs.AcceptedPairs.{accepts-pairs}
 
 -- the widths and bounds of a graph's fields
 record GraphSizes : Type 0 where
@@ -32,7 +34,7 @@ record GraphSizes : Type 0 where
   ends-fit : most-nodes ≤ 2 ^ wide-end
 
 module _ (z : GraphSizes) where
-  record Graph (Last : ℕ → List ℕ → Type 0) (ws : List ℕ) (bs : List Bool) : Type 0 where
+  record Graph (Edges : ℕ → ℕ → List ℕ → Type 0) (ws : List ℕ) (bs : List Bool) : Type 0 where
     nodes : ℕ
     number : ℕ
     marks : List ℕ
@@ -45,18 +47,18 @@ module _ (z : GraphSizes) where
     number-high : number ≤ z .most-number
     mark-each : length marks ≡ nodes
     are-marks : Below (z .labels-bound) marks
-    plain : PlainEdges nodes number ends
-    at-last : Last nodes ends
+    edges : Edges nodes number ends
 
-  module _ (last : ℕ → List ℕ → Format) (Last : ℕ → List ℕ → Type 0)
-      (accepts-last : (nodes : ℕ) (ends : List ℕ) (at : ℕ) → Accepts (last nodes ends) at (λ ws bs. Last nodes ends × Nothing ws bs)) where
+  -- the format of the edges, and what it accepts
+  module _ (tree : ℕ → ℕ → Format) (Edges : ℕ → ℕ → List ℕ → Type 0)
+      (accepts-tree : (nodes number : ℕ) → nodes ≤ 2 ^ z .wide-end → (at : ℕ) → Accepts (tree nodes number) at (λ ws bs. Edges nodes number ws × (bs ≡ fieldBits (z .wide-end) ws))) where
     abbrev Parts : Laid
     Parts =
         Asked (z .wide-nodes) (z .least-nodes) (suc (z .most-nodes)) (λ nodes.
         Asked (z .wide-number) (z .least-number) (suc (z .most-number)) (λ number.
-        Then (Fields (z .wide-label) (z .labels-bound) nodes) (λ front. EdgesLaid (z .wide-end) nodes (Last nodes) number 0 [])))
+        Then (Fields (z .wide-label) (z .labels-bound) nodes) (λ front ws bs. Edges nodes number ws × (bs ≡ fieldBits (z .wide-end) ws))))
 
-    graph-to : (ws : List ℕ) (bs : List Bool) → Parts ws bs → Graph Last ws bs
+    graph-to : (ws : List ℕ) (bs : List Bool) → Parts ws bs → Graph Edges ws bs
     graph-to ws bs q =
         let nodes : ℕ = q .value in
         let n = q .after in
@@ -76,7 +78,7 @@ module _ (z : GraphSizes) where
               ∙ ap (λ (l : List Bool). bitsOf (z .wide-number) (n .value) ++ l) (
               r .layout
               ∙ ap (λ (l : List Bool). l ++ r .back) (f .layout)
-              ∙ ap (λ (l : List Bool). fieldBits (z .wide-label) (r .first) ++ l) (e .layout)
+              ∙ ap (λ (l : List Bool). fieldBits (z .wide-label) (r .first) ++ l) (e .1)
               ));
           nodes-low = q .least;
           nodes-high = let m = q .most in omega arith;
@@ -84,11 +86,10 @@ module _ (z : GraphSizes) where
           number-high = let m = n .most in omega arith;
           mark-each = f .many;
           are-marks = f .small;
-          plain = record { two-each = e .two-each; are-nodes = e .are-nodes; differ = λ i j h g p t. e .differ i j h (omega arith) (omega arith) p t };
-          at-last = e .ends;
+          edges = e .0;
         }
 
-    graph-by : (ws : List ℕ) (bs : List Bool) → Graph Last ws bs → Parts ws bs
+    graph-by : (ws : List ℕ) (bs : List Bool) → Graph Edges ws bs → Parts ws bs
     graph-by ws bs q =
         record {
           value = q .nodes;
@@ -116,29 +117,40 @@ module _ (z : GraphSizes) where
               content = refl;
               layout = refl;
               before = record { many = q .mark-each; small = q .are-marks; layout = refl };
-              after = record {
-                two-each = q .plain .two-each;
-                are-nodes = q .plain .are-nodes;
-                layout = refl;
-                differ = λ i j h g l p t. q .plain .differ i j h (omega arith) p t;
-                ends = q .at-last;
-              };
+              after = (q .edges, refl);
             };
           };
         }
 
     accepts-graph : (at : ℕ)
         → Accepts (countField (z .wide-nodes) (z .least-nodes) (z .most-nodes) (λ nodes. countField (z .wide-number) (z .least-number) (z .most-number) (λ number.
-        then (times nodes (ask (z .wide-label) 0 (z .labels-bound) 3 (λ v. done))) (edges (z .wide-end) nodes (last nodes) number [])))) at (Graph Last)
+        then (times nodes (ask (z .wide-label) 0 (z .labels-bound) 3 (λ v. done))) (tree nodes number)))) at (Graph Edges)
     accepts-graph at =
         accepts-same (λ ws bs. (graph-to ws bs, graph-by ws bs))
         (accepts-ask (z .wide-nodes) (z .least-nodes) (suc (z .most-nodes)) 3 _ at _ (λ nodes l m.
         accepts-ask (z .wide-number) (z .least-number) (suc (z .most-number)) 3 _ (at + z .wide-nodes) _ (λ number l′ m′.
-        accepts-then (times nodes (ask (z .wide-label) 0 (z .labels-bound) 3 (λ v. done))) (edges (z .wide-end) nodes (last nodes) number []) (at + z .wide-nodes + z .wide-number)
+        accepts-then (times nodes (ask (z .wide-label) 0 (z .labels-bound) 3 (λ v. done))) (tree nodes number) (at + z .wide-nodes + z .wide-number)
         (accepts-fields (z .wide-label) (z .labels-bound) 3 (z .label-fits) nodes (at + z .wide-nodes + z .wide-number))
         (λ ws bs r.
-        accepts-edges (z .wide-end) nodes (let f = z .ends-fit in omega arith) (last nodes) (Last nodes) (accepts-last nodes)
-        number 0 (at + z .wide-nodes + z .wide-number + length bs) [] (omega arith)))))
+        accepts-tree nodes number (let f = z .ends-fit in omega arith) (at + z .wide-nodes + z .wide-number + length bs)))))
+
+-- ---- edges in any order, each once, and what is asked of their ends as a whole
+module _ (w nodes : ℕ) (fits : nodes ≤ 2 ^ w) (last : List ℕ → Format) (Last : List ℕ → Type 0)
+    (accepts-last : (ends : List ℕ) (at : ℕ) → Accepts (last ends) at (λ ws bs. Last ends × Nothing ws bs)) where
+  plain-edges : (number : ℕ) (ws : List ℕ) (bs : List Bool) → EdgesLaid w nodes Last number 0 [] ws bs ↔ ((PlainEdges nodes number ws × Last ws) × (bs ≡ fieldBits w ws))
+  plain-edges number ws bs = (
+    λ q. ((record { two-each = q .two-each; are-nodes = q .are-nodes; differ = λ i j h g p t. q .differ i j h (omega arith) (omega arith) p t }, q .ends), q .layout),
+    λ q. record {
+      two-each = q .0 .0 .two-each;
+      are-nodes = q .0 .0 .are-nodes;
+      layout = q .1;
+      differ = λ i j h g l p t. q .0 .0 .differ i j h (omega arith) p t;
+      ends = q .0 .1;
+    },
+  )
+
+  accepts-plain : (number at : ℕ) → Accepts (edges w nodes last number []) at (λ ws bs. (PlainEdges nodes number ws × Last ws) × (bs ≡ fieldBits w ws))
+  accepts-plain number at = accepts-same (plain-edges number) (accepts-edges w nodes fits last Last accepts-last number 0 at [] (omega arith))
 
 -- ---- a pattern
 
@@ -166,7 +178,10 @@ accepts-joined nodes ends at =
     accepts-same (λ ws bs. (λ q. (all-met nodes ends (q .0), q .1), λ q. (met-all nodes ends (q .0), q .1)))
     (accepts-test (allEnds nodes ends) 7 (accepts-done at))
 
-plain-pattern : (ws : List ℕ) (bs : List Bool) → Graph pattern-sizes Met ws bs ↔ PlainPattern ws bs
+abbrev Joined : ℕ → ℕ → List ℕ → Type 0
+Joined nodes number ends = PlainEdges nodes number ends × Met nodes ends
+
+plain-pattern : (ws : List ℕ) (bs : List Bool) → Graph pattern-sizes Joined ws bs ↔ PlainPattern ws bs
 plain-pattern ws bs = (
   λ q. record {
     nodes = q .nodes;
@@ -181,8 +196,8 @@ plain-pattern ws bs = (
     most-edges = q .number-high;
     label-each = q .mark-each;
     are-labels = q .are-marks;
-    edges = q .plain;
-    met = q .at-last;
+    edges = q .edges .0;
+    met = q .edges .1;
   },
   λ q. record {
     nodes = q .nodes;
@@ -197,14 +212,16 @@ plain-pattern ws bs = (
     number-high = q .most-edges;
     mark-each = q .label-each;
     are-marks = q .are-labels;
-    plain = q .edges;
-    at-last = q .met;
+    edges = (q .edges, q .met);
   },
 )
 
 pub accepts-pattern : (at : ℕ) → Accepts pattern at PlainPattern
 unfolding pattern label
-accepts-pattern at = accepts-same plain-pattern (accepts-graph pattern-sizes joined Met accepts-joined at)
+accepts-pattern at =
+    accepts-same plain-pattern
+    (accepts-graph pattern-sizes (λ nodes number. edges 4 nodes (joined nodes) number []) Joined
+    (λ nodes number fits. accepts-plain 4 nodes fits (joined nodes) (Met nodes) (accepts-joined nodes) number) at)
 
 -- ---- a record
 
@@ -226,15 +243,8 @@ record-sizes =
       ends-fit = lit≤ tt;
     }
 
--- nothing is asked of the ends of a record as a whole
-abbrev Any : ℕ → List ℕ → Type 0
-Any nodes ends = Unit {0}
-
-accepts-any : (nodes : ℕ) (ends : List ℕ) (at : ℕ) → Accepts (nothing ends) at (λ ws bs. Any nodes ends × Nothing ws bs)
-accepts-any nodes ends at = accepts-same (λ ws bs. (λ q. (tt, q), λ q. q .1)) (accepts-done at)
-
-plain-record : (ws : List ℕ) (bs : List Bool) → Graph record-sizes Any ws bs ↔ PlainRecord ws bs
-plain-record ws bs = (
+plain-record : (Edges : ℕ → ℕ → List ℕ → Type 0) (ws : List ℕ) (bs : List Bool) → Graph record-sizes Edges ws bs ↔ PlainGraph Edges ws bs
+plain-record Edges ws bs = (
   λ q. record {
     nodes = q .nodes;
     number = q .number;
@@ -246,7 +256,7 @@ plain-record ws bs = (
     most-edges = q .number-high;
     labels-each = q .mark-each;
     are-labels = q .are-marks;
-    edges = q .plain;
+    edges = q .edges;
   },
   λ q. record {
     nodes = q .nodes;
@@ -261,11 +271,26 @@ plain-record ws bs = (
     number-high = q .most-edges;
     mark-each = q .labels-each;
     are-marks = q .are-labels;
-    plain = q .edges;
-    at-last = tt;
+    edges = q .edges;
   },
 )
 
 pub accepts-record : (at : ℕ) → Accepts record′ at PlainRecord
 unfolding record′ labels
-accepts-record at = accepts-same plain-record (accepts-graph record-sizes (λ nodes. nothing) Any accepts-any at)
+accepts-record at =
+    accepts-same (plain-record PlainPairs)
+    (accepts-graph record-sizes (λ nodes number. pairs nodes 4 number 0) PlainPairs (λ nodes number fits. accepts-pairs nodes 4 fits number) at)
+
+-- ---- a record as it was stored before
+
+-- nothing is asked of the ends as a whole
+accepts-any : (ends : List ℕ) (at : ℕ) → Accepts (nothing ends) at (λ ws bs. Unit {0} × Nothing ws bs)
+accepts-any ends at = accepts-same (λ ws bs. (λ q. (tt, q), λ q. q .1)) (accepts-done at)
+
+pub accepts-old : (at : ℕ) → Accepts oldRecord at (PlainGraph PlainEdges)
+unfolding oldRecord labels
+accepts-old at =
+    accepts-same (plain-record PlainEdges)
+    (accepts-graph record-sizes (λ nodes number. edges 12 nodes nothing number []) PlainEdges (λ nodes number fits at.
+    accepts-same (λ ws bs. (λ q. (q .0 .0, q .1), λ q. ((q .0, tt), q .1)))
+    (accepts-plain 12 nodes fits nothing (λ ends. Unit {0}) accepts-any number at)) at)

@@ -1,152 +1,37 @@
 -- What the formats of a sheet and of a book accept.
-use Prim.Native.Nat.{ℕ, zero, suc, _+_, _*_, _≤_, _<_}
+use Prim.Native.Nat.{ℕ, zero, suc, _+_, _≤_, _<_}
 use mathlib.Core.Path.{_≡_, refl, ap, sym, _∙_, subst}
 use mathlib.Core.List.{List, [], _∷_, _++_, append-assoc}
 use mathlib.Core.Bool.{Bool, true, false, not, _&&_, _||_}
 use mathlib.Core.Logic.{_⊎_, inl, inr, ⊎-elim, _↔_}
 use lib.ListN.{length, getD}
-use lib.Dec.{eqb, leb}
+use lib.Dec.{eqb, lit≤}
 use native.Mathlib.Omega.{arith}
-use borrow.Author.Tests.{leb-true, le-leb, eqb-true, eqb-false, eq-eqb, ne-eqb, not-false}
+use borrow.Author.Tests.{eqb-true, eqb-false, eq-eqb, ne-eqb, not-false}
 use Rattle.packed.specs.Bits.{bitsOf}
 use Rattle.packed.specs.Format.{Format, then, whole}
-use Rattle.packed.specs.Formats.{code, pairs, lists, sheet, book}
-use Rattle.packed.specs.Plain.{Laid, Whole, InTurn, Below, fieldBits, fromAt, toAt, Before, PlainList, PlainSheet, countAt}
-use Rattle.packed.proofs.OrderCases.{lt-or-ge, or-neither}
+use Rattle.packed.specs.Formats.{pairs, lists, sheet, book}
+use Rattle.packed.specs.Plain.{Laid, Whole, InTurn, fieldBits, PlainPairs, PlainList, PlainSheet, countAt}
+use Rattle.packed.proofs.OrderCases.{or-neither}
 use Rattle.packed.proofs.AcceptedLaws.{Accepts, accepts-same, Nothing, accepts-done, Asked, accepts-ask, Tested, accepts-test, Then, accepts-then}
-use Rattle.packed.proofs.AcceptedEdges.{below-cons, from-cons, to-cons}
+use Rattle.packed.proofs.AcceptedPairs.{accepts-pairs}
 use Rattle.packed.proofs.AcceptedTurns.{no-turns, more-turns, row, accepts-row}
-
--- ---- pairs by their codes
-
-abbrev codeFrom : List ℕ → ℕ → ℕ
-codeFrom ends i = code (fromAt ends i) (toAt ends i)
-
-code-cons : (a b : ℕ) (l : List ℕ) (i : ℕ) → codeFrom (a ∷ b ∷ l) (suc i) ≡ codeFrom l i
-code-cons a b l i = rw (from-cons a b l i, to-cons a b l i)
-
--- by from, then to
-code-order : (a b c d : ℕ) → b < 4096 → d < 4096 → code a b < code c d ↔ (a < c) ⊎ ((a ≡ c) × (b < d))
-code-order a b c d h g = (
-  λ l. ⊎-elim (λ (x : a < c). inl x) (λ (x : c ≤ a). inr (omega arith)) (lt-or-ge a c),
-  ⊎-elim (λ x. omega arith) (λ x. omega arith),
-)
-
--- so many pairs, the first with a code of at least least
-record Pairs (k least : ℕ) (ws : List ℕ) (bs : List Bool) : Type 0 where
-  two-each : length ws ≡ 2 * k
-  small : Below 4096 ws
-  layout : bs ≡ fieldBits 12 ws
-  first : 0 < k → least ≤ codeFrom ws 0
-  ascend : (i : ℕ) → suc i < k → codeFrom ws i < codeFrom ws (suc i)
-
-no-pairs : (least : ℕ) (ws : List ℕ) (bs : List Bool) → Nothing ws bs ↔ Pairs 0 least ws bs
-unfolding fieldBits
-no-pairs least [] bs = (
-  λ q. record { two-each = refl; small = λ i h. absurd (omega arith); layout = q .1; first = λ h. absurd (omega arith); ascend = λ i h. absurd (omega arith) },
-  λ q. (refl, q .layout),
-)
-no-pairs least (v ∷ ws) bs = (λ q. absurd (let z = ap length (q .0) in omega arith), λ q. absurd (let z = q .two-each in omega arith))
-
-abbrev PairLaid : ℕ → ℕ → Laid
-PairLaid k least = Asked 12 0 4096 (λ a. Asked 12 0 4096 (λ b. Tested (leb least (code a b)) (Pairs k (suc (code a b)))))
-
-pair-to : (k least : ℕ) (ws : List ℕ) (bs : List Bool) → PairLaid k least ws bs → Pairs (suc k) least ws bs
-unfolding fieldBits
-pair-to k least ws bs q =
-    let a : ℕ = q .value in
-    let b : ℕ = q .after .value in
-    let l : List ℕ = q .after .rest in
-    let r = q .after .after .1 in
-    let all : ws ≡ a ∷ b ∷ l = q .content ∙ ap (λ (t : List ℕ). a ∷ t) (q .after .content) in
-    let laid : bs ≡ bitsOf 12 a ++ (bitsOf 12 b ++ q .after .body) = q .layout ∙ ap (λ (t : List Bool). bitsOf 12 a ++ t) (q .after .layout) in
-    rw (all, laid) (record {
-      two-each = let z = r .two-each in omega arith;
-      small = below-cons (b ∷ l) (q .most) (below-cons l (q .after .most) (r .small));
-      layout = ap (λ (t : List Bool). bitsOf 12 a ++ (bitsOf 12 b ++ t)) (r .layout);
-      first = λ h. leb-true least (code a b) (q .after .after .0);
-      ascend = order a b l r;
-    })
-  where
-    order : (a b : ℕ) (l : List ℕ) {cs : List Bool} → Pairs k (suc (code a b)) l cs → (i : ℕ) → suc i < suc k → codeFrom (a ∷ b ∷ l) i < codeFrom (a ∷ b ∷ l) (suc i)
-    order a b l r zero h = rw (code-cons a b l 0) (r .first (omega arith))
-    order a b l r (suc i) h = rw (code-cons a b l i, code-cons a b l (suc i)) (r .ascend i (omega arith))
-
-pair-by : (k least : ℕ) (ws : List ℕ) (bs : List Bool) → Pairs (suc k) least ws bs → PairLaid k least ws bs
-unfolding fieldBits
-pair-by k least [] bs q = absurd (let z = q .two-each in omega arith)
-pair-by k least (a ∷ []) bs q = absurd (let z = q .two-each in omega arith)
-pair-by k least (a ∷ b ∷ l) bs q =
-    let x : a < 4096 = q .small 0 (omega arith) in
-    let y : b < 4096 = q .small 1 (omega arith) in
-    record {
-      value = a;
-      rest = b ∷ l;
-      body = bitsOf 12 b ++ fieldBits 12 l;
-      content = refl;
-      layout = q .layout;
-      least = omega arith;
-      most = x;
-      fits = x;
-      after = record {
-        value = b;
-        rest = l;
-        body = fieldBits 12 l;
-        content = refl;
-        layout = refl;
-        least = omega arith;
-        most = y;
-        fits = y;
-        after = (
-          le-leb least (code a b) (q .first (omega arith)),
-          record {
-            two-each = let z = q .two-each in omega arith;
-            small = λ i h. q .small (suc (suc i)) (omega arith);
-            layout = refl;
-            first = λ h. subst (λ (n : ℕ). code a b < n) (code-cons a b l 0) (q .ascend 0 (omega arith));
-            ascend = λ i h. rw (sym (code-cons a b l i), sym (code-cons a b l (suc i))) (q .ascend (suc i) (omega arith));
-          },
-        );
-      };
-    }
-
-accepts-pairs : (k least at : ℕ) → Accepts (pairs k least) at (Pairs k least)
-unfolding pairs
-accepts-pairs zero least at = accepts-same (no-pairs least) (accepts-done at)
-accepts-pairs (suc k) least at =
-    accepts-same (λ ws bs. (pair-to k least ws bs, pair-by k least ws bs))
-    (accepts-ask 12 0 4096 3 _ at _ (λ a l m.
-    accepts-ask 12 0 4096 3 _ (at + 12) _ (λ b l′ m′.
-    accepts-test (leb least (code a b)) 6 (accepts-pairs k (suc (code a b)) (at + 12 + 12)))))
 
 -- ---- one list
 
-list-to : (n : ℕ) (ends : List ℕ) (bs : List Bool) → n ≤ 8192 → Pairs n 0 ends bs → PlainList (n ∷ ends) (bitsOf 14 n ++ bs)
+-- the pairs of a list
+abbrev Pairs : ℕ → Laid
+Pairs n ws bs = PlainPairs 4096 n ws × (bs ≡ fieldBits 12 ws)
+
+list-to : (n : ℕ) (ends : List ℕ) (bs : List Bool) → n ≤ 8192 → Pairs n ends bs → PlainList (n ∷ ends) (bitsOf 14 n ++ bs)
 list-to n ends bs most q =
     record {
       number = n;
       ends = ends;
       content = refl;
-      layout = ap (λ (l : List Bool). bitsOf 14 n ++ l) (q .layout);
+      layout = ap (λ (l : List Bool). bitsOf 14 n ++ l) (q .1);
       most = most;
-      two-each = q .two-each;
-      small = q .small;
-      ascend = λ i h.
-          let t = q .two-each in
-          code-order (fromAt ends i) (toAt ends i) (fromAt ends (suc i)) (toAt ends (suc i))
-          (q .small (2 * i + 1) (omega arith)) (q .small (2 * suc i + 1) (omega arith)) .0 (q .ascend i h);
-    }
-
-list-by : (n : ℕ) (ends : List ℕ) → length ends ≡ 2 * n → Below 4096 ends → ((i : ℕ) → suc i < n → Before ends i (suc i)) → Pairs n 0 ends (fieldBits 12 ends)
-list-by n ends t small ascend =
-    record {
-      two-each = t;
-      small = small;
-      layout = refl;
-      first = λ h. omega arith;
-      ascend = λ i h.
-          code-order (fromAt ends i) (toAt ends i) (fromAt ends (suc i)) (toAt ends (suc i))
-          (small (2 * i + 1) (omega arith)) (small (2 * suc i + 1) (omega arith)) .1 (ascend i h);
+      pairs = q .0;
     }
 
 -- a list whose count P holds of
@@ -155,7 +40,7 @@ CountLaid P ws bs = PlainList ws bs × P (getD ws 0 0)
 
 -- a count, its pairs, and what S says of the rest
 abbrev FrontLaid : (ℕ → Laid) → Laid
-FrontLaid S = Asked 14 0 8193 (λ n. Then (Pairs n 0) (λ front. S n))
+FrontLaid S = Asked 14 0 8193 (λ n. Then (Pairs n) (λ front. S n))
 
 module _ (P : ℕ → Type 0) (m : ℕ) where
   list-more : {S : ℕ → Laid} {ws : List ℕ} {bs : List Bool} (q : FrontLaid S ws bs) → P (q .value) → InTurn (λ i. CountLaid P) m (q .after .second) (q .after .back)
@@ -197,7 +82,7 @@ module _ (P : ℕ → Type 0) (m : ℕ) where
           back = r .back;
           content = refl;
           layout = refl;
-          before = list-by n (p .ends) (p .two-each) (p .small) (p .ascend);
+          before = (p .pairs, refl);
           after = k n (r .second) (r .back) h (r .after);
         };
       }
@@ -258,7 +143,7 @@ accepts-lists zero none some at = accepts-same (no-lists none some) (accepts-tes
 accepts-lists (suc m) none some at =
     accepts-same (more-lists m none some)
     (accepts-ask 14 0 8193 3 _ at _ (λ n l h.
-    accepts-then (pairs n 0) (lists m (none || eqb n 0) (some || not (eqb n 0))) (at + 14) (accepts-pairs n 0 (at + 14)) (λ ws bs q.
+    accepts-then (pairs 4096 3 n 0) (lists m (none || eqb n 0) (some || not (eqb n 0))) (at + 14) (accepts-pairs 4096 3 (lit≤ tt) n (at + 14)) (λ ws bs q.
     accepts-lists m (none || eqb n 0) (some || not (eqb n 0)) (at + 14 + length bs))))
 
 -- ---- a sheet

@@ -1,32 +1,23 @@
 -- Accepted records by the places of their fields, and the codes of their edges in the workspace.
-use Prim.Native.Nat.{ℕ, zero, suc, _+_, _*_, _^_, _<_, _≤_}
+use Prim.Native.Nat.{ℕ, zero, suc, _+_, _-_, _*_, _/_, _%_, _^_, _<_, _≤_}
 use mathlib.Core.Path.{_≡_, refl, ap, ap₂, sym, _∙_}
 use mathlib.Core.List.{List, [], _∷_, _++_, append-assoc}
 use mathlib.Core.Bool.{Bool, false}
 use mathlib.Core.Logic.{⊎-elim}
-use lib.ListN.{length, take, drop, getD, set, replicate, length-append, length-drop, length-set, length-replicate, getD-replicate, List·getD-append}
-use lib.Seq.{take-at, drop-at, getD-append-add, getD-take, getD-set-same, getD-set-other, length-take-le, ext-getD}
+use lib.ListN.{length, take, drop, getD, set, replicate, length-append, length-drop, length-set, take-append-drop, List·getD-append}
+use lib.Seq.{sets, sets-eq, take-at, drop-at, take-suc, getD-append-add, getD-take, getD-drop, getD-set-same, getD-set-other, length-take-le, ext-getD}
 use native.Mathlib.Omega.{arith}
 use native.Mathlib.Nat.{mul-zero, mul-suc}
+use native.Mathlib.Numerals.{add-one}
 use Rattle.packed.specs.Bits.{bitsOf, bits, field, gap}
 use Rattle.packed.specs.Format.{ok, decode}
 use Rattle.packed.specs.Formats.{record′, code}
-use Rattle.packed.specs.Contents.{nodesOf, edgesOf, distinct}
-use Rattle.packed.specs.Plain.{fieldBits, Below, fromAt, toAt, PlainEdges}
-use Rattle.packed.specs.Order.{word, Ascends, SameTo, Sorted, Repeats}
-use Rattle.packed.specs.Distinct.{BelowHead, Increasing}
-use Rattle.packed.specs.Loading.{codes}
-use Rattle.packed.specs.Accepting.{replyOf}
-use Rattle.packed.specs.LoadedGraph.{CodesAt, CodesLoaded, Ordered, Orders, Holds}
-use Rattle.packed.specs.Reading.{TwoValues, Judges}
-use Rattle.packed.specs.declared.reply.Part.{Part}
-use Rattle.packed.specs.declared.reply.Part.the-variants as part-is
-use Rattle.packed.proofs.BitsLaws.{length-bitsOf, length-bits, num-bitsOf-lt, field-lt}
+use Rattle.packed.specs.Contents.{nodesOf, edgesOf, ends, codes}
+use Rattle.packed.specs.Plain.{Whole, fieldBits, Below, fromAt, toAt, PlainGraph}
+use Rattle.packed.specs.LoadedGraph.{CodesAt, Holds, LabelsStored}
+use Rattle.packed.proofs.BitsLaws.{length-bitsOf, length-bits, num-bitsOf-lt}
 use Rattle.packed.proofs.OrderCases.{lt-or-ge, eq-or-ne}
-use Rattle.packed.proofs.Places.{times-find, times-le}
-use Rattle.packed.proofs.Sorts.{word-front, repeats-yes, repeats-same, same-in}
-use Rattle.packed.proofs.DistinctLaws.{distinct-own}
-use Rattle.packed.proofs.DistinctAbsorb.{distinct-sorted}
+use Rattle.packed.proofs.Sets.{sets-append, sets-front}
 use Rattle.packed.proofs.AcceptedEdges.{from-cons, to-cons}
 use Rattle.packed.proofs.Accepted.{record-accepted}
 
@@ -57,25 +48,28 @@ fields-here s w (v ∷ vs) at p q e l b (suc j) h =
     n (λ i g. b (suc i) (omega arith)) j (omega arith)
 
 -- ---- the places of a record's fields
-record Sited (s ws : List ℕ) : Type 0 where
-  nodes : ℕ
-  number : ℕ
-  labels : List ℕ
-  ends : List ℕ
-  tail : List Bool
-  content : ws ≡ nodes ∷ number ∷ (labels ++ ends)
-  spread : bits s ≡ bitsOf 13 nodes ++ (bitsOf 14 number ++ (fieldBits 32 labels ++ (fieldBits 12 ends ++ tail)))
-  most-nodes : nodes ≤ 4096
-  most-edges : number ≤ 8192
-  labels-each : length labels ≡ nodes
-  are-labels : Below (2 ^ 32) labels
-  edges : PlainEdges nodes number ends
+pub record Sited (s ws : List ℕ) : Type 0 where
+  pub nodes : ℕ
+  pub number : ℕ
+  pub labels : List ℕ
+  pub ends : List ℕ
+  pub tail : List Bool
+  pub content : ws ≡ nodes ∷ number ∷ (labels ++ ends)
+  pub spread : bits s ≡ bitsOf 13 nodes ++ (bitsOf 14 number ++ (fieldBits 32 labels ++ (fieldBits 12 ends ++ tail)))
+  pub most-nodes : nodes ≤ 4096
+  pub most-edges : number ≤ 8192
+  pub labels-each : length labels ≡ nodes
+  pub are-labels : Below (2 ^ 32) labels
+  pub two-each : length ends ≡ 2 * number
+  pub are-nodes : Below nodes ends
 
-sited : (s ws : List ℕ) → decode record′ s ≡ ok ws → Sited s ws
-sited s ws e =
-    let q = record-accepted s ws .0 e in
+-- whatever else holds of its edges
+abbrev pub sited-by : {Edges : ℕ → ℕ → List ℕ → Type 0} (s ws : List ℕ) → ((nodes number : ℕ) (ends : List ℕ) → Edges nodes number ends → (length ends ≡ 2 * number) × Below nodes ends)
+    → Whole (PlainGraph Edges) ws (bits s) → Sited s ws
+sited-by s ws basic q =
     let p = q .laid in
     let tail : List Bool = replicate (gap (length (q .body))) false in
+    let b = basic (p .nodes) (p .number) (p .ends) (p .edges) in
     record {
       nodes = p .nodes;
       number = p .number;
@@ -88,14 +82,18 @@ sited s ws e =
       most-edges = p .most-edges;
       labels-each = p .labels-each;
       are-labels = p .are-labels;
-      edges = p .edges;
+      two-each = b .0;
+      are-nodes = b .1;
     }
 
+sited : (s ws : List ℕ) → decode record′ s ≡ ok ws → Sited s ws
+sited s ws e = sited-by s ws (λ nodes number ends p. (p .two-each, p .small)) (record-accepted s ws .0 e)
+
 module _ {s ws : List ℕ} (g : Sited s ws) where
-  nodes-is : nodesOf ws ≡ g .nodes
+  pub nodes-is : nodesOf ws ≡ g .nodes
   nodes-is = ap (λ (l : List ℕ). getD l 0 0) (g .content)
 
-  number-is : edgesOf ws ≡ g .number
+  pub number-is : edgesOf ws ≡ g .number
   number-is = ap (λ (l : List ℕ). getD l 1 0) (g .content)
 
   abbrev front : List Bool
@@ -121,15 +119,15 @@ module _ {s ws : List ℕ} (g : Sited s ws) where
       let b = length-append (fieldBits 12 (g .ends)) (g .tail) in
       let c = fields-length 12 (g .ends) in
       let d = before-ends in
-      let m = g .edges .two-each in
+      let m = g .two-each in
       let x = nodes-is in
       let y = number-is in
       omega arith
 
-  sited-nodes : field s 0 13 ≡ nodesOf ws
+  pub sited-nodes : field s 0 13 ≡ nodesOf ws
   sited-nodes = field-here s 0 13 (g .nodes) [] _ (g .spread) refl (let h = g .most-nodes in omega arith) ∙ sym nodes-is
 
-  sited-number : field s 13 14 ≡ edgesOf ws
+  pub sited-number : field s 13 14 ≡ edgesOf ws
   sited-number =
       field-here s 13 14 (g .number) (bitsOf 13 (g .nodes)) _ (g .spread) (length-bitsOf 13 (g .nodes)) (let h = g .most-edges in omega arith) ∙ sym number-is
 
@@ -140,27 +138,27 @@ module _ {s ws : List ℕ} (g : Sited s ws) where
       fields-here s 32 (g .labels) 27 front _ from-labels front-length (g .are-labels) v k
       ∙ sym (ap₂ (λ (l : List ℕ) (i : ℕ). getD l i 0) (g .content) z ∙ List·getD-append (g .labels) (g .ends) 0 v k)
 
-  sited-ends : drop (2 + nodesOf ws) ws ≡ g .ends
+  pub sited-ends : drop (2 + nodesOf ws) ws ≡ g .ends
   sited-ends =
       let z : 2 + nodesOf ws ≡ suc (suc (g .nodes)) = omega (arith, nodes-is) in
       ap₂ (λ (i : ℕ) (l : List ℕ). drop i l) z (g .content) ∙ drop-at (g .labels) (g .ends) (g .nodes) (g .labels-each)
 
   sited-end : (i : ℕ) → i < 2 * edgesOf ws → field s (27 + 32 * nodesOf ws + 12 * i) 12 ≡ getD (g .ends) i 0
   sited-end i h =
-      let k : i < length (g .ends) = omega (arith, number-is, g .edges .two-each) in
-      let b : Below (2 ^ 12) (g .ends) = λ j l. let x = g .edges .are-nodes j l in let y = g .most-nodes in omega arith in
+      let k : i < length (g .ends) = omega (arith, number-is, g .two-each) in
+      let b : Below (2 ^ 12) (g .ends) = λ j l. let x = g .are-nodes j l in let y = g .most-nodes in omega arith in
       fields-here s 12 (g .ends) (27 + 32 * nodesOf ws) (front ++ fieldBits 32 (g .labels)) _ from-ends (omega (arith, before-ends, nodes-is)) b i k
 
-  sited-length : length ws ≡ 2 + (nodesOf ws + 2 * edgesOf ws)
+  pub sited-length : length ws ≡ 2 + (nodesOf ws + 2 * edgesOf ws)
   sited-length =
-      ap length (g .content) ∙ omega (arith, length-append (g .labels) (g .ends), g .labels-each, g .edges .two-each, nodes-is, number-is)
+      ap length (g .content) ∙ omega (arith, length-append (g .labels) (g .ends), g .labels-each, g .two-each, nodes-is, number-is)
 
   sited-below : (i : ℕ) → i < 2 * edgesOf ws → getD ws (2 + (nodesOf ws + i)) 0 < nodesOf ws
   sited-below i h =
       let z : 2 + (nodesOf ws + i) ≡ suc (suc (length (g .labels) + i)) = omega (arith, nodes-is, g .labels-each) in
       let e : getD ws (2 + (nodesOf ws + i)) 0 ≡ getD (g .ends) i 0 =
       ap₂ (λ (l : List ℕ) (j : ℕ). getD l j 0) (g .content) z ∙ getD-append-add (g .labels) (g .ends) i 0 in
-      let l = g .edges .are-nodes i (omega (arith, number-is, g .edges .two-each)) in
+      let l = g .are-nodes i (omega (arith, number-is, g .two-each)) in
       let n = nodes-is in
       omega arith
 
@@ -192,7 +190,7 @@ pub ends-below : (s ws : List ℕ) → decode record′ s ≡ ok ws → (i : ℕ
 ends-below s ws e = sited-below (sited s ws e)
 
 -- ---- codes
-codes-length : (m : ℕ) (ends : List ℕ) → length ends ≡ 2 * m → length (codes ends) ≡ m
+pub codes-length : (m : ℕ) (ends : List ℕ) → length ends ≡ 2 * m → length (codes ends) ≡ m
 unfolding codes
 codes-length zero [] e = refl
 codes-length (suc m) [] e = absurd (omega arith)
@@ -200,105 +198,45 @@ codes-length m (a ∷ []) e = absurd (omega arith)
 codes-length zero (a ∷ b ∷ ends) e = absurd (omega arith)
 codes-length (suc m) (a ∷ b ∷ ends) e = ap suc (codes-length m ends (omega arith))
 
-codes-at : (ends : List ℕ) (j : ℕ) → j < length (codes ends) → getD (codes ends) j 0 ≡ code (fromAt ends j) (toAt ends j)
+pub codes-at : (ends : List ℕ) (j : ℕ) → j < length (codes ends) → getD (codes ends) j 0 ≡ code (fromAt ends j) (toAt ends j)
 unfolding codes
 codes-at [] j h = absurd (omega arith)
 codes-at (a ∷ []) j h = absurd (omega arith)
 codes-at (a ∷ b ∷ ends) zero h = refl
 codes-at (a ∷ b ∷ ends) (suc j) h = codes-at ends j (omega arith) ∙ sym (ap₂ code (from-cons a b ends j) (to-cons a b ends j))
 
--- edges that differ have codes that differ
-module _ {nodes number : ℕ} {ends : List ℕ} (few : nodes ≤ 4096) (p : PlainEdges nodes number ends) where
-  to-below : (j : ℕ) → j < number → toAt ends j < nodes
-  to-below j h = p .are-nodes (2 * j + 1) (let e = p .two-each in omega arith)
-
-  codes-differ : (i j : ℕ) → i < j → j < number → code (fromAt ends i) (toAt ends i) ≡ code (fromAt ends j) (toAt ends j) → ⊥
-  codes-differ i j l h e =
-      let a = to-below i (omega arith) in
-      let b = to-below j h in
-      p .differ i j l h (omega arith) (omega arith)
-
--- ---- words that differ, sorted
-no-repeat : (m : ℕ) (f : ℕ → ℕ) → ((i j : ℕ) → i < j → j < m → f i ≡ f j → ⊥) → Repeats m f → ⊥
-unfolding Repeats
-no-repeat m f d t =
-    let a = times-find f (t .0) m 0 (let h = t .1 in omega arith) in
-    let b = times-find f (t .0) m 1 (let h = t .1 in omega arith) in
-    ⊎-elim
-    (λ (h : a .0 < b .0). d (a .0) (b .0) h (b .1) (a .2 ∙ sym (b .2)))
-    (λ (h : b .0 ≤ a .0). let z = times-le f (t .0) (b .0) (a .0) h in let x = a .3 in let y = b .3 in omega arith)
-    (lt-or-ge (a .0) (b .0))
-
-increasing-by : (l : List ℕ) → ((k : ℕ) → suc k < length l → getD l k 0 < getD l (suc k) 0) → Increasing l
-unfolding Increasing BelowHead
-increasing-by [] f = tt
-increasing-by (x ∷ []) f = (tt, tt)
-increasing-by (x ∷ y ∷ l) f = (f 0 (omega arith), increasing-by (y ∷ l) (λ k h. f (suc k) (omega arith)))
-
--- so sorted, they are the different ones, ascending
-sorted-front : (m : ℕ) (w w′ : List ℕ) → m ≤ length w → ((i j : ℕ) → i < j → j < m → getD w i 0 ≡ getD w j 0 → ⊥) → Sorted m w w′ → take m w′ ≡ distinct (take m w)
-unfolding Ascends SameTo
-sorted-front m w w′ h d s =
-    let n = s .long in
-    let l : length (take m w′) ≡ m = length-take-le m w′ (omega arith) in
-    let none : Repeats m (word w′ 0) → ⊥ =
-    λ t. no-repeat m (word w 0) (λ i j p q e. d i j p q (sym (word-front w i) ∙ e ∙ word-front w j)) (repeats-same m (word w′ 0) (word w 0) (λ x. sym (s .same x)) t) in
-    let up : (k : ℕ) → suc k < length (take m w′) → getD (take m w′) k 0 < getD (take m w′) (suc k) 0 =
-    λ k p.
-    let a = getD-take m w′ k 0 (omega arith) ∙ sym (word-front w′ k) in
-    let b = getD-take m w′ (suc k) 0 (omega arith) ∙ sym (word-front w′ (suc k)) in
-    let o = s .order k (suc k) (omega arith) (omega arith) in
-    let z : k + 1 ≡ suc k = omega arith in
-    ⊎-elim
-    (λ (e : word w′ 0 k ≡ word w′ 0 (suc k)). absurd (none (repeats-yes m (word w′ 0) k (omega arith) (e ∙ ap (word w′ 0) (sym z)))))
-    (λ (e : word w′ 0 k ≡ word w′ 0 (suc k) → ⊥). lower a b o e)
-    (eq-or-ne (word w′ 0 k) (word w′ 0 (suc k))) in
-    sym (distinct-own (take m w′) (increasing-by (take m w′) up)) ∙ distinct-sorted w w′ 0 0 m (omega arith) (omega arith) (s .same)
-  where
-    lower : {a b x y : ℕ} → a ≡ x → b ≡ y → x ≤ y → (x ≡ y → ⊥) → a < b
-    lower {a} {b} {x} {y} p q o e =
-        ⊎-elim (λ (h : x < y). let z : a < b = omega arith in z) (λ (h : y ≤ x). absurd (e (omega arith))) (lt-or-ge x y)
-
 -- ---- the codes in the workspace, as they are loaded
-pub load-start : (s : List ℕ) (start : ℕ) (w : List ℕ) → CodesAt s start 0 w w
-load-start s start w = record { long = refl; each = λ j h. absurd (omega arith); rest = λ j h. refl }
+pub codes-start : (s : List ℕ) (start : ℕ) (w : List ℕ) → CodesAt s start 0 w w
+codes-start s start w = record { long = refl; each = λ j h. absurd (omega arith) }
 
-pub load-more : {s : List ℕ} {start k at nodes i a b : ℕ} {w w′ words words′ : List ℕ} → k < length w → at ≡ start + 24 * k → TwoValues 12 nodes s at words i a b words′
-    → CodesAt s start k w w′ → CodesAt s start (k + 1) w (set w′ k (code a b))
-load-more {s} {start} {k} {at} {a = a} {b} {w} {w′} h z p c =
+pub codes-more : {s : List ℕ} {start k c : ℕ} {w w′ : List ℕ} → CodesAt s start k w w′ → k < length w′
+    → c ≡ code (field s (start + 24 * k) 12) (field s (start + 24 * k + 12) 12) → CodesAt s start (k + 1) w (set w′ k c)
+codes-more {s} {start} {k} {c} {w} {w′} a h e =
     record {
-      long = length-set w′ k (code a b) ∙ c .long;
+      long = length-set w′ k c ∙ a .long;
       each = λ j l.
           ⊎-elim
-          (λ (e : j ≡ k).
-          ap (λ (i : ℕ). getD (set w′ k (code a b)) i 0) e
-          ∙ getD-set-same w′ k (code a b) 0 (let n = c .long in omega arith)
-          ∙ ap₂ code (p .first .is) (p .second .is)
-          ∙ ap (λ (i : ℕ). code (field s i 12) (field s (i + 12) 12)) (z ∙ ap (λ (i : ℕ). start + 24 * i) (sym e)))
-          (λ (e : j ≡ k → ⊥). getD-set-other w′ k j (code a b) 0 e ∙ c .each j (ne-lt e l))
+          (λ (p : j ≡ k).
+          ap (λ (i : ℕ). getD (set w′ k c) i 0) p
+          ∙ getD-set-same w′ k c 0 h
+          ∙ e
+          ∙ ap (λ (i : ℕ). code (field s (start + 24 * i) 12) (field s (start + 24 * i + 12) 12)) (sym p))
+          (λ (p : j ≡ k → ⊥). getD-set-other w′ k j c 0 p ∙ a .each j (ne-lt p l))
           (eq-or-ne j k);
-      rest = λ j l. getD-set-other w′ k j (code a b) 0 (λ e. omega arith) ∙ c .rest j (omega arith);
     }
   where
     ne-lt : {j : ℕ} → (j ≡ k → ⊥) → j < k + 1 → j < k
     ne-lt {j} e l = ⊎-elim (λ (u : j < k). u) (λ (u : k ≤ j). absurd (e (omega arith))) (lt-or-ge j k)
 
--- the same edges, with their place and number said otherwise
-pub loaded-same : (s w : List ℕ) (p : Part) (k : ℕ) (w′ : List ℕ) {start start′ m m′ : ℕ} → start ≡ start′ → m ≡ m′ → CodesLoaded s start m w p k w′ → CodesLoaded s start′ m′ w p k w′
-loaded-same s w p k w′ e d c = rw (← e, ← d) c
-
--- ---- the edges of an accepted record, loaded and sorted
-module _ (s ws : List ℕ) (is : decode record′ s ≡ ok ws) {w w₁ w₂ : List ℕ} (fits : 8192 ≤ length w) (c : CodesAt s (27 + 32 * field s 0 13) (field s 13 14) w w₁) (o : Sorted (field s 13 14) w₁ w₂) where
-  g : Sited s ws
-  g = sited s ws is
-
+-- ---- the edges of an accepted record, loaded
+module _ {s ws : List ℕ} (g : Sited s ws) {w w′ : List ℕ} (fits : 8192 ≤ length w) (c : CodesAt s (27 + 32 * field s 0 13) (field s 13 14) w w′) where
   abbrev m : ℕ
   m = field s 13 14
 
-  edges-few : m ≤ 8192
+  pub edges-few : m ≤ 8192
   edges-few = omega (arith, sited-number g, number-is g, g .most-edges)
 
-  loaded-at : (j : ℕ) → j < m → getD w₁ j 0 ≡ code (fromAt (g .ends) j) (toAt (g .ends) j)
+  pub loaded-at : (j : ℕ) → j < m → getD w′ j 0 ≡ code (fromAt (g .ends) j) (toAt (g .ends) j)
   loaded-at j h =
       let x = sited-nodes g in
       let y = sited-number g in
@@ -309,75 +247,154 @@ module _ (s ws : List ℕ) (is : decode record′ s ≡ ok ws) {w w₁ w₂ : Li
       ∙ ap₂ code (sited-end g (2 * j) (omega arith)) (sited-end g (2 * j + 1) (omega arith))
 
   codes-many : length (codes (g .ends)) ≡ m
-  codes-many = codes-length m (g .ends) (omega (arith, g .edges .two-each, sited-number g, number-is g))
+  codes-many = codes-length m (g .ends) (omega (arith, g .two-each, sited-number g, number-is g))
 
-  loaded-front : take m w₁ ≡ codes (g .ends)
+  pub loaded-front : take m w′ ≡ codes (drop (2 + nodesOf ws) ws)
   loaded-front =
-      let l : length (take m w₁) ≡ m = length-take-le m w₁ (omega (arith, c .long, edges-few)) in
+      let l : length (take m w′) ≡ m = length-take-le m w′ (omega (arith, c .long, edges-few)) in
       let k = codes-many in
-      ext-getD 0 (take m w₁) (codes (g .ends)) (l ∙ sym k)
+      ext-getD 0 (take m w′) (codes (g .ends)) (l ∙ sym k)
       (λ j h. let z : j < m = omega arith in
-      getD-take m w₁ j 0 z ∙ loaded-at j z ∙ sym (codes-at (g .ends) j (omega arith)))
+      getD-take m w′ j 0 z ∙ loaded-at j z ∙ sym (codes-at (g .ends) j (omega arith)))
+      ∙ ap codes (sym (sited-ends g))
 
-  loaded-differ : (i j : ℕ) → i < j → j < m → getD w₁ i 0 ≡ getD w₁ j 0 → ⊥
-  loaded-differ i j p q e =
-      let x = sited-number g in
-      let y = number-is g in
-      codes-differ (g .most-nodes) (g .edges) i j p (omega arith) (sym (loaded-at i (omega arith)) ∙ e ∙ loaded-at j q)
-
-  -- a word is one of the codes
-  ordered-small : (i : ℕ) → i < m → getD w₂ i 0 < 2 ^ 24
-  ordered-small i h =
-      let q = same-in m (word w₁ 0) (word w₂ 0) (o .same) i h in
-      let j : ℕ = q .0 in
-      let a = field-lt s (27 + 32 * field s 0 13 + 24 * j) 12 12 (omega arith) in
-      let b = field-lt s (27 + 32 * field s 0 13 + 24 * j + 12) 12 12 (omega arith) in
-      let e = word-front w₁ j ∙ c .each j (q .1) in
-      let v = q .2 in
-      let z = word-front w₂ i in
-      omega arith
-
-  pub edges-ordered : Ordered (decode record′ s) w w₂
-  edges-ordered =
-      let y = sited-number g in
-      record {
-        fields = ws;
-        is = is;
-        long = o .long ∙ c .long;
-        front =
-            ap (λ (k : ℕ). take k w₂) (sym y)
-            ∙ sorted-front m w₁ w₂ (omega (arith, c .long, edges-few)) loaded-differ o
-            ∙ ap distinct (loaded-front ∙ ap codes (sym (sited-ends g)));
-        small = λ i h. ordered-small i (omega arith);
-        rest = λ i h l. o .between i (omega arith) l ∙ c .rest i (omega arith);
-      }
-
-pub orders-by : (r : Part) (s words words′ : List ℕ) (file : ℕ) {k : ℕ} {w w₁ w₂ : List ℕ} → Judges (decode record′ s) file r words words′ → 8192 ≤ length w
-    → (k ≡ field s 13 14) × CodesAt s (27 + 32 * field s 0 13) (field s 13 14) w w₁ → Sorted k w₁ w₂ → Orders (decode record′ s) (replyOf r) w w₂
-orders-by (part-is.Upto at i) s words words′ file j fits c o = edges-ordered s (j .fields) (j .is) fits (c .1) (rw (c .0) at o)
-orders-by (part-is.Refused x) s words words′ file j fits c o = tt
-
--- into a cleared workspace
-pub holds-by : (s w : List ℕ) {n m : ℕ} {w′ : List ℕ} → length w ≡ 16384 → Ordered (decode record′ s) (replicate 8192 0 ++ drop 8192 w) w′ → n ≡ field s 0 13 → m ≡ field s 13 14 → Holds s n m w′
-holds-by s w {n} {m} {w′} long o en em =
-    let y : m ≡ edgesOf (o .fields) = em ∙ record-edges-field s (o .fields) (o .is) in
+pub holds-by : (s ws w : List ℕ) {n m : ℕ} {w′ : List ℕ} → decode record′ s ≡ ok ws → length w ≡ 16384 → CodesAt s (27 + 32 * field s 0 13) (field s 13 14) w w′
+    → n ≡ field s 0 13 → m ≡ field s 13 14 → Holds s n m w′
+holds-by s ws w {w′ = w′} is long c en em =
     record {
-      fields = o .fields;
-      is = o .is;
-      nodes = en ∙ record-nodes-field s (o .fields) (o .is);
-      edges = y;
-      long =
-          o .long
-          ∙ length-append (replicate 8192 0) (drop 8192 w)
-          ∙ omega (arith, length-replicate {A = ℕ} 8192 0, length-drop 8192 w, long);
-      front = ap (λ (k : ℕ). take k w′) y ∙ o .front;
-      small = λ i h. ⊎-elim
-          (λ (p : i < edgesOf (o .fields)). o .small i p)
-          (λ (p : edgesOf (o .fields) ≤ i).
-          let e : getD w′ i 0 ≡ 0 =
-          o .rest i p h
-          ∙ List·getD-append (replicate 8192 0) (drop 8192 w) 0 i (omega (arith, length-replicate {A = ℕ} 8192 0))
-          ∙ getD-replicate 8192 i 0 0 h in
-          omega arith)
-          (lt-or-ge i (edgesOf (o .fields)));
+      fields = ws;
+      is = is;
+      nodes = en ∙ record-nodes-field s ws is;
+      edges = em ∙ record-edges-field s ws is;
+      long = c .long ∙ long;
+      front = ap (λ (k : ℕ). take k w′) em ∙ loaded-front (sited s ws is) (omega arith) c;
     }
+
+pub holds-bounds : {s : List ℕ} {n m : ℕ} {w : List ℕ} (h : Holds s n m w) → (n ≤ 4096) × (m ≤ 8192) × (27 + 32 * n ≤ 8 * length s) × (2 + n + 2 * m ≡ length (h .fields))
+holds-bounds {s} h =
+    let b = record-bounds s (h .fields) (h .is) in
+    let x = h .nodes in
+    let y = h .edges in
+    (omega (arith, b .0), omega (arith, b .1), omega (arith, b .3), omega (arith, b .2))
+
+-- ---- its content, from the labels in its bytes and the codes in the workspace
+pub labels-stored : (s w : List ℕ) → LabelsStored s 0 w w
+labels-stored s w = record { around = record { long = refl; low = λ k h. refl; high = λ k h. refl }; each = λ v h. absurd (omega arith) }
+
+pub labels-more : {s : List ℕ} {v x : ℕ} {w w′ : List ℕ} → LabelsStored s v w w′ → 2 + v < length w′ → x ≡ field s (27 + 32 * v) 32 → LabelsStored s (v + 1) w (set w′ (2 + v) x)
+labels-more {s} {v} {x} {w} {w′} a h e =
+    record {
+      around = record {
+        long = length-set w′ (2 + v) x ∙ a .around .long;
+        low = λ k l. getD-set-other w′ (2 + v) k x 0 (λ p. omega arith) ∙ a .around .low k l;
+        high = λ k l. getD-set-other w′ (2 + v) k x 0 (λ p. omega arith) ∙ a .around .high k (omega arith);
+      };
+      each = λ u l. ⊎-elim
+          (λ (p : u < v). getD-set-other w′ (2 + v) (2 + u) x 0 (λ q. omega arith) ∙ a .each u p)
+          (λ (p : v ≤ u).
+          let z : u ≡ v = omega arith in
+          ap (λ (i : ℕ). getD (set w′ (2 + v) x) (2 + i) 0) z ∙ getD-set-same w′ (2 + v) x 0 h ∙ e ∙ ap (λ (i : ℕ). field s (27 + 32 * i) 32) (sym z))
+          (lt-or-ge u v);
+    }
+
+pub labels-end : {s : List ℕ} {n v : ℕ} {w w′ : List ℕ} → v ≡ n → LabelsStored s v w w′ → LabelsStored s n w w′
+labels-end e a = rw (← e) a
+
+-- after the two counts
+pub labels-long : {s : List ℕ} {n : ℕ} (a b : ℕ) (out : List ℕ) {out′ : List ℕ} → LabelsStored s n (set (set out 0 a) 1 b) out′ → length out′ ≡ length out
+labels-long a b out l = l .around .long ∙ length-set (set out 0 a) 1 b ∙ length-set out 0 a
+
+pub ends-length : (l : List ℕ) → length (ends l) ≡ 2 * length l
+unfolding ends
+ends-length [] = refl
+ends-length (c ∷ l) = let q = ends-length l in omega arith
+
+ends-snoc : (l : List ℕ) (c : ℕ) → ends (l ++ (c ∷ [])) ≡ ends l ++ (c / 4096 ∷ c % 4096 ∷ [])
+unfolding ends
+ends-snoc [] c = refl
+ends-snoc (d ∷ l) c = ap (λ (t : List ℕ). d / 4096 ∷ d % 4096 ∷ t) (ends-snoc l c)
+
+pub ends-start : (out w : List ℕ) (at : ℕ) → out ≡ sets out at (ends (take 0 w))
+unfolding ends
+ends-start out w at = refl
+
+pub ends-more : (out w : List ℕ) (at k : ℕ) → k < length w
+    → set (set (sets out at (ends (take k w))) (at + 2 * k) (getD w k 0 / 4096)) (at + 2 * k + 1) (getD w k 0 % 4096) ≡ sets out at (ends (take (k + 1) w))
+ends-more out w at k h =
+    let a : ℕ = getD w k 0 / 4096 in
+    let b : ℕ = getD w k 0 % 4096 in
+    let n : at + 2 * k ≡ at + length (ends (take k w)) = omega (arith, ends-length (take k w), length-take-le k w (omega arith)) in
+    ap (λ (i : ℕ). set (set (sets out at (ends (take k w))) (at + 2 * k) a) i b) (add-one (at + 2 * k))
+    ∙ ap (λ (i : ℕ). sets (sets out at (ends (take k w))) i (a ∷ b ∷ [])) n
+    ∙ sets-append out at (ends (take k w)) (a ∷ b ∷ [])
+    ∙ ap (sets out at) (sym (ends-snoc (take k w) (getD w k 0)) ∙ ap ends (sym (take-suc w k 0 h) ∙ ap (λ (i : ℕ). take i w) (sym (add-one k))))
+
+pub ends-codes : (k : ℕ) (es : List ℕ) → length es ≡ 2 * k → Below 4096 es → ends (codes es) ≡ es
+unfolding codes ends
+ends-codes k [] n b = refl
+ends-codes k (x ∷ []) n b = absurd (omega arith)
+ends-codes zero (x ∷ y ∷ es) n b = absurd (omega arith)
+ends-codes (suc k) (x ∷ y ∷ es) n b =
+    let l : y < 4096 = b 1 (omega arith) in
+    let p : code x y / 4096 ≡ x = omega arith in
+    let q : code x y % 4096 ≡ y = omega arith in
+    ap₂ (λ (u v : ℕ). u ∷ v ∷ ends (codes es)) p q
+    ∙ ap (λ (t : List ℕ). x ∷ y ∷ t) (ends-codes k es (omega arith) (λ i h. b (suc (suc i)) (omega arith)))
+
+-- two counts, the labels and the ends: the whole content
+module _ {s : List ℕ} {n m : ℕ} {w : List ℕ} (out : List ℕ) {out′ : List ℕ} (h : Holds s n m w) (room : 2 + n + 2 * m ≤ length out) (a : LabelsStored s n (set (set out 0 n) 1 m) out′) where
+  abbrev ws : List ℕ
+  ws = h .fields
+
+  g : Sited s ws
+  g = sited s ws (h .is)
+
+  long′ : length out′ ≡ length out
+  long′ = labels-long n m out a
+
+  whole-length : length ws ≡ 2 + n + 2 * m
+  whole-length = omega (arith, sited-length g, h .nodes, h .edges)
+
+  content-at : (j : ℕ) → j < 2 + n → getD out′ j 0 ≡ getD ws j 0
+  content-at zero l = a .around .low 0 (omega arith) ∙ getD-set-other (set out 0 n) 1 0 m 0 (λ p. omega arith) ∙ getD-set-same out 0 n 0 (omega arith) ∙ h .nodes
+  content-at (suc zero) l = a .around .low 1 (omega arith) ∙ getD-set-same (set out 0 n) 1 m 0 (omega (arith, length-set out 0 n)) ∙ h .edges
+  content-at (suc (suc j)) l =
+      let z : suc (suc j) ≡ 2 + j = omega arith in
+      let k : j < n = omega arith in
+      ap (λ (i : ℕ). getD out′ i 0) z ∙ a .each j k ∙ sited-label g j (omega (arith, h .nodes)) ∙ ap (λ (i : ℕ). getD ws i 0) (sym z)
+
+  front-same : take (2 + n) out′ ≡ take (2 + n) ws
+  front-same =
+      let p : length (take (2 + n) out′) ≡ 2 + n = length-take-le (2 + n) out′ (omega (arith, long′)) in
+      let q : length (take (2 + n) ws) ≡ 2 + n = length-take-le (2 + n) ws (omega (arith, whole-length)) in
+      ext-getD 0 (take (2 + n) out′) (take (2 + n) ws) (p ∙ sym q)
+      (λ j l. let k : j < 2 + n = omega arith in getD-take (2 + n) out′ j 0 k ∙ content-at j k ∙ sym (getD-take (2 + n) ws j 0 k))
+
+  ends-same : ends (take m w) ≡ drop (2 + n) ws
+  ends-same =
+      let e : 2 + nodesOf ws ≡ 2 + n = omega (arith, h .nodes) in
+      ap ends (h .front)
+      ∙ ends-codes (g .number) (drop (2 + nodesOf ws) ws) (ap length (sited-ends g) ∙ g .two-each)
+      (rw (sited-ends g) (λ i l. let x = g .are-nodes i l in let y = g .most-nodes in omega arith))
+      ∙ ap (λ (i : ℕ). drop i ws) e
+
+  tail-same : drop (2 + n + 2 * m) out′ ≡ drop (2 + n + 2 * m) out
+  tail-same =
+      ext-getD 0 (drop (2 + n + 2 * m) out′) (drop (2 + n + 2 * m) out)
+      (length-drop (2 + n + 2 * m) out′ ∙ ap (λ (i : ℕ). i - (2 + n + 2 * m)) long′ ∙ sym (length-drop (2 + n + 2 * m) out))
+      (λ j l.
+      getD-drop (2 + n + 2 * m) out′ j 0
+      ∙ a .around .high (2 + n + 2 * m + j) (omega arith)
+      ∙ getD-set-other (set out 0 n) 1 (2 + n + 2 * m + j) m 0 (λ p. omega arith)
+      ∙ getD-set-other out 0 (2 + n + 2 * m + j) n 0 (λ p. omega arith)
+      ∙ sym (getD-drop (2 + n + 2 * m) out j 0))
+
+  pub content-stored : sets out′ (2 + n) (ends (take m w)) ≡ sets out 0 ws
+  content-stored =
+      let k : length (drop (2 + n) ws) ≡ 2 * m = length-drop (2 + n) ws ∙ omega (arith, whole-length) in
+      let z : 2 + n + length (drop (2 + n) ws) ≡ 2 + n + 2 * m = omega arith in
+      ap (sets out′ (2 + n)) ends-same
+      ∙ sets-eq (drop (2 + n) ws) out′ (2 + n) (omega (arith, long′))
+      ∙ ap₂ (λ (x y : List ℕ). (x ++ drop (2 + n) ws) ++ y) front-same (ap (λ (i : ℕ). drop i out′) z ∙ tail-same)
+      ∙ ap₂ (λ (x : List ℕ) (i : ℕ). x ++ drop i out) (take-append-drop (2 + n) ws) (sym whole-length)
+      ∙ sym (sets-front out ws (omega (arith, whole-length)))

@@ -12,6 +12,7 @@ pub mod Most
 -- formats: what each accepts, in plain rules
 pub mod AcceptedLaws
 pub mod AcceptedEdges
+pub mod AcceptedPairs
 pub mod AcceptedGraphs
 pub mod AcceptedTurns
 pub mod AcceptedSheets
@@ -37,11 +38,11 @@ pub mod Edges
 pub mod Patterns
 pub mod EdgeCounts
 -- records
-pub mod Records
-pub mod LoadingLaws
 pub mod GraphLaws
--- sheets and books
+pub mod SortedEdges
+-- sheets and books, and the edges of a record
 pub mod Sheets
+pub mod Records
 pub mod Gathering
 pub mod Walks
 pub mod WalkLaws
@@ -49,6 +50,10 @@ pub mod BookSheetLaws
 pub mod SheetLaws
 pub mod MatchLaws
 pub mod ScatterLaws
+-- records as they were stored before
+pub mod OldRecords
+pub mod OldLoadingLaws
+pub mod OldGraphLaws
 -- the calls
 pub mod AcceptLaws
 pub mod CallLaws

@@ -9,7 +9,7 @@ use native.Mathlib.Omega.{arith}
 use native.Mathlib.Nat.{suc-mul}
 use Rattle.packed.specs.Bits.{bitsOf, gap}
 use Rattle.packed.specs.Format.{Format, done, ask, test, pad, then, times, whole, Got, got, fault, push, within, lay, ok, ended, encode}
-use Rattle.packed.specs.Formats.{edges, label, joined, pattern, catalogue, labels, nothing, record′}
+use Rattle.packed.specs.Formats.{edges, label, joined, pattern, catalogue, labels, code, pairs, record′}
 use Rattle.packed.proofs.BitsLaws.{gap-small, gap-none, length-bitsOf}
 use Rattle.packed.proofs.RoundTrip.{push-got, pick-got, and-yes, below-bound, ended-ok, inBytes-ok, aligned, onward, lay-test, lay-pad, lay-then, whole-is, times-zero, times-suc}
 use Rattle.packed.proofs.Files.{length-bytesOf}
@@ -231,12 +231,18 @@ most-labels : Most 32 labels
 unfolding labels
 most-labels = most-ask (λ v h. most-done)
 
+most-pairs : (bound e k least : ℕ) → Most (k * 24) (pairs bound e k least)
+unfolding pairs
+most-pairs bound e zero least = most-more (0 * 24) (omega arith) most-done
+most-pairs bound e (suc k) least =
+    most-more (suc k * 24) (omega arith) (most-ask {w = 12} (λ a g. most-ask {w = 12} (λ b h. most-test (most-pairs bound e k (suc (code a b))))))
+
 pub most-record : Most 327707 record′
 unfolding record′
 most-record =
     most-ask {w = 13} {k = 327694} (λ nodes h. most-ask {w = 14} {k = 327680} (λ number g.
     most-more 327680 (omega arith)
-    (most-then (times nodes labels) (edges 12 nodes nothing number []) (most-times nodes labels most-labels) (most-edges 12 nodes nothing (λ ends. most-done) number []))))
+    (most-then (times nodes labels) (pairs nodes 4 number 0) (most-times nodes labels most-labels) (most-pairs nodes 4 number 0))))
 
 pub pattern-bytes : (ws s : List ℕ) → encode pattern ws ≡ ok s → length s ≤ 44
 pattern-bytes ws s e = most-encode pattern 44 ws s (bytes-whole pattern most-pattern) e

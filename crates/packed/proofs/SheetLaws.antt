@@ -9,8 +9,8 @@ use native.Mathlib.Omega.{arith}
 use native.Mathlib.Nat.{zero-add}
 use borrow.Author.Tests.{le-leb}
 use Rattle.packed.specs.Bits.{bits, bitsOf, gap}
-use Rattle.packed.specs.Format.{Format, done, test, pad, then, whole, Got, got, fault, pick, push, lay, ok, ended, bytesOf, inBytes, decode, encode}
-use Rattle.packed.specs.Formats.{code, node, pairs, lists, sheet}
+use Rattle.packed.specs.Format.{Format, done, ask, test, pad, then, whole, Got, got, fault, pick, push, lay, ok, ended, bytesOf, inBytes, decode, encode}
+use Rattle.packed.specs.Formats.{code, pairs, lists, sheet}
 use Rattle.packed.specs.Matches.{anyEmpty, emptied, allOrNone, pairBits, codedList}
 use Rattle.packed.specs.Contents.{ends, fieldsOf, pairCount}
 use Rattle.packed.proofs.BitsLaws.{length-bitsOf, bitsOf-add, bitsOf-mod}
@@ -132,29 +132,29 @@ pair-bits : (c : ℕ) → bitsOf 12 (c / 4096) ++ bitsOf 12 (c % 4096) ≡ bitsO
 pair-bits c = ap (λ (l : List Bool). bitsOf 12 (c / 4096) ++ l) (bitsOf-mod 12 c) ∙ sym (bitsOf-add 12 12 c)
 
 lay-pair : (f : ℕ → ℕ → Format) (at c : ℕ) (ws : List ℕ) → c < 2 ^ 24
-    → lay (node (λ a. node (λ b. f a b))) at (c / 4096 ∷ c % 4096 ∷ ws) ≡ push (bitsOf 24 c) (lay (f (c / 4096) (c % 4096)) (at + 12 + 12) ws)
+    → lay (ask 12 0 4096 3 (λ a. ask 12 0 4096 3 (λ b. f a b))) at (c / 4096 ∷ c % 4096 ∷ ws) ≡ push (bitsOf 24 c) (lay (f (c / 4096) (c % 4096)) (at + 12 + 12) ws)
 lay-pair f at c ws h =
     let a : ℕ = c / 4096 in
     let b : ℕ = c % 4096 in
     let p : a < 4096 = omega arith in
     let q : b < 4096 = omega arith in
-    lay-ask 12 0 4096 3 (λ x. node (λ y. f x y)) at a (b ∷ ws) (in-range 0 4096 a (omega arith) p) p
+    lay-ask 12 0 4096 3 (λ x. ask 12 0 4096 3 (λ y. f x y)) at a (b ∷ ws) (in-range 0 4096 a (omega arith) p) p
     ∙ ap (push (bitsOf 12 a)) (lay-ask 12 0 4096 3 (λ y. f a y) (at + 12) b ws (in-range 0 4096 b (omega arith) q) q)
     ∙ push-push (bitsOf 12 a) (bitsOf 12 b) (lay (f a b) (at + 12 + 12) ws)
     ∙ ap (λ (l : List Bool). push l (lay (f a b) (at + 12 + 12) ws)) (pair-bits c)
 
-lay-pairs : (least at : ℕ) (l tail : List ℕ) → Rising least l → lay (pairs (length l) least) at (ends l ++ tail) ≡ got (pairBits l) tail
+lay-pairs : (least at : ℕ) (l tail : List ℕ) → Rising least l → lay (pairs 4096 3 (length l) least) at (ends l ++ tail) ≡ got (pairBits l) tail
 unfolding pairs ends pairBits
 lay-pairs least at l tail rising-none = lay-done at tail
 lay-pairs least at l tail (rising-next {c = c} {cs = cs} h s r) =
     let k : ℕ = code (c / 4096) (c % 4096) in
     let e : k ≡ c = omega arith in
     let ws : List ℕ = ends cs ++ tail in
-    lay-pair (λ a b. test (leb least (code a b)) 6 (pairs (length cs) (suc (code a b)))) at c ws s
+    lay-pair (λ a b. test (leb least (code a b)) 6 (pairs 4096 3 (length cs) (suc (code a b)))) at c ws s
     ∙ ap (push (bitsOf 24 c))
-    (lay-test (leb least k) 6 (pairs (length cs) (suc k)) (at + 12 + 12) ws
-    ∙ pick-yes (leb least k) (lay (pairs (length cs) (suc k)) (at + 12 + 12) ws) (fault 6) (le-leb least k (omega arith))
-    ∙ ap (λ (n : ℕ). lay (pairs (length cs) (suc n)) (at + 12 + 12) ws) e
+    (lay-test (leb least k) 6 (pairs 4096 3 (length cs) (suc k)) (at + 12 + 12) ws
+    ∙ pick-yes (leb least k) (lay (pairs 4096 3 (length cs) (suc k)) (at + 12 + 12) ws) (fault 6) (le-leb least k (omega arith))
+    ∙ ap (λ (n : ℕ). lay (pairs 4096 3 (length cs) (suc n)) (at + 12 + 12) ws) e
     ∙ lay-pairs (suc c) (at + 12 + 12) cs tail r)
 
 not-and : (a b : Bool) → (a || false) && (b || false) ≡ false → not (a && b) ≡ true
@@ -174,10 +174,10 @@ lay-lists none some at ls (fit-next {l = l} {ls = rest} r s f) h =
     let g : Format = lists (length rest) (none || z) (some || not z) in
     let h′ : ((none || z) || anyEmpty rest) && ((some || not z) || anyFull rest) ≡ false =
     rw (or-assoc none z (anyEmpty rest), or-assoc some (not z) (anyFull rest)) h in
-    lay-ask 14 0 8193 3 (λ k. then (pairs k 0) (lists (length rest) (none || eqb k 0) (some || not (eqb k 0)))) at n ws
+    lay-ask 14 0 8193 3 (λ k. then (pairs 4096 3 k 0) (lists (length rest) (none || eqb k 0) (some || not (eqb k 0)))) at n ws
     (in-range 0 8193 n (omega arith) (omega arith)) (omega arith)
     ∙ ap (push (bitsOf 14 n))
-    (lay-then (pairs n 0) g (at + 14) ws
+    (lay-then (pairs 4096 3 n 0) g (at + 14) ws
     ∙ ap (λ (x : Got Bool ℕ). onward x (λ bs t. lay g (at + 14 + length bs) t)) (lay-pairs 0 (at + 14) l (fieldsOf rest) r)
     ∙ ap (push (pairBits l)) (lay-lists (none || z) (some || not z) (at + 14 + length (pairBits l)) rest f h′))
 

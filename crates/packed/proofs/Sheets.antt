@@ -25,23 +25,23 @@ one-less : (n : ℕ) → 0 < n → n ≡ suc (n - 1)
 one-less n h = omega arith
 
 -- after the pair a, b
-abbrev afterPair : ℕ → ℕ → ℕ → ℕ → Format
-afterPair left least a b = test (leb least (code a b)) 6 (pairs (left - 1) (suc (code a b)))
+abbrev afterPair : ℕ → ℕ → ℕ → ℕ → ℕ → ℕ → Format
+afterPair bound e left least a b = test (leb least (code a b)) 6 (pairs bound e (left - 1) (suc (code a b)))
 
-pairs-more : (left least : ℕ) → 0 < left → pairs left least ≡ ask 12 0 4096 3 (λ a. ask 12 0 4096 3 (λ b. afterPair left least a b))
+pub pairs-more : (bound e left least : ℕ) → 0 < left → pairs bound e left least ≡ ask 12 0 bound e (λ a. ask 12 0 bound e (λ b. afterPair bound e left least a b))
 unfolding pairs
-pairs-more left least h = ap (λ (k : ℕ). pairs k least) (one-less left h)
+pairs-more bound e left least h = ap (λ (k : ℕ). pairs bound e k least) (one-less left h)
 
-pub pairs-end : (left least : ℕ) → left ≤ 0 → pairs left least ≡ done
+pub pairs-end : (bound e left least : ℕ) → left ≤ 0 → pairs bound e left least ≡ done
 unfolding pairs
-pairs-end zero least h = refl
-pairs-end (suc k) least h = absurd (omega arith)
+pairs-end bound e zero least h = refl
+pairs-end bound e (suc k) least h = absurd (omega arith)
 
 -- after a list's count n
 abbrev pub afterList : ℕ → Bool → Bool → ℕ → Format
 afterList left none some n = lists (left - 1) (none || eqb n 0) (some || not (eqb n 0))
 
-lists-more : (left : ℕ) (none some : Bool) → 0 < left → lists left none some ≡ ask 14 0 8193 3 (λ n. then (pairs n 0) (afterList left none some n))
+lists-more : (left : ℕ) (none some : Bool) → 0 < left → lists left none some ≡ ask 14 0 8193 3 (λ n. then (pairs 4096 3 n 0) (afterList left none some n))
 unfolding lists
 lists-more left none some h = ap (λ (k : ℕ). lists k none some) (one-less left h)
 
@@ -74,39 +74,39 @@ book-end counts k j h = ap book (drop-of-length-le (take k counts) {i = j} (omeg
 -- ---- reading
 module _ {F : Format} {s : List ℕ} {at₀ : ℕ} {w₀ : List ℕ} {i₀ : ℕ} where
   -- one pair more
-  module _ (left least : ℕ) {at : ℕ} {w : List ℕ} {i : ℕ} (h : 0 < left) (r : Reading F s at₀ w₀ i₀ (pairs left least) at w i) where
-    pair-read : {a b : ℕ} {w′ : List ℕ} → TwoValues 12 4096 s at w i a b w′
-        → Reading F s at₀ w₀ i₀ (afterPair left least a b) (at + 24) w′ (i + 2)
-    pair-read p = same-at (omega arith) (omega arith) (reads (reads (left-is (pairs-more left least h) r) (p .first)) (p .second))
+  module _ (bound e left least : ℕ) {at : ℕ} {w : List ℕ} {i : ℕ} (h : 0 < left) (r : Reading F s at₀ w₀ i₀ (pairs bound e left least) at w i) where
+    pair-read : {a b : ℕ} {w′ : List ℕ} → TwoValues 12 bound s at w i a b w′
+        → Reading F s at₀ w₀ i₀ (afterPair bound e left least a b) (at + 24) w′ (i + 2)
+    pair-read p = same-at (omega arith) (omega arith) (reads (reads (left-is (pairs-more bound e left least h) r) (p .first)) (p .second))
 
-    pub pair-passes : {a b : ℕ} {w′ : List ℕ} → TwoValues 12 4096 s at w i a b w′ → least ≤ code a b
-        → Reading F s at₀ w₀ i₀ (pairs (left - 1) (code a b + 1)) (at + 24) w′ (i + 2)
-    pair-passes {a} {b} p g = left-is (ap (pairs (left - 1)) (sym (add-one (code a b)))) (passes (le-leb least (code a b) g) (pair-read p))
+    pub pair-passes : {a b : ℕ} {w′ : List ℕ} → TwoValues 12 bound s at w i a b w′ → least ≤ code a b
+        → Reading F s at₀ w₀ i₀ (pairs bound e (left - 1) (code a b + 1)) (at + 24) w′ (i + 2)
+    pair-passes {a} {b} p g = left-is (ap (pairs bound e (left - 1)) (sym (add-one (code a b)))) (passes (le-leb least (code a b) g) (pair-read p))
 
     -- it doesn't exceed the one before
-    pub pair-falls : {a b : ℕ} {w′ : List ℕ} → TwoValues 12 4096 s at w i a b w′ → code a b < least → Refuses F s at₀ 4 (NotAscending 4)
-    pair-falls {a} {b} p g = fails (NotAscending 4) (lt-leb least (code a b) g) refl (pair-read p)
+    pub pair-falls : {file a b : ℕ} {w′ : List ℕ} → TwoValues 12 bound s at w i a b w′ → code a b < least → Refuses F s at₀ file (NotAscending file)
+    pair-falls {file} {a} {b} p g = fails (NotAscending file) (lt-leb least (code a b) g) refl (pair-read p)
 
-    pub pair-refused : {file : ℕ} {x : Refusal} → ((f : ℕ → ℕ → Format) → Refuses (ask 12 0 4096 3 (λ a. ask 12 0 4096 3 (λ b. f a b))) s at file x)
+    pub pair-refused : {file : ℕ} {x : Refusal} → ((f : ℕ → ℕ → Format) → Refuses (ask 12 0 bound e (λ a. ask 12 0 bound e (λ b. f a b))) s at file x)
         → Refuses F s at₀ file x
-    pair-refused p = refused (left-is (pairs-more left least h) r) (p (afterPair left least))
+    pair-refused p = refused (left-is (pairs-more bound e left least h) r) (p (afterPair bound e left least))
 
   -- one list more
   module _ (left : ℕ) (none some : Bool) {at : ℕ} {w : List ℕ} {i : ℕ} (h : 0 < left) (r : Reading F s at₀ w₀ i₀ (lists left none some) at w i) where
     count-read : {n : ℕ} {w′ : List ℕ} → Value 14 0 8193 s at w i n w′
-        → Reading F s at₀ w₀ i₀ (then (pairs n 0) (afterList left none some n)) (at + 14) w′ (i + 1)
+        → Reading F s at₀ w₀ i₀ (then (pairs 4096 3 n 0) (afterList left none some n)) (at + 14) w′ (i + 1)
     count-read p = reads (left-is (lists-more left none some h) r) p
 
     pub count-refused : {file : ℕ} {x : Refusal} → ((f : ℕ → Format) → Refuses (ask 14 0 8193 3 f) s at file x) → Refuses F s at₀ file x
-    count-refused p = refused (left-is (lists-more left none some h) r) (p (λ n. then (pairs n 0) (afterList left none some n)))
+    count-refused p = refused (left-is (lists-more left none some h) r) (p (λ n. then (pairs 4096 3 n 0) (afterList left none some n)))
 
     pub list-passes : {n : ℕ} {w′ : List ℕ} {at′ : ℕ} {w″ : List ℕ} {i′ : ℕ} → Value 14 0 8193 s at w i n w′
-        → Reading (pairs n 0) s (at + 14) w′ (i + 1) done at′ w″ i′ → Reading F s at₀ w₀ i₀ (afterList left none some n) at′ w″ i′
-    list-passes {n} p q = calls (pairs n 0) (afterList left none some n) (count-read p) q
+        → Reading (pairs 4096 3 n 0) s (at + 14) w′ (i + 1) done at′ w″ i′ → Reading F s at₀ w₀ i₀ (afterList left none some n) at′ w″ i′
+    list-passes {n} p q = calls (pairs 4096 3 n 0) (afterList left none some n) (count-read p) q
 
     pub list-refused : {n : ℕ} {w′ : List ℕ} {file : ℕ} {x : Refusal} → Value 14 0 8193 s at w i n w′
-        → Refuses (pairs n 0) s (at + 14) file x → Refuses F s at₀ file x
-    list-refused {n} p q = calls-refused (pairs n 0) (afterList left none some n) (count-read p) q
+        → Refuses (pairs 4096 3 n 0) s (at + 14) file x → Refuses F s at₀ file x
+    list-refused {n} p q = calls-refused (pairs 4096 3 n 0) (afterList left none some n) (count-read p) q
 
   -- no list more
   module _ (left : ℕ) (none some : Bool) {at : ℕ} {w : List ℕ} {i : ℕ} (h : left ≤ 0) (r : Reading F s at₀ w₀ i₀ (lists left none some) at w i) where
@@ -136,39 +136,39 @@ whole-refused f h p = calls-refused f (pad done) (left-is (whole-is f) (starts {
 -- ---- writing
 module _ {F : Format} {ws : List ℕ} {i₀ : ℕ} {b₀ : List ℕ} {at₀ : ℕ} where
   -- one pair more
-  module _ (left least : ℕ) {i : ℕ} {b : List ℕ} {at : ℕ} (h : 0 < left) (r : Writing F ws i₀ b₀ at₀ (pairs left least) i b at) where
-    pair-put : {x y : ℕ} {b′ : List ℕ} → TwoPut 12 4096 ws i b at x y b′
-        → Writing F ws i₀ b₀ at₀ (afterPair left least x y) (i + 2) b′ (at + 24)
-    pair-put p = same-to (omega arith) (omega arith) (writes (writes (left-to (pairs-more left least h) r) (p .first)) (p .second))
+  module _ (bound e left least : ℕ) {i : ℕ} {b : List ℕ} {at : ℕ} (h : 0 < left) (r : Writing F ws i₀ b₀ at₀ (pairs bound e left least) i b at) where
+    pair-put : {x y : ℕ} {b′ : List ℕ} → TwoPut 12 bound ws i b at x y b′
+        → Writing F ws i₀ b₀ at₀ (afterPair bound e left least x y) (i + 2) b′ (at + 24)
+    pair-put p = same-to (omega arith) (omega arith) (writes (writes (left-to (pairs-more bound e left least h) r) (p .first)) (p .second))
 
-    pub pair-accepted : {x y : ℕ} {b′ : List ℕ} → TwoPut 12 4096 ws i b at x y b′ → least ≤ code x y
-        → Writing F ws i₀ b₀ at₀ (pairs (left - 1) (code x y + 1)) (i + 2) b′ (at + 24)
-    pair-accepted {x} {y} p g = left-to (ap (pairs (left - 1)) (sym (add-one (code x y)))) (accepts (le-leb least (code x y) g) (pair-put p))
+    pub pair-accepted : {x y : ℕ} {b′ : List ℕ} → TwoPut 12 bound ws i b at x y b′ → least ≤ code x y
+        → Writing F ws i₀ b₀ at₀ (pairs bound e (left - 1) (code x y + 1)) (i + 2) b′ (at + 24)
+    pair-accepted {x} {y} p g = left-to (ap (pairs bound e (left - 1)) (sym (add-one (code x y)))) (accepts (le-leb least (code x y) g) (pair-put p))
 
     -- it doesn't exceed the one before
-    pub pair-denied : {x y : ℕ} {b′ : List ℕ} → TwoPut 12 4096 ws i b at x y b′ → code x y < least → Rejects F ws i₀ at₀ 4 (NotAscending 4)
-    pair-denied {x} {y} p g = denies (NotAscending 4) (lt-leb least (code x y) g) refl (pair-put p)
+    pub pair-denied : {file x y : ℕ} {b′ : List ℕ} → TwoPut 12 bound ws i b at x y b′ → code x y < least → Rejects F ws i₀ at₀ file (NotAscending file)
+    pair-denied {file} {x} {y} p g = denies (NotAscending file) (lt-leb least (code x y) g) refl (pair-put p)
 
-    pub pair-rejected : {file : ℕ} {x : Refusal} → ((f : ℕ → ℕ → Format) → Rejects (ask 12 0 4096 3 (λ a. ask 12 0 4096 3 (λ b. f a b))) ws i at file x)
+    pub pair-rejected : {file : ℕ} {x : Refusal} → ((f : ℕ → ℕ → Format) → Rejects (ask 12 0 bound e (λ a. ask 12 0 bound e (λ b. f a b))) ws i at file x)
         → Rejects F ws i₀ at₀ file x
-    pair-rejected p = rejected (left-to (pairs-more left least h) r) (p (afterPair left least))
+    pair-rejected p = rejected (left-to (pairs-more bound e left least h) r) (p (afterPair bound e left least))
 
   -- one list more
   module _ (left : ℕ) (none some : Bool) {i : ℕ} {b : List ℕ} {at : ℕ} (h : 0 < left) (r : Writing F ws i₀ b₀ at₀ (lists left none some) i b at) where
     count-put : {n : ℕ} {b′ : List ℕ} → Put 14 0 8193 ws i b at n b′
-        → Writing F ws i₀ b₀ at₀ (then (pairs n 0) (afterList left none some n)) (i + 1) b′ (at + 14)
+        → Writing F ws i₀ b₀ at₀ (then (pairs 4096 3 n 0) (afterList left none some n)) (i + 1) b′ (at + 14)
     count-put p = writes (left-to (lists-more left none some h) r) p
 
     pub count-rejected : {file : ℕ} {x : Refusal} → ((f : ℕ → Format) → Rejects (ask 14 0 8193 3 f) ws i at file x) → Rejects F ws i₀ at₀ file x
-    count-rejected p = rejected (left-to (lists-more left none some h) r) (p (λ n. then (pairs n 0) (afterList left none some n)))
+    count-rejected p = rejected (left-to (lists-more left none some h) r) (p (λ n. then (pairs 4096 3 n 0) (afterList left none some n)))
 
     pub list-accepted : {n : ℕ} {b′ : List ℕ} {i′ : ℕ} {b″ : List ℕ} {at′ : ℕ} → Put 14 0 8193 ws i b at n b′
-        → Writing (pairs n 0) ws (i + 1) b′ (at + 14) done i′ b″ at′ → Writing F ws i₀ b₀ at₀ (afterList left none some n) i′ b″ at′
-    list-accepted {n} p q = parts (pairs n 0) (afterList left none some n) (count-put p) q
+        → Writing (pairs 4096 3 n 0) ws (i + 1) b′ (at + 14) done i′ b″ at′ → Writing F ws i₀ b₀ at₀ (afterList left none some n) i′ b″ at′
+    list-accepted {n} p q = parts (pairs 4096 3 n 0) (afterList left none some n) (count-put p) q
 
     pub list-rejected : {n : ℕ} {b′ : List ℕ} {file : ℕ} {x : Refusal} → Put 14 0 8193 ws i b at n b′
-        → Rejects (pairs n 0) ws (i + 1) (at + 14) file x → Rejects F ws i₀ at₀ file x
-    list-rejected {n} p q = parts-rejected (pairs n 0) (afterList left none some n) (count-put p) q
+        → Rejects (pairs 4096 3 n 0) ws (i + 1) (at + 14) file x → Rejects F ws i₀ at₀ file x
+    list-rejected {n} p q = parts-rejected (pairs 4096 3 n 0) (afterList left none some n) (count-put p) q
 
   -- no list more
   module _ (left : ℕ) (none some : Bool) {i : ℕ} {b : List ℕ} {at : ℕ} (h : left ≤ 0) (r : Writing F ws i₀ b₀ at₀ (lists left none some) i b at) where

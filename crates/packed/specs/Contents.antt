@@ -93,3 +93,15 @@ insert x (y ∷ ys) = cond (ltb x y) (x ∷ y ∷ ys) (cond (eqb x y) (y ∷ ys)
 unfoldable pub distinct : List ℕ → List ℕ
 distinct [] = []
 distinct (x ∷ xs) = insert x (distinct xs)
+
+-- ---- edges by their ends: from, to, from, to, ..
+
+-- the codes of edges with these ends
+unfoldable pub codes : List ℕ → List ℕ
+codes [] = []
+codes (a ∷ []) = []
+codes (a ∷ b ∷ es) = code a b ∷ codes es
+
+-- the ends of the same edges, each once, by ascending code
+unfoldable pub sortedEnds : List ℕ → List ℕ
+sortedEnds es = ends (distinct (codes es))

@@ -11,7 +11,7 @@ use Rattle.packed.specs.Limits.{patternNodesWidth, patternEdgesWidth, la
 abbrev pub countField : ℕ → ℕ → ℕ → (ℕ → Format) → Format
 countField w low high f = ask w low (suc high) 3 f
 
--- ---- edges ("links"), of a pattern and of a record
+-- ---- edges ("links") in any order, each once
 
 -- whether the edge from a to b is among those with these ends: from, to, from, to, ..
 unfoldable pub linked : ℕ → ℕ → List ℕ → Bool
@@ -59,39 +59,37 @@ pattern =
 unfoldable pub catalogue : Format
 catalogue = countField viewsWidth 0 viewsMost (λ number. pad (times number (whole pattern)))
 
+-- ---- pairs of nodes, in order: the edges of a record, and what a sheet lists
+
+-- the code of a pair
+abbrev pub code : ℕ → ℕ → ℕ
+code a b = a * nodesMost + b
+
+-- so many pairs, each node below bound, else the fault e, and each pair with a code of at least least (6)
+unfoldable pub pairs : ℕ → ℕ → ℕ → ℕ → Format
+pairs bound e zero least = done
+pairs bound e (suc k) least =
+    ask nodeWidth 0 bound e (λ a. ask nodeWidth 0 bound e (λ b.
+    test (leb least (code a b)) 6 (pairs bound e k (suc (code a b)))))
+
 -- ---- a record
 
 -- the labels of a node
 unfoldable pub labels : Format
 labels = ask labelsWidth 0 (2 ^ labelsWidth) 3 (λ v. done)
 
-abbrev pub nothing : List ℕ → Format
-nothing ends = done
-
+-- the numbers of nodes and edges, the labels, the edges: each end is a node (4), and each edge stands after the one before (6)
 unfoldable pub record′ : Format
 record′ =
     countField nodesWidth 0 nodesMost (λ nodes. countField edgesWidth 0 edgesMost (λ number.
-    then (times nodes labels) (edges nodeWidth nodes nothing number [])))
+    then (times nodes labels) (pairs nodes 4 number 0)))
 
 -- ---- a sheet: the match sets of a pattern with m edges
-
--- the code of a pair
-abbrev pub code : ℕ → ℕ → ℕ
-code a b = a * nodesMost + b
-
--- a node of a pair
-abbrev pub node : (ℕ → Format) → Format
-node f = ask nodeWidth 0 nodesMost 3 f
-
--- so many pairs, each with a code of at least least (6)
-unfoldable pub pairs : ℕ → ℕ → Format
-pairs zero least = done
-pairs (suc k) least = node (λ a. node (λ b. test (leb least (code a b)) 6 (pairs k (suc (code a b)))))
 
 -- so many lists; none: a count was zero, some: a count was not; not both (8)
 unfoldable pub lists : ℕ → Bool → Bool → Format
 lists zero none some = test (not (none && some)) 8 done
-lists (suc m) none some = countField countWidth 0 countMost (λ n. then (pairs n 0) (lists m (none || eqb n 0) (some || not (eqb n 0))))
+lists (suc m) none some = countField countWidth 0 countMost (λ n. then (pairs nodesMost 3 n 0) (lists m (none || eqb n 0) (some || not (eqb n 0))))
 
 unfoldable pub sheet : ℕ → Format
 sheet m = lists m false false

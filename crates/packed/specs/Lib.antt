@@ -6,15 +6,16 @@ pub mod Contents
 pub mod Refusals
 pub mod Limits
 pub mod Calls
+pub mod OldRecord
 -- inner
 pub mod Order
 pub mod Distinct
 pub mod Reading
 pub mod Writing
-pub mod Loading
 pub mod Walks
 pub mod BookSheets
 pub mod Matches
 pub mod ByValue
 pub mod Accepting
 pub mod LoadedGraph
+pub mod OldLoading

@@ -15,6 +15,10 @@ recordMost = 40964
 abbrev pub bookMost : ℕ
 bookMost = 65536
 
+-- the most bytes of a record as it was stored before its edges stood in order
+abbrev pub oldRecordMost : ℕ
+oldRecordMost = 40964
+
 -- 10: "over 8,192 different pairs stand in a book"
 abbrev pub pairsMost : ℕ
 pairsMost = 8192

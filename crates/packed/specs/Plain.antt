@@ -52,6 +52,16 @@ pub record PlainEdges (nodes number : ℕ) (ends : List ℕ) : Type 0 where
   pub are-nodes : Below nodes ends
   pub differ : (i j : ℕ) → i < j → j < number → fromAt ends i ≡ fromAt ends j → toAt ends i ≡ toAt ends j → ⊥
 
+-- pair i stands before pair j: by from, then to
+abbrev pub Before : List ℕ → ℕ → ℕ → Type 0
+Before ends i j = (fromAt ends i < fromAt ends j) ⊎ ((fromAt ends i ≡ fromAt ends j) × (toAt ends i < toAt ends j))
+
+-- so many pairs of numbers below bound, strictly ascending (6)
+pub record PlainPairs (bound number : ℕ) (ends : List ℕ) : Type 0 where
+  pub two-each : length ends ≡ 2 * number
+  pub small : Below bound ends
+  pub ascend : (i : ℕ) → suc i < number → Before ends i (suc i)
+
 -- ---- a pattern: 1 to 16 nodes, each with a label 0 to 31, and 1 to 32 edges; each node is an end of some edge (7)
 pub record PlainPattern (ws : List ℕ) (bs : List Bool) : Type 0 where
   pub nodes : ℕ
@@ -86,8 +96,8 @@ pub record PlainCatalogue (ws : List ℕ) (bs : List Bool) : Type 0 where
 abbrev pub CatalogueFile : List ℕ → List ℕ → Type 0
 CatalogueFile s ws = PlainCatalogue ws (bits s)
 
--- ---- a record: 0 to 4,096 nodes, each with 32 bits of labels, and 0 to 8,192 edges
-pub record PlainRecord (ws : List ℕ) (bs : List Bool) : Type 0 where
+-- ---- a record: 0 to 4,096 nodes, each with 32 bits of labels, and 0 to 8,192 edges, of which Edges holds
+pub record PlainGraph (Edges : ℕ → ℕ → List ℕ → Type 0) (ws : List ℕ) (bs : List Bool) : Type 0 where
   pub nodes : ℕ
   pub number : ℕ
   pub labels : List ℕ
@@ -98,16 +108,16 @@ pub record PlainRecord (ws : List ℕ) (bs : List Bool) : Type 0 where
   pub most-edges : number ≤ 8192
   pub labels-each : length labels ≡ nodes
   pub are-labels : Below (2 ^ 32) labels
-  pub edges : PlainEdges nodes number ends
+  pub edges : Edges nodes number ends
+
+-- each end is a node (4), and the edges ascend (6)
+abbrev pub PlainRecord : Laid
+PlainRecord = PlainGraph PlainPairs
 
 abbrev pub RecordFile : List ℕ → List ℕ → Type 0
 RecordFile s ws = Whole PlainRecord ws (bits s)
 
 -- ---- a sheet: a list of pairs for each edge of a pattern
-
--- pair i stands before pair j: by from, then to
-abbrev pub Before : List ℕ → ℕ → ℕ → Type 0
-Before ends i j = (fromAt ends i < fromAt ends j) ⊎ ((fromAt ends i ≡ fromAt ends j) × (toAt ends i < toAt ends j))
 
 -- a count, 0 to 8,192, and that many pairs, strictly ascending (6)
 pub record PlainList (ws : List ℕ) (bs : List Bool) : Type 0 where
@@ -116,9 +126,7 @@ pub record PlainList (ws : List ℕ) (bs : List Bool) : Type 0 where
   pub content : ws ≡ number ∷ ends
   pub layout : bs ≡ bitsOf 14 number ++ fieldBits 12 ends
   pub most : number ≤ 8192
-  pub two-each : length ends ≡ 2 * number
-  pub small : Below 4096 ends
-  pub ascend : (i : ℕ) → suc i < number → Before ends i (suc i)
+  pub pairs : PlainPairs 4096 number ends
 
 -- the first number of each content, its count
 abbrev pub countAt : List (List ℕ) → ℕ → ℕ

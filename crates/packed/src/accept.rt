@@ -1,17 +1,21 @@
 // Files are accepted here, each by its length and its fields. How long a file may be is tested nowhere else.
 ghost use mathlib.Core.Path.{_≡_};
+ghost use mathlib.Core.List.{[]};
 ghost use Prim.Native.Nat.{_≤_};
 ghost use lib.ListN.{length, take};
 ghost use Rattle.packed.specs.Format.{decode};
-ghost use Rattle.packed.specs.Formats.{record′, sheet, book};
+ghost use Rattle.packed.specs.Formats.{sheet, book};
+ghost use Rattle.packed.specs.OldRecord.{oldRecord, readOldRecord};
 ghost use Rattle.packed.specs.ByValue.{HoldsPattern};
 ghost use Rattle.packed.specs.Calls.{readFile, readPattern, readCatalogue, readRecord};
 ghost use Rattle.packed.specs.Accepting.{replyOf, AcceptsFile, AcceptsWith, HoldsViews};
-ghost use Rattle.packed.specs.LoadedGraph.{Orders};
+ghost use Rattle.packed.specs.LoadedGraph.{CodesLoaded};
+ghost use Rattle.packed.specs.OldLoading.{Orders};
 use crate::by_value;
 use crate::by_value::Pattern;
 use crate::catalogue;
 use crate::limits;
+use crate::old_record;
 use crate::pattern;
 use crate::record;
 use crate::reply::Part;
@@ -101,19 +105,31 @@ fn reply_of(p: Part) -> Reply
     }
 }
 
-// A record: its content goes to the front of the words as far as they go, and the codes of its edges to the front of the workspace.
-pub(crate) fn accept_record(s: &[u8], words: &mut [u32], work: &mut [u32]) -> Reply
+// A record: the codes of its edges go to the front of the workspace.
+pub(crate) fn accept_record(s: &[u8], work: &mut [u32]) -> Reply
     requires { ⌜ length (now work) ≡ 16384 ⌝ }
-    ensures { λ r. ⌜ AcceptsFile (readRecord (now (s .entry))) r (now (words .entry)) (now (words .exit))
-        × Orders (decode record′ (now (s .entry))) r (now (work .entry)) (now (work .exit)) ⌝ }
+    ensures { λ r. ⌜ AcceptsFile (readRecord (now (s .entry))) r [] [] × CodesLoaded (now (s .entry)) (now (work .entry)) r (now (work .exit)) ⌝ }
 {
     if limits::RECORD_MOST < s.len() {
         return Reply::Refused(Refusal::TooLong(3));
     }
-    reply_of(record::judge_record(s, words, work))
+    reply_of(record::judge_record(s, work))
 }
 
-// A sheet for a pattern with m edges, in the same way.
+// An old record: its content goes to the front of the words as far as they go, and the codes of its edges, ascending, to the front of the
+// workspace.
+pub(crate) fn accept_old_record(s: &[u8], words: &mut [u32], work: &mut [u32]) -> Reply
+    requires { ⌜ length (now work) ≡ 16384 ⌝ }
+    ensures { λ r. ⌜ AcceptsFile (readOldRecord (now (s .entry))) r (now (words .entry)) (now (words .exit))
+        × Orders (decode oldRecord (now (s .entry))) r (now (work .entry)) (now (work .exit)) ⌝ }
+{
+    if limits::OLD_RECORD_MOST < s.len() {
+        return Reply::Refused(Refusal::TooLong(3));
+    }
+    reply_of(old_record::judge_old_record(s, words, work))
+}
+
+// A sheet for a pattern with m edges: its content goes to the front of the words as far as they go.
 pub(crate) fn accept_sheet(s: &[u8], m: u32, words: &mut [u32]) -> Reply
     ensures { λ r. ⌜ AcceptsFile (readFile 65536 4 (sheet m) (now (s .entry))) r (now (words .entry)) (now (words .exit)) ⌝ }
 {

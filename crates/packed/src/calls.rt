@@ -1,16 +1,19 @@
 // The client calls with room to work in: 16,384 words, which are left in any state.
 ghost use mathlib.Core.Path.{_≡_};
 ghost use Prim.Native.Nat.{_+_, _≤_};
-ghost use lib.ListN.{length, take};
+ghost use lib.ListN.{length, take, replicate};
 ghost use Rattle.packed.specs.Formats.{sheet, book};
 ghost use Rattle.packed.specs.Contents.{sum};
 ghost use Rattle.packed.specs.ByValue.{Small};
 ghost use Rattle.packed.specs.Refusals.{replyTold};
+ghost use Rattle.packed.specs.OldRecord.{recordSorted};
 ghost use Rattle.packed.specs.Calls.{Fulfils, writeFile, judged, fit, fitFile, uncrowdedBy, patternRead, catalogueRead, recordRead, sheetRead, bookRead, patternWritten, catalogueWritten, recordWritten, sheetWritten, bookWritten};
 use crate::accept;
 use crate::accept::CatalogueFile;
 use crate::catalogue;
 use crate::gather;
+use crate::graph;
+use crate::graph::Graph;
 use crate::limits;
 use crate::pattern;
 use crate::record;
@@ -58,21 +61,26 @@ pub fn read_catalogue(bytes: &[u8], out: &mut [u32], work: &mut [u32]) -> Reply
     give_words(work, n, out)
 }
 
-// A record, a sheet or a book is judged with no output at first, and once it is accepted and fits it is read again into the output.
+// A record is judged with the codes of its edges going to the workspace, and once it is accepted and fits its content is stored.
 pub fn read_record(bytes: &[u8], out: &mut [u32], work: &mut [u32]) -> Reply
     requires { ⌜ length (now work) ≡ 16384 ⌝ }
     ensures { λ r. ⌜ Fulfils (recordRead (now (bytes .entry)) (length (now (out .entry)))) (replyTold r) (now (out .entry)) (now (out .exit)) ⌝ }
 {
-    let verdict = accept::accept_record(bytes, &mut out[0..0], work);
-    let Reply::Done(n) = verdict else {
-        return verdict;
-    };
-    if out.len() < n {
-        return Reply::Refused(Refusal::NoRoom(n));
+    let g = graph::load_record(bytes, work);
+    match g {
+        Graph::Of(nodes, edges) => {
+            let n = 2 + nodes + 2 * edges;
+            if out.len() < n {
+                return Reply::Refused(Refusal::NoRoom(n));
+            }
+            record::store_record(bytes, nodes, edges, work, out);
+            Reply::Done(n)
+        }
+        Graph::Refused(x) => Reply::Refused(x),
     }
-    accept::accept_record(bytes, out, work)
 }
 
+// A sheet or a book is judged with no output at first, and once it is accepted and fits it is read again into the output.
 pub fn read_sheet(pattern: &[u8], bytes: &[u8], out: &mut [u32], work: &mut [u32]) -> Reply
     requires { ⌜ length (now work) ≡ 16384 ⌝ }
     ensures { λ r. ⌜ Fulfils (sheetRead (now (pattern .entry)) (now (bytes .entry)) (length (now (out .entry)))) (replyTold r) (now (out .entry)) (now (out .exit)) ⌝ }
@@ -152,17 +160,16 @@ pub fn write_catalogue(fields: &[u32], out: &mut [u8]) -> Reply
     }
 }
 
-pub fn write_record(fields: &[u32], out: &mut [u8], work: &mut [u32]) -> Reply
-    requires { ⌜ length (now work) ≡ 16384 ⌝ }
+pub fn write_record(fields: &[u32], out: &mut [u8]) -> Reply
     ensures { λ r. ⌜ Fulfils (recordWritten (now (fields .entry)) (length (now (out .entry)))) (replyTold r) (now (out .entry)) (now (out .exit)) ⌝ }
 {
-    let p = record::judge_record_fields(fields, &mut out[0..0], work);
+    let p = record::judge_record_fields(fields, &mut out[0..0]);
     match p {
         Part::Upto(n, _) => {
             if out.len() < n {
                 return Reply::Refused(Refusal::NoRoom(n));
             }
-            record::judge_record_fields(fields, out, work);
+            record::judge_record_fields(fields, out);
             Reply::Done(n)
         }
         Part::Refused(x) => Reply::Refused(x),
@@ -254,4 +261,29 @@ pub fn write_book(catalogue: &[u8], fields: &[u32], out: &mut [u8], work: &mut [
         return verdict;
     };
     write_book_of(fields, edges, views, out, work)
+}
+
+// ---- the converter
+
+// A word for each field that an old record can have.
+fn no_fields() -> [u32; 20482]
+    ensures { λ r. ⌜ r ≡ replicate 20482 0 ⌝ }
+{
+    [0u32; limits::OLD_RECORD_FIELDS]
+}
+
+// Sorts the edges of an old record: its content, with the edges in the order in which they stand in the workspace, is written as a record.
+pub fn sort_record(old: &[u8], out: &mut [u8], work: &mut [u32]) -> Reply
+    requires { ⌜ length (now work) ≡ 16384 ⌝ }
+    ensures { λ r. ⌜ Fulfils (recordSorted (now (old .entry)) (length (now (out .entry)))) (replyTold r) (now (out .entry)) (now (out .exit)) ⌝ }
+{
+    let mut fields = no_fields();
+    let verdict = accept::accept_old_record(old, &mut fields, work);
+    let Reply::Done(n) = verdict else {
+        return verdict;
+    };
+    let nodes = fields[0] as usize;
+    let edges = fields[1] as usize;
+    record::store_ends(work, edges, &mut fields, 2 + nodes);
+    write_record(&fields[0..n], out)
 }

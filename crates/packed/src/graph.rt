@@ -7,7 +7,6 @@ use crate::bits;
 use crate::limits;
 use crate::reply::Refusal;
 use crate::reply::Reply;
-use crate::workspace;
 
 // A record whose edges stand in the workspace: how many nodes and edges it has, or why it is refused.
 pub enum Graph {
@@ -15,15 +14,12 @@ pub enum Graph {
     Refused(Refusal),
 }
 
-// Accepts a record or refuses it. Where it is accepted, the codes of its edges stand at the front of the workspace, ascending, and each word up to 8192
-// has 24 bits; the words from 8192 on are left in any state.
+// Accepts a record or refuses it. Where it is accepted, the codes of its edges stand at the front of the workspace.
 pub fn load_record(s: &[u8], work: &mut [u32]) -> Graph
     requires { ⌜ length (now work) ≡ 16384 ⌝ }
     ensures { λ r. ⌜ LoadsGraph (now (s .entry)) r (now (work .exit)) ⌝ }
 {
-    let mut none = [0u32; 1];
-    workspace::clear(work, limits::EDGES_MOST);
-    let verdict = accept::accept_record(s, &mut none[0..0], work);
+    let verdict = accept::accept_record(s, work);
     match verdict {
         Reply::Done(_) => Graph::Of(
             bits::get_bits(s, 0, limits::NODES_WIDTH) as usize,

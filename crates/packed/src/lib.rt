@@ -14,14 +14,16 @@ pub mod gather;
 pub mod graph;
 pub mod limits;
 pub mod matches;
+mod old_record;
 pub mod pattern;
 pub mod record;
 pub mod reply;
 pub mod sheet;
-mod sort;
+pub mod sort;
 pub mod workspace;
 
 ghost use Rattle.packed.specs.Refusals.{replyTold};
+ghost use Rattle.packed.specs.OldRecord.{recordSorted};
 ghost use Rattle.packed.specs.Calls.{OneOutput, patternRead, catalogueRead, recordRead, sheetRead, bookRead, patternWritten, catalogueWritten, recordWritten, sheetWritten, bookWritten};
 use reply::Refusal;
 use reply::Reply;
@@ -117,7 +119,7 @@ pub fn write_record(fields: &[u32], out: &mut [u8], work: &mut [u32]) -> Reply
     if work.len() < limits::WORKSPACE {
         return Reply::Refused(Refusal::SmallWorkspace);
     }
-    let r = calls::write_record(fields, out, &mut work[0..limits::WORKSPACE]);
+    let r = calls::write_record(fields, out);
     workspace::clear(work, limits::WORKSPACE);
     r
 }
@@ -142,6 +144,18 @@ pub fn write_book(catalogue: &[u8], fields: &[u32], out: &mut [u8], work: &mut [
         return Reply::Refused(Refusal::SmallWorkspace);
     }
     let r = calls::write_book(catalogue, fields, out, &mut work[0..limits::WORKSPACE]);
+    workspace::clear(work, limits::WORKSPACE);
+    r
+}
+
+// Sorts the edges of a record that was stored before they stood in order: writes the record.
+pub fn sort_record(old: &[u8], out: &mut [u8], work: &mut [u32]) -> Reply
+    ensures { λ r. ⌜ OneOutput (recordSorted (now (old .entry))) (replyTold r) (now (out .entry)) (now (out .exit)) (now (work .entry)) (now (work .exit)) ⌝ }
+{
+    if work.len() < limits::WORKSPACE {
+        return Reply::Refused(Refusal::SmallWorkspace);
+    }
+    let r = calls::sort_record(old, out, &mut work[0..limits::WORKSPACE]);
     workspace::clear(work, limits::WORKSPACE);
     r
 }

@@ -10,6 +10,11 @@ pub const RECORD_MOST: usize = 40964;
 
 pub const BOOK_MOST: usize = 65536;
 
+// The most bytes of a record as it was stored before its edges stood in order, and the most fields of its content.
+pub const OLD_RECORD_MOST: usize = 40964;
+
+pub const OLD_RECORD_FIELDS: usize = 20482;
+
 // The most different pairs of a book.
 pub const PAIRS_MOST: usize = 8192;
 

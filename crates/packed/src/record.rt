@@ -1,126 +1,41 @@
-// Records. The codes of the edges are loaded into the workspace on the way, where they are sorted to find a repeat.
+// Records. The codes of the edges go to the workspace as they are judged, where they stand in order.
 ghost use mathlib.Core.Path.{_≡_};
 ghost use mathlib.Core.List.{List, []};
 ghost use Prim.Native.Nat.{ℕ, _+_, _*_, _^_, _<_, _≤_};
-ghost use lib.ListN.{length};
-ghost use Rattle.packed.specs.Bits.{field};
-ghost use Rattle.packed.specs.Format.{times, decode, encode};
-ghost use Rattle.packed.specs.Formats.{labels, edges, nothing, record′};
-ghost use Rattle.packed.specs.Reading.{Stands, ReadsPart, Judges};
+ghost use lib.ListN.{length, take};
+ghost use lib.Seq.{sets};
+ghost use Rattle.packed.specs.Format.{ok, times, decode, encode};
+ghost use Rattle.packed.specs.Formats.{labels, record′};
+ghost use Rattle.packed.specs.Contents.{ends};
+ghost use Rattle.packed.specs.Reading.{Value, Judges};
 ghost use Rattle.packed.specs.Writing.{WritesPart, JudgesFields};
-ghost use Rattle.packed.specs.Loading.{Loads, LoadsFields};
 ghost use Rattle.packed.specs.Accepting.{replyOf};
-ghost use Rattle.packed.specs.LoadedGraph.{CodesLoaded, EndsAt, Orders};
+ghost use Rattle.packed.specs.LoadedGraph.{ReadsCounts, Cut, LoadsCodes, CodesLoaded, LabelsStored, Holds};
+use crate::bits;
 use crate::field;
 use crate::limits;
 use crate::reply::Field;
-use crate::reply::Loaded;
 use crate::reply::Part;
 use crate::reply::Refusal;
 use crate::reply::Two;
-use crate::sort;
+use crate::sheet;
 
-// The labels of so many nodes.
-fn read_labels(s: &[u8], start: usize, n: u32, words: &mut [u32], first: usize) -> Part
-    requires { ⌜ Stands (now s) start first ⌝ }
-    ensures { λ r. ⌜ ReadsPart (times n labels) (now (s .entry)) start (now (words .entry)) first 3 r (now (words .exit)) × EndsAt (start + 32 * n) r ⌝ }
-{
-    let mut at = start;
-    let mut i = first;
-    let mut left = n;
-    while 0 < left {
-        let f = field::read_field(
-            s,
-            at,
-            limits::LABELS_WIDTH,
-            0,
-            limits::LABELS_BOUND,
-            Refusal::OutOfRange(3),
-            3,
-            words,
-            i,
-        );
-        match f {
-            Field::Value(_) => {
-                at += limits::LABELS_BITS;
-                i += 1;
-                left -= 1;
-            }
-            Field::Refused(x) => {
-                return Part::Refused(x);
-            }
-        }
-    }
-    Part::Upto(at, i)
-}
+// Labels and edges take whole bytes, so that each stands from the same bit of a byte on: the byte and the bit of the first labels, and the
+// bytes of the labels of a node and of an edge.
+const LABELS_BYTE: usize = limits::LABELS / 8;
 
-// So many edges between so many nodes, whose codes go to the front of the workspace; repeats are not looked for.
-fn read_edges(
-    s: &[u8],
-    start: usize,
-    nodes: u32,
-    number: u32,
-    words: &mut [u32],
-    first: usize,
-    work: &mut [u32],
-) -> Loaded
-    requires { ⌜ Stands (now s) start first × (nodes ≤ 4096) × (number ≤ 8192) × (8192 ≤ length (now work)) ⌝ }
-    ensures { λ r. ⌜ Loads (edges 12 nodes nothing number []) (now (s .entry)) start (now (words .entry)) first 3 (now (work .entry)) r (now (words .exit)) (now (work .exit))
-        × CodesLoaded (now (s .entry)) start number (now (work .entry)) (r .part) (r .edges) (now (work .exit)) ⌝ }
-{
-    let mut at = start;
-    let mut i = first;
-    let mut k: usize = 0;
-    let mut left = number;
-    while 0 < left {
-        let f = field::read_two(
-            s,
-            at,
-            limits::NODE_WIDTH,
-            nodes as u64,
-            Refusal::NoSuchNode(3),
-            3,
-            words,
-            i,
-        );
-        match f {
-            Two::Values(a, b) => {
-                work[k] = a * limits::NODES + b;
-                at += limits::EDGE_BITS;
-                i += 2;
-                k += 1;
-                left -= 1;
-            }
-            Two::Refused(x) => {
-                return Loaded {
-                    part: Part::Refused(x),
-                    edges: k,
-                };
-            }
-        }
-    }
-    Loaded {
-        part: Part::Upto(at, i),
-        edges: k,
-    }
-}
+const LABELS_BIT: usize = limits::LABELS % 8;
 
-// A refusal before the edges.
-fn stopped(x: Refusal) -> Loaded
-    ensures { λ r. ⌜ (r .part ≡ Part.Refused x) × (r .edges ≡ 0) ⌝ }
-{
-    Loaded {
-        part: Part::Refused(x),
-        edges: 0,
-    }
-}
+const LABELS_BYTES: usize = limits::LABELS_BITS / 8;
 
-// The fields of a record, repeats aside.
-fn read_fields(s: &[u8], words: &mut [u32], work: &mut [u32]) -> Loaded
-    requires { ⌜ (length (now s) ≤ 65536) × (8192 ≤ length (now work)) ⌝ }
-    ensures { λ r. ⌜ Loads record′ (now (s .entry)) 0 (now (words .entry)) 0 3 (now (work .entry)) r (now (words .exit)) (now (work .exit))
-        × CodesLoaded (now (s .entry)) (27 + 32 * field (now (s .entry)) 0 13) (field (now (s .entry)) 13 14) (now (work .entry)) (r .part) (r .edges) (now (work .exit)) ⌝ }
+const EDGE_BYTES: usize = limits::EDGE_BITS / 8;
+
+// The numbers of nodes and edges.
+fn read_counts(s: &[u8]) -> Two
+    requires { ⌜ length (now s) ≤ 65536 ⌝ }
+    ensures { λ r. ⌜ ReadsCounts (now (s .entry)) r ⌝ }
 {
+    let mut none = [0u32; 1];
     let f = field::read_field(
         s,
         0,
@@ -129,13 +44,13 @@ fn read_fields(s: &[u8], words: &mut [u32], work: &mut [u32]) -> Loaded
         limits::NODES_BOUND,
         Refusal::OutOfRange(3),
         3,
-        words,
+        &mut none[0..0],
         0,
     );
     let nodes = match f {
         Field::Value(v) => v,
         Field::Refused(x) => {
-            return stopped(x);
+            return Two::Refused(x);
         }
     };
     let g = field::read_field(
@@ -146,39 +61,141 @@ fn read_fields(s: &[u8], words: &mut [u32], work: &mut [u32]) -> Loaded
         limits::EDGES_BOUND,
         Refusal::OutOfRange(3),
         3,
-        words,
+        &mut none[0..0],
         1,
     );
-    let number = match g {
-        Field::Value(v) => v,
-        Field::Refused(x) => {
-            return stopped(x);
-        }
-    };
-    let p = read_labels(s, limits::LABELS, nodes, words, 2);
-    match p {
-        Part::Upto(at, i) => read_edges(s, at, nodes, number, words, i, work),
-        Part::Refused(x) => stopped(x),
+    match g {
+        Field::Value(v) => Two::Values(nodes, v),
+        Field::Refused(x) => Two::Refused(x),
     }
 }
 
-// A whole record: its content goes to the front of the words as far as they go. On acceptance the codes of its edges stand at the
-// front of the workspace, ascending, and the words after them up to 8192 are as they were.
-pub(crate) fn judge_record(s: &[u8], words: &mut [u32], work: &mut [u32]) -> Part
-    requires { ⌜ (length (now s) ≤ 65536) × (length (now work) ≡ 16384) ⌝ }
-    ensures { λ r. ⌜ Judges (decode record′ (now (s .entry))) 3 r (now (words .entry)) (now (words .exit))
-        × Orders (decode record′ (now (s .entry))) (replyOf r) (now (work .entry)) (now (work .exit)) ⌝ }
+// Why an edge is refused whose bits are not all there.
+fn cut_edge(s: &[u8], at: usize, nodes: u32) -> Refusal
+    requires { ⌜ (length (now s) ≤ 65536) × (at ≤ 8 * length (now s)) × (8 * length (now s) < at + 24) ⌝ }
+    ensures { λ r. ⌜ Cut (now (s .entry)) at nodes r ⌝ }
 {
-    let l = read_fields(s, words, work);
-    let k = l.edges;
-    let p = l.part;
-    if sort::repeats(work, k) {
-        return Part::Refused(Refusal::DuplicateEdge(3));
+    let mut none = [0u32; 1];
+    let f = field::read_two(
+        s,
+        at,
+        limits::NODE_WIDTH,
+        nodes as u64,
+        Refusal::NoSuchNode(3),
+        3,
+        &mut none[0..0],
+        0,
+    );
+    match f {
+        Two::Values(_, _) => Refusal::Truncated(3),
+        Two::Refused(x) => x,
     }
+}
+
+// So many edges between so many nodes, the first in the byte start: those whose bits are all there are taken whole, by their codes, which go to
+// the front of the workspace.
+fn load_edges(s: &[u8], start: usize, nodes: u32, number: usize, work: &mut [u32]) -> Part
+    requires { ⌜ (length (now s) ≤ 65536) × (8 * start + 3 ≤ 8 * length (now s)) × (nodes ≤ 4096) × (number ≤ 8192) × (8192 ≤ length (now work)) ⌝ }
+    ensures { λ r. ⌜ LoadsCodes (now (s .entry)) (8 * start + 3) nodes number (now (work .entry)) r (now (work .exit)) ⌝ }
+{
+    let there = (8 * s.len() - (8 * start + LABELS_BIT)) / limits::EDGE_BITS;
+    let whole = field::within(number, there);
+    let mut byte = start;
+    let mut least: u32 = 0;
+    let mut k: usize = 0;
+    while k < whole {
+        let code = bits::get_bits(s, 8 * byte + LABELS_BIT, limits::PAIR_WIDTH);
+        if (nodes <= code / limits::NODES) | (nodes <= code % limits::NODES) {
+            return Part::Refused(Refusal::NoSuchNode(3));
+        }
+        if code < least {
+            return Part::Refused(Refusal::NotAscending(3));
+        }
+        work[k] = code;
+        least = code + 1;
+        byte += EDGE_BYTES;
+        k += 1;
+    }
+    if k < number {
+        return Part::Refused(cut_edge(s, 8 * byte + LABELS_BIT, nodes));
+    }
+    Part::Upto(8 * byte + LABELS_BIT, 2 * number)
+}
+
+// The labels and the edges, behind the counts, and the end of the record. Any 32 bits are right for the labels of a node, so that these only have
+// to be there.
+fn judge_parts(s: &[u8], nodes: u32, number: u32, work: &mut [u32]) -> Part
+    requires { ⌜ (length (now s) ≤ 65536) × (8192 ≤ length (now work)) × Value 13 0 4097 (now s) 0 [] 0 nodes [] × Value 14 0 8193 (now s) 13 [] 1 number [] ⌝ }
+    ensures { λ r. ⌜ Judges (decode record′ (now (s .entry))) 3 r [] [] × CodesLoaded (now (s .entry)) (now (work .entry)) (replyOf r) (now (work .exit)) ⌝ }
+{
+    let n = nodes as usize;
+    if 8 * s.len() < limits::LABELS + limits::LABELS_BITS * n {
+        return Part::Refused(Refusal::Truncated(3));
+    }
+    let p = load_edges(
+        s,
+        LABELS_BYTE + LABELS_BYTES * n,
+        nodes,
+        number as usize,
+        work,
+    );
     let Part::Upto(at, i) = p else {
         return p;
     };
-    field::close_file(s, at, i, 3)
+    field::close_file(s, at, 2 + n + i, 3)
+}
+
+// A whole record, without its content. On acceptance the codes of the edges stand at the front of the workspace.
+pub(crate) fn judge_record(s: &[u8], work: &mut [u32]) -> Part
+    requires { ⌜ (length (now s) ≤ 65536) × (8192 ≤ length (now work)) ⌝ }
+    ensures { λ r. ⌜ Judges (decode record′ (now (s .entry))) 3 r [] [] × CodesLoaded (now (s .entry)) (now (work .entry)) (replyOf r) (now (work .exit)) ⌝ }
+{
+    let f = read_counts(s);
+    match f {
+        Two::Values(nodes, number) => judge_parts(s, nodes, number, work),
+        Two::Refused(x) => Part::Refused(x),
+    }
+}
+
+// The labels of so many nodes, from the third word on.
+fn store_labels(s: &[u8], nodes: usize, out: &mut [u32])
+    requires { ⌜ (length (now s) ≤ 65536) × (27 + 32 * nodes ≤ 8 * length (now s)) × (2 + nodes ≤ length (now out)) ⌝ }
+    ensures { λ r. ⌜ LabelsStored (now (s .entry)) nodes (now (out .entry)) (now (out .exit)) ⌝ }
+{
+    let mut v: usize = 0;
+    while v < nodes {
+        let byte = LABELS_BYTE + LABELS_BYTES * v;
+        let at = 2 + v;
+        out[at] = bits::get_bits(s, 8 * byte + LABELS_BIT, limits::LABELS_WIDTH);
+        v += 1;
+    }
+}
+
+// The ends of the m edges whose codes stand at the front of the workspace, from the word at on.
+pub fn store_ends(work: &[u32], m: usize, out: &mut [u32], at: usize)
+    requires { ⌜ (m ≤ length (now work)) × (at + 2 * m ≤ length (now out)) ⌝ }
+    ensures { λ r. ⌜ now (out .exit) ≡ sets (now (out .entry)) at (ends (take m (now (work .entry)))) ⌝ }
+{
+    let mut k: usize = 0;
+    while k < m {
+        let code = work[k];
+        let from = at + 2 * k;
+        let to = from + 1;
+        out[from] = code / limits::NODES;
+        out[to] = code % limits::NODES;
+        k += 1;
+    }
+}
+
+// The content of an accepted record with so many nodes and edges, whose codes stand in the workspace, goes to the front of out.
+pub(crate) fn store_record(s: &[u8], nodes: usize, edges: usize, work: &[u32], out: &mut [u32])
+    requires { ⌜ Holds (now s) nodes edges (now work) × (length (now s) ≤ 65536) × (2 + nodes + 2 * edges ≤ length (now out)) ⌝ }
+    ensures { λ r. ⌜ ((ws : List ℕ) → decode record′ (now (s .entry)) ≡ ok ws → now (out .exit) ≡ sets (now (out .entry)) 0 ws) ⌝ }
+{
+    out[0] = nodes as u32;
+    out[1] = edges as u32;
+    store_labels(s, nodes, out);
+    store_ends(work, edges, out, 2 + nodes);
 }
 
 // The labels of so many nodes.
@@ -215,60 +232,9 @@ fn write_labels(words: &[u32], first: usize, n: u32, out: &mut [u8], start: usiz
     Part::Upto(at, i)
 }
 
-// So many edges between so many nodes, whose codes go to the front of the workspace; repeats are not looked for.
-fn write_edges(
-    words: &[u32],
-    first: usize,
-    nodes: u32,
-    number: u32,
-    out: &mut [u8],
-    start: usize,
-    work: &mut [u32],
-) -> Loaded
-    requires { ⌜ (first ≤ length (now words)) × (nodes ≤ 4096) × (number ≤ 8192) × (start ≤ 2 ^ 20) × (8192 ≤ length (now work)) ⌝ }
-    ensures { λ r. ⌜ LoadsFields (edges 12 nodes nothing number []) (now (words .entry)) first (now (out .entry)) start (24 * number) 3 (now (work .entry)) r (now (out .exit)) (now (work .exit)) ⌝ }
-{
-    let mut i = first;
-    let mut at = start;
-    let mut k: usize = 0;
-    let mut left = number;
-    while 0 < left {
-        let f = field::write_two(
-            words,
-            i,
-            limits::NODE_WIDTH,
-            nodes as u64,
-            Refusal::NoSuchNode(3),
-            3,
-            out,
-            at,
-        );
-        match f {
-            Two::Values(a, b) => {
-                work[k] = a * limits::NODES + b;
-                i += 2;
-                at += limits::EDGE_BITS;
-                k += 1;
-                left -= 1;
-            }
-            Two::Refused(x) => {
-                return Loaded {
-                    part: Part::Refused(x),
-                    edges: k,
-                };
-            }
-        }
-    }
-    Loaded {
-        part: Part::Upto(at, i),
-        edges: k,
-    }
-}
-
-// The fields of a record, repeats aside.
-fn write_fields(words: &[u32], out: &mut [u8], work: &mut [u32]) -> Loaded
-    requires { ⌜ 8192 ≤ length (now work) ⌝ }
-    ensures { λ r. ⌜ LoadsFields record′ (now (words .entry)) 0 (now (out .entry)) 0 327707 3 (now (work .entry)) r (now (out .exit)) (now (work .exit)) ⌝ }
+// The fields of a record.
+fn write_fields(words: &[u32], out: &mut [u8]) -> Part
+    ensures { λ r. ⌜ WritesPart record′ (now (words .entry)) 0 (now (out .entry)) 0 327707 3 r (now (out .exit)) ⌝ }
 {
     let f = field::write_field(
         words,
@@ -284,7 +250,7 @@ fn write_fields(words: &[u32], out: &mut [u8], work: &mut [u32]) -> Loaded
     let nodes = match f {
         Field::Value(v) => v,
         Field::Refused(x) => {
-            return stopped(x);
+            return Part::Refused(x);
         }
     };
     let g = field::write_field(
@@ -301,27 +267,21 @@ fn write_fields(words: &[u32], out: &mut [u8], work: &mut [u32]) -> Loaded
     let number = match g {
         Field::Value(v) => v,
         Field::Refused(x) => {
-            return stopped(x);
+            return Part::Refused(x);
         }
     };
     let p = write_labels(words, 2, nodes, out, limits::LABELS);
-    match p {
-        Part::Upto(at, i) => write_edges(words, i, nodes, number, out, at, work),
-        Part::Refused(x) => stopped(x),
-    }
+    let Part::Upto(at, i) = p else {
+        return p;
+    };
+    sheet::write_pairs(words, i, number, nodes, Refusal::NoSuchNode(3), 3, out, at)
 }
 
 // A whole record: its bytes go to the front of out as far as it goes.
-pub fn judge_record_fields(words: &[u32], out: &mut [u8], work: &mut [u32]) -> Part
-    requires { ⌜ length (now work) ≡ 16384 ⌝ }
+pub fn judge_record_fields(words: &[u32], out: &mut [u8]) -> Part
     ensures { λ r. ⌜ JudgesFields (encode record′ (now (words .entry))) 3 r (now (out .entry)) (now (out .exit)) ⌝ }
 {
-    let l = write_fields(words, out, work);
-    let k = l.edges;
-    let p = l.part;
-    if sort::repeats(work, k) {
-        return Part::Refused(Refusal::DuplicateEdge(3));
-    }
+    let p = write_fields(words, out);
     let Part::Upto(at, i) = p else {
         return p;
     };

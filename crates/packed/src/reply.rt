@@ -12,9 +12,9 @@ pub enum Refusal {
     OutOfRange(u32),
     // 4, stray: an edge's end is not a node
     NoSuchNode(u32),
-    // 5, twice: an edge repeats an earlier one
+    // 5, twice: an edge of a pattern repeats an earlier one; so does one of a record that was stored before its edges stood in order
     DuplicateEdge(u32),
-    // 6, order: a pair doesn't exceed the one before
+    // 6, order: a pair of a sheet or an edge of a record doesn't exceed the one before
     NotAscending(u32),
     // 7, loose: a pattern's node is at no edge
     IsolatedNode(u32),
@@ -60,7 +60,7 @@ pub(crate) enum Two {
     Refused(Refusal),
 }
 
-// A part of a file that was read or written up to its edges, and how many edges were loaded.
+// A part of an old record that was read up to its edges, and how many edges were loaded.
 pub(crate) struct Loaded {
     pub part: Part,
     pub edges: usize,

@@ -43,6 +43,8 @@ pub const CHEAPEST: usize = 15;
 
 pub const ANSWER_FROM: usize = 16;
 
+const SORT_RECORD: usize = 17;
+
 // The states of a join after each of its steps, which no client sees.
 pub const STEPS: usize = 30;
 
@@ -353,6 +355,10 @@ fn make(
     }
     if k == ANSWER_FROM {
         let r = yuthaqim::yuthaqim_answer_from(question, catalogue, set, book, out, work);
+        return wrote_bytes(r.number, r.value, out);
+    }
+    if k == SORT_RECORD {
+        let r = yuthaqim::yuthaqim_sort_record(record, out, work);
         return wrote_bytes(r.number, r.value, out);
     }
     quote(question, catalogue, work)

@@ -7,6 +7,7 @@ use crate::cells;
 use crate::content;
 use crate::digest;
 use crate::memory;
+use crate::pack;
 use crate::print;
 use crate::records;
 use crate::rounds;
@@ -19,7 +20,8 @@ const BYTES: usize = 32;
 // What the last call wrote is added to the end of a part, which grows by what it needed.
 const KEEP: usize = 36;
 
-// A field is added to the content; the last field gets its upper 8 bits; so many lists are added; the content becomes a record.
+// A field is added to the content; the last field gets its upper 8 bits; so many lists are added; the content becomes a record,
+// with its links ascending or, where the value isn't 0, as they are drawn.
 const FIELD: usize = 37;
 
 const HIGH: usize = 38;
@@ -51,6 +53,9 @@ const ALL: usize = 48;
 const FIELDS: usize = 49;
 
 const PAIRS: usize = 50;
+
+// The content, which is that of a record, becomes a part, whatever it says.
+const PACK: usize = 51;
 
 // A single call, and a round, of the call that the last five bits say.
 const ONCE: usize = 64;
@@ -97,10 +102,19 @@ fn bytes(fd: i32, part: usize, size: usize, memory: &mut [u8], cells: &mut [u64]
 }
 
 // Those that change the memory.
-fn on_memory(fd: i32, op: usize, value: usize, memory: &mut [u8], out: &[u8], cells: &mut [u64]) {
+fn on_memory(
+    fd: i32,
+    op: usize,
+    value: usize,
+    memory: &mut [u8],
+    out: &[u8],
+    words: &[u32],
+    cells: &mut [u64],
+) {
     match op {
         KEEP => keep(value, memory, out, cells),
         FLIP => memory::flip(memory, value),
+        PACK => pack::record(value, words, memory, cells),
         _ => bytes(fd, op, value, memory, cells),
     }
 }
@@ -113,7 +127,7 @@ fn on_content(fd: i32, op: usize, value: usize, words: &mut [u32], cells: &mut [
         LISTS => content::add_lists(value, words, cells),
         FIELDS => content::add_bytes(fd, value, words, cells),
         PAIRS => states::draw_pairs(value, words, cells),
-        _ => records::draw(words, cells),
+        _ => records::draw(value == 0, words, cells),
     }
 }
 
@@ -187,8 +201,8 @@ fn act(
 ) {
     if op < cells::REGISTERS {
         cells::set(cells, op, value);
-    } else if (op <= KEEP) | (op == FLIP) {
-        on_memory(fd, op, value, memory, out, cells);
+    } else if (op <= KEEP) | (op == FLIP) | (op == PACK) {
+        on_memory(fd, op, value, memory, out, words, cells);
     } else if (op < FLIP) | (op == FIELDS) | (op == PAIRS) {
         on_content(fd, op, value, words, cells);
     } else if op < ONCE {

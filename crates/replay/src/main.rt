@@ -14,6 +14,7 @@ mod draw;
 mod instructions;
 mod marks;
 mod memory;
+mod pack;
 mod print;
 mod records;
 mod rounds;

@@ -51,6 +51,14 @@ fn mask(bit: usize) -> u8 {
     }
 }
 
+// One bit becomes 1 or 0, counted from the most significant of the first byte.
+pub fn set(memory: &mut [u8], bit: usize, on: bool) {
+    let i = bit / 8;
+    let m = mask(bit);
+    let b = slices::byte_at(memory, i) | m;
+    slices::put_byte(memory, i, if on { b } else { b ^ m });
+}
+
 // Turns one bit, counted from the most significant of the first byte.
 pub fn flip(memory: &mut [u8], bit: usize) {
     let i = bit / 8;

@@ -151,6 +151,7 @@ fn say_call(k: usize) {
         14 => say(b"  show_uncovered: "),
         15 => say(b"  cheapest: "),
         16 => say(b"  answer_from: "),
+        17 => say(b"  sort_record: "),
         30 => say(b"  steps: "),
         _ => say(b"  plain search: "),
     }

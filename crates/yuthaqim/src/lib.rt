@@ -4,6 +4,7 @@ mod numbered;
 ghost use mathlib.Core.List.{[], _∷_};
 ghost use lib.ListN.{length};
 ghost use Rattle.packed.specs.Calls.{OneOutput, Settled, withWorkspace, patternRead, catalogueRead, recordRead, sheetRead, bookRead, patternWritten, catalogueWritten, recordWritten, sheetWritten, bookWritten};
+ghost use Rattle.packed.specs.OldRecord.{recordSorted};
 ghost use Rattle.matching.specs.Search.{searchOutcome, makeBookOutcome};
 ghost use Rattle.containment.specs.Quote.{quoteOutcome, blank};
 ghost use Rattle.containment.specs.Answer.{answerOutcome, answerFrom};
@@ -111,6 +112,18 @@ pub extern "C" fn yuthaqim_write_record(
     ensures { λ r. ⌜ OneOutput (recordWritten (now (fields .entry))) (numberedReplyTold r) (now (out .entry)) (now (out .exit)) (now (work .entry)) (now (work .exit)) ⌝ }
 {
     numbered::reply(packed::write_record(fields, out, work))
+}
+
+// Sorts the edges of a record that was stored before they stood in order: writes the record.
+#[no_mangle]
+pub extern "C" fn yuthaqim_sort_record(
+    old: &[u8],
+    out: &mut [u8],
+    work: &mut [u32],
+) -> NumberedReply
+    ensures { λ r. ⌜ OneOutput (recordSorted (now (old .entry))) (numberedReplyTold r) (now (out .entry)) (now (out .exit)) (now (work .entry)) (now (work .exit)) ⌝ }
+{
+    numbered::reply(packed::sort_record(old, out, work))
 }
 
 // Writes a sheet beside its pattern.

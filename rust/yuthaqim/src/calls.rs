@@ -74,6 +74,9 @@ calls! {
     write_sheet = yuthaqim_write_sheet(pattern: u8, fields: u32; out: u8) -> Replied, usize;
     /// Writes a book beside the file of its catalogue.
     write_book = yuthaqim_write_book(catalogue: u8, fields: u32; out: u8) -> Replied, usize;
+    /// Writes the record of a file that was stored before links had an order, with its links ascending. The file is read by
+    /// the rules of then: in any order, and [`TWICE`](crate::TWICE) for a link that repeats an earlier one.
+    sort_record = yuthaqim_sort_record(old: u8; out: u8) -> Replied, usize;
     /// Searches a record for a pattern: writes the pattern's sheet.
     search = yuthaqim_search(pattern: u8, record: u8; out: u8) -> Replied, usize;
     /// Makes the book of a catalogue from a record: writes a sheet for each extract.
@@ -88,7 +91,8 @@ calls! {
     /// [`UNCOVERED`](crate::UNCOVERED) the detail is the lowest link that this set leaves unmatched.
     answer_from = yuthaqim_answer_from(question: u8, catalogue: u8 [set: u16] book: u8; out: u8) -> Replied, usize;
     /// Shows why a question is uncovered: writes the question read as a record, and the same without its lowest
-    /// unmatched link. Every extract lists the same on both, the question doesn't.
+    /// unmatched link, which is the lowest by its number in the question; the links of both records ascend. Every extract
+    /// lists the same on both, the question doesn't.
     show_uncovered = yuthaqim_show_uncovered(question: u8, catalogue: u8; first: u8, second: u8) -> Showed, (usize, usize);
     /// Finds the cheapest set of extracts that covers a question, by one charge for each extract, in catalogue order. No set
     /// that covers costs less; of those that cost as much it has the fewest extracts, and of those it comes first when the

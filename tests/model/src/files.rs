@@ -208,16 +208,33 @@ impl<'a> Walk<'a> {
 
 // The formats.
 
+fn walk_link(walk: &mut Walk, items: u32, width: usize) -> Result<(u32, u32), Refusal> {
+    Ok((walk.field(width, ..items, STRAY)?, walk.field(width, ..items, STRAY)?))
+}
+
+/// Links in any order, none twice.
 fn walk_links(walk: &mut Walk, items: u32, links: u32, width: usize) -> Result<Vec<(u32, u32)>, Refusal> {
     let mut list = Vec::new();
     let mut seen = BTreeSet::new();
     for _ in 0..links {
-        let from = walk.field(width, ..items, STRAY)?;
-        let to = walk.field(width, ..items, STRAY)?;
-        if !seen.insert((from, to)) {
+        let link = walk_link(walk, items, width)?;
+        if !seen.insert(link) {
             return walk.refuse(TWICE);
         }
-        list.push((from, to));
+        list.push(link);
+    }
+    Ok(list)
+}
+
+/// Links that strictly ascend, by from, then to.
+fn walk_ascending(walk: &mut Walk, items: u32, links: u32, width: usize) -> Result<Vec<(u32, u32)>, Refusal> {
+    let mut list = Vec::new();
+    for _ in 0..links {
+        let link = walk_link(walk, items, width)?;
+        if list.last().is_some_and(|&before| link <= before) {
+            return walk.refuse(ORDER);
+        }
+        list.push(link);
     }
     Ok(list)
 }
@@ -249,14 +266,28 @@ fn walk_catalogue(walk: &mut Walk) -> Result<Catalogue, Refusal> {
     Ok(extracts)
 }
 
-fn walk_record(walk: &mut Walk) -> Result<Record, Refusal> {
+/// A record's counts and kinds: the kinds, and how many links follow.
+fn walk_items(walk: &mut Walk) -> Result<(Vec<u32>, u32), Refusal> {
     let items = walk.field(13, 0..=4_096, COUNT)?;
     let links = walk.field(14, 0..=8_192, COUNT)?;
     let mut kinds = Vec::new();
     for _ in 0..items {
         kinds.push(walk.field(32, .., COUNT)?);
     }
-    let links = walk_links(walk, items, links, 12)?;
+    Ok((kinds, links))
+}
+
+fn walk_record(walk: &mut Walk) -> Result<Record, Refusal> {
+    let (kinds, links) = walk_items(walk)?;
+    let links = walk_ascending(walk, kinds.len() as u32, links, 12)?;
+    walk.padding()?;
+    Ok(Record { kinds, links })
+}
+
+/// A record as it was stored before its links had an order.
+fn walk_old_record(walk: &mut Walk) -> Result<Record, Refusal> {
+    let (kinds, links) = walk_items(walk)?;
+    let links = walk_links(walk, kinds.len() as u32, links, 12)?;
     walk.padding()?;
     Ok(Record { kinds, links })
 }
@@ -376,7 +407,7 @@ fn give_book(output: Vec<u8>, room: usize) -> Result<Vec<u8>, Refusal> {
     give(output, room.min(BOOK_BYTES))
 }
 
-// The ten calls.
+// The ten calls, and the converter.
 
 pub fn read_pattern(bytes: &[u8], room_words: usize, work_words: usize) -> Result<Vec<u32>, Refusal> {
     judge_desk(work_words)?;
@@ -442,6 +473,38 @@ pub fn write_book(catalogue: &[u8], fields: &[u32], room_bytes: usize, work_word
     let (book, walk) = write(fields, BOOK, |walk| walk_book(walk, &catalogue))?;
     judge_pairs(&book)?;
     give_book(walk.bytes(), room_bytes)
+}
+
+/// A record's content.
+pub fn record_fields(kinds: &[u32], links: &[(u32, u32)]) -> Vec<u32> {
+    let mut fields = vec![kinds.len() as u32, links.len() as u32];
+    fields.extend(kinds);
+    fields.extend(links.iter().flat_map(|&(from, to)| [from, to]));
+    fields
+}
+
+/// 14, the file by the old rules, then 12: the record with its links in order.
+pub fn sort_record(old: &[u8], room_bytes: usize, work_words: usize) -> Result<Vec<u8>, Refusal> {
+    judge_desk(work_words)?;
+    let (Record { kinds, mut links }, _) = read(old, RECORD_BYTES, RECORD, walk_old_record)?;
+    links.sort();
+    write_record(&record_fields(&kinds, &links), room_bytes, work_words)
+}
+
+/// A file of a record's layout with these fields, whatever they say.
+pub fn pack_record(fields: &[u32]) -> Vec<u8> {
+    let mut walk = Walk::over_values(fields, RECORD);
+    for (place, &value) in fields.iter().enumerate() {
+        let width = match place {
+            0 => 13,
+            1 => 14,
+            _ if place < 2 + fields[0] as usize => 32,
+            _ => 12,
+        };
+        walk.pieces.push(Piece::Field { width, value });
+    }
+    walk.pieces.push(Piece::Padding);
+    walk.bytes()
 }
 
 #[cfg(test)]

@@ -112,10 +112,7 @@ mod tests {
     }
 
     fn record(kinds: &[u32], links: &[(u32, u32)]) -> Vec<u8> {
-        let mut fields = vec![kinds.len() as u32, links.len() as u32];
-        fields.extend(kinds);
-        fields.extend(links.iter().flat_map(|&(from, to)| [from, to]));
-        write_record(&fields, ROOM, WORK).unwrap()
+        write_record(&record_fields(kinds, links), ROOM, WORK).unwrap()
     }
 
     fn listed(pattern: &[u8], record: &[u8]) -> Vec<u32> {
@@ -159,9 +156,11 @@ mod tests {
     }
 
     #[test]
-    fn the_order_of_links_alters_nothing() {
-        let turned = record(&[1, 2, 8, 2], &[(1, 2), (0, 3), (0, 1)]);
-        assert_eq!(make_book(&C, &turned, ROOM, WORK), make_book(&C, &k6(), ROOM, WORK));
+    fn links_out_of_order() {
+        let turned = pack_record(&record_fields(&[1, 2, 8, 2], &[(1, 2), (0, 3), (0, 1)]));
+        assert_eq!(make_book(&C, &turned, ROOM, WORK), refused(ORDER, RECORD));
+        assert_eq!(search(&SLOW, &turned, ROOM, WORK), refused(ORDER, RECORD));
+        assert_eq!(sort_record(&turned, ROOM, WORK), Ok(k6()));
     }
 
     #[test]
@@ -195,7 +194,8 @@ mod tests {
     #[test]
     fn a_sheet_over_its_most_bytes() {
         // Three lists of 8,192 pairs each.
-        let links: Vec<(u32, u32)> = (0..8_192).map(|link| (link / 2, (link / 2 + link % 2) % 4_096)).collect();
+        let mut links: Vec<(u32, u32)> = (0..8_192).map(|link| (link / 2, (link / 2 + link % 2) % 4_096)).collect();
+        links.sort();
         let full = record(&vec![1; 4_096], &links);
         let three = pattern(&[2, 3, 0, 0, 0, 0, 0, 1, 1, 0]);
         let length = (3 * 14 + 3 * 8_192 * 24usize).div_ceil(8);

@@ -91,16 +91,15 @@ pub fn quote(question: &[u8], catalogue: &[u8], work_words: usize) -> Result<Quo
     Ok(Quote { covered, mapping, chosen, lowest_unmatched })
 }
 
-/// A record's file: 12 if it doesn't fit.
-fn write(record: &Record, room: usize, work_words: usize) -> Result<Vec<u8>, Refusal> {
-    let mut fields = vec![record.kinds.len() as u32, record.links.len() as u32];
-    fields.extend(&record.kinds);
-    fields.extend(record.links.iter().flat_map(|&(from, to)| [from, to]));
-    write_record(&fields, room, work_words)
+/// A record's file, its links ascending: 12 if it doesn't fit.
+fn write(record: Record, room: usize, work_words: usize) -> Result<Vec<u8>, Refusal> {
+    let Record { kinds, mut links } = record;
+    links.sort();
+    write_record(&record_fields(&kinds, &links), room, work_words)
 }
 
-/// The question read as a record, and the same without its lowest unmatched link. After the files 13, then 12 for
-/// the first of the two that doesn't fit.
+/// The question read as a record, and the same without its lowest unmatched link, which is the lowest by its number in the
+/// question. After the files 13, then 12 for the first of the two that doesn't fit.
 pub fn show(
     question: &[u8],
     catalogue: &[u8],
@@ -114,7 +113,7 @@ pub fn show(
     let whole = as_record(&judge_pattern(question)?);
     let mut without = whole.clone();
     without.links.remove(lowest);
-    Ok((write(&whole, room_1, work_words)?, write(&without, room_2, work_words)?))
+    Ok((write(whole, room_1, work_words)?, write(without, room_2, work_words)?))
 }
 
 #[cfg(test)]
@@ -165,6 +164,16 @@ pub mod tests {
         };
         assert_eq!(read_record(&first, ENOUGH, WORK), Ok(fields(&[0, 1, 0, 2, 1, 3, 2, 3])));
         assert_eq!(read_record(&second, ENOUGH, WORK), Ok(fields(&[0, 1, 1, 3, 2, 3])));
+    }
+
+    #[test]
+    fn shown_links_ascend() {
+        // D with its links turned. Links 0, from 2 to 3, and 2, from 0 to 2, are unmatched.
+        let turned = write_pattern(&[4, 4, 0, 1, 2, 3, 2, 3, 1, 3, 0, 2, 0, 1], ENOUGH, WORK).unwrap();
+        let (first, second) = show(&turned, &SLOW, ENOUGH, ENOUGH, WORK).unwrap();
+        let links = [(0, 1), (0, 2), (1, 3), (2, 3)];
+        assert_eq!(read_record(&first, ENOUGH, WORK), Ok(record_fields(&[1, 2, 4, 8], &links)));
+        assert_eq!(read_record(&second, ENOUGH, WORK), Ok(record_fields(&[1, 2, 4, 8], &links[..3])));
     }
 
     #[test]

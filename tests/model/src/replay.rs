@@ -53,6 +53,7 @@ const GROUP: usize = 47;
 const ALL: usize = 48;
 const FIELDS: usize = 49;
 const PAIRS: usize = 50;
+const PACK: usize = 51;
 const ONCE: usize = 64;
 const ROUND: usize = 96;
 const CUTS: usize = 128;
@@ -77,6 +78,7 @@ pub const ANSWER: usize = 13;
 pub const SHOW_UNCOVERED: usize = 14;
 pub const CHEAPEST: usize = 15;
 pub const ANSWER_FROM: usize = 16;
+pub const SORT_RECORD: usize = 17;
 /// The states of a join after each step.
 pub const STEPS: usize = 30;
 /// The search that the program makes apart from the library's. To the model it is the same.
@@ -86,7 +88,7 @@ pub const PLAIN: usize = 31;
 const NUMBERS: usize = 32;
 
 /// The names of the library's calls, in the order of these numbers.
-pub const CALLS: [&str; 17] = [
+pub const CALLS: [&str; 18] = [
     "read_pattern",
     "read_catalogue",
     "read_record",
@@ -104,6 +106,7 @@ pub const CALLS: [&str; 17] = [
     "show_uncovered",
     "cheapest",
     "answer_from",
+    "sort_record",
 ];
 
 /// The name of a call, or of what the program does apart from them.
@@ -294,8 +297,8 @@ impl Script {
         self.registers[SEED] = state as usize;
     }
 
-    /// The content becomes that of a record.
-    pub fn record(&mut self, drawn: Drawn) {
+    /// The content becomes that of a record, its links ascending or as they are drawn.
+    pub fn record(&mut self, drawn: Drawn, ascending: bool) {
         for (register, value) in [
             (SEED, drawn.seed as usize),
             (ITEMS, drawn.items),
@@ -307,9 +310,19 @@ impl Script {
         ] {
             self.set(register, value);
         }
-        self.instruction(RECORD_CONTENT, 0);
+        self.instruction(RECORD_CONTENT, usize::from(!ascending));
         self.registers[CONTENT] = 0;
-        self.add(&drawn.content());
+        self.add(&drawn.content(ascending));
+    }
+
+    /// The content, which is that of a record with links in any order, becomes a part as it was stored before they had one.
+    pub fn pack(&mut self, part: usize) {
+        self.set(START + part, PLACES[part]);
+        self.instruction(PACK, part);
+        let file = pack_record(&self.words[..self.registers[CONTENT]]);
+        let end = PLACES[part] + file.len();
+        self.memory[PLACES[part]..end].copy_from_slice(&file);
+        self.registers[END + part] = end;
     }
 
     /// The content becomes pairs of a join.
@@ -385,6 +398,7 @@ impl Script {
             QUOTE => Outcome::quoted(quote(question, catalogue, work)),
             ANSWER => Outcome::bytes(answer(question, catalogue, book, room, work)),
             CHEAPEST => Outcome::priced(cheapest(question, catalogue, content, work)),
+            SORT_RECORD => Outcome::bytes(sort_record(record, room, work)),
             STEPS => Outcome::stepped(&judge_pattern(question).unwrap(), content),
             ANSWER_FROM => {
                 let set = self.registers[SET] as u16;

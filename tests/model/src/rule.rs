@@ -1,6 +1,7 @@
 //! The rule by which the program `replay` and the model draw the content of records and lists alike, so that large files
 //! need not stand among the cases.
 
+use crate::files::record_fields;
 use std::collections::BTreeSet;
 
 pub fn next(state: u32) -> u32 {
@@ -80,8 +81,8 @@ impl Drawn {
         }
     }
 
-    /// The content of the record.
-    pub fn content(&self) -> Vec<u32> {
+    /// The content of the record, its links ascending or as they are drawn.
+    pub fn content(&self, ascending: bool) -> Vec<u32> {
         let mut state = self.seed;
         let kinds: Vec<u32> = (0..self.items).map(|v| self.item(v, four(&mut state))).collect();
         let mut links = Vec::new();
@@ -89,14 +90,14 @@ impl Drawn {
         for t in 0..4 * self.links {
             let (from, to) = self.link(t, four(&mut state));
             let is_link = from < self.items && to < self.items;
-            if links.len() < 2 * self.links && is_link && seen.insert((from, to)) {
-                links.extend([from as u32, to as u32]);
+            if links.len() < self.links && is_link && seen.insert((from, to)) {
+                links.push((from as u32, to as u32));
             }
         }
-        let mut fields = vec![self.items as u32, links.len() as u32 / 2];
-        fields.extend(kinds);
-        fields.extend(links);
-        fields
+        if ascending {
+            links.sort();
+        }
+        record_fields(&kinds, &links)
     }
 }
 

@@ -18,7 +18,7 @@ impl Kinds {
     }
 }
 
-type Links = Vec<(u32, u32)>;
+pub type Links = Vec<(u32, u32)>;
 
 fn draw_link(draw: &mut Draw, items: usize) -> (u32, u32) {
     (draw.below(items) as u32, draw.below(items) as u32)
@@ -123,7 +123,7 @@ fn plant(draw: &mut Draw, pattern: &Pattern, record: &mut Record) -> Links {
     pattern.links.iter().map(|&(from, to)| (places[from as usize], places[to as usize])).collect()
 }
 
-/// A record for some patterns: they are planted, and there are any links beside them.
+/// A record for some patterns: they are planted, and there are any links beside them. Its links ascend.
 pub fn draw_record(draw: &mut Draw, kinds: &Kinds, size: Size, patterns: &[Pattern]) -> Record {
     let (items, most) = match size {
         Size::Small => (draw.low(0, 12), draw.below(25)),
@@ -154,8 +154,25 @@ pub fn draw_record(draw: &mut Draw, kinds: &Kinds, size: Size, patterns: &[Patte
     for _ in 0..most {
         put(&mut record, draw_link(draw, items));
     }
-    draw.shuffle(&mut record.links);
+    record.links.sort();
     record
+}
+
+/// Links in another order, or one more than once: all turned round, two that change places, a neighbour or any other
+/// repeated.
+pub fn disorder(draw: &mut Draw, links: &mut Links) {
+    if links.len() < 2 {
+        return;
+    }
+    let at = draw.within(1, links.len() - 1);
+    let other = draw.below(links.len());
+    match draw.below(5) {
+        0 => draw.shuffle(links),
+        1 => links.swap(at - 1, at),
+        2 => links.swap(at, other),
+        3 => links[at] = links[at - 1],
+        _ => links[at] = links[other],
+    }
 }
 
 /// A pair by its code.

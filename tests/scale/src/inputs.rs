@@ -2,11 +2,11 @@
 
 use crate::desk::{exactly, fitted, Asked, Desk, Difference, Lent, Notes};
 use crate::draw::{draw_size, Draw, Size};
-use crate::graphs::{draw_book, draw_catalogue, draw_charges, draw_pattern, draw_record, Kinds};
+use crate::graphs::{disorder, draw_book, draw_catalogue, draw_charges, draw_pattern, draw_record, Kinds};
 use crate::layout::{content, file, of_book, of_catalogue, of_pattern, of_record};
 use crate::tally::Call;
 use model::cheapest::cheapest;
-use model::files::{Catalogue, Pattern, Refusal, WORK_WORDS};
+use model::files::{record_fields, Catalogue, Pattern, Refusal, WORK_WORDS};
 use model::{answering, files, matching, quoting};
 use std::fmt::Debug;
 use yuthaqim::{BOOK_BYTES, CATALOGUE_BYTES, PATTERN_BYTES, RECORD_BYTES};
@@ -60,8 +60,12 @@ impl Subject {
         self.catalogue.extend(copies);
     }
 
+    /// A record whose links are out of order, or damaged otherwise, one time in so many each.
     fn record(&self, draw: &mut Draw, damaged_one_in: usize, planted: &[Pattern]) -> Vec<u8> {
-        let record = draw_record(draw, &self.kinds, self.size, planted);
+        let mut record = draw_record(draw, &self.kinds, self.size, planted);
+        if draw.one_in(2 * damaged_one_in) {
+            disorder(draw, &mut record.links);
+        }
         file(draw, of_record(&record), damaged_one_in, RECORD_BYTES)
     }
 }
@@ -99,7 +103,8 @@ impl Test {
     pub fn input(&mut self, seed: u64) -> Result<(), Difference> {
         let draw = &mut Draw::new(seed);
         match draw.below(100) {
-            0..=27 => self.lone_file(draw),
+            0..=25 => self.lone_file(draw),
+            26..=27 => self.sort_record(draw),
             28..=43 => self.file_beside(draw),
             44..=62 => self.lone_content(draw),
             63..=74 => self.content_beside(draw),
@@ -147,10 +152,51 @@ impl Test {
                 reply!(self.bytes, draw, fitted(lent), WriteCatalogue, files::write_catalogue(fields))?;
             }
             _ => {
-                let record = draw_record(draw, &subject.kinds, subject.size, &[]);
+                let mut record = draw_record(draw, &subject.kinds, subject.size, &[]);
+                if draw.one_in(4) {
+                    disorder(draw, &mut record.links);
+                }
                 let fields = content(draw, of_record(&record), 2);
                 reply!(self.bytes, draw, fitted(lent), WriteRecord, files::write_record(fields))?;
             }
+        }
+        Ok(())
+    }
+
+    /// A file of the old rules, its links in any order. What is written is accepted, has its items and its links, and the
+    /// sheets that it had.
+    fn sort_record(&mut self, draw: &mut Draw) -> Result<(), Difference> {
+        let subject = draw_subject(draw, false);
+        let mut record = draw_record(draw, &subject.kinds, subject.size, std::slice::from_ref(&subject.question));
+        let in_order = record.links.clone();
+        if !draw.one_in(4) {
+            draw.shuffle(&mut record.links);
+        }
+        let whole = of_record(&record).bytes();
+        let old = file(draw, of_record(&record), 3, RECORD_BYTES);
+        let lent = Lent::draw(draw);
+        let sorted = reply!(self.bytes, draw, fitted(lent), SortRecord, files::sort_record(old))?;
+        let Ok(sorted) = sorted.outcome else {
+            return Ok(());
+        };
+        let enough = Lent { room: BOOK_BYTES, work: WORK_WORDS };
+        let read = reply!(self.words, draw, exactly(enough), ReadRecord, files::read_record(sorted))?;
+        let Ok(read) = read.outcome else {
+            return Err(format!("sorted, and not accepted: {sorted:02x?}\n"));
+        };
+        if old == whole {
+            if read != record_fields(&record.kinds, &in_order) {
+                return Err(format!("sorted, and not the same items and links: {read:?}\n"));
+            }
+            let pattern = of_pattern(&subject.question).bytes();
+            let sheet = matching::fields(&matching::sheet(&subject.question, &record));
+            let before = files::write_sheet(&pattern, &sheet, BOOK_BYTES, WORK_WORDS);
+            let after = reply!(self.bytes, draw, exactly(enough), Search, matching::search(pattern, sorted))?;
+            if after.outcome != before {
+                return Err(format!("sorted, and not the same sheet: {:?}\n{before:?}\n", after.outcome));
+            }
+            self.notes.tally.sorted += 1;
+            self.notes.tally.disordered += u64::from(record.links != in_order);
         }
         Ok(())
     }

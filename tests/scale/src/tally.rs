@@ -23,6 +23,7 @@ pub enum Call {
     ShowUncovered,
     Cheapest,
     AnswerFrom,
+    SortRecord,
 }
 
 impl Call {
@@ -53,6 +54,9 @@ pub struct Tally {
     pub cheapest: u64,
     pub not_chosen: u64,
     pub tied: u64,
+    /// Old files that were sorted, and those of them whose links were not in order.
+    pub sorted: u64,
+    pub disordered: u64,
 }
 
 impl Tally {
@@ -76,13 +80,14 @@ impl fmt::Display for Tally {
             line(f, name, counts)?;
         }
         line(f, "all", &std::array::from_fn(|number| self.counts.iter().map(|counts| counts[number]).sum()))?;
-        let Tally { answered, with_pairs, from_sets, apart, cheapest, not_chosen, tied, .. } = self;
+        let Tally { answered, with_pairs, from_sets, apart, cheapest, not_chosen, tied, sorted, disordered, .. } = self;
         writeln!(
             f,
             "{answered} covered questions answered as the record is searched, {with_pairs} of them with pairs"
         )?;
         writeln!(f, "{from_sets} of them also by a set drawn apart that covers")?;
         writeln!(f, "{apart} answers from books of no record that are not those of the chosen set")?;
-        writeln!(f, "{cheapest} cheapest sets, {not_chosen} of them not the chosen one, {tied} tied with another up to the numbers")
+        writeln!(f, "{cheapest} cheapest sets, {not_chosen} of them not the chosen one, {tied} tied with another up to the numbers")?;
+        writeln!(f, "{sorted} old files sorted, {disordered} of them out of order, each with the links and the sheets it had")
     }
 }

@@ -1,7 +1,7 @@
 -- `packed::write_record` meets its contract.
 use lib.ListN.{length}
 use Rattle.packed.specs.Calls.{recordWritten}
-use Rattle.packed.proofs.CallLaws.{settles-small, settles-lent}
+use Rattle.packed.proofs.CallLaws.{settles-small, settles}
 use borrow.Author.Needs.{needs}
 use Rattle.packed.proofs.write_record.Statement.{statement}
 use Rattle.packed.proofs.write_record.Tie as tie
@@ -11,15 +11,6 @@ returns c =
     let args = c .before .before .before .before .args in
     let a = args in
     settles-small (recordWritten (a .fields .now) (length (a .out .now))) (a .out .now) (a .work .now) (c .if1 .taken)
-
-sub-write-record : tie.Need-sub-write-record
-sub-write-record c = search needs
-
-part-write-record-start : tie.Need-part-write-record-start
-part-write-record-start c = search needs
-
-part-write-record-end : tie.Need-part-write-record-end
-part-write-record-end c = search needs
 
 write-record-requires : tie.Need-write-record-requires
 write-record-requires c κs = search needs
@@ -35,25 +26,14 @@ same-length-2 c = search needs
 
 returns-2 : tie.Need-returns-2
 returns-2 c =
-    let args = c .before .before .before .before .before .before .before .before .before .before .before .before .before .before .before .args in
-    let if1 = c .before .before .before .before .before .before .before .before .before .before .before .if1 in
-    let write-record = c .before .before .before .before .before .before .before .before .write-record in
+    let args = c .before .before .before .before .before .before .before .before .before .before .before .before .args in
+    let if1 = c .before .before .before .before .before .before .before .before .if1 in
+    let write-record = c .before .before .before .before .before .before .write-record in
     let clear = c .before .before .clear in
     let a = args in
-    let k = write-record in
-    settles-lent (recordWritten (a .fields .now) (length (a .out .now))) (a .out .now) (a .work .now) (k .last .1 .1 .0) (if1 .left)
-    (k .ensures) (k .kept .1 .1 .0) (clear .ensures)
+    settles (recordWritten (a .fields .now) (length (a .out .now))) (a .out .now) (a .work .now) (if1 .left) (write-record .ensures) (clear .ensures)
 
 pub write-record-spec : {M : Type 1} → statement M
 write-record-spec =
     tie.close
-    (tie.spec
-    returns
-    sub-write-record
-    part-write-record-start
-    part-write-record-end
-    write-record-requires
-    clear-requires
-    same-length
-    same-length-2
-    returns-2)
+    (tie.spec returns write-record-requires clear-requires same-length same-length-2 returns-2)

@@ -5,7 +5,7 @@ use super::*;
 use crate::files::*;
 
 /// The calls that read files, and which.
-const CALLS: [(usize, &[usize]); 14] = [
+const CALLS: [(usize, &[usize]); 15] = [
     (READ_PATTERN, &[QUESTION_PART]),
     (READ_CATALOGUE, &[CATALOGUE_PART]),
     (READ_RECORD, &[RECORD_PART]),
@@ -20,6 +20,7 @@ const CALLS: [(usize, &[usize]); 14] = [
     (SHOW_UNCOVERED, &[QUESTION_PART, CATALOGUE_PART]),
     (CHEAPEST, &[QUESTION_PART, CATALOGUE_PART]),
     (ANSWER_FROM, &[QUESTION_PART, CATALOGUE_PART, BOOK_PART]),
+    (SORT_RECORD, &[RECORD_PART]),
 ];
 
 /// A file for each refusal that falls to it.
@@ -44,6 +45,15 @@ const CATALOGUES: Faulty = &[
     (TAIL, &[0x09]),
 ];
 const RECORDS: Faulty = &[
+    (LONG, &[0; RECORD_BYTES + 1]),
+    (SHORT, &[]),
+    (COUNT, &[0x80, 0x08]),
+    (STRAY, &[0x00, 0x00, 0x00, 0x20, 0x00, 0x00, 0x00]),
+    (ORDER, &[0x00, 0x08, 0x00, 0x40, 0x00, 0x00, 0x00, 0x00, 0x00, 0x00, 0x00, 0x00, 0x00, 0x00]),
+    (TAIL, &[0x00, 0x00, 0x00, 0x01]),
+];
+/// By the old rules.
+const OLD_RECORDS: Faulty = &[
     (LONG, &[0; RECORD_BYTES + 1]),
     (SHORT, &[]),
     (COUNT, &[0x80, 0x08]),
@@ -73,6 +83,7 @@ const BOOKS: Faulty = &[
 fn faulty(call: usize, part: usize) -> Faulty {
     match part {
         BOOK_PART if call == READ_SHEET => SHEETS,
+        RECORD_PART if call == SORT_RECORD => OLD_RECORDS,
         _ => [PATTERNS, CATALOGUES, RECORDS, BOOKS][part],
     }
 }
@@ -117,12 +128,13 @@ impl Good {
     }
 }
 
-/// Files of the worked cases. A showing wants an uncovered question.
+/// Files of the worked cases. A showing wants an uncovered question, the converter links out of order.
 fn small(call: usize) -> Good {
+    let links: &[u32] = if call == SORT_RECORD { &[1, 2, 0, 1] } else { &[0, 1, 1, 2] };
     Good {
         question: D.to_vec(),
         catalogue: if call == SHOW_UNCOVERED { SLOW.to_vec() } else { C.to_vec() },
-        record: write_record(&[3, 2, 1, 6, 8, 0, 1, 1, 2], RECORD_BYTES, WORK_WORDS).unwrap(),
+        record: pack_record(&[&[3, 2, 1, 6, 8], links].concat()),
         made: if call == READ_SHEET { SEARCH } else { MAKE_BOOK },
     }
 }
@@ -131,8 +143,9 @@ fn small(call: usize) -> Good {
 fn large() -> Good {
     let pattern = super::table::pattern(16, 32);
     let catalogue = [vec![1], pattern.clone()].concat();
-    let links: Vec<u32> = (0..64).flat_map(|link| [link % 16, (link * 3 + link / 16) % 16]).collect();
-    let record = [vec![16, 64], vec![u32::MAX; 16], links].concat();
+    let mut links: Vec<(u32, u32)> = (0..64).map(|link| (link % 16, (link * 3 + link / 16) % 16)).collect();
+    links.sort();
+    let record = record_fields(&[u32::MAX; 16], &links);
     Good {
         question: write_pattern(&pattern, PATTERN_BYTES, WORK_WORDS).unwrap(),
         catalogue: write_catalogue(&catalogue, CATALOGUE_BYTES, WORK_WORDS).unwrap(),
@@ -193,7 +206,7 @@ pub fn write(script: &mut Script) {
     good.lay_all(script);
     script.content(&[u32::MAX]);
     for (call, parts) in CALLS {
-        if [SEARCH, MAKE_BOOK, QUOTE, ANSWER, CHEAPEST, ANSWER_FROM].contains(&call) {
+        if [SEARCH, MAKE_BOOK, QUOTE, ANSWER, CHEAPEST, ANSWER_FROM, SORT_RECORD].contains(&call) {
             for &part in parts {
                 sweep(script, call, part, if part == BOOK_PART { 101 } else { 1 });
             }

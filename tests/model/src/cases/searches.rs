@@ -20,11 +20,17 @@ pub fn places(extracts: &[Vec<u8>]) -> Vec<(usize, usize)> {
     places
 }
 
-/// A record that is drawn, written and kept.
+/// A record that is drawn, written and kept; one time in four from a file whose links stand as they are drawn.
 pub fn lay_record(script: &mut Script, rule: &mut Rule, n: u32, kinds: Kinds) {
     let drawn = draw_record(rule, n, kinds);
-    script.record(drawn);
+    let is_old = rule.draw(4) == 0;
+    script.record(drawn, !is_old);
     script.once(WRITE_RECORD);
+    if is_old {
+        script.pack(RECORD_PART);
+        script.once(READ_RECORD);
+        script.round(SORT_RECORD);
+    }
     keep_as(script, RECORD_PART);
 }
 

@@ -88,6 +88,27 @@ fn write_line(script: &mut Script, line: &str) {
     }
 }
 
+/// A file of the old rules is sorted, and read.
+fn sort_line(script: &mut Script, line: &str) {
+    let (name, file) = line.split_once(": |").unwrap();
+    script.bytes(RECORD_PART, &bytes(file));
+    script.name(&format!("{name}: "));
+    script.once(SORT_RECORD);
+    script.outcome();
+    if script.is_accepted() {
+        keep_as(script, RECORD_PART);
+        script.once(READ_RECORD);
+        assert!(script.is_accepted());
+    }
+}
+
+/// The same file, damaged.
+fn sort_damage_line(script: &mut Script, line: &str) {
+    let (name, file) = line.split_once(": |").unwrap();
+    script.bytes(RECORD_PART, &bytes(file));
+    damage(script, name, SORT_RECORD, RECORD_PART, 1, 1);
+}
+
 /// So many zero bytes are read, beside so many or the bytes that are given.
 fn zeros_line(script: &mut Script, line: &str) {
     let (kind, name, beside, _) = fields(line);
@@ -130,16 +151,17 @@ fn full_catalogue() -> Vec<u8> {
     write_catalogue(&catalogue(16), CATALOGUE_BYTES, WORK_WORDS).unwrap()
 }
 
-/// A record by its counts, right or not; its links stand in no order. One of 4,094 items has its first link at its end
-/// too.
-fn record(script: &mut Script, items: u32, links: u32) {
+/// A record by its counts, right or not; its links ascend, or stand in no order. One of 4,094 items has another link at its
+/// end once more: the one before it, or the first.
+fn record(script: &mut Script, items: u32, links: u32, ascending: bool) {
     let (items, links) = (items as usize, links as usize);
-    script.record(Drawn { items, links, item_form: 4, link_form: 6, ..Drawn::default() });
+    script.record(Drawn { items, links, item_form: 4, link_form: 6, ..Drawn::default() }, ascending);
     script.change(1, links as u32);
     if items == 4_094 {
         let fields = script.content_now();
-        let (first, last) = (2 + items, fields.len() - 2);
-        let ends = [fields[first], fields[first + 1]];
+        let last = fields.len() - 2;
+        let other = if ascending { last - 2 } else { 2 + items };
+        let ends = [fields[other], fields[other + 1]];
         script.change(last, ends[0]);
         script.change(last + 1, ends[1]);
     }
@@ -175,7 +197,7 @@ fn content(script: &mut Script, name: &str, a: u32, b: u32) -> Kind {
     match name {
         "pattern" => script.fields(&pattern(a, b)),
         "catalogue" => script.fields(&catalogue(a)),
-        "record" => record(script, a, b),
+        "record" => record(script, a, b, true),
         "list" => list(script, a, 0, 1),
         // With 5,460 pairs in its last list it takes 65,536 bytes.
         "sheet" => {
@@ -235,6 +257,21 @@ fn limit(script: &mut Script, line: &str, name: &str, a: u32, b: u32) {
     }
 }
 
+/// A file of the old rules, sorted, and the same with a byte more.
+fn old(script: &mut Script, line: &str, items: u32, links: u32) {
+    record(script, items, links, false);
+    script.pack(RECORD_PART);
+    script.name(&format!("{line}, sort: "));
+    script.once(SORT_RECORD);
+    script.outcome();
+    with_less_lent(script, SORT_RECORD);
+    let end = END + RECORD_PART;
+    script.set(end, script.register(end) + 1);
+    script.name(&format!("{line}, sort a byte more: "));
+    script.once(SORT_RECORD);
+    script.outcome();
+}
+
 /// A book whose sheets are written one by one, so that it can hold too many pairs.
 fn joined(script: &mut Script, line: &str, last: u32) {
     script.empty(BOOK_PART);
@@ -255,6 +292,7 @@ fn limit_line(script: &mut Script, line: &str) {
     counts.push(0);
     match name {
         "joined" => joined(script, line, counts[0]),
+        "old" => old(script, line, counts[0], counts[1]),
         _ => limit(script, line, name, counts[0], counts[1]),
     }
 }
@@ -262,7 +300,7 @@ fn limit_line(script: &mut Script, line: &str) {
 // Damaged files, and files beside a damaged one: cut at places, and one bit turned at places.
 
 fn damage(script: &mut Script, name: &str, call: usize, part: usize, cut: usize, flip: usize) {
-    let whose = if part == part_of(call) { "" } else { "beside one " };
+    let whose = if call == SORT_RECORD || part == part_of(call) { "" } else { "beside one " };
     script.name(&format!("{name}, {whose}cut\n"));
     script.once(call);
     script.cuts(part, cut);
@@ -306,8 +344,10 @@ pub fn write(script: &mut Script) {
         match word {
             "read" => read_line(script, line),
             "write" => write_line(script, line),
+            "sort" => sort_line(script, line),
             "zeros" => zeros_line(script, line),
             "limit" => limit_line(script, line),
+            "damage" if line.starts_with("damage old") => sort_damage_line(script, line),
             "damage" => damage_line(script, line),
             "sample" => sample_line(script, line),
             _ => continue,

@@ -21,10 +21,7 @@ fn pattern(fields: &[u32]) -> Vec<u8> {
 }
 
 fn record(kinds: &[u32], links: &[(u32, u32)]) -> Vec<u8> {
-    let mut fields = vec![kinds.len() as u32, links.len() as u32];
-    fields.extend(kinds);
-    fields.extend(links.iter().flat_map(|&(from, to)| [from, to]));
-    write_record(&fields, RECORD_BYTES, WORK_WORDS).unwrap()
+    write_record(&record_fields(kinds, links), RECORD_BYTES, WORK_WORDS).unwrap()
 }
 
 /// D with a catalogue: the quote and the showing.
@@ -198,6 +195,9 @@ pub fn write(script: &mut Script) {
     quoted(script, "K3: extract 1 of C", &[1, 3, 2, 0, 1, 3, 0, 1, 1, 2]);
     quoted(script, "K4: no extracts", &[0]);
     quoted(script, "K5: slow run to fast run", &[1, 2, 1, 1, 2, 0, 1]);
+    script.bytes(QUESTION_PART, &pattern(&[4, 4, 0, 1, 2, 3, 2, 3, 1, 3, 0, 2, 0, 1]));
+    quoted(script, "K3: D's links turned", &[1, 3, 2, 0, 1, 3, 0, 1, 1, 2]);
+    script.bytes(QUESTION_PART, &D);
 
     charged(script);
 
@@ -236,7 +236,7 @@ pub fn write(script: &mut Script) {
 /// A ring of 4,096 items of kind 0.
 fn ring_record(script: &mut Script) {
     let drawn = crate::rule::Drawn { items: 4_096, links: 4_096, kinds: 1, link_form: 3, ..Default::default() };
-    script.record(drawn);
+    script.record(drawn, true);
     assert_eq!(script.content_now(), ring(4_096, 1));
     script.once(WRITE_RECORD);
     keep_as(script, RECORD_PART);

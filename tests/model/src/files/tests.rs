@@ -163,7 +163,16 @@ fn a_record() {
     assert_eq!(write_record(&[1, 0, u32::MAX], ROOM, WORK).unwrap().len(), 8);
     assert_eq!(write_record(&[4_097, 0], ROOM, WORK), no(COUNT, RECORD));
     assert_eq!(write_record(&[0, 8_193], ROOM, WORK), no(COUNT, RECORD));
-    assert_eq!(write_record(&[1, 2, 0, 0, 0, 0, 0], ROOM, WORK), no(TWICE, RECORD));
+    assert_eq!(write_record(&[2, 2, 0, 0, 0, 1, 1, 0], ROOM, WORK).unwrap().len(), 18);
+    // Links that repeat the one before or come before it.
+    assert_eq!(write_record(&[1, 2, 0, 0, 0, 0, 0], ROOM, WORK), no(ORDER, RECORD));
+    assert_eq!(write_record(&[2, 2, 0, 0, 1, 0, 0, 1], ROOM, WORK), no(ORDER, RECORD));
+    assert_eq!(write_record(&[2, 2, 0, 0, 0, 1, 0, 0], ROOM, WORK), no(ORDER, RECORD));
+    assert_eq!(write_record(&[2, 3, 0, 0, 0, 1, 1, 0, 0, 1], ROOM, WORK), no(ORDER, RECORD));
+    // 4 stands before 6, and 6 before what follows.
+    assert_eq!(write_record(&[1, 2, 0, 0, 0, 0, 1], ROOM, WORK), no(STRAY, RECORD));
+    assert_eq!(write_record(&[1, 3, 0, 0, 0, 0, 0, 1], ROOM, WORK), no(ORDER, RECORD));
+    assert_eq!(write_record(&[1, 2, 0, 0, 0, 0, 0, 7], ROOM, WORK), no(ORDER, RECORD));
     assert_eq!(write_record(&[0], ROOM, WORK), no(SHORT, RECORD));
     assert_eq!(write_record(&[0, 0, 0], ROOM, WORK), no(TAIL, RECORD));
 }
@@ -300,4 +309,43 @@ fn the_most_bytes() {
     assert_eq!(read_catalogue(&[0; 705], ROOM, WORK), no(TAIL, CATALOGUE));
     assert_eq!(read_record(&[0; 40_965], ROOM, WORK), no(LONG, RECORD));
     assert_eq!(read_record(&[0; 40_964], ROOM, WORK), no(TAIL, RECORD));
+}
+
+/// The file of two items without kinds and these links.
+fn old_file(links: &[(u32, u32)]) -> Vec<u8> {
+    let mut fields = vec![(13, 2), (14, links.len() as u32), (32, 0), (32, 0)];
+    fields.extend(links.iter().flat_map(|&(from, to)| [(12, from), (12, to)]));
+    packed(&fields)
+}
+
+#[test]
+fn an_old_record_is_sorted() {
+    let all = [(0, 0), (0, 1), (1, 0), (1, 1)];
+    for turned in [[3, 2, 1, 0], [0, 1, 2, 3], [1, 3, 0, 2]] {
+        let old = old_file(&turned.map(|link: usize| all[link]));
+        assert_eq!(sort_record(&old, ROOM, WORK), Ok(old_file(&all)));
+        assert_eq!(sort_record(&old, 24, WORK), Ok(old_file(&all)));
+        assert_eq!(sort_record(&old, 23, WORK), no(NO_FIT, 24));
+        assert_eq!(read_record(&old, ROOM, WORK).is_ok(), old == old_file(&all));
+    }
+    assert_eq!(pack_record(&[2, 2, 0, 0, 1, 0, 0, 1]), old_file(&[(1, 0), (0, 1)]));
+    assert_eq!(sort_record(&[0; 4], ROOM, WORK), Ok(vec![0; 4]));
+}
+
+#[test]
+fn an_old_record_by_the_old_rules() {
+    for (old, number) in [
+        (&[0; 40_965][..], LONG),
+        (&[], SHORT),
+        (&packed(&[(13, 4_097), (14, 0)]), COUNT),
+        (&packed(&[(13, 0), (14, 8_193)]), COUNT),
+        (&old_file(&[(1, 1), (2, 0)]), STRAY),
+        (&old_file(&[(1, 0), (0, 1), (1, 0)]), TWICE),
+        (&old_file(&[(1, 0), (1, 0), (2, 0)]), TWICE),
+        (&[old_file(&[(1, 0), (0, 1)]), vec![0]].concat(), TAIL),
+        (&packed(&[(13, 0), (14, 0), (5, 1)]), TAIL),
+    ] {
+        assert_eq!(sort_record(old, ROOM, WORK), no(number, RECORD));
+        assert_eq!(sort_record(old, 0, WORK - 1), no(DESK, 0));
+    }
 }

@@ -1,11 +1,11 @@
 -- `containment::query::write_graph` meets its contract.
-use Rattle.containment.proofs.QueryLaws.{fair, graphed, not-refused}
+use Rattle.containment.proofs.QueryLaws.{graphed, not-refused}
 use borrow.Author.Needs.{needs}
 use Rattle.containment.proofs.query.write_graph.Statement.{statement}
 use Rattle.containment.proofs.query.write_graph.Tie as tie
 
 graph-fields-requires : tie.Need-graph-fields-requires
-graph-fields-requires c κs = fair (c .before .before .pre .0)
+graph-fields-requires c κs = let pre = c .before .before .before .pre in (pre .0, pre .1)
 
 sub-judge-record-fields : tie.Need-sub-judge-record-fields
 sub-judge-record-fields c = search needs
@@ -33,8 +33,8 @@ same-length-2 c = search needs
 
 returns : tie.Need-returns
 returns c =
-    let graph-fields = c .before .before .before .before .before .before .before .before .before .before .before .before .before .graph-fields in
-    let judge-record-fields = c .before .before .before .before .before .before .before .judge-record-fields in
+    let graph-fields = c .before .before .before .before .before .before .before .before .before .before .before .before .graph-fields in
+    let judge-record-fields = c .before .before .before .before .before .judge-record-fields in
     let r = c .before .r in
     let q = rw (r .given .1) at (judge-record-fields .ensures) in
     λ t. graphed t _ (graph-fields .ensures) q
@@ -47,8 +47,8 @@ same-length-4 c = search needs
 
 returns-2 : tie.Need-returns-2
 returns-2 c =
-    let graph-fields = c .before .before .before .before .before .before .before .before .before .before .before .before .graph-fields in
-    let judge-record-fields = c .before .before .before .before .before .before .judge-record-fields in
+    let graph-fields = c .before .before .before .before .before .before .before .before .before .before .before .graph-fields in
+    let judge-record-fields = c .before .before .before .before .judge-record-fields in
     let q = rw (c .enum-told .given .1) at (judge-record-fields .ensures) in
     λ t. not-refused t _ (graph-fields .ensures) (q .0)
 

@@ -28,14 +28,11 @@ enum-known-p c = search needs
 same-length : tie.Need-same-length
 same-length c = search needs
 
-same-length-2 : tie.Need-same-length-2
-same-length-2 c = search needs
-
 returns : tie.Need-returns
 unfolding recordWritten
 returns c =
-    let args = c .before .before .before .before .before .before .before .before .before .before .before .before .before .before .args in
-    let judge-record-fields = c .before .before .before .before .before .before .before .before .judge-record-fields in
+    let args = c .before .before .before .before .before .before .before .before .before .before .args in
+    let judge-record-fields = c .before .before .before .before .before .before .judge-record-fields in
     let p = c .before .before .p in
     let j = judge-record-fields in
     let a = args in
@@ -49,20 +46,17 @@ judge-record-fields-requires-2 c κs = search needs
 enum-known-p-2 : tie.Need-enum-known-p-2
 enum-known-p-2 c = search needs
 
-same-length-3 : tie.Need-same-length-3
-same-length-3 c = search needs
-
-same-length-4 : tie.Need-same-length-4
-same-length-4 c = search needs
+same-length-2 : tie.Need-same-length-2
+same-length-2 c = search needs
 
 returns-2 : tie.Need-returns-2
 unfolding recordWritten
 returns-2 c =
-    let args = c .before .before .before .before .before .before .before .before .before .before .before .before .before .before .before .before .before .before .before .before .before .args in
-    let judge-record-fields = c .before .before .before .before .before .before .before .before .before .before .before .before .before .before .before .judge-record-fields in
-    let p = c .before .before .before .before .before .before .before .before .before .p in
-    let if1 = c .before .before .before .before .before .before .before .if1 in
-    let judge-record-fields2 = c .before .before .before .before .judge-record-fields2 in
+    let args = c .before .before .before .before .before .before .before .before .before .before .before .before .before .before .args in
+    let judge-record-fields = c .before .before .before .before .before .before .before .before .before .before .judge-record-fields in
+    let p = c .before .before .before .before .before .before .p in
+    let if1 = c .before .before .before .before .if1 in
+    let judge-record-fields2 = c .before .before .judge-record-fields2 in
     let j = judge-record-fields in
     let a = args in
     let q = rw (p .given .1) at (j .ensures) in
@@ -70,17 +64,14 @@ returns-2 c =
     (fitted-given fit-fits (a .out .now) (q .fields) (none-lent (a .out .now) (j .last .1 .0) (j .kept .1 .0)) refl (q .number) (le-ltb _ _ (if1 .left))
     (judges-fields-front (encode record′ (a .fields .now)) 3 (judge-record-fields2 .result) (q .fields) _ _ (judge-record-fields2 .ensures) (q .is)))
 
-same-length-5 : tie.Need-same-length-5
-same-length-5 c = search needs
-
-same-length-6 : tie.Need-same-length-6
-same-length-6 c = search needs
+same-length-3 : tie.Need-same-length-3
+same-length-3 c = search needs
 
 returns-3 : tie.Need-returns-3
 unfolding recordWritten
 returns-3 c =
-    let args = c .before .before .before .before .before .before .before .before .before .before .before .before .before .args in
-    let judge-record-fields = c .before .before .before .before .before .before .before .judge-record-fields in
+    let args = c .before .before .before .before .before .before .before .before .before .args in
+    let judge-record-fields = c .before .before .before .before .before .judge-record-fields in
     let p2 = c .before .p2 in
     let j = judge-record-fields in
     let a = args in
@@ -97,13 +88,10 @@ write-record-spec =
     judge-record-fields-requires
     enum-known-p
     same-length
-    same-length-2
     returns
     judge-record-fields-requires-2
     enum-known-p-2
-    same-length-3
-    same-length-4
+    same-length-2
     returns-2
-    same-length-5
-    same-length-6
+    same-length-3
     returns-3)

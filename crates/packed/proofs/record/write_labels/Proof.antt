@@ -8,7 +8,7 @@ use Rattle.packed.specs.Format.{times}
 use Rattle.packed.specs.Formats.{labels}
 use Rattle.packed.specs.Writing.{Writing}
 use Rattle.packed.proofs.WritingLaws.{begins, left-to, writes, rejected}
-use Rattle.packed.proofs.LoadingLaws.{labels-next, labels-none}
+use Rattle.packed.proofs.Records.{labels-next, labels-none}
 use Rattle.packed.proofs.record.write_labels.Statement.{statement}
 use Rattle.packed.proofs.record.write_labels.Tie as tie
 

@@ -1,0 +1,91 @@
+-- The converter: what it writes is accepted, and means the same record.
+use Prim.Native.Nat.{ℕ, suc, _+_}
+use mathlib.Core.Path.{_≡_, refl, sym, ap, ap₂, subst, _∙_}
+use mathlib.Core.Bool.{Bool}
+use mathlib.Core.List.{List, _∷_, _++_}
+use lib.ListN.{take, drop, getD}
+use lib.Seq.{take-at, drop-at}
+use native.Mathlib.Omega.{arith}
+use Rattle.packed.specs.Formats.{record′}
+use Rattle.packed.specs.Contents.{sortedEnds}
+use Rattle.packed.specs.Plain.{PlainEdges, PlainGraph}
+use Rattle.packed.specs.OldRecord.{oldRecord, sortedFields, recordSorted}
+use Rattle.packed.specs.Calls.{accepted, readRecord, recordWritten, fit}
+use Rattle.packed.proofs.CallLaws.{read-says, write-finds, accepted-by, judged-accepted}
+use Rattle.packed.proofs.Accepted.{old-accepted, record-accepted, record-read}
+use Rattle.packed.proofs.SortedEdges.{sorted-plain}
+use Rattle.matching.specs.Simulation.{edgesIn, graphOf}
+use Rattle.matching.specs.Search.{sheetBytes}
+use Rattle.matching.proofs.SortedGraphs.{Alike, ends-narrow, sorted-in, alike-sets, alike-views}
+use Rattle.containment.specs.Show.{recordBytes}
+use Rattle.containment.specs.Demands.{OldFile, Sorting}
+use Rattle.containment.proofs.QueryGraph.{Made, record-made, made-within, graph, graph-is}
+
+-- the content of an old record by its parts
+module _ {ws : List ℕ} {bs : List Bool} (p : PlainGraph PlainEdges ws bs) where
+  abbrev parts : List ℕ → List ℕ
+  parts ends = p .nodes ∷ p .number ∷ (p .labels ++ ends)
+
+  abbrev sorted : List ℕ
+  sorted = sortedEnds (p .ends)
+
+  sorted-parts : sortedFields ws ≡ parts sorted
+  unfolding sortedFields
+  sorted-parts =
+      let z : 2 + p .nodes ≡ suc (suc (p .nodes)) = omega arith in
+      ap (λ (l : List ℕ). take (2 + getD l 0 0) l ++ sortedEnds (drop (2 + getD l 0 0) l)) (p .content)
+      ∙ ap (λ (k : ℕ). take k (parts (p .ends)) ++ sortedEnds (drop k (parts (p .ends)))) z
+      ∙ ap₂ (λ (x y : List ℕ). (p .nodes ∷ p .number ∷ x) ++ sortedEnds y) (take-at (p .labels) (p .ends) (p .nodes) (p .labels-each)) (drop-at (p .labels) (p .ends) (p .nodes) (p .labels-each))
+
+  sorted-made : Made 40964 (sortedFields ws)
+  sorted-made =
+      subst (Made 40964) (sym sorted-parts)
+      (made-within (omega (arith, p .most-nodes, p .most-edges))
+      (record-made (p .nodes) (p .number) (p .labels) sorted (p .most-nodes) (p .most-edges) (p .labels-each) (p .are-labels) (sorted-plain (p .most-nodes) (p .edges))))
+
+  graph-old : graphOf ws ≡ graph (p .labels) (edgesIn (p .ends))
+  graph-old = ap graphOf (p .content) ∙ graph-is (p .nodes) (p .number) (p .labels) (p .ends) (p .labels-each)
+
+  graph-sorted : graphOf (sortedFields ws) ≡ graph (p .labels) (edgesIn sorted)
+  graph-sorted = ap graphOf sorted-parts ∙ graph-is (p .nodes) (p .number) (p .labels) sorted (p .labels-each)
+
+  sorted-alike : Alike (graphOf (sortedFields ws)) (graphOf ws)
+  sorted-alike =
+      let n = ends-narrow (p .ends) (p .nodes) (p .number) (p .most-nodes) (p .edges) in
+      rw (graph-sorted, graph-old) (
+        record { same-labels = refl; more = λ f i. sorted-in (p .ends) n f .0 i },
+        record { same-labels = refl; more = λ f i. sorted-in (p .ends) n f .1 i },
+      )
+
+module _ (s ws : List ℕ) (old : OldFile s ws) where
+  body : List Bool
+  body = old-accepted s ws .0 (read-says 40964 3 oldRecord s ws old .0) .body
+
+  plain : PlainGraph PlainEdges ws body
+  unfolding body
+  plain = old-accepted s ws .0 (read-says 40964 3 oldRecord s ws old .0) .laid
+
+  made : Made 40964 (sortedFields ws)
+  made = sorted-made plain
+
+  alike : Alike (graphOf (sortedFields ws)) (graphOf ws)
+  alike = sorted-alike plain
+
+  gives : (room : ℕ) → recordSorted s room ≡ fit room (recordBytes (sortedFields ws))
+  unfolding recordSorted recordWritten
+  gives room =
+      judged-accepted (λ fs. recordWritten (sortedFields fs) room) old
+      ∙ judged-accepted (fit room) (accepted-by (write-finds 3 record′ (sortedFields ws)) (made .is))
+
+  is-record : readRecord (recordBytes (sortedFields ws)) ≡ accepted (sortedFields ws)
+  is-record = record-read (recordBytes (sortedFields ws)) (sortedFields ws) .1 (made .size, record-accepted (recordBytes (sortedFields ws)) (sortedFields ws) .0 (made .back))
+
+pub sorting : Sorting
+sorting = record {
+  gives = gives;
+  is-record = is-record;
+  items = λ s ws o. alike s ws o .0 .same-labels;
+  links = λ s ws o f. (alike s ws o .0 .more f, alike s ws o .1 .more f);
+  sheets = λ s ws o P. ap sheetBytes (alike-sets P (graphOf (sortedFields ws)) (graphOf ws) (alike s ws o));
+  extract-sheets = λ s ws o P. ap sheetBytes (alike-views P (graphOf (sortedFields ws)) (graphOf ws) (alike s ws o));
+}
