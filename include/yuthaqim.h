@@ -1,26 +1,28 @@
 /*
- * Yuthaqim from C: files of patterns, catalogues, records, sheets and books; searching a record, quoting a question,
- * finding the cheapest extracts for it, answering it from a book, and showing why it is uncovered.
+ * Yuthaqim from C: files of patterns, catalogues, records, sheets and books; searching a record, by an index beside it
+ * too, quoting a question, finding the cheapest extracts for it, answering it from a book, and showing why it is
+ * uncovered.
  *
  * Every function of this header is proved to meet its contract for every input: see crates/yuthaqim/src/lib.rt.
  *
  * What is lent. A call is lent its inputs, its outputs and words to work in, each as a pointer and a length. Lengths of
- * bytes count bytes, lengths of words count words of 32 bits. There is no heap and no state between calls: calls that
- * are lent different memory may run at the same time.
+ * bytes count bytes, lengths of words count words of 32 bits, lengths of indexes count entries of 16 bits. There is no
+ * heap and no state between calls: calls that are lent different memory may run at the same time.
  *
  *  - No pointer may be null, not even one with the length 0: nothing is read or written behind that one, and any
  *    aligned address serves.
- *  - A pointer to words is aligned to 4, as a uint32_t is. A pointer to bytes may be any.
+ *  - A pointer to words is aligned to 4, as a uint32_t is, one to entries to 2, as a uint16_t is. A pointer to bytes may
+ *    be any.
  *  - What is lent for writing, an output or the words to work in, overlaps nothing else that the call is lent.
  *
  * What is left in it. Inputs are only read. Where a call answers the number 0 its output begins with what was written
- * and keeps its bytes or words beyond that; on a refusal it keeps all of them. The words to work in may hold anything
+ * and keeps its bytes, words or entries beyond that; on a refusal it keeps all of them. The words to work in may hold anything
  * before a call. Afterwards the first YUTHAQIM_WORK_WORDS of them are zero and those beyond are as they were; on
  * YUTHAQIM_DESK all of them are as they were.
  *
- * The stack, as measured on large files: answering 93,836 bytes, making a book 87,400, searching 86,616, quoting
- * 47,148, the cheapest set 43,276, showing 43,180, reading a book 4,792, writing one 4,552, reading and writing a
- * record under 2,500, the others under 1,500. So 96 KB suffice.
+ * The stack, as measured on large files: answering 93,836 bytes, making a book 87,400, searching 86,616, by an index
+ * 77,928, quoting 47,148, the cheapest set 43,276, showing 43,180, reading a book 4,792, writing one 4,552, reading and
+ * writing a record, making and checking an index under 2,500, the others under 1,500. So 96 KB suffice.
  *
  * Content is a file's fields in order, one word each, padding left out.
  */
@@ -51,8 +53,11 @@ extern "C" {
 #define YUTHAQIM_SHEET_WORDS 43690
 #define YUTHAQIM_BOOK_WORDS 43690
 
+/* The most entries of a record's index. */
+#define YUTHAQIM_INDEX_ENTRIES 4097
+
 /* The refusals. Where several would fall, YUTHAQIM_DESK comes first, then the faults of the files in the order of a
- * function's parameters, each file front to back, then 10, 15, 11 or 13, and 12. */
+ * function's parameters, each file front to back, 16 right after the record, then 10, 15, 11 or 13, and 12. */
 enum {
     YUTHAQIM_LONG = 1,       /* long: a file is over its most bytes */
     YUTHAQIM_SHORT = 2,      /* short: its bits, or a writer's words, end before a field does */
@@ -70,12 +75,14 @@ enum {
     YUTHAQIM_NO_FIT = 12,    /* no fit: an output needs more than was lent, or a sheet or book over 65,536 bytes */
     YUTHAQIM_COVERED = 13,   /* covered: a showing was wanted for a covered question */
     YUTHAQIM_DESK = 14,      /* desk: fewer than YUTHAQIM_WORK_WORDS words were lent to work in */
-    YUTHAQIM_CHARGES = 15    /* charges: there isn't one charge for each extract of the catalogue */
+    YUTHAQIM_CHARGES = 15,   /* charges: there isn't one charge for each extract of the catalogue */
+    YUTHAQIM_INDEX = 16      /* index: the lent index isn't the record's own */
 };
 
 /* The detail of a refusal: of 1 to 10 one of these, the file at fault; of 11 the lowest unmatched link; of 12 the bytes
- * that the first output without room needs, or the words where content is the output; of 13 and 14 zero; of 15 the
- * number of charges. */
+ * that the first output without room needs, or the words where content is the output, or the entries where an index is;
+ * of 13 and 14 zero; of 15 the number of charges; of 16 the number of entries if that is wrong, else the first position,
+ * from 0, that differs. */
 enum {
     YUTHAQIM_IN_PATTERN = 1, /* the question, or another lone pattern */
     YUTHAQIM_IN_CATALOGUE = 2,
@@ -86,7 +93,7 @@ enum {
 /* The answer of a call with one output. */
 struct yuthaqim_reply {
     size_t number; /* 0, or the refusal's number */
-    size_t value;  /* how much of the output was written, in its bytes or words; or the refusal's detail */
+    size_t value;  /* how much of the output was written, in its bytes, words or entries; or the refusal's detail */
 };
 
 /* A quote. What has no meaning is zero: the detail where the number is 0, all but the number and the detail where it is
@@ -170,6 +177,20 @@ struct yuthaqim_reply yuthaqim_sort_record(const uint8_t *old, size_t old_length
 struct yuthaqim_reply yuthaqim_search(const uint8_t *pattern, size_t pattern_length, const uint8_t *record,
                                       size_t record_length, uint8_t *out, size_t out_length, uint32_t *work,
                                       size_t work_length);
+
+/* Makes the index of a record: for each item the number of links that begin at lower items, then the number of all links.
+ * So a record of n items has n + 1 entries. */
+struct yuthaqim_reply yuthaqim_make_index(const uint8_t *record, size_t record_length, uint16_t *out, size_t out_length,
+                                          uint32_t *work, size_t work_length);
+
+/* Checks an index against a record: gives the number of entries, or 16. It has no output and never gives 12. */
+struct yuthaqim_reply yuthaqim_check_index(const uint8_t *record, size_t record_length, const uint16_t *index,
+                                           size_t index_length, uint32_t *work, size_t work_length);
+
+/* Searches a record for a pattern by the record's index: writes the sheet that a search without one gives. */
+struct yuthaqim_reply yuthaqim_search_indexed(const uint8_t *pattern, size_t pattern_length, const uint8_t *record,
+                                              size_t record_length, const uint16_t *index, size_t index_length,
+                                              uint8_t *out, size_t out_length, uint32_t *work, size_t work_length);
 
 /* Makes the book of a catalogue from a record: writes a sheet for each extract. */
 struct yuthaqim_reply yuthaqim_make_book(const uint8_t *catalogue, size_t catalogue_length, const uint8_t *record,

@@ -2,12 +2,15 @@
 
 use crate::baseline;
 use std::hint::black_box;
-use yuthaqim::{BOOK_BYTES, BOOK_WORDS, WORK_WORDS};
+use yuthaqim::{BOOK_BYTES, BOOK_WORDS, INDEX_ENTRIES, WORK_WORDS};
 
 #[derive(Clone, Copy, Debug, PartialEq, Eq)]
 pub enum Call {
     ReadRecord,
+    MakeIndex,
+    CheckIndex,
     Search,
+    SearchIndexed,
     MakeBook,
     ReadBook,
     Answer,
@@ -17,14 +20,27 @@ pub enum Call {
 }
 
 /// Those that are measured on the workloads. The cheapest set has workloads of its own.
-pub const CALLS: [Call; 7] =
-    [Call::ReadRecord, Call::Search, Call::MakeBook, Call::ReadBook, Call::Answer, Call::AnswerBySort, Call::Quote];
+pub const CALLS: [Call; 10] = [
+    Call::ReadRecord,
+    Call::MakeIndex,
+    Call::CheckIndex,
+    Call::Search,
+    Call::SearchIndexed,
+    Call::MakeBook,
+    Call::ReadBook,
+    Call::Answer,
+    Call::AnswerBySort,
+    Call::Quote,
+];
 
 impl Call {
     pub fn name(self) -> &'static str {
         match self {
             Call::ReadRecord => "read a record",
+            Call::MakeIndex => "make an index",
+            Call::CheckIndex => "check an index",
             Call::Search => "search",
+            Call::SearchIndexed => "search by index, beside without",
             Call::MakeBook => "make a book",
             Call::ReadBook => "read a book",
             Call::Answer => "answer",
@@ -39,6 +55,7 @@ impl Call {
 #[derive(Default)]
 pub struct Files {
     pub record: Vec<u8>,
+    pub index: Vec<u16>,
     pub question: Vec<u8>,
     pub catalogue: Vec<u8>,
     pub book: Vec<u8>,
@@ -50,6 +67,7 @@ pub struct Files {
 pub struct Desk {
     words: Vec<u32>,
     bytes: Vec<u8>,
+    entries: Vec<u16>,
     work: Vec<u32>,
 }
 
@@ -58,6 +76,8 @@ pub struct Desk {
 pub enum Outcome {
     Words(Vec<u32>),
     Bytes(Vec<u8>),
+    Entries(Vec<u16>),
+    Checked(usize),
     Quote(Box<baseline::Quote>),
     Cheapest(yuthaqim::Cheapest),
     Refused(usize, usize),
@@ -65,16 +85,20 @@ pub enum Outcome {
 
 impl Desk {
     pub fn new() -> Desk {
-        Desk { words: vec![0; BOOK_WORDS], bytes: vec![0; BOOK_BYTES], work: vec![0; WORK_WORDS] }
+        let (words, bytes) = (vec![0; BOOK_WORDS], vec![0; BOOK_BYTES]);
+        Desk { words, bytes, entries: vec![0; INDEX_ENTRIES], work: vec![0; WORK_WORDS] }
     }
 
-    /// A call that gives content or a file: how much it wrote.
+    /// A call that gives content, a file or an index: how much it wrote. The check gives how many entries there are.
     fn length(&mut self, call: Call, files: &Files) -> Result<usize, yuthaqim::Refusal> {
-        let Files { record, question, catalogue, book, .. } = files;
-        let Desk { words, bytes, work } = self;
+        let Files { record, index, question, catalogue, book, .. } = files;
+        let Desk { words, bytes, entries, work } = self;
         match call {
             Call::ReadRecord => yuthaqim::read_record(record, words, work),
+            Call::MakeIndex => yuthaqim::make_index(record, entries, work),
+            Call::CheckIndex => yuthaqim::check_index(record, index, work),
             Call::Search => yuthaqim::search(question, record, bytes, work),
+            Call::SearchIndexed => yuthaqim::search_indexed(question, record, index, bytes, work),
             Call::MakeBook => yuthaqim::make_book(catalogue, record, bytes, work),
             Call::ReadBook => yuthaqim::read_book(catalogue, book, words, work),
             Call::Answer | Call::AnswerBySort => yuthaqim::answer(question, catalogue, book, bytes, work),
@@ -106,6 +130,8 @@ impl Desk {
             Call::ReadRecord | Call::ReadBook => {
                 self.length(call, files).map(|length| Outcome::Words(self.words[..length].to_vec()))
             }
+            Call::MakeIndex => self.length(call, files).map(|length| Outcome::Entries(self.entries[..length].to_vec())),
+            Call::CheckIndex => self.length(call, files).map(Outcome::Checked),
             _ => self.length(call, files).map(|length| Outcome::Bytes(self.bytes[..length].to_vec())),
         };
         outcome.unwrap_or_else(|refusal| Outcome::Refused(refusal.number, refusal.detail))
@@ -122,12 +148,14 @@ impl Desk {
     }
 }
 
-/// The same call by the baseline.
+/// The same call by the baseline, which searches without an index.
 pub fn baseline_outcome(call: Call, files: &Files) -> Outcome {
-    let Files { record, question, catalogue, book, charges } = files;
+    let Files { record, index, question, catalogue, book, charges } = files;
     let outcome = match call {
         Call::ReadRecord => baseline::read_record(record, BOOK_WORDS).map(Outcome::Words),
-        Call::Search => baseline::search(question, record, BOOK_BYTES).map(Outcome::Bytes),
+        Call::MakeIndex => baseline::make_index(record, INDEX_ENTRIES).map(Outcome::Entries),
+        Call::CheckIndex => baseline::check_index(record, index).map(Outcome::Checked),
+        Call::Search | Call::SearchIndexed => baseline::search(question, record, BOOK_BYTES).map(Outcome::Bytes),
         Call::MakeBook => baseline::make_book(catalogue, record, BOOK_BYTES).map(Outcome::Bytes),
         Call::ReadBook => baseline::read_book(catalogue, book, BOOK_WORDS).map(Outcome::Words),
         Call::Answer => baseline::answer(question, catalogue, book, BOOK_BYTES).map(Outcome::Bytes),

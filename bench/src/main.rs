@@ -38,7 +38,10 @@ fn files_of(workload: &Workload, desk: &mut Desk) -> Files {
     let Outcome::Bytes(book) = desk.outcome(Call::MakeBook, &files) else {
         panic!("the book of {} doesn't fit", workload.name);
     };
-    files.book = book;
+    let Outcome::Entries(index) = desk.outcome(Call::MakeIndex, &files) else {
+        panic!("there is no index of {}", workload.name);
+    };
+    (files.book, files.index) = (book, index);
     files
 }
 
@@ -89,10 +92,13 @@ fn case_of<'a>(
     let what = format!("{}, {workload}, {size}", call.name());
     compare(&what, desk.borrow_mut().outcome(call, &files), baseline_outcome(call, &files));
     Case::new((call.name(), workload), (size, part), move |Order { product_first, number }| {
-        let mut desk = desk.borrow_mut();
-        let mut product = || timed(number, || desk.run(call, &files));
-        let first = product_first.then(&mut product);
-        let baseline = timed(number, || drop(black_box(baseline_outcome(call, &files))));
+        let product = || timed(number, || desk.borrow_mut().run(call, &files));
+        let first = product_first.then(product);
+        let baseline = match call {
+            // Beside the library's own search without an index.
+            Call::SearchIndexed => timed(number, || desk.borrow_mut().run(Call::Search, &files)),
+            _ => timed(number, || drop(black_box(baseline_outcome(call, &files)))),
+        };
         Turn { product: first.unwrap_or_else(product), other: Time::default(), baseline }
     })
 }

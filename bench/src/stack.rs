@@ -41,7 +41,7 @@ fn depth(mut job: Job) -> usize {
 
 /// The stack that each call takes of the files of a workload.
 fn depths(files: &Files) -> Vec<(&'static str, usize)> {
-    let Files { record, question, catalogue, book, .. } = files;
+    let Files { record, index, question, catalogue, book, .. } = files;
     let mut work = vec![0; WORK_WORDS];
     let mut sheet = vec![0; SHEET_BYTES];
     let length = search(question, record, &mut sheet, &mut work).expect("a sheet");
@@ -61,6 +61,7 @@ fn depths(files: &Files) -> Vec<(&'static str, usize)> {
     let mut words = vec![0; BOOK_WORDS];
     let mut bytes = vec![0; BOOK_BYTES];
     let mut more = vec![0; BOOK_BYTES];
+    let mut entries = vec![0; INDEX_ENTRIES];
     let mut found = Vec::new();
     macro_rules! measure {
         ($($name:literal: $call:expr;)*) => {
@@ -84,6 +85,9 @@ fn depths(files: &Files) -> Vec<(&'static str, usize)> {
         "write a book": write_book(catalogue, &book_words, &mut bytes, &mut work);
         "sort a record": sort_record(record, &mut bytes, &mut work);
         "search": search(question, record, &mut bytes, &mut work);
+        "make an index": make_index(record, &mut entries, &mut work);
+        "check an index": check_index(record, index, &mut work);
+        "search by index": search_indexed(question, record, index, &mut bytes, &mut work);
         "make a book": make_book(catalogue, record, &mut bytes, &mut work);
         "quote": raw::quote(question, catalogue, &mut work);
         "cheapest set": raw::cheapest(question, catalogue, &charges, &mut work);

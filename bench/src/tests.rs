@@ -4,7 +4,7 @@
 use crate::baseline;
 use crate::workloads::*;
 use model::files::{pack_record, read_book, read_record, Refusal, BOOK_BYTES, WORK_WORDS};
-use model::{answering, cheapest, matching, quoting};
+use model::{answering, cheapest, indexing, matching, quoting};
 
 const ROOM: usize = BOOK_BYTES;
 
@@ -57,6 +57,16 @@ fn without_record(question: &[u8], catalogue: &[u8], book: &[u8]) -> Option<Vec<
 /// Every call. Gives whether the question was answered.
 fn agree(record: &[u8], question: &[u8], catalogue: &[u8]) -> bool {
     same("read a record", baseline::read_record(record, ROOM), read_record(record, ROOM, WORK_WORDS));
+    let index = indexing::make_index(record, ROOM, WORK_WORDS);
+    let mut index = same("make an index", baseline::make_index(record, ROOM), index).unwrap();
+    for _ in 0..3 {
+        let check = indexing::check_index(record, &index, WORK_WORDS);
+        same("check an index", baseline::check_index(record, &index), check);
+        match index.last_mut() {
+            Some(last) if *last != 9_999 => *last = 9_999,
+            _ => drop(index.pop()),
+        }
+    }
     let search = matching::search(question, record, ROOM, WORK_WORDS);
     let sheet = same("search", baseline::search(question, record, ROOM), search);
     let made = matching::make_book(catalogue, record, ROOM, WORK_WORDS);

@@ -34,7 +34,7 @@ impl Workload {
 
 /// The workloads at a size: the full one divided by a power of two up to 8.
 pub fn all(part: usize) -> Vec<Workload> {
-    let makers = [layered, star, chain, cascade, one_kind, nothing, everything];
+    let makers = [layered, star, chain, cascade, hub, one_kind, nothing, everything];
     makers.map(|make| make(ITEMS / part, LINKS / part)).into()
 }
 
@@ -251,6 +251,25 @@ fn cascade(items: usize, _: usize) -> Workload {
     let about = "a chain through all items, numbers shuffled; question of sixteen items of one kind in a ring, which nothing \
                  matches in the end; 15 extracts, 2 of which cascade like it";
     workload("cascade", about, (kinds, links), ring(&zeros), extracts)
+}
+
+/// One item linked to all others, which have one link each at most: they stand in a chain, numbers shuffled, and lose what
+/// they may stand for from its end on, the item with many links last.
+fn hub(items: usize, _: usize) -> Workload {
+    let mut rule = Rule::new(10);
+    let order = rule.order(items);
+    let mut kinds = vec![0; items];
+    for (i, &item) in order.iter().enumerate() {
+        kinds[item] = 1 | 2 << (i % 8);
+    }
+    let mut links: Vec<_> = (1..items).map(|i| (order[0], order[i])).collect();
+    links.extend((2..items).map(|i| (order[i - 1], order[i])));
+    let mut extracts = vec![path(&[0, 0]), ring(&[0]), ring(&[0, 0])];
+    extracts.extend((1..8).map(|kind| path(&[kind, kind + 1])));
+    extracts.extend((1..6).map(|kind| path(&[kind, kind + 1, kind + 2])));
+    let about = "one item linked to all others, which stand in a chain, numbers shuffled; question of a self link, which nothing \
+                 matches in the end; 15 extracts, 2 of which cascade like it";
+    workload("hub", about, (kinds, links), ring(&[0]), extracts)
 }
 
 /// All items of one kind. A sixteenth of them, the core, has two links each within the core; the others stand in three

@@ -30,6 +30,9 @@ static const uint8_t K6_BOOK[] = {0x00, 0x08, 0x00, 0x00, 0x04, 0x00, 0x00, 0x0c
                                   0x00, 0x04, 0x00, 0x10, 0x01, 0x00, 0x20, 0x00, 0x00, 0x00, 0x00};
 static const uint32_t K6_BOOK_FIELDS[] = {2, 0, 1, 0, 3, 1, 0, 1, 1, 1, 2, 0, 0};
 
+/* The index of K6: two links begin at item 0, one at item 1. */
+static const uint16_t K6_INDEX[] = {0, 2, 3, 3, 3};
+
 /* Case K9: a section, a run of kinds {1, 2}, a reading; D lists (0,1), (0,1), (1,2), (1,2). */
 static const uint8_t K9[] = {0x00, 0x18, 0x00, 0x40, 0x00, 0x00, 0x00, 0x20, 0x00, 0x00, 0x00, 0xc0, 0x00, 0x00, 0x01,
                              0x00, 0x00, 0x00, 0x20, 0x02, 0x00, 0x40};
@@ -44,6 +47,7 @@ static uint32_t work[YUTHAQIM_WORK_WORDS + 1];
 static uint8_t bytes[YUTHAQIM_BOOK_BYTES];
 static uint8_t more[YUTHAQIM_RECORD_BYTES];
 static uint32_t words[YUTHAQIM_BOOK_WORDS];
+static uint16_t entries[YUTHAQIM_INDEX_ENTRIES];
 static int failures;
 
 /* What came of a call: its number, and how much was written or the detail. */
@@ -52,12 +56,13 @@ static void expect(const char *what, size_t number, size_t value, int holds) {
     failures += !holds;
 }
 
-/* Every word to work in and every byte and word of the outputs is marked before a call. */
+/* Every word to work in and every byte, word and entry of the outputs is marked before a call. */
 static void mark(void) {
     memset(work, 0xa5, sizeof work);
     memset(bytes, 0xa5, sizeof bytes);
     memset(more, 0xa5, sizeof more);
     memset(words, 0xa5, sizeof words);
+    memset(entries, 0xa5, sizeof entries);
 }
 
 static int are_marks(const void *memory, size_t from, size_t to) {
@@ -97,7 +102,8 @@ static void expect_bytes(const char *what, struct yuthaqim_reply r, const uint8_
 
 /* A refusal leaves the outputs as they were. */
 static void expect_refusal(const char *what, size_t number, size_t value, size_t is_number, size_t is_value) {
-    int kept = are_marks(bytes, 0, sizeof bytes) && are_marks(more, 0, sizeof more) && are_marks(words, 0, sizeof words);
+    int kept = are_marks(bytes, 0, sizeof bytes) && are_marks(more, 0, sizeof more) &&
+               are_marks(words, 0, sizeof words) && are_marks(entries, 0, sizeof entries);
     expect(what, number, value, number == is_number && value == is_value && kept);
 }
 
@@ -188,6 +194,63 @@ static void matching(void) {
     expect_bytes("search: D on K9",
                  yuthaqim_search(D, sizeof D, K9, sizeof K9, bytes, sizeof bytes, work, LENGTH(work)), K9_SHEET,
                  sizeof K9_SHEET);
+}
+
+/* An index of K6 that isn't its own: what a check and a search by it say. */
+static void expect_no_index(const char *what, const uint16_t *index, size_t length, size_t detail) {
+    struct yuthaqim_reply c, s;
+
+    mark();
+    c = yuthaqim_check_index(K6, sizeof K6, index, length, work, LENGTH(work));
+    expect_refusal(what, c.number, c.value, YUTHAQIM_INDEX, detail);
+    s = yuthaqim_search_indexed(SLOW, sizeof SLOW, K6, sizeof K6, index, length, bytes, sizeof bytes, work,
+                                LENGTH(work));
+    expect_refusal("  and a search by it", s.number, s.value, YUTHAQIM_INDEX, detail);
+}
+
+static void indexing(void) {
+    static const uint8_t no_items[] = {0, 0, 0, 0};
+    static const uint16_t zero[] = {0};
+    static const uint16_t first[] = {1, 2, 3, 3, 3}, middle[] = {0, 2, 2, 3, 3}, last[] = {0, 2, 3, 3, 4};
+    static const uint16_t longer[] = {0, 2, 3, 3, 3, 3};
+    struct yuthaqim_reply r;
+
+    mark();
+    r = yuthaqim_make_index(K6, sizeof K6, entries, LENGTH(entries), work, LENGTH(work));
+    expect("make_index: K6", r.number, r.value,
+           r.number == 0 && r.value == LENGTH(K6_INDEX) &&
+               is_written(entries, sizeof entries, K6_INDEX, sizeof K6_INDEX));
+    mark();
+    r = yuthaqim_make_index(no_items, sizeof no_items, entries, 1, work, LENGTH(work));
+    expect("make_index: a record of no items", r.number, r.value,
+           r.number == 0 && r.value == 1 && is_written(entries, sizeof entries, zero, sizeof zero));
+    mark();
+    r = yuthaqim_make_index(K6, sizeof K6, entries, LENGTH(K6_INDEX) - 1, work, LENGTH(work));
+    expect_refusal("make_index: no room", r.number, r.value, YUTHAQIM_NO_FIT, LENGTH(K6_INDEX));
+    mark();
+    r = yuthaqim_check_index(K6, sizeof K6, K6_INDEX, LENGTH(K6_INDEX), work, LENGTH(work));
+    expect("check_index: K6", r.number, r.value, r.number == 0 && r.value == LENGTH(K6_INDEX) && is_cleared());
+    mark();
+    expect_bytes("search_indexed: extract 1 on K6",
+                 yuthaqim_search_indexed(SLOW, sizeof SLOW, K6, sizeof K6, K6_INDEX, LENGTH(K6_INDEX), bytes,
+                                         sizeof bytes, work, LENGTH(work)),
+                 K6_SHEET, sizeof K6_SHEET);
+    expect_no_index("check_index: no entries", zero, 0, 0);
+    expect_no_index("check_index: one entry", zero, 1, 1);
+    expect_no_index("check_index: an entry more", longer, LENGTH(longer), 6);
+    expect_no_index("check_index: the first entry is another", first, LENGTH(first), 0);
+    expect_no_index("check_index: a middle entry is another", middle, LENGTH(middle), 2);
+    expect_no_index("check_index: the last entry is another", last, LENGTH(last), 4);
+    mark();
+    r = yuthaqim_search_indexed(SLOW, sizeof SLOW, K6, sizeof K6 - 1, last, LENGTH(last), bytes, 0, work, LENGTH(work));
+    expect_refusal("search_indexed: the record stands first", r.number, r.value, YUTHAQIM_SHORT, YUTHAQIM_IN_RECORD);
+    mark();
+    r = yuthaqim_search_indexed(SLOW, sizeof SLOW, K6, sizeof K6, last, LENGTH(last), bytes, 0, work, LENGTH(work));
+    expect_refusal("search_indexed: the index before the room", r.number, r.value, YUTHAQIM_INDEX, 4);
+    mark();
+    r = yuthaqim_search_indexed(SLOW, sizeof SLOW, K6, sizeof K6, K6_INDEX, LENGTH(K6_INDEX), bytes,
+                                sizeof K6_SHEET - 1, work, LENGTH(work));
+    expect_refusal("search_indexed: no room", r.number, r.value, YUTHAQIM_NO_FIT, sizeof K6_SHEET);
 }
 
 /* Whether the quote has this mask, and how many of its masks are not zero. */
@@ -368,6 +431,7 @@ int main(void) {
     files();
     sorting();
     matching();
+    indexing();
     quoting();
     charging();
     answering();

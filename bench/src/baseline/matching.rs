@@ -4,7 +4,7 @@
 use super::bits::Writer;
 use super::files::*;
 use super::{give, Refusal};
-use yuthaqim::SHEET_BYTES;
+use yuthaqim::{INDEX, SHEET_BYTES};
 
 /// A set of a pattern's items, or of its links.
 pub type Items = u16;
@@ -161,4 +161,31 @@ pub fn make_book(catalogue: &[u8], record: &[u8], room: usize) -> Result<Vec<u8>
     let mut writer = Writer::default();
     catalogue.iter().for_each(|extract| write_matches(extract, &graph, &mut writer));
     give(writer.bytes(), room.min(SHEET_BYTES))
+}
+
+/// For each item the number of links that begin at lower items, then the number of all.
+fn index_of(record: &Record) -> Vec<u16> {
+    let mut index = vec![0; record.kinds.len() + 1];
+    record.links.iter().for_each(|&link| index[ends(link).0 + 1] += 1);
+    for v in 1..index.len() {
+        index[v] += index[v - 1];
+    }
+    index
+}
+
+/// Makes the index of a record.
+pub fn make_index(record: &[u8], room: usize) -> Result<Vec<u16>, Refusal> {
+    give(index_of(&parse_record(record)?), room)
+}
+
+/// Checks an index against a record: gives the number of its entries.
+pub fn check_index(record: &[u8], index: &[u16]) -> Result<usize, Refusal> {
+    let own = index_of(&parse_record(record)?);
+    if index.len() != own.len() {
+        return Err((INDEX, index.len()));
+    }
+    match index.iter().zip(&own).position(|(entry, own)| entry != own) {
+        Some(position) => Err((INDEX, position)),
+        None => Ok(own.len()),
+    }
 }

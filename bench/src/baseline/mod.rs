@@ -13,7 +13,7 @@ mod quoting;
 pub use answering::{answer, answer_by_sorting};
 pub use bits::Writer;
 pub use files::{different_pairs, parse_book, parse_catalogue, read_book, read_record};
-pub use matching::{make_book, search};
+pub use matching::{check_index, make_book, make_index, search};
 pub use quoting::{cheapest, quote, Quote};
 
 /// A refusal's number and detail.

@@ -1,6 +1,6 @@
 // Finds the cheapest extracts of the file `catalogue` that cover the file `question`, by the file `charges`, which has a decimal number a line
 // for each extract, all in the folder it is run in. Prints them and what they cost.
-ghost use Prim.Native.Nat.{_<_, _≤_};
+ghost use Prim.Native.Nat.{_<_};
 use containment::costing::Cheapest;
 use folder::files;
 use folder::lent;
@@ -49,12 +49,6 @@ fn say(c: Cheapest, charges: usize) {
     }
 }
 
-fn least(a: usize, b: usize) -> usize
-    ensures { λ r. ⌜ (r ≤ a) × (r ≤ b) ⌝ }
-{
-    if a < b { a } else { b }
-}
-
 // By the first charges, as many as the file has or the buffer holds.
 fn find(
     question: &[u8],
@@ -63,7 +57,7 @@ fn find(
     count: usize,
     work: &mut [u32],
 ) -> Cheapest {
-    let n = least(count, charges.len());
+    let n = lent::least(count, charges.len());
     containment::cheapest(question, catalogue, &charges[0..n], work)
 }
 

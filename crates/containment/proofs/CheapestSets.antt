@@ -75,6 +75,6 @@ cheapests = record {
   chosen = λ qs cs charges set x h. cheapest-cost (mapping (patternOf qs) (extracts cs)) (edgesOf qs) charges (length (extracts cs)) set (chosenOf qs cs) x (chosen-small _ everyView (edgesOf qs) (length (extracts cs))) (chosen-covers _ everyView (edgesOf qs) (length (extracts cs)) h);
   wrong-charges = λ q c qs cs charges p d words e. wrong-exactly q c qs cs charges p d words e;
   refused = λ q c qs cs charges p d words e. lacks-exactly q c qs cs charges p d words e;
-  answers = λ q c r qs cs rs charges p d f set x l room words. demand-3 .covered-by q c r qs cs rs p d f set (x .covers) l room words;
+  answers = λ way q c r qs cs rs charges p d f set x l room words. demand-3 .covered-by way q c r qs cs rs p d f set (x .covers) l room words;
   only = λ q c charges words f. let t = full-twice _ _ _ (full-words words _ f) in (t .0, t .1, t .2, t .3);
 }

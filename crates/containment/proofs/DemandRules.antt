@@ -326,7 +326,7 @@ fit-number : (room : ℕ) (o : List ℕ) (n d : ℕ) → fit room o ≡ refuse n
 fit-number room o n d e =
     ⊎-elim (λ h. number-same (sym e ∙ fit-tight room o h)) (λ h. absurd (not-refused (sym (fit-given room o h) ∙ e))) (lt-or-ge room (length o))
 
-file-number : (room : ℕ) (o : List ℕ) (n d : ℕ) → fitFile room o ≡ refuse n d → n ≡ 12
+pub file-number : (room : ℕ) (o : List ℕ) (n d : ℕ) → fitFile room o ≡ refuse n d → n ≡ 12
 file-number room o n d e =
     ⊎-elim (λ h. number-same (sym e ∙ file-tight room o (inl h)))
     (λ h. ⊎-elim

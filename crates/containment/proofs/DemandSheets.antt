@@ -59,7 +59,7 @@ answer-size q qs cs b bs p k set =
     rw n at (answer-sheet cs b bs k Q set .size)
 
 -- ---- the order of a record's edges
-judged-same : (v : Verdict) (k l : List ℕ → Outcome) → ((ws : List ℕ) → k ws ≡ l ws) → judged v k ≡ judged v l
+pub judged-same : (v : Verdict) (k l : List ℕ → Outcome) → ((ws : List ℕ) → k ws ≡ l ws) → judged v k ≡ judged v l
 unfolding judged
 judged-same (accepted ws) k l h = h ws
 judged-same (rejected n d) k l h = refl

@@ -24,6 +24,7 @@ use Rattle.containment.proofs.ShowLaws.{lowest-of, shows, shows-book}
 use Rattle.containment.proofs.CoveredBytes.{views-same, question-is, catalogue-is, question-bounds, made-sheets, made-book, answer-alike, coveredIn, answer-search, answer-back, given-file}
 use Rattle.containment.proofs.DemandRules.{not-refused, matched-whole, shown-both, shown-exactly, used-chosen, used-all, used-covers, used-leaves, lowest-plain, refused-by, given-by, refused-exactly}
 use Rattle.containment.proofs.DemandSheets.{answer-size}
+use Rattle.containment.proofs.DemandIndex.{way-same}
 use Rattle.containment.proofs.DemandJoin.{answer-joins}
 
 module _ (q c qs cs : List ℕ) (p : Question q qs) (d : Catalogue c cs) where
@@ -133,10 +134,11 @@ no-function q c qs cs p d n F h =
 
 pub demand-3 : Demand3
 demand-3 = record {
-  covered-by = λ q c r qs cs rs p d f set h l room words. ap (withWorkspace words) (answer-search q c qs cs p d r rs f (λ _ _. set) h l room);
+  covered-by = λ way q c r qs cs rs p d f set h l room words. ap (withWorkspace words) (answer-search q c qs cs p d r rs f (λ _ _. set) h l room ∙ sym (way-same way q r rs f room));
   refused-by = λ q c b qs cs bs p d k set room words e. refused-exactly q c qs cs p d b bs k (λ _ _. set) room words e;
   lowest-by = λ q c qs cs p d set n. lowest-plain q c qs cs p d set n;
-  covered = λ q c r qs cs rs p d f h l room words. ap (withWorkspace words) (answer-search q c qs cs p d r rs f (usedFor everyView) (used-covers qs cs h) l room);
+  covered = λ way q c r qs cs rs p d f h l room words.
+      ap (withWorkspace words) (answer-search q c qs cs p d r rs f (usedFor everyView) (used-covers qs cs h) l room ∙ sym (way-same way q r rs f room));
   fits = λ c r cs rs d f l. (bookFields (viewSheets cs (graphOf rs)), made-book c r cs rs d f l, made-sheets c r cs rs d f);
   shows = λ q c qs cs p d n room room′ words. ap (withWorkspace words) (shown-both q c qs cs p d n room room′);
   uncovered = λ q c qs cs p d n. shown-by q c qs cs p d n;

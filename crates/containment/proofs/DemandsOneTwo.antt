@@ -19,6 +19,7 @@ use Rattle.packed.proofs.CallRoundTrips.{pattern-back, pattern-again, catalogue
 use Rattle.matching.specs.Lists.{In}
 use Rattle.matching.specs.Simulation.{Pair, Edge, noEdge, Pattern, bit, patternOf, graphOf, asGraph, matchSets, viewSheet}
 use Rattle.matching.specs.Search.{searchOutcome, makeBookOutcome}
+use Rattle.matching.specs.Index.{makeIndexOutcome, checkIndexOutcome, searchIndexedOutcome}
 use Rattle.matching.proofs.SimLaws.{sim-is, sim-most}
 use Rattle.matching.proofs.MatchSetLaws.{view-sheet}
 use Rattle.matching.proofs.Listed.{listed-exactly, matches-related, related-matches}
@@ -30,14 +31,15 @@ use Rattle.containment.specs.Answer.{answerIn, answerBy}
 use Rattle.containment.specs.Cheapest.{cheapestFrom, cheapestFor, cheapestOutcome}
 use Rattle.containment.specs.Show.{showFor, showOutcome}
 use Rattle.containment.specs.Listing.{lineOf, lineOutcome}
-use Rattle.containment.specs.Demands.{Full, Settles, Worked, Demand1, Question, Catalogue, Record, Uncrowded, Book, extracts, extractOf, linkOf, Covered, lacking, chosenOf, Matching, Matched, Demand2}
-use Rattle.containment.proofs.Numbered.{numbered, pattern-faults, catalogue-faults, record-faults, old-faults, sheet-faults, book-faults, gives, refuses, either, workspace-settles, uncrowded-settles, fit-settles, fitFile-settles, fitBoth-settles, read-settles, write-settles}
+use Rattle.containment.specs.Demands.{Full, Settles, Worked, Demand1, Question, Catalogue, Record, ownOf, Uncrowded, Book, extracts, extractOf, linkOf, Covered, lacking, chosenOf, Matching, Matched, Demand2}
+use Rattle.containment.proofs.Numbered.{numbered, pattern-faults, catalogue-faults, record-faults, old-faults, sheet-faults, book-faults, gives, refuses, either, workspace-settles, uncrowded-settles, own-settles, fit-settles, fitFile-settles, fitBoth-settles, read-settles, write-settles}
 use Rattle.containment.proofs.SetBits.{never}
 use Rattle.containment.proofs.ChoiceLaws.{chosen-none, chosen-covers, chosen-needed}
 use Rattle.containment.proofs.CoveredBytes.{coveredBy, question-bounds, few-views, record-is}
 use Rattle.containment.proofs.QuoteLaws.{test-is, mapping-exactly, quote-says-covered}
-use Rattle.containment.proofs.DemandRules.{not-refused, goes-on, bytes-by, few-words, enough-words, enough-for, full-words, full-judged, full-twice, full-uncrowded, fitted-file, fitted-both, pattern-reads, catalogue-reads, record-reads, sheet-reads, book-reads, pattern-writes, catalogue-writes, record-writes, sheet-writes, book-writes, crowded-read, crowded-written, crowded-answer, listed-matched, matched-listed, covers-plain, shown-both, full-shown, given-by, full-answered}
-use Rattle.containment.proofs.DemandSheets.{pair-fields, searched, searched-back, searched-length, book-made, order-sheets, order-books, views-sound}
+use Rattle.containment.proofs.DemandRules.{not-refused, goes-on, bytes-by, few-words, enough-words, enough-for, full-words, full-judged, full-twice, full-uncrowded, fitted, fitted-file, fitted-both, pattern-reads, catalogue-reads, record-reads, sheet-reads, book-reads, pattern-writes, catalogue-writes, record-writes, sheet-writes, book-writes, crowded-read, crowded-written, crowded-answer, listed-matched, matched-listed, covers-plain, shown-both, full-shown, given-by, full-answered}
+use Rattle.containment.proofs.DemandIndex.{index-made, check-exactly, check-yes, search-exactly, check-whole, search-whole, way-same, way-searched}
+use Rattle.containment.proofs.DemandSheets.{pair-fields, searched-back, searched-length, book-made, order-sheets, order-books, views-sound}
 
 -- ---- demand 1
 
@@ -89,7 +91,7 @@ book-exactly cs s ws = (
 )
 
 pub demand-1 : Demand1
-unfolding recordSorted fronts patternRead catalogueRead recordRead sheetRead bookRead patternWritten catalogueWritten recordWritten sheetWritten bookWritten searchOutcome makeBookOutcome quoteOutcome cheapestOutcome answerBy showOutcome lineOutcome toldOf outputsOf
+unfolding recordSorted fronts patternRead catalogueRead recordRead sheetRead bookRead patternWritten catalogueWritten recordWritten sheetWritten bookWritten searchOutcome makeBookOutcome makeIndexOutcome checkIndexOutcome searchIndexedOutcome quoteOutcome cheapestOutcome answerBy showOutcome lineOutcome toldOf outputsOf
 demand-1 = record {
   read-pattern = λ s room words. workspace-settles words (pattern-first s (fit-settles room));
   read-catalogue = λ s room words. workspace-settles words (catalogue-first s (fit-settles room));
@@ -107,6 +109,9 @@ demand-1 = record {
       workspace-settles words
       (catalogue-first c (λ cs. write-settles 4 (book-faults (edgeCounts cs)) ws (λ s. uncrowded-settles (edgeCounts cs) ws (fitFile-settles room s))));
   search = λ p r room words. workspace-settles words (pattern-first p (λ ps. record-first r (λ rs. fitFile-settles room _)));
+  make-index = λ r room words. workspace-settles words (record-first r (λ rs. fit-settles room (ownOf rs)));
+  check-index = λ r index words. workspace-settles words (record-first r (λ rs. own-settles (ownOf rs) index (gives _ [])));
+  search-indexed = λ p r index room words. workspace-settles words (pattern-first p (λ ps. record-first r (λ rs. own-settles (ownOf rs) index (fitFile-settles room _))));
   make-book = λ c r room words. workspace-settles words (catalogue-first c (λ cs. record-first r (λ rs. fitFile-settles room _)));
   quote = λ q c words. workspace-settles words (pattern-first q (λ qs. catalogue-first c (λ cs. gives _ [])));
   cheapest = λ q c charges words. workspace-settles words (pattern-first q (λ qs. catalogue-first c (λ cs. cheapest-settles qs cs charges)));
@@ -135,10 +140,17 @@ demand-1 = record {
   read-crowded = crowded-read;
   write-crowded = crowded-written;
   answer-crowded = crowded-answer;
-  search-gives = λ p r ps rs e f room words. fitted-file _ words room _ (searched p r ps rs e f room);
+  search-gives = λ way p r ps rs e f room words. fitted-file _ words room _ (way-searched way p r ps rs e f room);
   search-only = λ p r room words f. let t = full-twice _ _ _ (full-words words _ f) in (t .0, t .1, t .2, t .3);
+  search-indexed-only = search-whole;
   make-book-gives = λ c r cs rs e f room words. fitted-file _ words room _ (book-made c r cs rs e f room);
   make-book-only = λ c r room words f. let t = full-twice _ _ _ (full-words words _ f) in (t .0, t .1, t .2, t .3);
+  make-index-gives = λ r rs f room words. fitted _ words room _ (index-made r rs f room);
+  make-index-only = λ r room words f. let t = full-judged _ _ (full-words words _ f) in (t .0, t .1);
+  check-accepts = λ r rs index f words. check-yes r rs f index words;
+  check-only = check-whole;
+  check-refuses = λ r rs index f words d. check-exactly r rs f index words d;
+  search-refuses = λ p r ps rs index e f room words d. search-exactly r rs f p ps e index room words d;
   quote-only = λ q c words f. let t = full-twice _ _ _ (full-words words _ f) in (t .0, t .1, t .2, t .3);
   answer-gives = λ choose q c b qs cs bs e f k h room words. fitted-file _ words room _ (given-by q c qs cs e f b bs k choose room h);
   answer-only = λ choose q c b room words f.
@@ -219,8 +231,9 @@ unfolding fieldsOf ends
 demand-2 = record {
   simulates = sim-is;
   greatest = sim-most;
-  searches = searched;
+  searches = way-searched;
   books = book-made;
+  same-either-way = λ way p r rs f room words. ap (withWorkspace words) (way-same way p r rs f room);
   lists = lists-exactly;
   of-extracts = view-sheet;
   sheet-back = λ p r ps rs out e f room words. searched-back p r ps rs e f out room words;

@@ -26,6 +26,7 @@ pub mod Numbered
 -- the demands
 pub mod DemandRules
 pub mod DemandSheets
+pub mod DemandIndex
 pub mod DemandJoin
 pub mod DemandThree
 pub mod DemandsOneTwo

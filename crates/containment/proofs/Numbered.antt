@@ -1,4 +1,4 @@
--- Every refusal has a number from 1 to 15: a file's by its format, and the others by the calls that give them.
+-- Every refusal has a number from 1 to 16: a file's by its format, and the others by the calls that give them.
 use Prim.Native.Nat.{ℕ, zero, suc, _+_, _%_, _^_, _≤_}
 use mathlib.Core.Path.{_≡_, refl}
 use mathlib.Core.Logic.{inl, inr}
@@ -13,17 +13,18 @@ use Rattle.packed.specs.OldRecord.{oldRecord}
 use Rattle.packed.specs.Formats.{code, edges, label, joined, pattern, catalogue, labels, record′, pairs, lists, sheet, book}
 use Rattle.packed.specs.Refusals.{numberOf}
 use Rattle.packed.specs.declared.reply.Refusal.{Refusal}
-use Rattle.packed.specs.declared.reply.Refusal.the-variants.{TooLong, Truncated, OutOfRange, NoSuchNode, DuplicateEdge, NotAscending, IsolatedNode, MixedCounts, Trailing, TooManyPairs, NotContained, NoRoom, Contained, SmallWorkspace, WrongCharges}
+use Rattle.packed.specs.declared.reply.Refusal.the-variants.{TooLong, Truncated, OutOfRange, NoSuchNode, DuplicateEdge, NotAscending, IsolatedNode, MixedCounts, Trailing, TooManyPairs, NotContained, NoRoom, Contained, SmallWorkspace, WrongCharges, WrongIndex}
 use Rattle.packed.specs.Calls.{Outcome, give, refuse, withWorkspace, rejected, inFile, readFile, writeFile, judged, pairsOf, uncrowdedBy, fit, fitFile}
+use Rattle.matching.specs.Index.{alike, ownIndex}
 use Rattle.containment.specs.Show.{fitBoth}
 use Rattle.containment.specs.Demands.{Settles}
 
 pub record Numbered (n : ℕ) : Type 0 where
   pub least : 1 ≤ n
-  pub most : n ≤ 15
+  pub most : n ≤ 16
 
-pub numbered : (n : ℕ) → leb 1 n ≡ true → leb n 15 ≡ true → Numbered n
-numbered n p q = record { least = leb-true 1 n p; most = leb-true n 15 q }
+pub numbered : (n : ℕ) → leb 1 n ≡ true → leb n 16 ≡ true → Numbered n
+numbered n p q = record { least = leb-true 1 n p; most = leb-true n 16 q }
 
 pub refusal-numbered : (x : Refusal) → Numbered (numberOf x)
 refusal-numbered (TooLong d) = numbered 1 refl refl
@@ -41,6 +42,7 @@ refusal-numbered (NoRoom d) = numbered 12 refl refl
 refusal-numbered Contained = numbered 13 refl refl
 refusal-numbered SmallWorkspace = numbered 14 refl refl
 refusal-numbered (WrongCharges d) = numbered 15 refl refl
+refusal-numbered (WrongIndex d) = numbered 16 refl refl
 
 -- ---- formats
 
@@ -196,6 +198,11 @@ workspace-settles words h = either (ltb words 16384) (refuses 0 (numbered 14 ref
 pub uncrowded-settles : (ms ws : List ℕ) {a : Outcome} → Settles a → Settles (uncrowdedBy ms ws a)
 unfolding uncrowdedBy
 uncrowded-settles ms ws h = either (ltb 8192 (length (pairsOf ms ws))) (refuses 4 (numbered 10 refl refl)) h
+
+pub own-settles : (own index : List ℕ) {a : Outcome} → Settles a → Settles (ownIndex own index a)
+unfolding ownIndex
+own-settles own index h =
+    either (eqb (length index) (length own)) (either (eqb (alike own index) (length own)) h (refuses _ (numbered 16 refl refl))) (refuses _ (numbered 16 refl refl))
 
 pub fit-settles : (room : ℕ) (o : List ℕ) → Settles (fit room o)
 unfolding fit

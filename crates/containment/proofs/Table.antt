@@ -17,6 +17,7 @@ use Rattle.matching.specs.Lists.{_and_, _or_, _implies_, every, some, keep, gat
 use Rattle.matching.specs.Greatest.{settle, greatest}
 use Rattle.matching.specs.Simulation.{same, has, sameEdge, everyPair as allPairs, bit, edgesIn, patternOf, graphOf, asGraph, fits, follows, sim, total, row, ascending, matchSets, viewSheet}
 use Rattle.matching.specs.Search.{sheetBytes, bookBytes, searchOutcome, viewSheets, makeBookOutcome}
+use Rattle.matching.specs.Index.{beginBelow, indexFor, alike, ownIndex, makeIndexOutcome, checkIndexOutcome, searchIndexedOutcome}
 use Rattle.matching.specs.Join.{listsEdge as listsHere, pairOf, under, candidates, supported, join, complete, keptFor, answerSets}
 use Rattle.containment.specs.Choice.{matches, matchedIn, coversIn, lowestUnmatched, addsTo, taken, kept, chosen, used}
 use Rattle.containment.specs.Quote.{maskIn, matchMask, maskAt, mapping, valuesFrom, quoteValues, flat, quoteOutcome}
@@ -516,6 +517,44 @@ searches =
     ∷ case (withWorkspace 16383 (makeBookOutcome c r6 22)) (refuse 14 0)
     ∷ []
 
+unfoldable pub indexes : List Case
+indexes =
+    -- K6: two links begin at item 0 and one at item 1
+    call (makeIndexOutcome r6 5) (output (fields "0 2 3 3 3"))
+    ∷ call (checkIndexOutcome r6 (fields "0 2 3 3 3")) (number 5)
+    ∷ call (searchIndexedOutcome extract1 r6 (fields "0 2 3 3 3") 10) (output s6)
+    -- K9
+    ∷ call (makeIndexOutcome r9 4) (output (fields "0 1 2 2"))
+    ∷ call (searchIndexedOutcome d r9 (fields "0 1 2 2") 19) (output s9)
+    -- the index of an empty record is one entry, 0
+    ∷ call (makeIndexOutcome r10 1) (output (fields "0"))
+    ∷ call (checkIndexOutcome r10 (fields "0")) (number 1)
+    -- another number of entries comes before one that differs
+    ∷ call (checkIndexOutcome r6 (fields "9 2 3 3")) (refuse 16 4)
+    ∷ call (checkIndexOutcome r6 (fields "0 2 3 3 3 3")) (refuse 16 6)
+    ∷ call (checkIndexOutcome r10 []) (refuse 16 0)
+    -- the first that differs; entries that count the links of their own item too; those of another record
+    ∷ call (checkIndexOutcome r6 (fields "0 2 3 4 4")) (refuse 16 3)
+    ∷ call (checkIndexOutcome r6 (fields "0 2 3 3 4")) (refuse 16 4)
+    ∷ call (checkIndexOutcome r6 (fields "2 3 3 3 3")) (refuse 16 0)
+    ∷ call (checkIndexOutcome r10 (fields "1")) (refuse 16 0)
+    ∷ call (searchIndexedOutcome extract1 r6 (fields "0 1 2 2") 10) (refuse 16 4)
+    ∷ call (searchIndexedOutcome extract1 r6 (fields "0 1 3 3 3") 10) (refuse 16 1)
+    -- the pattern is judged first, then the record, then the index, then the room
+    ∷ call (searchIndexedOutcome (hex "88") (hex "80 08") [] 99) (refuse 3 1)
+    ∷ call (searchIndexedOutcome d (hex "80 08") [] 99) (refuse 3 3)
+    ∷ call (makeIndexOutcome (hex "80 08") 99) (refuse 3 3)
+    ∷ call (checkIndexOutcome (hex "80 08") []) (refuse 3 3)
+    ∷ call (searchIndexedOutcome extract1 r6 (fields "0 2 3 3 4") 9) (refuse 16 4)
+    ∷ call (searchIndexedOutcome extract1 r6 (fields "0 2 3 3 3") 9) (refuse 12 10)
+    -- too little room, by one entry; too few words
+    ∷ call (makeIndexOutcome r6 4) (refuse 12 5)
+    ∷ call (makeIndexOutcome r10 0) (refuse 12 1)
+    ∷ case (withWorkspace 16383 (makeIndexOutcome r6 5)) (refuse 14 0)
+    ∷ case (withWorkspace 16383 (checkIndexOutcome r6 [])) (refuse 14 0)
+    ∷ case (withWorkspace 16383 (searchIndexedOutcome extract1 r6 [] 10)) (refuse 14 0)
+    ∷ []
+
 unfoldable pub quotes : List Case
 quotes =
     -- K2: covered, chosen 1 and 2
@@ -626,8 +665,8 @@ answers =
     ∷ []
 
 unfoldable pub table : List (List Case)
-table = patterns ∷ catalogues ∷ records ∷ sortings ∷ sheets ∷ books ∷ searches ∷ quotes ∷ cheapests ∷ showings ∷ answers ∷ []
+table = patterns ∷ catalogues ∷ records ∷ sortings ∷ sheets ∷ books ∷ searches ∷ indexes ∷ quotes ∷ cheapests ∷ showings ∷ answers ∷ []
 
 pub cases : Agree table
-unfolding Agree table patterns catalogues records sortings sheets books searches quotes cheapests showings answers digit hex next turned numbers bitsOf num numFrom bits zeros gap then times whole within scan lay bytesOf decode encode linked edges isEnd allEnds label joined pattern catalogue labels record′ pairs lists sheet book patternSize patternsIn viewsOf edgeCounts codesIn listsIn afterLists ends fieldsOf sheetsIn pairsIn sum member insert distinct codes sortedEnds oldRecord sortedFields recordSorted withWorkspace readFile writeFile judged pairsOf uncrowdedBy fit fitFile patternRead catalogueRead recordRead sheetRead bookRead patternWritten catalogueWritten recordWritten sheetWritten bookWritten _and_ _or_ _implies_ every some keep gather each below upTo settle greatest same has sameEdge allPairs bit edgesIn patternOf graphOf asGraph fits follows sim total row ascending matchSets viewSheet sheetBytes bookBytes searchOutcome viewSheets makeBookOutcome pairOf listsHere under candidates supported join complete keptFor answerSets matches matchedIn coversIn lowestUnmatched addsTo taken kept chosen used maskIn matchMask maskAt mapping valuesFrom quoteValues flat quoteOutcome viewsIn answerBytes answerIn answerBy usedFor asRecord graphFields fewerFields recordBytes fitBoth showFor showOutcome weigh lesser better misses ahead foremost cheapest cheapestFrom cheapestFor cheapestOutcome
-cases = (refl, (refl, (refl, (refl, (refl, (refl, (refl, (refl, (refl, (refl, (refl, tt)))))))))))
+unfolding Agree table patterns catalogues records sortings sheets books searches indexes quotes cheapests showings answers digit hex next turned numbers bitsOf num numFrom bits zeros gap then times whole within scan lay bytesOf decode encode linked edges isEnd allEnds label joined pattern catalogue labels record′ pairs lists sheet book patternSize patternsIn viewsOf edgeCounts codesIn listsIn afterLists ends fieldsOf sheetsIn pairsIn sum member insert distinct codes sortedEnds oldRecord sortedFields recordSorted withWorkspace readFile writeFile judged pairsOf uncrowdedBy fit fitFile patternRead catalogueRead recordRead sheetRead bookRead patternWritten catalogueWritten recordWritten sheetWritten bookWritten _and_ _or_ _implies_ every some keep gather each below upTo settle greatest same has sameEdge allPairs bit edgesIn patternOf graphOf asGraph fits follows sim total row ascending matchSets viewSheet sheetBytes bookBytes searchOutcome viewSheets makeBookOutcome beginBelow indexFor alike ownIndex makeIndexOutcome checkIndexOutcome searchIndexedOutcome pairOf listsHere under candidates supported join complete keptFor answerSets matches matchedIn coversIn lowestUnmatched addsTo taken kept chosen used maskIn matchMask maskAt mapping valuesFrom quoteValues flat quoteOutcome viewsIn answerBytes answerIn answerBy usedFor asRecord graphFields fewerFields recordBytes fitBoth showFor showOutcome weigh lesser better misses ahead foremost cheapest cheapestFrom cheapestFor cheapestOutcome
+cases = (refl, (refl, (refl, (refl, (refl, (refl, (refl, (refl, (refl, (refl, (refl, (refl, tt))))))))))))

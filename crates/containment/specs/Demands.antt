@@ -3,8 +3,8 @@
 -- The contract of each client call is `Settled` (packed/specs/Calls.antt) over one of the answers named here: it says of the result, of every
 -- lent byte and of every word of the workspace what they are once that answer is known. So what is said here of answers holds of the programs.
 -- An answer is a function of the bytes and fields that are lent, of the length of each output (`room`) and of the workspace (`words`).
--- Proofs: proofs/DemandsOneTwo.antt and proofs/DemandThree.antt, by proofs/DemandRules.antt, DemandSheets.antt and DemandJoin.antt; of the cheapest
--- set, proofs/CheapestSets.antt; of the listing, proofs/Listings.antt.
+-- Proofs: proofs/DemandsOneTwo.antt and proofs/DemandThree.antt, by proofs/DemandRules.antt, DemandSheets.antt, DemandIndex.antt and DemandJoin.antt; of the
+-- cheapest set, proofs/CheapestSets.antt; of the listing, proofs/Listings.antt.
 use Prim.Native.Nat.{ℕ, _+_, _-_, _*_, _/_, _^_, _<_, _≤_}
 use mathlib.Core.Path.{_≡_}
 use mathlib.Core.Logic.{_⊎_, _↔_}
@@ -23,6 +23,7 @@ use Rattle.matching.specs.Lists.{In}
 use Rattle.matching.specs.Simulation.{Pair, Edge, asPair, noEdge, Pattern, Graph, patternOf, graphOf, asGraph, bit, IsSim, sim, sound, matchSets, viewSheet}
 use Rattle.matching.specs.Join.{without, answerSets}
 use Rattle.matching.specs.Search.{sheetBytes, bookBytes, viewSheets, searchOutcome, makeBookOutcome}
+use Rattle.matching.specs.Index.{indexOf, makeIndexOutcome, checkIndexOutcome, searchIndexedOutcome}
 use Rattle.containment.specs.Choice.{everyView, coversIn, lowestUnmatched, chosen}
 use Rattle.containment.specs.Quote.{noPattern, mapping, QuoteValues, flat, blank, quoteOutcome, quoteTold}
 use Rattle.containment.specs.Answer.{viewsIn, Choose, answerBy, answerFrom, usedFor, answerOutcome}
@@ -103,6 +104,19 @@ extractSheetOf P rs = sheetBytes (viewSheet P (graphOf rs))
 abbrev pub bookOf : List ℕ → List ℕ → List ℕ
 bookOf cs rs = bookBytes (viewSheets cs (graphOf rs))
 
+-- "the record's own" index
+abbrev pub ownOf : List ℕ → List ℕ
+ownOf rs = indexOf (graphOf rs)
+
+-- "searches without one or with the record's own": what searching a record of the content rs answers, in either way
+pub data Way : Type 0 where
+  without-index : Way
+  with-own : Way
+
+abbrev pub searchBy : Way → List ℕ → List ℕ → List ℕ → ℕ → Outcome
+searchBy without-index q r rs room = searchOutcome q r room
+searchBy with-own q r rs room = searchIndexedOutcome q r (ownOf rs) room
+
 -- the lists of the answer from a book by the extracts in a set
 abbrev pub answerOf : ℕ → List ℕ → List ℕ → List ℕ → List (List ℕ)
 answerOf set qs cs bs = answerSets (patternOf qs) (viewsIn set (extracts cs) (sheetsIn (edgeCounts cs) bs))
@@ -123,18 +137,19 @@ pub record Full (a : Outcome) : Type 0 where
   pub outputs : List (List ℕ)
   pub is : a ≡ give values outputs
 
--- a refusal with a number from 1 to 15
+-- a refusal with a number from 1 to 16
 pub record Refused (a : Outcome) : Type 0 where
   pub number : ℕ
   pub detail : ℕ
   pub is : a ≡ refuse number detail
   pub least : 1 ≤ number
-  pub most : number ≤ 15
+  pub most : number ≤ 16
 
 abbrev pub Settles : Outcome → Type 0
 Settles a = Full a ⊎ Refused a
 
--- 12: "an output needs more bytes than were lent"; "where content is the output, 12 counts words". It needs d.
+-- 12: "an output needs more bytes than were lent"; "where content is the output, 12 counts words", and "where an index is the output, 12 counts entries".
+-- It needs d.
 abbrev pub Over : ℕ → List ℕ → ℕ → Type 0
 Over room o d = (room < length o) × (d ≡ length o)
 
@@ -145,6 +160,16 @@ OverFile room o d = ((room < length o) ⊎ (bookMost < length o)) × (d ≡ leng
 -- "12 the bytes needed, of the first output that doesn't fit"
 abbrev pub OverEither : ℕ → ℕ → List ℕ → List ℕ → ℕ → Type 0
 OverEither room room′ o o′ d = Over room o d ⊎ ((length o ≤ room) × Over room′ o′ d)
+
+-- 16: "the lent index isn't the record's own", "detail the first differing position, from 0, or the number of its entries if that is wrong"
+pub record FirstDiffers (own index : List ℕ) (d : ℕ) : Type 0 where
+  pub number : length index ≡ length own
+  pub below : d < length own
+  pub differs : getD own d 0 ≡ getD index d 0 → ⊥
+  pub before : (i : ℕ) → i < d → getD own i 0 ≡ getD index i 0
+
+abbrev pub NotOwn : List ℕ → List ℕ → ℕ → Type 0
+NotOwn own index d = ((length index ≡ length own → ⊥) × (d ≡ length index)) ⊎ FirstDiffers own index d
 
 -- what a call answers once nothing but 14 and 12 can fall to it: "each refusal is given in its case and no other"; else its outputs, whole
 pub record Fitted (words : ℕ) (NoFit : ℕ → Type 0) (outputs : List (List ℕ)) (a : Outcome) : Type 0 where
@@ -184,6 +209,9 @@ pub record Demand1 : Type 0 where
   pub write-sheet : (p ws : List ℕ) (room words : ℕ) → Settles (withWorkspace words (sheetWritten p ws room))
   pub write-book : (c ws : List ℕ) (room words : ℕ) → Settles (withWorkspace words (bookWritten c ws room))
   pub search : (p r : List ℕ) (room words : ℕ) → Settles (withWorkspace words (searchOutcome p r room))
+  pub make-index : (r : List ℕ) (room words : ℕ) → Settles (withWorkspace words (makeIndexOutcome r room))
+  pub check-index : (r index : List ℕ) (words : ℕ) → Settles (withWorkspace words (checkIndexOutcome r index))
+  pub search-indexed : (p r index : List ℕ) (room words : ℕ) → Settles (withWorkspace words (searchIndexedOutcome p r index room))
   pub make-book : (c r : List ℕ) (room words : ℕ) → Settles (withWorkspace words (makeBookOutcome c r room))
   pub quote : (q c : List ℕ) (words : ℕ) → Settles (withWorkspace words (quoteOutcome q c))
   -- both calls that answer: `answerFrom` and `answerOutcome` are `answerBy` with the set that the client names and with the one that is used else
@@ -219,15 +247,28 @@ pub record Demand1 : Type 0 where
       → (withWorkspace words (bookWritten c ws room) ≡ refuse 10 d) ↔ ((workspace ≤ words) × Crowded cs ws × (d ≡ 4))
   pub answer-crowded : (choose : Choose) (q c b qs cs bs : List ℕ) → Question q qs → Catalogue c cs → readBook cs b ≡ accepted bs → (room words d : ℕ)
       → (withWorkspace words (answerBy choose q c b room) ≡ refuse 10 d) ↔ ((workspace ≤ words) × Crowded cs bs × (d ≡ 4))
-  -- a search gives the sheet of accepted files, making a book the book, and neither anything of others
-  pub search-gives : (p r ps rs : List ℕ) → Question p ps → Record r rs → (room words : ℕ)
-      → Fitted words (OverFile room (sheetOf (patternOf ps) rs)) (sheetOf (patternOf ps) rs ∷ []) (withWorkspace words (searchOutcome p r room))
+  -- a search gives the sheet of accepted files, making a book the book, and neither anything of others, nor with another index than the record's own
+  pub search-gives : (way : Way) (p r ps rs : List ℕ) → Question p ps → Record r rs → (room words : ℕ)
+      → Fitted words (OverFile room (sheetOf (patternOf ps) rs)) (sheetOf (patternOf ps) rs ∷ []) (withWorkspace words (searchBy way p r rs room))
   pub search-only : (p r : List ℕ) (room words : ℕ) → Full (withWorkspace words (searchOutcome p r room))
       → (ps : List ℕ) × (rs : List ℕ) × Question p ps × Record r rs
+  pub search-indexed-only : (p r index : List ℕ) (room words : ℕ) → Full (withWorkspace words (searchIndexedOutcome p r index room))
+      → (ps : List ℕ) × (rs : List ℕ) × Question p ps × Record r rs × (index ≡ ownOf rs)
   pub make-book-gives : (c r cs rs : List ℕ) → Catalogue c cs → Record r rs → (room words : ℕ)
       → Fitted words (OverFile room (bookOf cs rs)) (bookOf cs rs ∷ []) (withWorkspace words (makeBookOutcome c r room))
   pub make-book-only : (c r : List ℕ) (room words : ℕ) → Full (withWorkspace words (makeBookOutcome c r room))
       → (cs : List ℕ) × (rs : List ℕ) × Catalogue c cs × Record r rs
+  -- an index is made of an accepted record; it is accepted by the check, and no other is
+  pub make-index-gives : (r rs : List ℕ) → Record r rs → (room words : ℕ) → Fitted words (Over room (ownOf rs)) (ownOf rs ∷ []) (withWorkspace words (makeIndexOutcome r room))
+  pub make-index-only : (r : List ℕ) (room words : ℕ) → Full (withWorkspace words (makeIndexOutcome r room)) → (rs : List ℕ) × Record r rs
+  pub check-accepts : (r rs index : List ℕ) → Record r rs → (words : ℕ)
+      → (withWorkspace words (checkIndexOutcome r index) ≡ give (length index ∷ []) []) ↔ ((workspace ≤ words) × (index ≡ ownOf rs))
+  pub check-only : (r index : List ℕ) (words : ℕ) → Full (withWorkspace words (checkIndexOutcome r index)) → (rs : List ℕ) × Record r rs × (index ≡ ownOf rs)
+  -- 16 falls to an index exactly then, "right after the record is read"
+  pub check-refuses : (r rs index : List ℕ) → Record r rs → (words d : ℕ)
+      → (withWorkspace words (checkIndexOutcome r index) ≡ refuse 16 d) ↔ ((workspace ≤ words) × NotOwn (ownOf rs) index d)
+  pub search-refuses : (p r ps rs index : List ℕ) → Question p ps → Record r rs → (room words d : ℕ)
+      → (withWorkspace words (searchIndexedOutcome p r index room) ≡ refuse 16 d) ↔ ((workspace ≤ words) × NotOwn (ownOf rs) index d)
   -- a quote is given of accepted files alone (what it says is in demand 2); it has no output to fit
   pub quote-only : (q c : List ℕ) (words : ℕ) → Full (withWorkspace words (quoteOutcome q c)) → (qs : List ℕ) × (cs : List ℕ) × Question q qs × Catalogue c cs
   -- answering gives the answer from the book by a set that covers the question, showing the two records of an uncovered one
@@ -298,8 +339,10 @@ pub record Demand2 : Type 1 where
   pub simulates : (P : Pattern) (G : Graph) → IsSim P G (λ u v. In (u, v) (sim P G))
   pub greatest : (P : Pattern) (G : Graph) (R : ℕ → ℕ → Type 0) → IsSim P G R → (u v : ℕ) → R u v → In (u, v) (sim P G)
   -- a search gives the match sets as a sheet, and a book has a sheet of them for each extract
-  pub searches : (p r ps rs : List ℕ) → Question p ps → Record r rs → (room : ℕ) → searchOutcome p r room ≡ fitFile room (sheetOf (patternOf ps) rs)
+  pub searches : (way : Way) (p r ps rs : List ℕ) → Question p ps → Record r rs → (room : ℕ) → searchBy way p r rs room ≡ fitFile room (sheetOf (patternOf ps) rs)
   pub books : (c r cs rs : List ℕ) → Catalogue c cs → Record r rs → (room : ℕ) → makeBookOutcome c r room ≡ fitFile room (bookOf cs rs)
+  -- "with index or without, sheets are equal on every accepted record", and so are refusals, 16 left aside
+  pub same-either-way : (way : Way) (p r rs : List ℕ) → Record r rs → (room words : ℕ) → withWorkspace words (searchBy way p r rs room) ≡ withWorkspace words (searchOutcome p r room)
   -- "matches": the match sets list exactly what the greatest simulation matches
   pub lists : (r rs : List ℕ) → Record r rs → (P : Pattern) (i : ℕ) → i < length (P .edges) → (f : Pair) → f .1 < 4096
       → In (code (f .0) (f .1)) (getD (matchSets P (graphOf rs)) i []) ↔ Matching P (graphOf rs) (getD (P .edges) i noEdge) f
@@ -401,18 +444,18 @@ pub record Showing (qs cs : List ℕ) : Type 0 where
 
 pub record Demand3 : Type 0 where
   -- "for every accepted question and catalogue and every accepted record: if covered" by the extracts in a set, whichever, "and the extract
-  -- lists made from the record fit in a book, answering from that book alone" by that set "equals searching the record": the same answer, for
-  -- all lengths of output and workspace lent to both
-  pub covered-by : (q c r qs cs rs : List ℕ) → Question q qs → Catalogue c cs → Record r rs → (set : ℕ) → Covers set qs cs → length (bookOf cs rs) ≤ bookMost
-      → (room words : ℕ) → withWorkspace words (answerFrom q c set (bookOf cs rs) room) ≡ withWorkspace words (searchOutcome q r room)
+  -- lists made from the record fit in a book, answering from that book alone" by that set "equals searching the record", "without" an index "or
+  -- with the record's own": the same answer, for all lengths of output and workspace lent to both
+  pub covered-by : (way : Way) (q c r qs cs rs : List ℕ) → Question q qs → Catalogue c cs → Record r rs → (set : ℕ) → Covers set qs cs → length (bookOf cs rs) ≤ bookMost
+      → (room words : ℕ) → withWorkspace words (answerFrom q c set (bookOf cs rs) room) ≡ withWorkspace words (searchBy way q r rs room)
   -- and by no other set: 11 is given exactly to one that leaves a link unmatched, with the lowest such link
   pub refused-by : (q c b qs cs bs : List ℕ) → Question q qs → Catalogue c cs → Book cs b bs → (set room words d : ℕ)
       → (withWorkspace words (answerFrom q c set b room) ≡ refuse 11 d) ↔ ((workspace ≤ words) × Leaves set qs cs × (d ≡ lackingIn set qs cs))
   pub lowest-by : (q c qs cs : List ℕ) → Question q qs → Catalogue c cs → (set : ℕ) → Leaves set qs cs
       → LowestUnmatched qs (MatchedIn (patternOf qs) (extracts cs) set) (lackingIn set qs cs)
   -- the same by the chosen set, which answers where the client names none
-  pub covered : (q c r qs cs rs : List ℕ) → Question q qs → Catalogue c cs → Record r rs → Covered qs cs → length (bookOf cs rs) ≤ bookMost
-      → (room words : ℕ) → withWorkspace words (answerOutcome q c (bookOf cs rs) room) ≡ withWorkspace words (searchOutcome q r room)
+  pub covered : (way : Way) (q c r qs cs rs : List ℕ) → Question q qs → Catalogue c cs → Record r rs → Covered qs cs → length (bookOf cs rs) ≤ bookMost
+      → (room words : ℕ) → withWorkspace words (answerOutcome q c (bookOf cs rs) room) ≡ withWorkspace words (searchBy way q r rs room)
   -- that book is an accepted one, whose sheets are the extracts' lists
   pub fits : (c r cs rs : List ℕ) → Catalogue c cs → Record r rs → length (bookOf cs rs) ≤ bookMost
       → (bs : List ℕ) × Book cs (bookOf cs rs) bs × (sheetsIn (edgeCounts cs) bs ≡ viewSheets cs (graphOf rs))
@@ -515,8 +558,8 @@ pub record Cheapests : Type 0 where
   pub refused : (q c qs cs charges : List ℕ) → Question q qs → Catalogue c cs → (words d : ℕ)
       → (withWorkspace words (cheapestOutcome q c charges) ≡ refuse 11 d) ↔ ((workspace ≤ words) × Charged charges cs × Uncovered qs cs × (d ≡ lacking qs cs))
   -- demand 3 by that set: "for sheets truly made from one record, all covering sets are to give the same bytes", the cheapest included
-  pub answers : (q c r qs cs rs charges : List ℕ) → Question q qs → Catalogue c cs → Record r rs → (set : ℕ) → CheapestOf qs cs charges set → length (bookOf cs rs) ≤ bookMost
-      → (room words : ℕ) → withWorkspace words (answerFrom q c set (bookOf cs rs) room) ≡ withWorkspace words (searchOutcome q r room)
+  pub answers : (way : Way) (q c r qs cs rs charges : List ℕ) → Question q qs → Catalogue c cs → Record r rs → (set : ℕ) → CheapestOf qs cs charges set → length (bookOf cs rs) ≤ bookMost
+      → (room words : ℕ) → withWorkspace words (answerFrom q c set (bookOf cs rs) room) ≡ withWorkspace words (searchBy way q r rs room)
   -- nothing is given of other files
   pub only : (q c charges : List ℕ) (words : ℕ) → Full (withWorkspace words (cheapestOutcome q c charges)) → (qs : List ℕ) × (cs : List ℕ) × Question q qs × Catalogue c cs
 

@@ -2,6 +2,9 @@
 ghost use Prim.Native.Nat.{_≤_};
 use crate::lines;
 
+// So many parts of a file at most: no file has as many.
+pub(crate) const PARTS: u64 = 0xffff_ffff_ffff_ffff;
+
 // The bytes of a file, as far as the buffer goes: how many there are. A file that can't be opened has none.
 pub fn read(name: &[u8], buf: &mut [u8]) -> usize
     ensures { λ r. do ⌜ r ≤ (← ⟦buf.len()⟧ .entry) ⌝ }
@@ -13,6 +16,33 @@ pub fn read(name: &[u8], buf: &mut [u8]) -> usize
     let n = io::read_full(fd, buf);
     libc::close(fd);
     n
+}
+
+// How many bytes follow in an open file, read a part at a time.
+fn count_rest(fd: i32) -> usize {
+    let mut count: usize = 0;
+    let mut left = PARTS;
+    while 0 < left {
+        let mut buf = io::buffer();
+        let n = io::read_full(fd, &mut buf);
+        count = std::num::wrapping_add_usize(count, n);
+        left = if n < 4096 { 0 } else { left - 1 };
+    }
+    count
+}
+
+// The bytes of an open file, as far as the buffer goes, which is closed then: how many the whole file has, of whatever length it is.
+fn read_open(fd: i32, buf: &mut [u8]) -> usize {
+    let n = io::read_full(fd, buf);
+    let more = count_rest(fd);
+    libc::close(fd);
+    std::num::wrapping_add_usize(n, more)
+}
+
+// The same of a file by its name. One that can't be opened has none.
+pub fn read_whole(name: &[u8], buf: &mut [u8]) -> usize {
+    let fd = os::open_read(name);
+    if fd < 0 { 0 } else { read_open(fd, buf) }
 }
 
 // Whether the name can be opened. With a slash at its end it is a folder's alone, to which no file can be renamed.
@@ -78,7 +108,7 @@ pub fn place(temporary: &[u8], name: &[u8]) -> bool {
 }
 
 // Makes the file of this name, or puts another in its place, with just these bytes.
-pub(crate) fn write(name: &[u8], temporary: &[u8], bytes: &[u8]) -> bool {
+pub fn write(name: &[u8], temporary: &[u8], bytes: &[u8]) -> bool {
     if !make(temporary, bytes) {
         return false;
     }

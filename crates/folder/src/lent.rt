@@ -1,5 +1,6 @@
 // What programs lend. A file is read into one byte more than its most, so that a longer one is refused as too long.
 ghost use mathlib.Core.Path.{_≡_};
+ghost use Prim.Native.Nat.{_≤_};
 ghost use lib.ListN.{length};
 
 pub fn question_bytes() -> [u8; 45]
@@ -25,6 +26,19 @@ pub fn record_bytes() -> [u8; 40965]
     ensures { λ r. ⌜ 40965 ≡ length r ⌝ }
 {
     [0; 40965]
+}
+
+// One entry more than an index may have, and its bytes in a file.
+pub fn index_entries() -> [u16; 4098]
+    ensures { λ r. ⌜ 4098 ≡ length r ⌝ }
+{
+    [0; 4098]
+}
+
+pub fn index_bytes() -> [u8; 8196]
+    ensures { λ r. ⌜ 8196 ≡ length r ⌝ }
+{
+    [0; 8196]
 }
 
 // A sheet, a book or an answer, to be read.
@@ -59,4 +73,11 @@ pub fn work_words() -> [u32; 16384]
     ensures { λ r. ⌜ 16384 ≡ length r ⌝ }
 {
     [0; 16384]
+}
+
+// How many are lent: as many as a file has or a buffer holds.
+pub fn least(a: usize, b: usize) -> usize
+    ensures { λ r. ⌜ (r ≤ a) × (r ≤ b) ⌝ }
+{
+    if a < b { a } else { b }
 }

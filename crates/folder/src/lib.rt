@@ -2,6 +2,7 @@
 //
 // No contract can say what the system reads or writes. Those here say what happens to lent memory and bound what is answered; all that decides
 // what a file holds is done by the crates below, on slices.
+pub mod entries;
 pub mod files;
 pub mod lent;
 pub mod lines;

@@ -1,11 +1,10 @@
 // Text files of decimal numbers, read a byte at a time: a file of any length is read to its end, and its lines are counted. A list has one number
 // a line. In a set spaces and line ends stand between the numbers, which are below 16.
 
+use crate::files;
+
 // A number is at most this.
 const MOST: u64 = 0xffff_ffff;
-
-// So many parts of a file at most: no file has as many.
-const PARTS: u64 = 0xffff_ffff_ffff_ffff;
 
 // A text so far: how many lines it has, whether they are as they should be, the numbers of a set, and the number that has begun.
 pub struct Text {
@@ -162,7 +161,7 @@ fn take_part(fd: i32, before: Text, out: &mut [u32]) -> Part {
 
 fn take_parts(fd: i32, is_list: bool, out: &mut [u32]) -> Text {
     let mut text = empty(is_list);
-    let mut left = PARTS;
+    let mut left = files::PARTS;
     while 0 < left {
         let part = take_part(fd, text, out);
         text = part.text;

@@ -1,8 +1,8 @@
 -- Where the pairs that begin at a node stand, and what they offer.
-use mathlib.Core.Path.{_≡_, refl, _∙_, sym, subst}
+use mathlib.Core.Path.{_≡_, refl, ap, ap₂, _∙_, sym, subst}
 use mathlib.Core.Logic.{_⊎_, ⊎-elim}
 use mathlib.Core.List.{List}
-use Prim.Native.Nat.{ℕ, _≤_, _<_, _+_, zero-le}
+use Prim.Native.Nat.{ℕ, zero, suc, _≤_, _<_, _+_, _-_, zero-le}
 use native.Mathlib.Nat.{eq-or-lt-of-le}
 use native.Mathlib.Omega.{arith}
 use lib.ListN.{length, getD, set, length-set}
@@ -10,11 +10,11 @@ use lib.Seq.{getD-set-same, getD-set-other}
 use lib.Bits.{bitAnd, bitXor}
 use Rattle.packed.proofs.OrderCases.{lt-or-ge, eq-or-ne}
 use Rattle.matching.specs.Simulation.{bit}
-use Rattle.matching.specs.Sweeps.{Has}
-use Rattle.matching.specs.Sweeping.{fromOf, toOf, Ends}
+use Rattle.matching.specs.Sweeps.{Has, OneOf}
+use Rattle.matching.specs.Sweeping.{fromOf, toOf, Ends, heldAt}
 use Rattle.matching.proofs.ListLaws.{decide}
-use Rattle.matching.proofs.MaskBits.{none-has, and-say, and-by, minus-say, minus-by, one-last, one-more, one-cases}
-use Rattle.matching.specs.Late.{ByStart, BeginsBelow, Cut, Firsts, FirstsMade, Looked}
+use Rattle.matching.proofs.MaskBits.{and-say, and-by, minus-say, minus-by, part-le, one-last, one-more, one-cases}
+use Rattle.matching.specs.Late.{ByStart, BeginsBelow, Cut, Firsts, FirstsMade, missed}
 
 has-or : (x k : ℕ) → Has x k ⊎ (Has x k → ⊥)
 has-or x k = decide (bit x k)
@@ -91,6 +91,18 @@ module _ {d n : ℕ} {w first : List ℕ} (F : Firsts d n w first) (v : ℕ) (l 
       let y = F .each v (omega arith) .above j a (omega arith) in
       (omega arith, omega arith)
 
+-- an index stays one while the pairs stay
+pub firsts-again : {d n : ℕ} {w w′ first : List ℕ} → ((i : ℕ) → i < d → getD w′ i 0 ≡ getD w i 0) → Firsts d n w first → Firsts d n w′ first
+firsts-again {d} {n} {w} {w′} {first} same F =
+    record {
+      each = λ v l.
+          let C = F .each v l in
+          record {
+            before = record { upto = C .before .upto; below = λ j q. (let u = C .before .upto in let e = same j (omega arith) in let y = C .before .below j q in omega arith) };
+            above = λ j a b. (let e = same j b in let y = C .above j a b in omega arith);
+          };
+    }
+
 pub ends-part : {n d l b : ℕ} {w : List ℕ} → Ends n d w → n ≤ l → b ≤ d → Ends l b w
 ends-part E p q =
     record {
@@ -111,35 +123,79 @@ range-rises {d} {n} {w} {first} F v l =
     )
 
 -- ---- what the pairs of a range offer
-module _ (w : List ℕ) (a : ℕ) (arrive : List ℕ) (want : ℕ) where
-  pub looked-start : Looked w a a arrive want want
-  looked-start =
+-- a pair from a up to b is held for the link e, which may arrive at its end
+abbrev pub Offered : List ℕ → ℕ → ℕ → List ℕ → ℕ → Type 0
+Offered w a b arrive e = OneOf b (λ i. (a ≤ i) × Has (heldAt w i) e × Has (getD arrive (toOf w i) 0) e)
+
+-- r has the links of want that are not offered
+pub record Looked (w : List ℕ) (a b : ℕ) (arrive : List ℕ) (want r : ℕ) : Type 0 where
+  pub part : (e : ℕ) → Has r e → Has want e
+  pub missing : (e : ℕ) → Has r e → Offered w a b arrive e → ⊥
+  pub found : (e : ℕ) → Has want e → (Has r e → ⊥) → Offered w a b arrive e
+
+module _ (w : List ℕ) (arrive : List ℕ) (want a : ℕ) where
+  pub missed-none : (k : ℕ) → k ≡ 0 → missed w arrive want a k ≡ want
+  unfolding missed
+  missed-none k e = rw e
+
+  -- the pair i more
+  pub missed-more : (i : ℕ) → a ≤ i → {r : ℕ} → r ≡ missed w arrive want a (i - a)
+      → bitXor r (bitAnd r (bitAnd (getD w (8192 + i) 0) (getD arrive (toOf w i) 0))) ≡ missed w arrive want a ((i + 1) - a)
+  unfolding missed
+  missed-more i l {r} e =
+      let k : (i + 1) - a ≡ suc (i - a) = omega arith in
+      let j : a + (i - a) ≡ i = omega arith in
+      ap (λ (x : ℕ). bitXor x (bitAnd x (bitAnd (getD w (8192 + i) 0) (getD arrive (toOf w i) 0)))) e
+      ∙ ap (λ (y : ℕ). bitXor (missed w arrive want a (i - a)) (bitAnd (missed w arrive want a (i - a)) (bitAnd (getD w (8192 + y) 0) (getD arrive (toOf w y) 0)))) (sym j)
+      ∙ ap (missed w arrive want a) (sym k)
+
+  -- nothing is added
+  missed-falls : (k j : ℕ) → missed w arrive want a (j + k) ≤ missed w arrive want a k
+  unfolding missed
+  missed-falls k zero = let z : 0 + k ≡ k = omega arith in omega (arith, ap (missed w arrive want a) z)
+  missed-falls k (suc j) =
+      let z : suc j + k ≡ suc (j + k) = omega arith in
+      omega (
+        arith,
+        ap (missed w arrive want a) z,
+        missed-falls k j,
+        part-le (missed w arrive want a (suc (j + k))) (missed w arrive want a (j + k)) (λ e h. minus-say (missed w arrive want a (j + k)) _ e h .0),
+      )
+
+  -- so where nothing is missing any more the rest need not be looked at
+  pub missed-all : (i b : ℕ) → a ≤ i → i ≤ b → missed w arrive want a (i - a) ≡ 0 → missed w arrive want a (b - a) ≡ 0
+  missed-all i b l q z =
+      let k : b - a ≡ (b - i) + (i - a) = omega arith in
+      let f = missed-falls (i - a) (b - i) in
+      ap (missed w arrive want a) k ∙ omega arith
+
+  -- what is missed is what no pair of the range offers
+  pub missed-looked : (k : ℕ) → Looked w a (a + k) arrive want (missed w arrive want a k)
+  unfolding missed
+  missed-looked zero =
       record {
         part = λ e h. h;
         missing = λ e h o. (let p = o .below in let q = o .holds .0 in omega arith);
         found = λ e h n. absurd (n h);
       }
+  missed-looked (suc k) =
+      let r = missed w arrive want a k in
+      let h = missed-looked k in
+      let x = bitAnd (getD w (8192 + (a + k)) 0) (getD arrive (toOf w (a + k)) 0) in
+      let up : a + suc k ≡ (a + k) + 1 = omega arith in
+      let l : a ≤ a + k = omega arith in
+      subst (λ (b : ℕ). Looked w a b arrive want (bitXor r (bitAnd r x))) (sym up)
+      record {
+        part = λ e p. h .part e (minus-say r x e p .0);
+        missing = λ e p o. (let m = minus-say r x e p in ⊎-elim (λ q. h .missing e (m .0) q) (λ q. m .1 (and-by _ _ e (q .1) (q .2))) (one-cases (a + k) o));
+        found = λ e p n. ⊎-elim
+            (λ (q : Has r e). ⊎-elim (λ (y : Has x e). let z = and-say _ _ e y in one-last (a + k) (l, z .0, z .1)) (λ y. absurd (n (minus-by r x e q y))) (has-or x e))
+            (λ q. one-more (a + k) (h .found e p q)) (has-or r e);
+      }
 
-  module _ {i r : ℕ} (h : Looked w a i arrive want r) where
-    pub looked-more : a ≤ i → Looked w a (i + 1) arrive want (bitXor r (bitAnd r (bitAnd (getD w (8192 + i) 0) (getD arrive (toOf w i) 0))))
-    looked-more l =
-        let x = bitAnd (getD w (8192 + i) 0) (getD arrive (toOf w i) 0) in
-        record {
-          part = λ e p. h .part e (minus-say r x e p .0);
-          missing = λ e p o. (let m = minus-say r x e p in ⊎-elim (λ q. h .missing e (m .0) q) (λ q. m .1 (and-by _ _ e (q .1) (q .2))) (one-cases i o));
-          found = λ e p n. ⊎-elim
-              (λ (q : Has r e). ⊎-elim (λ (y : Has x e). let z = and-say _ _ e y in one-last i (l, z .0, z .1)) (λ y. absurd (n (minus-by r x e q y))) (has-or x e))
-              (λ q. one-more i (h .found e p q)) (has-or r e);
-        }
-
-    -- nothing is missing any more
-    pub looked-all : (b : ℕ) → i ≤ b → r ≡ 0 → Looked w a b arrive want 0
-    looked-all b l z =
-        record {
-          part = λ e p. absurd (none-has e p);
-          missing = λ e p o. none-has e p;
-          found = λ e p n. (let o = h .found e p (λ q. none-has e (subst (λ (y : ℕ). Has y e) z q)) in record { at = o .at; below = (let u = o .below in omega arith); holds = o .holds });
-        }
-
-pub looked-cast : {w : List ℕ} {a b a′ b′ : ℕ} {arrive : List ℕ} {want r : ℕ} → a ≡ a′ → b ≡ b′ → Looked w a b arrive want r → Looked w a′ b′ arrive want r
-looked-cast {w} {a} {b} {a′} {b′} {arrive} {want} {r} e f h = subst (λ (x : ℕ). Looked w x b′ arrive want r) e (subst (λ (y : ℕ). Looked w a y arrive want r) f h)
+-- by the entries of an index
+pub looked-by : {w : List ℕ} {a b a′ b′ : ℕ} {arrive : List ℕ} {want r : ℕ} → a ≡ a′ → b ≡ b′ → a′ ≤ b′ → r ≡ missed w arrive want a (b - a) → Looked w a′ b′ arrive want r
+looked-by {w} {a} {b} {a′} {b′} {arrive} {want} {r} e f l q =
+    let k : a′ + (b′ - a′) ≡ b′ = omega arith in
+    let z : r ≡ missed w arrive want a′ (b′ - a′) = q ∙ ap₂ (λ (x y : ℕ). missed w arrive want x (y - x)) e f in
+    subst (λ (x : ℕ). Looked w a′ b′ arrive want x) (sym z) (subst (λ (x : ℕ). Looked w a′ x arrive want (missed w arrive want a′ (b′ - a′))) k (missed-looked w arrive want a′ (b′ - a′)))

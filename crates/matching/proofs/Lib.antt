@@ -34,6 +34,7 @@ pub mod RoundLaws
 pub mod RestingLaws
 -- the engine: marked nodes
 pub mod IndexLaws
+pub mod OwnIndex
 pub mod EndLaws
 pub mod SetLaws
 pub mod TurnLaws

@@ -19,6 +19,9 @@ use Rattle.matching.specs.Lists.{In, upTo}
 use Rattle.matching.specs.Simulation.{Edge, between, Pattern, Graph, edgesIn, graphOf, matchSets}
 use Rattle.matching.specs.Steps.{edgeOfWord, graphIn, Ready, Edges}
 use Rattle.matching.specs.Matched.{Rises}
+use Rattle.matching.specs.Index.{indexFor, indexOf}
+use Rattle.matching.specs.Sweeping.{Ends}
+use Rattle.matching.specs.Late.{ByStart, edgesAt}
 use Rattle.matching.proofs.UpToLaws.{length-upTo, getD-upTo, upTo-same}
 use Rattle.matching.proofs.MatchSetLaws.{Narrow}
 use Rattle.matching.proofs.EdgeLaws.{edgeAt, edgesIn-upTo, edgesIn-at, edgesIn-length}
@@ -113,6 +116,9 @@ module _ {s : List ℕ} {n m : ℕ} {w : List ℕ} (h : Holds s n m w) where
       let a = increasing-at (take m w) (subst Increasing (sym (h .front)) (record-rises s ws (h .is))) i j l (omega (arith, front-long)) in
       rw (front-at i (omega arith), front-at j k) at a
 
+  pub order-by : ByStart m w
+  order-by i j l k = let z = rises-by i j l k in omega arith
+
   labels-same : upTo (λ v. field s (27 + 32 * v) 32) n ≡ take (nodesOf ws) (drop 2 ws)
   labels-same =
       let b = record-bounds s ws (h .is) in
@@ -125,7 +131,7 @@ module _ {s : List ℕ} {n m : ℕ} {w : List ℕ} (h : Holds s n m w) where
       ∙ labels-field s ws (h .is) v (omega arith)
       ∙ sym (getD-take (nodesOf ws) (drop 2 ws) v 0 (omega arith) ∙ getD-drop 2 ws v 0))
 
-  edges-same : upTo (λ i. edgeOfWord (getD w i 0)) m ≡ edgesIn (endsOf ws)
+  edges-same : edgesAt m w ≡ edgesIn (endsOf ws)
   edges-same =
       upTo-same (λ i. edgeOfWord (getD w i 0)) (edgeAt (endsOf ws)) m (λ i l. λ z. between (halves i l .0 z) (halves i l .1 z))
       ∙ sym (edgesIn-upTo (endsOf ws) m two-each)
@@ -136,6 +142,14 @@ module _ {s : List ℕ} {n m : ℕ} {w : List ℕ} (h : Holds s n m w) where
 
   pub sets-same : (P : Pattern) → matchSets P (graphIn s n m w) ≡ matchSets P (graphOf ws)
   sets-same P = ap (matchSets P) graph-same
+
+  pub index-same : indexFor n (edgesAt m w) ≡ indexOf (graphOf ws)
+  unfolding graphOf
+  index-same = ap₂ indexFor (sym (length-upTo (λ v. field s (27 + 32 * v) 32) n) ∙ ap length labels-same) edges-same
+
+-- its edges as pairs
+pub ready-ends : {s : List ℕ} {n m : ℕ} {w : List ℕ} → Ready s n m w → Ends n m w
+ready-ends r = record { most = r .edges; long = r .long; from = r .from; to = r .to }
 
 -- ---- after a match the edges are there for the next
 module _ {m : ℕ} {w w′ : List ℕ} (e : Edges w w′) where

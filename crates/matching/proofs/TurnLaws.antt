@@ -14,10 +14,10 @@ use Rattle.matching.specs.Sweeps.{Has, OneOf}
 use Rattle.matching.specs.Sweeping.{fromOf, toOf, sumTo, Ends, heldAt, Swept, LookedUp}
 use Rattle.matching.proofs.MaskBits.{none-has, or-left, or-right, or-cases, and-say, and-by, minus-say, minus-by, part-le}
 use Rattle.matching.specs.Choices.{Prepared, Fixed}
-use Rattle.matching.specs.Late.{Firsts, Looked, IsMarked, TakenOut, AllMarked, MarkedBefore, Fine, Rest, Keeps, Turned, Late}
+use Rattle.matching.specs.Late.{Firsts, IsMarked, TakenOut, AllMarked, MarkedBefore, Fine, Rest, Keeps, Turned, Late}
 use Rattle.matching.proofs.SoundLaws.{sound-none, sound-then, from-same, held-by, swept-sound, Loses, loses-none, losing-sound}
 use Rattle.matching.proofs.RoundLaws.{swept-falls, swept-within}
-use Rattle.matching.proofs.IndexLaws.{in-range, of-range}
+use Rattle.matching.proofs.IndexLaws.{Looked, in-range, of-range}
 use Rattle.matching.proofs.SetLaws.{cast, sum-set, sum-bound}
 
 -- ---- one word of a list loses the members of b

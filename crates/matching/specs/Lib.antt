@@ -2,6 +2,7 @@ pub mod Lists
 pub mod Greatest
 pub mod Simulation
 pub mod Search
+pub mod Index
 pub mod Join
 pub mod Components
 -- inner

@@ -22,7 +22,7 @@ use packed::reply::Refusal;
 use packed::reply::Reply;
 
 // A word for each node that a record can have.
-fn no_words() -> [u32; 4096]
+pub fn no_words() -> [u32; 4096]
     ensures { λ r. ⌜ r ≡ replicate 4096 0 ⌝ }
 {
     [0u32; 4096]

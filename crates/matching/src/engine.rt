@@ -1,11 +1,36 @@
-// The matching engine: of the links that pairs are held for, what is left when nothing more is lost.
-ghost use Prim.Native.Nat.{_≤_};
+// The matching engine: of the links that pairs are held for, what is left when nothing more is lost. There are two ways in, with one contract.
+ghost use Prim.Native.Nat.{_<_, _≤_};
+ghost use lib.ListN.{length};
 ghost use Rattle.matching.specs.Choices.{Prepared, Fixed};
+ghost use Rattle.matching.specs.Late.{Firsts};
+use crate::index;
 use crate::sweeps;
 use crate::turns;
 use packed::workspace;
 
-// Some rounds; where they don't come to rest, the nodes one by one and a last sweep, so that no chain of losses takes a round for each.
+// By an index of the pairs: the nodes one by one, each by its own pairs, and a sweep that brings what is held up to date.
+pub fn rest_by(
+    work: &mut [u32],
+    d: usize,
+    n: usize,
+    first: &[u16],
+    leave: &mut [u32],
+    arrive: &mut [u32],
+    out: &mut [u32],
+    free: u32,
+    due: u32,
+    leaving: &[u32; 128],
+    arriving: &[u32; 128],
+)
+    requires { ⌜ Prepared n d (now work) (now leave) (now arrive) (now out) × (n ≤ 4096) × (n < length (now first)) × Firsts d n (now work) (now first) ⌝ }
+    ensures { λ r. ⌜ Fixed n free due d (now (leaving .entry)) (now (arriving .entry)) (now (work .entry)) (now (leave .entry)) (now (arrive .entry)) (now (out .entry)) 0 (now (work .exit)) (now (leave .exit)) (now (arrive .exit)) (now (out .exit)) ⌝ }
+{
+    turns::late(work, n, d, first, due, leaving, arriving, leave, arrive);
+    sweeps::sweep(work, d, leave, arrive, free, out);
+    workspace::clear(out, n);
+}
+
+// Some rounds; where they don't come to rest, by an index that is made here, so that no chain of losses takes a round for each.
 pub fn rest(
     work: &mut [u32],
     d: usize,
@@ -25,7 +50,19 @@ pub fn rest(
     if lost == 0 {
         return;
     }
-    turns::late(work, n, d, due, leaving, arriving, leave, arrive);
-    sweeps::sweep(work, d, leave, arrive, free, out);
-    workspace::clear(out, n);
+    let mut first: [u16; 4097] = [0; 4097];
+    index::firsts(work, d, n, &mut first);
+    rest_by(
+        work,
+        d,
+        n,
+        &first,
+        leave,
+        arrive,
+        out,
+        free,
+        due,
+        leaving,
+        arriving,
+    );
 }

@@ -1,10 +1,12 @@
 // Where the pairs that begin at a node stand, and what they offer.
 ghost use mathlib.Core.Path.{_≡_};
-ghost use Prim.Native.Nat.{_+_, _<_, _≤_};
+ghost use Prim.Native.Nat.{_+_, _-_, _<_, _≤_};
 ghost use lib.ListN.{length};
 ghost use Rattle.matching.specs.Sweeping.{Ends};
-ghost use Rattle.matching.specs.Late.{ByStart, Cut, BeginsBelow, FirstsMade, Looked};
+ghost use Rattle.matching.specs.Late.{ByStart, Cut, BeginsBelow, FirstsMade, Compared, IndexJudged, missed};
 use packed::limits;
+use packed::reply::Refusal;
+use packed::reply::Reply;
 
 pub fn wide(x: u16) -> usize
     ensures { λ r. ⌜ r ≡ x ⌝ }
@@ -43,10 +45,44 @@ pub fn firsts(work: &[u32], d: usize, n: usize, first: &mut [u16])
     }
 }
 
-// The links of want that no pair from a up to b offers: each offers those that it is held for and that may arrive at its end.
+// The first entry of an index up to the node n that is not how many pairs begin below its node, or n + 1.
+fn differs(work: &[u32], d: usize, n: usize, index: &[u16]) -> usize
+    requires { ⌜ (d ≤ 8192) × (length (now work) ≡ 16384) × ByStart d (now work) × (n < length (now index)) ⌝ }
+    ensures { λ r. ⌜ Compared d n (now (work .entry)) (now (index .entry)) r ⌝ }
+{
+    let mut i: usize = 0;
+    let mut v: usize = 0;
+    while v <= n {
+        i = skip(work, i, d, v);
+        if wide(index[v]) != i {
+            return v;
+        }
+        v += 1;
+    }
+    v
+}
+
+// How many entries an index has, if it is that of the pairs.
+pub fn judge(work: &[u32], d: usize, n: usize, index: &[u16]) -> Reply
+    requires { ⌜ Ends n d (now work) × ByStart d (now work) × (n ≤ 4096) ⌝ }
+    ensures { λ r. ⌜ IndexJudged d n (now (work .entry)) (now (index .entry)) r ⌝ }
+{
+    let entries = n + 1;
+    if index.len() != entries {
+        return Reply::Refused(Refusal::WrongIndex(index.len()));
+    }
+    let v = differs(work, d, n, index);
+    if v <= n {
+        return Reply::Refused(Refusal::WrongIndex(v));
+    }
+    Reply::Done(entries)
+}
+
+// The links of want that no pair from a up to b offers: each offers those that it is held for and that may arrive at its end. The two are the entries of an
+// index at a node and after it, and nothing else looks at the links that leave the node.
 pub fn look(work: &[u32], a: usize, b: usize, arrive: &[u32], want: u32) -> u32
     requires { ⌜ (a ≤ b) × Ends (length (now arrive)) b (now work) ⌝ }
-    ensures { λ r. ⌜ Looked (now (work .entry)) a b (now (arrive .entry)) want r ⌝ }
+    ensures { λ r. ⌜ r ≡ missed (now (work .entry)) (now (arrive .entry)) want a (b - a) ⌝ }
 {
     let mut miss = want;
     let mut i = a;

@@ -1,10 +1,11 @@
-// Matching by simulation: searching a record for a pattern, and making the book of a catalogue from a record.
+// Matching by simulation: searching a record for a pattern, with an index of the record or without, and making the book of a catalogue from a record.
 mod calls;
 mod candidates;
 mod components;
 mod ends;
 mod engine;
 mod index;
+mod indexed;
 pub mod join;
 mod link_tables;
 mod marked;
@@ -15,9 +16,12 @@ mod sweeps;
 mod turns;
 pub mod views;
 
+ghost use mathlib.Core.List.{[]};
+ghost use lib.ListN.{length};
 ghost use Rattle.packed.specs.Refusals.{replyTold};
-ghost use Rattle.packed.specs.Calls.{OneOutput};
+ghost use Rattle.packed.specs.Calls.{OneOutput, Settled, withWorkspace};
 ghost use Rattle.matching.specs.Search.{searchOutcome, makeBookOutcome};
+ghost use Rattle.matching.specs.Index.{makeIndexOutcome, checkIndexOutcome, searchIndexedOutcome};
 use packed::limits;
 use packed::reply::Refusal;
 use packed::reply::Reply;
@@ -46,6 +50,48 @@ pub fn make_book(catalogue: &[u8], record: &[u8], out: &mut [u8], work: &mut [u3
         return Reply::Refused(Refusal::SmallWorkspace);
     }
     let r = calls::make_book(catalogue, record, out, &mut work[0..limits::WORKSPACE]);
+    workspace::clear(work, CLEARED);
+    r
+}
+
+// Makes the index of a record: for each node how many edges begin at lower ones, and then how many there are.
+pub fn make_index(record: &[u8], out: &mut [u16], work: &mut [u32]) -> Reply
+    ensures { λ r. ⌜ OneOutput (makeIndexOutcome (now («record» .entry))) (replyTold r) (now (out .entry)) (now (out .exit)) (now (work .entry)) (now (work .exit)) ⌝ }
+{
+    if work.len() < limits::WORKSPACE {
+        return Reply::Refused(Refusal::SmallWorkspace);
+    }
+    let r = indexed::make(record, out, &mut work[0..limits::WORKSPACE]);
+    workspace::clear(work, CLEARED);
+    r
+}
+
+// Checks that an index is the record's own: how many entries it has.
+pub fn check_index(record: &[u8], index: &[u16], work: &mut [u32]) -> Reply
+    ensures { λ r. ⌜ Settled [] (withWorkspace (length (now (work .entry))) (checkIndexOutcome (now («record» .entry)) (now (index .entry)))) (replyTold r) [] [] (now (work .entry)) (now (work .exit)) ⌝ }
+{
+    if work.len() < limits::WORKSPACE {
+        return Reply::Refused(Refusal::SmallWorkspace);
+    }
+    let r = indexed::check(record, index, &mut work[0..limits::WORKSPACE]);
+    workspace::clear(work, CLEARED);
+    r
+}
+
+// Searches a record for a pattern by the record's own index: writes the pattern's sheet.
+pub fn search_indexed(
+    pattern: &[u8],
+    record: &[u8],
+    index: &[u16],
+    out: &mut [u8],
+    work: &mut [u32],
+) -> Reply
+    ensures { λ r. ⌜ OneOutput (searchIndexedOutcome (now (pattern .entry)) (now («record» .entry)) (now (index .entry))) (replyTold r) (now (out .entry)) (now (out .exit)) (now (work .entry)) (now (work .exit)) ⌝ }
+{
+    if work.len() < limits::WORKSPACE {
+        return Reply::Refused(Refusal::SmallWorkspace);
+    }
+    let r = indexed::search(pattern, record, index, out, &mut work[0..limits::WORKSPACE]);
     workspace::clear(work, CLEARED);
     r
 }

@@ -50,7 +50,7 @@ fn draw(set: &mut [u32]) -> usize
 
 // Marks the node v. One at which 16 or more pairs begin is to wait.
 pub fn mark(first: &[u16], v: usize, set: &mut [u32])
-    requires { ⌜ (v < 4096) × (length (now first) ≡ 4097) × (length (now set) ≡ 256) ⌝ }
+    requires { ⌜ (v < 4096) × (v + 1 < length (now first)) × (length (now set) ≡ 256) ⌝ }
     ensures { λ r. ⌜ Marks v (now (set .entry)) (now (set .exit)) ⌝ }
 {
     let next = v + 1;
@@ -62,7 +62,7 @@ pub fn mark(first: &[u16], v: usize, set: &mut [u32])
 
 // Marks the first n nodes.
 pub fn mark_all(n: usize, first: &[u16], set: &mut [u32])
-    requires { ⌜ (n ≤ 4096) × (length (now first) ≡ 4097) × (length (now set) ≡ 256) × ((v : ℕ) → v < 4096 → IsMarked (now set) v → ⊥) ⌝ }
+    requires { ⌜ (n ≤ 4096) × (n < length (now first)) × (length (now set) ≡ 256) × ((v : ℕ) → v < 4096 → IsMarked (now set) v → ⊥) ⌝ }
     ensures { λ r. ⌜ AllMarked n (now (set .exit)) ⌝ }
 {
     let mut v: usize = 0;

@@ -1,4 +1,7 @@
 // A pattern matched with a record whose edges stand in the workspace.
+ghost use Prim.Native.Nat.{_<_};
+ghost use lib.ListN.{length};
+ghost use Rattle.matching.specs.Late.{Firsts};
 ghost use Rattle.matching.specs.Steps.{Fair, Ready};
 ghost use Rattle.matching.specs.Starting.{NodeRoom};
 ghost use Rattle.matching.specs.Matched.{EdgesMatched, Proper, Rises};
@@ -30,4 +33,42 @@ pub fn match_edges(
     let leaving = link_tables::table(&from, &from, edges);
     let arriving = link_tables::table(&from, &to, edges);
     engine::rest(work, m, n, leave, arrive, out, 0, all, &leaving, &arriving);
+}
+
+// The same by the record's index.
+pub fn match_indexed(
+    s: &[u8],
+    n: usize,
+    m: usize,
+    p: Pattern,
+    first: &[u16],
+    work: &mut [u32],
+    leave: &mut [u32],
+    arrive: &mut [u32],
+    out: &mut [u32],
+)
+    requires { ⌜ Fair p × Proper p × Ready (now s) n m (now work) × Rises m (now work) × NodeRoom n (now leave) (now arrive) (now out) × (n < length (now first)) × Firsts m n (now work) (now first) ⌝ }
+    ensures { λ r. ⌜ EdgesMatched p (now (s .entry)) n m (now (work .entry)) (now (work .exit)) × NodeRoom n (now (leave .exit)) (now (arrive .exit)) (now (out .exit)) ⌝ }
+{
+    let from = p.from;
+    let to = p.to;
+    let edges = p.edges;
+    let all = link_tables::all(edges);
+    start::hold(work, m, all);
+    start::spread(s, n, p, leave, arrive, out);
+    let leaving = link_tables::table(&from, &from, edges);
+    let arriving = link_tables::table(&from, &to, edges);
+    engine::rest_by(
+        work,
+        m,
+        n,
+        first,
+        leave,
+        arrive,
+        out,
+        0,
+        all,
+        &leaving,
+        &arriving,
+    );
 }

@@ -3,7 +3,7 @@ ghost use mathlib.Core.Path.{_≡_};
 ghost use Prim.Native.Nat.{_+_, _<_, _≤_};
 ghost use lib.ListN.{length};
 ghost use Rattle.matching.specs.Sweeping.{fromOf, Ends};
-ghost use Rattle.matching.specs.Late.{ByStart, Firsts, Backs, AllMarked, MarkedStart, MarkedBefore, Turned, Late};
+ghost use Rattle.matching.specs.Late.{Firsts, Backs, AllMarked, MarkedStart, MarkedBefore, Turned, Late};
 use crate::ends;
 use crate::index;
 use crate::marked;
@@ -12,7 +12,7 @@ use packed::limits;
 
 // The start of the pair i is marked, if a link of lost is held and may leave.
 fn mark_start(work: &[u32], i: usize, lost: u32, leave: &[u32], first: &[u16], set: &mut [u32])
-    requires { ⌜ (i < 8192) × (length (now work) ≡ 16384) × (fromOf (now work) i < 4096) × (fromOf (now work) i < length (now leave)) × (length (now first) ≡ 4097) × (length (now set) ≡ 256) ⌝ }
+    requires { ⌜ (i < 8192) × (length (now work) ≡ 16384) × (fromOf (now work) i < 4096) × (fromOf (now work) i < length (now leave)) × (fromOf (now work) i + 1 < length (now first)) × (length (now set) ≡ 256) ⌝ }
     ensures { λ r. ⌜ MarkedStart (now (work .entry)) lost (now (leave .entry)) i (now (set .entry)) (now (set .exit)) ⌝ }
 {
     let f = (work[i] / limits::NODES) as usize;
@@ -37,7 +37,7 @@ fn mark_before(
     first: &[u16],
     set: &mut [u32],
 )
-    requires { ⌜ Ends n d (now work) × Backs d n (now work) (now back) (now rev) × (v < n) × (n ≤ 4096) × (n ≤ length (now leave)) × (length (now first) ≡ 4097) × (length (now set) ≡ 256) ⌝ }
+    requires { ⌜ Ends n d (now work) × Backs d n (now work) (now back) (now rev) × (v < n) × (n ≤ 4096) × (n ≤ length (now leave)) × (n < length (now first)) × (length (now set) ≡ 256) ⌝ }
     ensures { λ r. ⌜ MarkedBefore d (now (work .entry)) v lost (now (leave .entry)) (now (set .entry)) (now (set .exit)) ⌝ }
 {
     let next = v + 1;
@@ -66,7 +66,7 @@ fn look_at(
     set: &mut [u32],
     v: usize,
 )
-    requires { ⌜ Ends n d (now work) × Firsts d n (now work) (now first) × Backs d n (now work) (now back) (now rev) × (v < n) × (n ≤ 4096) × (length (now first) ≡ 4097) × (n ≤ length (now leave)) × (n ≤ length (now arrive)) × (length (now set) ≡ 256) ⌝ }
+    requires { ⌜ Ends n d (now work) × Firsts d n (now work) (now first) × Backs d n (now work) (now back) (now rev) × (v < n) × (n ≤ 4096) × (n < length (now first)) × (n ≤ length (now leave)) × (n ≤ length (now arrive)) × (length (now set) ≡ 256) ⌝ }
     ensures { λ r. ⌜ Turned n due d v (now (leaving .entry)) (now (arriving .entry)) (now (work .entry)) (now (leave .entry)) (now (arrive .entry)) (now (set .entry)) (now (leave .exit)) (now (arrive .exit)) (now (set .exit)) ⌝ }
 {
     let next = v + 1;
@@ -100,7 +100,7 @@ fn settle(
     arrive: &mut [u32],
     set: &mut [u32],
 )
-    requires { ⌜ Ends n d (now work) × Firsts d n (now work) (now first) × Backs d n (now work) (now back) (now rev) × (n ≤ 4096) × (length (now first) ≡ 4097) × (n ≤ length (now leave)) × (n ≤ length (now arrive)) × AllMarked n (now set) ⌝ }
+    requires { ⌜ Ends n d (now work) × Firsts d n (now work) (now first) × Backs d n (now work) (now back) (now rev) × (n ≤ 4096) × (n < length (now first)) × (n ≤ length (now leave)) × (n ≤ length (now arrive)) × AllMarked n (now set) ⌝ }
     ensures { λ r. ⌜ Late n due d (now (leaving .entry)) (now (arriving .entry)) (now (work .entry)) (now (leave .entry)) (now (arrive .entry)) (now (leave .exit)) (now (arrive .exit)) ⌝ }
 {
     loop {
@@ -126,32 +126,31 @@ fn settle(
     }
 }
 
-// What the nodes lose, one by one, until every link that is due is offered wherever it may leave.
+// What the nodes lose, one by one, until every link that is due is offered wherever it may leave. `first` is an index of the pairs.
 pub fn late(
     work: &[u32],
     n: usize,
     d: usize,
+    first: &[u16],
     due: u32,
     leaving: &[u32; 128],
     arriving: &[u32; 128],
     leave: &mut [u32],
     arrive: &mut [u32],
 )
-    requires { ⌜ Ends n d (now work) × ByStart d (now work) × (n ≤ 4096) × (n ≤ length (now leave)) × (n ≤ length (now arrive)) ⌝ }
+    requires { ⌜ Ends n d (now work) × Firsts d n (now work) (now first) × (n ≤ 4096) × (n < length (now first)) × (n ≤ length (now leave)) × (n ≤ length (now arrive)) ⌝ }
     ensures { λ r. ⌜ Late n due d (now (leaving .entry)) (now (arriving .entry)) (now (work .entry)) (now (leave .entry)) (now (arrive .entry)) (now (leave .exit)) (now (arrive .exit)) ⌝ }
 {
-    let mut first: [u16; 4097] = [0; 4097];
     let mut back: [u16; 4097] = [0; 4097];
     let mut rev: [u16; 8192] = [0; 8192];
     let mut set: [u32; 256] = [0; 256];
-    index::firsts(work, d, n, &mut first);
     ends::ends(work, d, n, &mut back, &mut rev);
-    marked::mark_all(n, &first, &mut set);
+    marked::mark_all(n, first, &mut set);
     settle(
         work,
         n,
         d,
-        &first,
+        first,
         &back,
         &rev,
         due,

@@ -34,6 +34,8 @@ pub enum Refusal {
     SmallWorkspace,
     // 15, charges: how many charges were lent, where that is not the number of views
     WrongCharges(usize),
+    // 16, index: how many entries the lent index has, where that is not one more than the record's nodes; else the first that differs from the record's own
+    WrongIndex(usize),
 }
 
 // What a call with one output answers: how much of it was written, or the refusal.
@@ -86,6 +88,7 @@ pub fn number_of(x: Refusal) -> usize
         Refusal::Contained => 13,
         Refusal::SmallWorkspace => 14,
         Refusal::WrongCharges(_) => 15,
+        Refusal::WrongIndex(_) => 16,
     }
 }
 
@@ -109,5 +112,6 @@ pub fn detail_of(x: Refusal) -> usize
         Refusal::Contained => 0,
         Refusal::SmallWorkspace => 0,
         Refusal::WrongCharges(d) => d,
+        Refusal::WrongIndex(d) => d,
     }
 }

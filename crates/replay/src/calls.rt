@@ -5,6 +5,7 @@ ghost use lib.ListN.{length};
 use crate::beside;
 use crate::cells;
 use crate::digest;
+use crate::indexed;
 use crate::marks;
 use crate::slices;
 use crate::states;
@@ -45,6 +46,12 @@ pub const ANSWER_FROM: usize = 16;
 
 const SORT_RECORD: usize = 17;
 
+pub const MAKE_INDEX: usize = 18;
+
+pub const CHECK_INDEX: usize = 19;
+
+pub const SEARCH_INDEXED: usize = 20;
+
 // The states of a join after each of its steps, which no client sees.
 pub const STEPS: usize = 30;
 
@@ -57,6 +64,7 @@ pub const PLAIN: usize = 31;
 // The value is the written length, or a refusal's detail. A showing has the second record's length beside it. A quote has 1 where the
 // question is covered, and the chosen views beside it, else the lowest unmatched link. The cheapest set has its sum, and itself beside it.
 // The steps of a join have their number, and the settled items beside it.
+// An index has the number of its entries; where one was made, twice as many bytes are written.
 pub struct Outcome {
     pub number: usize,
     pub value: usize,
@@ -400,6 +408,12 @@ fn on_parts(
     }
     if k == SHOW_UNCOVERED {
         return show(a, b, registers, out, work);
+    }
+    if k == MAKE_INDEX {
+        return indexed::make(c, room, out, work);
+    }
+    if (k == CHECK_INDEX) | (k == SEARCH_INDEXED) {
+        return indexed::call(k, a, c, d, &mut out[0..n], work);
     }
     let set = (cells::number(registers, cells::SET) % 0x1_0000) as u16;
     make(k, a, b, c, d, set, &mut out[0..n], work)

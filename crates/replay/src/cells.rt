@@ -3,12 +3,12 @@ ghost use mathlib.Core.Path.{_≡_};
 ghost use lib.ListN.{length};
 
 // The registers. The four files of a case are parts of the memory, each from its start to its end: pattern or question, catalogue, record,
-// sheet or book.
+// sheet, book or index.
 pub const START: usize = 0;
 
 pub const END: usize = 4;
 
-// What is lent: words for a reader and else bytes, bytes for the second record of a showing, words to work in.
+// What is lent: words for a reader, entries for an index and else bytes, bytes for the second record of a showing, words to work in.
 pub const ROOM: usize = 8;
 
 pub const SECOND: usize = 9;

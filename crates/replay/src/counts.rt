@@ -32,7 +32,7 @@ fn is_listing(k: usize, o: Outcome, out: &[u8]) -> bool {
     }
     let count = (slices::byte_at(out, 0) != 0) | (3 < slices::byte_at(out, 1));
     let answer = (k == calls::ANSWER) | (k == calls::ANSWER_FROM);
-    let search = (k == calls::SEARCH) | (k == calls::PLAIN);
+    let search = (k == calls::SEARCH) | (k == calls::SEARCH_INDEXED) | (k == calls::PLAIN);
     (answer | search) & count
 }
 

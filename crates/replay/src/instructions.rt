@@ -17,7 +17,7 @@ use crate::states;
 // Bytes that follow become the part of the last two bits' number.
 const BYTES: usize = 32;
 
-// What the last call wrote is added to the end of a part, which grows by what it needed.
+// What the last call wrote is added to the end of a part, which grows by that or by what it needed.
 const KEEP: usize = 36;
 
 // A field is added to the content; the last field gets its upper 8 bits; so many lists are added; the content becomes a record,
@@ -71,8 +71,9 @@ const SHORT: usize = 130;
 
 fn keep(part: usize, memory: &mut [u8], out: &[u8], cells: &mut [u64]) {
     let end = cells::number(cells, cells::END + part % 4);
-    slices::copy(out, cells::number(cells, cells::WRITTEN), memory, end);
-    let size = rounds::needed(cells);
+    let written = cells::number(cells, cells::WRITTEN);
+    slices::copy(out, written, memory, end);
+    let size = slices::greatest(written, rounds::needed(cells));
     cells::set(cells, cells::END + part % 4, slices::plus(end, size));
 }
 

@@ -11,6 +11,7 @@ mod content;
 mod counts;
 mod digest;
 mod draw;
+mod indexed;
 mod instructions;
 mod marks;
 mod memory;

@@ -96,6 +96,8 @@ fn say_lengths(k: usize, cells: &[u64]) {
     say_number(cells::number(cells, cells::VALUE));
     if k < calls::WRITE_PATTERN {
         say(b" words");
+    } else if (k == calls::MAKE_INDEX) | (k == calls::CHECK_INDEX) {
+        say(b" entries");
     } else if k == calls::SHOW_UNCOVERED {
         say(b" and ");
         say_number(cells::number(cells, cells::OTHER));
@@ -152,6 +154,9 @@ fn say_call(k: usize) {
         15 => say(b"  cheapest: "),
         16 => say(b"  answer_from: "),
         17 => say(b"  sort_record: "),
+        18 => say(b"  make_index: "),
+        19 => say(b"  check_index: "),
+        20 => say(b"  search_indexed: "),
         30 => say(b"  steps: "),
         _ => say(b"  plain search: "),
     }

@@ -7,6 +7,10 @@ pub fn least(a: usize, b: usize) -> usize
     if a < b { a } else { b }
 }
 
+pub fn greatest(a: usize, b: usize) -> usize {
+    if a < b { b } else { a }
+}
+
 // A sum that stays as it is rather than wrap.
 pub fn plus(a: usize, b: usize) -> usize {
     if a < 0x1000_0000_0000 {

@@ -6,6 +6,7 @@ ghost use lib.ListN.{length};
 ghost use Rattle.packed.specs.Calls.{OneOutput, Settled, withWorkspace, patternRead, catalogueRead, recordRead, sheetRead, bookRead, patternWritten, catalogueWritten, recordWritten, sheetWritten, bookWritten};
 ghost use Rattle.packed.specs.OldRecord.{recordSorted};
 ghost use Rattle.matching.specs.Search.{searchOutcome, makeBookOutcome};
+ghost use Rattle.matching.specs.Index.{makeIndexOutcome, checkIndexOutcome, searchIndexedOutcome};
 ghost use Rattle.containment.specs.Quote.{quoteOutcome, blank};
 ghost use Rattle.containment.specs.Answer.{answerOutcome, answerFrom};
 ghost use Rattle.containment.specs.Show.{showOutcome};
@@ -163,6 +164,44 @@ pub extern "C" fn yuthaqim_search(
     ensures { λ r. ⌜ OneOutput (searchOutcome (now (pattern .entry)) (now («record» .entry))) (numberedReplyTold r) (now (out .entry)) (now (out .exit)) (now (work .entry)) (now (work .exit)) ⌝ }
 {
     numbered::reply(matching::search(pattern, record, out, work))
+}
+
+// Makes the index of a record: for each item how many links begin at lower ones, and then how many there are.
+#[no_mangle]
+pub extern "C" fn yuthaqim_make_index(
+    record: &[u8],
+    out: &mut [u16],
+    work: &mut [u32],
+) -> NumberedReply
+    ensures { λ r. ⌜ OneOutput (makeIndexOutcome (now («record» .entry))) (numberedReplyTold r) (now (out .entry)) (now (out .exit)) (now (work .entry)) (now (work .exit)) ⌝ }
+{
+    numbered::reply(matching::make_index(record, out, work))
+}
+
+// Checks that an index is the record's own: how many entries it has.
+#[no_mangle]
+pub extern "C" fn yuthaqim_check_index(
+    record: &[u8],
+    index: &[u16],
+    work: &mut [u32],
+) -> NumberedReply
+    ensures { λ r. ⌜ Settled [] (withWorkspace (length (now (work .entry))) (checkIndexOutcome (now («record» .entry)) (now (index .entry)))) (numberedReplyTold r) [] [] (now (work .entry)) (now (work .exit)) ⌝ }
+{
+    numbered::reply(matching::check_index(record, index, work))
+}
+
+// Searches a record for a pattern by the record's own index: writes the pattern's sheet.
+#[no_mangle]
+pub extern "C" fn yuthaqim_search_indexed(
+    pattern: &[u8],
+    record: &[u8],
+    index: &[u16],
+    out: &mut [u8],
+    work: &mut [u32],
+) -> NumberedReply
+    ensures { λ r. ⌜ OneOutput (searchIndexedOutcome (now (pattern .entry)) (now («record» .entry)) (now (index .entry))) (numberedReplyTold r) (now (out .entry)) (now (out .exit)) (now (work .entry)) (now (work .exit)) ⌝ }
+{
+    numbered::reply(matching::search_indexed(pattern, record, index, out, work))
 }
 
 // Makes the book of a catalogue from a record: writes a sheet for each view.

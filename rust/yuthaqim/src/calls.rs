@@ -79,6 +79,13 @@ calls! {
     sort_record = yuthaqim_sort_record(old: u8; out: u8) -> Replied, usize;
     /// Searches a record for a pattern: writes the pattern's sheet.
     search = yuthaqim_search(pattern: u8, record: u8; out: u8) -> Replied, usize;
+    /// Makes the index of a record: for each item the number of links that begin at lower items, then the number of all
+    /// links. So a record of n items has n + 1 entries.
+    make_index = yuthaqim_make_index(record: u8; out: u16) -> Replied, usize;
+    /// Checks an index against a record: gives the number of its entries, or [`INDEX`](crate::INDEX). It has no output.
+    check_index = yuthaqim_check_index(record: u8, index: u16;) -> Replied, usize;
+    /// Searches a record for a pattern by the record's index: writes the sheet that a search without one gives.
+    search_indexed = yuthaqim_search_indexed(pattern: u8, record: u8, index: u16; out: u8) -> Replied, usize;
     /// Makes the book of a catalogue from a record: writes a sheet for each extract.
     make_book = yuthaqim_make_book(catalogue: u8, record: u8; out: u8) -> Replied, usize;
     /// Quotes a question with a catalogue. It has no output, and uncovered is one of its results.

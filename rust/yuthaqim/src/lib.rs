@@ -1,6 +1,6 @@
-//! Files of patterns, catalogues, records, sheets and books; searching a record, quoting a question, finding the cheapest
-//! extracts for it, answering it from a book, and showing why it is uncovered. The work is done by a library whose every
-//! call is proved to meet its contract; this crate only hands over slices.
+//! Files of patterns, catalogues, records, sheets and books; searching a record, by an index beside it too, quoting a
+//! question, finding the cheapest extracts for it, answering it from a book, and showing why it is uncovered. The work is
+//! done by a library whose every call is proved to meet its contract; this crate only hands over slices.
 //!
 //! A call is lent its output and at least [`WORK_WORDS`] words to work in. It answers how much of the output it wrote, or
 //! a [`Refusal`], which leaves the output as it was. The words may hold anything before a call. Afterwards the first
@@ -37,6 +37,17 @@
 //! let mut same = [0; yuthaqim::SHEET_BYTES];
 //! let length = yuthaqim::answer_from(&question, &catalogue, cheapest.set, book, &mut same, &mut work)?;
 //! assert_eq!(same[..length], sheet[..length]);
+//!
+//! // An index beside the record: a search by it gives the same sheet.
+//! let mut index = [0; yuthaqim::INDEX_ENTRIES];
+//! let entries = yuthaqim::make_index(record, &mut index, &mut work)?;
+//! assert_eq!(index[..entries], [0, 1, 2, 2]);
+//! assert_eq!(yuthaqim::check_index(record, &index[..entries], &mut work), Ok(4));
+//! let length = yuthaqim::search_indexed(&question, record, &index[..entries], &mut same, &mut work)?;
+//! assert_eq!(same[..length], sheet[..length]);
+//! index[1] = 2;
+//! let refusal = yuthaqim::search_indexed(&question, record, &index[..entries], &mut same, &mut work).unwrap_err();
+//! assert_eq!((refusal.number, refusal.detail), (yuthaqim::INDEX, 1));
 //! # Ok(())
 //! # }
 //! ```
@@ -67,6 +78,9 @@ pub const RECORD_WORDS: usize = 20_482;
 pub const SHEET_WORDS: usize = 43_690;
 pub const BOOK_WORDS: usize = 43_690;
 
+/// The most entries of a record's index.
+pub const INDEX_ENTRIES: usize = 4_097;
+
 /// The numbers of the refusals.
 pub const LONG: usize = 1;
 pub const SHORT: usize = 2;
@@ -83,9 +97,10 @@ pub const NO_FIT: usize = 12;
 pub const COVERED: usize = 13;
 pub const DESK: usize = 14;
 pub const CHARGES: usize = 15;
+pub const INDEX: usize = 16;
 
 /// The word of each refusal, from 1 on.
-const WORDS: [&str; 15] = [
+const WORDS: [&str; 16] = [
     "long",
     "short",
     "count",
@@ -101,16 +116,18 @@ const WORDS: [&str; 15] = [
     "covered",
     "desk",
     "charges",
+    "index",
 ];
 
 /// Why a call refuses.
 #[derive(Clone, Copy, Debug, PartialEq, Eq)]
 pub struct Refusal {
-    /// 1 to 15.
+    /// 1 to 16.
     pub number: usize,
     /// Of 1 to 10 the file at fault (1 a pattern, 2 a catalogue, 3 a record, 4 a book or sheet), of [`UNCOVERED`] the
     /// lowest link that is unmatched, by the set that was named where one was, of [`NO_FIT`] how much the output needs, of
-    /// [`CHARGES`] how many charges there were, of the others zero.
+    /// [`CHARGES`] how many charges there were, of [`INDEX`] how many entries there were if that is wrong, else the first
+    /// position that differs, of the others zero.
     pub detail: usize,
 }
 

@@ -7,6 +7,7 @@ pub mod cases;
 pub mod cheapest;
 mod drawing;
 pub mod files;
+pub mod indexing;
 pub mod matching;
 pub mod quoting;
 mod replay;

@@ -5,12 +5,13 @@ use crate::files::*;
 /// Lent to a reader whose content stays inside.
 const ENOUGH: usize = usize::MAX;
 
-/// A record by its content: two counts, the kinds, the links.
-fn record_of(fields: &[u32]) -> Record {
+/// 14, then a record, by its content: two counts, the kinds, the links.
+pub fn record_of(bytes: &[u8], work_words: usize) -> Result<Record, Refusal> {
+    let fields = read_record(bytes, ENOUGH, work_words)?;
     let items = fields[0] as usize;
     let kinds = fields[2..2 + items].to_vec();
     let links = fields[2 + items..].chunks(2).map(|ends| (ends[0], ends[1])).collect();
-    Record { kinds, links }
+    Ok(Record { kinds, links })
 }
 
 /// The greatest simulation: whether pattern item u and record item v are related stands at `[u][v]`.
@@ -74,7 +75,7 @@ pub fn fields(sheet: &Sheet) -> Vec<u32> {
 /// 14, the pattern, the record, then 12.
 pub fn search(pattern: &[u8], record: &[u8], room: usize, work_words: usize) -> Result<Vec<u8>, Refusal> {
     read_pattern(pattern, ENOUGH, work_words)?;
-    let record = record_of(&read_record(record, ENOUGH, work_words)?);
+    let record = record_of(record, work_words)?;
     let sheet = sheet(&judge_pattern(pattern)?, &record);
     write_sheet(pattern, &fields(&sheet), room, work_words)
 }
@@ -83,7 +84,7 @@ pub fn search(pattern: &[u8], record: &[u8], room: usize, work_words: usize) -> 
 /// links, so 10 doesn't fall to it.
 pub fn make_book(catalogue: &[u8], record: &[u8], room: usize, work_words: usize) -> Result<Vec<u8>, Refusal> {
     read_catalogue(catalogue, ENOUGH, work_words)?;
-    let record = record_of(&read_record(record, ENOUGH, work_words)?);
+    let record = record_of(record, work_words)?;
     let mut book = Vec::new();
     for extract in judge_catalogue(catalogue)? {
         book.extend(fields(&sheet(&extract, &record)));

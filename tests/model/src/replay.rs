@@ -7,6 +7,7 @@ mod outcome;
 use crate::answering::{answer, answer_from};
 use crate::cheapest::cheapest;
 use crate::files::*;
+use crate::indexing::{check_index, make_index, search_indexed};
 use crate::matching::{make_book, search};
 use crate::quoting::{quote, show};
 use crate::rule::{Drawn, Lists, Pairs};
@@ -79,6 +80,9 @@ pub const SHOW_UNCOVERED: usize = 14;
 pub const CHEAPEST: usize = 15;
 pub const ANSWER_FROM: usize = 16;
 pub const SORT_RECORD: usize = 17;
+pub const MAKE_INDEX: usize = 18;
+pub const CHECK_INDEX: usize = 19;
+pub const SEARCH_INDEXED: usize = 20;
 /// The states of a join after each step.
 pub const STEPS: usize = 30;
 /// The search that the program makes apart from the library's. To the model it is the same.
@@ -88,7 +92,7 @@ pub const PLAIN: usize = 31;
 const NUMBERS: usize = 32;
 
 /// The names of the library's calls, in the order of these numbers.
-pub const CALLS: [&str; 18] = [
+pub const CALLS: [&str; 21] = [
     "read_pattern",
     "read_catalogue",
     "read_record",
@@ -107,6 +111,9 @@ pub const CALLS: [&str; 18] = [
     "cheapest",
     "answer_from",
     "sort_record",
+    "make_index",
+    "check_index",
+    "search_indexed",
 ];
 
 /// The name of a call, or of what the program does apart from them.
@@ -118,20 +125,22 @@ fn name(call: usize) -> &'static str {
     }
 }
 
-/// The parts of the memory that the calls take: a pattern or question, a catalogue, a record, a sheet or book.
+/// The parts of the memory that the calls take: a pattern or question, a catalogue, a record, a sheet, book or index.
 pub const QUESTION_PART: usize = 0;
 pub const CATALOGUE_PART: usize = 1;
 pub const RECORD_PART: usize = 2;
 pub const BOOK_PART: usize = 3;
 
-/// Where each part is laid by default, and where the memory is zero for ever.
+/// Where each part is laid by default, where the memory is zero for ever, and where an index has room beside a book.
 pub const PLACES: [usize; 4] = [0, 1_024, 4_096, 131_072];
 pub const ZEROS: usize = 49_152;
+pub const INDEX_PLACE: usize = 118_784;
 
 /// What the program has.
 const MEMORY: usize = 393_216;
 const WORDS: usize = 524_320;
 const OUTPUT: usize = 66_000;
+const ENTRIES: usize = 33_000;
 
 /// The most that is lent by default. As room it is so many bytes or words.
 pub const ROOM_MOST: usize = OUTPUT;
@@ -216,7 +225,7 @@ impl Script {
         self.place(part, PLACES[part], PLACES[part]);
     }
 
-    /// What the last call wrote is added to a part, which grows by what it needed.
+    /// What the last call wrote is added to a part, which grows by that or by what it needed.
     pub fn keep(&mut self, part: usize) {
         self.instruction(KEEP, part);
         let end = self.registers[END + part];
@@ -227,7 +236,7 @@ impl Script {
                 }
             }
         }
-        self.registers[END + part] += self.last.needed();
+        self.registers[END + part] += self.last.needed().max(self.last.written());
     }
 
     /// Fields are added to the content: those that are bytes together, the others one by one.
@@ -404,6 +413,9 @@ impl Script {
                 let set = self.registers[SET] as u16;
                 Outcome::bytes(answer_from(question, catalogue, set, book, room, work))
             }
+            MAKE_INDEX => Outcome::entries(make_index(record, room.min(ENTRIES), work)),
+            CHECK_INDEX => Outcome::checked(check_index(record, &entries(book), work)),
+            SEARCH_INDEXED => Outcome::bytes(search_indexed(question, record, &entries(book), room, work)),
             _ => {
                 let second = self.registers[SECOND];
                 Outcome::shown(show(question, catalogue, room.min(200), second.min(200), work))
@@ -561,6 +573,7 @@ impl Script {
             (0, STEPS) => format!("{value} steps, digest {digest:016x}"),
             (0, CHEAPEST) => format!("cost {value}, set {other}, digest {digest:016x}"),
             (0, SHOW_UNCOVERED) => format!("{value} and {other} bytes"),
+            (0, MAKE_INDEX | CHECK_INDEX) => format!("{value} entries"),
             (0, call) if call < WRITE_PATTERN => format!("{value} words"),
             (0, _) => format!("{value} bytes"),
             _ => format!("refused {number} {value}"),
@@ -600,6 +613,11 @@ impl Script {
         let counts = std::mem::replace(&mut self.all, vec![Counts::new(); NUMBERS]);
         self.lines(counts, false);
     }
+}
+
+/// The entries that stand in bytes, two each.
+fn entries(bytes: &[u8]) -> Vec<u16> {
+    bytes.chunks_exact(2).take(ENTRIES).map(|two| u16::from_be_bytes([two[0], two[1]])).collect()
 }
 
 /// The part that a reader reads.

@@ -4,6 +4,7 @@ use crate::draw::Draw;
 use crate::tally::{Call, Tally};
 use model::cheapest::{self, Cheapest};
 use model::files::{Refusal, NO_FIT};
+use model::indexing;
 use model::quoting::{self, Quote};
 use std::fmt::Debug;
 use yuthaqim::{raw, Priced, Quoted, Showed, WORK_WORDS};
@@ -264,6 +265,25 @@ fn same_quote(given: &Result<yuthaqim::Quote, yuthaqim::Refusal>, quote: &Result
 }
 
 impl Desk<u8> {
+    pub fn check_index(
+        &mut self,
+        notes: &mut Notes,
+        draw: &mut Draw,
+        lent: Lent,
+        record: &[u8],
+        index: &[u16],
+    ) -> Result<(), Difference> {
+        let expected = indexing::check_index(record, index, lent.work);
+        let answered = yuthaqim::check_index(record, index, self.work.lend(lent.work, draw.word()));
+        let inputs = &[("record", &record as _), ("index", &index as _)];
+        let asked = Asked { call: Call::CheckIndex, inputs, lent };
+        let held = [
+            ("answer", answered == expected.as_ref().map(|entries| *entries).map_err(refused)),
+            ("workspace", self.work.is_cleared()),
+        ];
+        notes.end(&asked, &expected, &answered, expected.as_ref().err().copied(), &held)
+    }
+
     pub fn quote(
         &mut self,
         notes: &mut Notes,

@@ -175,6 +175,26 @@ pub fn disorder(draw: &mut Draw, links: &mut Links) {
     }
 }
 
+/// An index for a record whose own it may be: that or, one time in two, one with an entry changed, with two swapped, with
+/// fewer or more entries, or that of another record.
+pub fn draw_index(draw: &mut Draw, own: Vec<u16>, other: Vec<u16>) -> Vec<u16> {
+    let mut index = own;
+    let last = index.len() - 1;
+    let any = draw.below(last + 1);
+    let at = draw.of(&[0, any, last]);
+    match draw.below(12) {
+        0 => index[at] = index[at].wrapping_add(1),
+        1 => index[at] = index[at].wrapping_sub(1),
+        2 => index[at] = draw.word() as u16,
+        3 => index.swap(at, any),
+        4 => index.truncate(draw.of(&[0, at, last])),
+        5 => index.resize(index.len() + draw.low(1, 9_000), index[last]),
+        6 => index = other,
+        _ => (),
+    }
+    index
+}
+
 /// A pair by its code.
 fn pair(code: usize) -> (u32, u32) {
     (code as u32 / 4_096, code as u32 % 4_096)

@@ -2,19 +2,20 @@
 
 use crate::desk::{exactly, fitted, Asked, Desk, Difference, Lent, Notes};
 use crate::draw::{draw_size, Draw, Size};
-use crate::graphs::{disorder, draw_book, draw_catalogue, draw_charges, draw_pattern, draw_record, Kinds};
+use crate::graphs::{disorder, draw_book, draw_catalogue, draw_charges, draw_index, draw_pattern, draw_record, Kinds};
 use crate::layout::{content, file, of_book, of_catalogue, of_pattern, of_record};
 use crate::tally::Call;
 use model::cheapest::cheapest;
 use model::files::{record_fields, Catalogue, Pattern, Refusal, WORK_WORDS};
-use model::{answering, files, matching, quoting};
+use model::{answering, files, indexing, matching, quoting};
 use std::fmt::Debug;
-use yuthaqim::{BOOK_BYTES, CATALOGUE_BYTES, PATTERN_BYTES, RECORD_BYTES};
+use yuthaqim::{BOOK_BYTES, CATALOGUE_BYTES, INDEX_ENTRIES, PATTERN_BYTES, RECORD_BYTES};
 
 /// What is at hand for the calls.
 pub struct Test {
     bytes: Desk<u8>,
     words: Desk<u32>,
+    entries: Desk<u16>,
     pub notes: Notes,
 }
 
@@ -70,6 +71,11 @@ impl Subject {
     }
 }
 
+/// The index of a record, of no items where it can't be read.
+fn index_of(record: &[u8]) -> Vec<u16> {
+    indexing::make_index(record, INDEX_ENTRIES, WORK_WORDS).unwrap_or(vec![0])
+}
+
 /// A set to answer from: any, a cheapest one, or one with extracts beside it. A question that can't be read, or isn't
 /// covered, has any.
 fn draw_set(draw: &mut Draw, question: &[u8], catalogue: &[u8]) -> u16 {
@@ -96,7 +102,8 @@ fn covers(question: &[u8], catalogue: &[u8], set: u16) -> bool {
 
 impl Test {
     pub fn new(shown: bool) -> Test {
-        Test { bytes: Desk::new(), words: Desk::new(), notes: Notes { tally: Default::default(), shown } }
+        let notes = Notes { tally: Default::default(), shown };
+        Test { bytes: Desk::new(), words: Desk::new(), entries: Desk::new(), notes }
     }
 
     /// The input of a seed.
@@ -108,7 +115,9 @@ impl Test {
             28..=43 => self.file_beside(draw),
             44..=62 => self.lone_content(draw),
             63..=74 => self.content_beside(draw),
-            75..=80 => self.search(draw),
+            75..=77 => self.search(draw),
+            78 => self.index(draw),
+            79..=80 => self.search_indexed(draw),
             81..=84 => self.make_book(draw),
             85..=87 => self.quote(draw),
             88..=89 => self.show(draw),
@@ -245,6 +254,31 @@ impl Test {
         Ok(())
     }
 
+    fn index(&mut self, draw: &mut Draw) -> Result<(), Difference> {
+        let subject = draw_subject(draw, false);
+        let lent = Lent::draw(draw);
+        let record = subject.record(draw, 16, &[]);
+        if draw.one_in(2) {
+            reply!(self.entries, draw, fitted(lent), MakeIndex, indexing::make_index(record))?;
+            return Ok(());
+        }
+        let other = subject.record(draw, 16, &[]);
+        let index = draw_index(draw, index_of(&record), index_of(&other));
+        self.bytes.check_index(&mut self.notes, draw, lent, &record, &index)
+    }
+
+    fn search_indexed(&mut self, draw: &mut Draw) -> Result<(), Difference> {
+        let subject = draw_subject(draw, false);
+        let lent = Lent::draw(draw);
+        let pattern = subject.question(draw, 16);
+        let planted = std::slice::from_ref(&subject.question);
+        let record = subject.record(draw, 16, planted);
+        let other = subject.record(draw, 16, planted);
+        let index = draw_index(draw, index_of(&record), index_of(&other));
+        reply!(self.bytes, draw, fitted(lent), SearchIndexed, indexing::search_indexed(pattern, record, index))?;
+        Ok(())
+    }
+
     fn make_book(&mut self, draw: &mut Draw) -> Result<(), Difference> {
         let subject = draw_subject(draw, false);
         let lent = Lent::draw(draw);
@@ -335,8 +369,8 @@ impl Test {
         Ok(self.bytes.reply(&mut self.notes, draw, asked, expected, library)?.outcome)
     }
 
-    /// From the book of a record, and the record searched: where the question is covered, both are the same, down to the
-    /// refusal.
+    /// From the book of a record, and the record searched, without an index and with its own: where the question is covered,
+    /// all are the same, down to the refusal.
     fn answer_and_search(&mut self, draw: &mut Draw) -> Result<(), Difference> {
         let subject = draw_subject(draw, true);
         let question = of_pattern(&subject.question).bytes();
@@ -351,6 +385,13 @@ impl Test {
         let lent = Lent::draw(draw);
         let searched = reply!(self.bytes, draw, fitted(lent), Search, matching::search(question, record))?;
         let lent = searched.lent;
+        let index = index_of(&record);
+        let indexed =
+            reply!(self.bytes, draw, exactly(lent), SearchIndexed, indexing::search_indexed(question, record, index))?;
+        if indexed.outcome != searched.outcome {
+            return Err(format!("indexed: {:?}\nsearch: {:?}\n", indexed.outcome, searched.outcome));
+        }
+        self.notes.tally.indexed += 1;
         let answered = reply!(self.bytes, draw, exactly(lent), Answer, answering::answer(question, catalogue, book))?;
         if answered.outcome != searched.outcome {
             return Err(format!("answer: {:?}\nsearch: {:?}\n", answered.outcome, searched.outcome));

@@ -24,6 +24,9 @@ pub enum Call {
     Cheapest,
     AnswerFrom,
     SortRecord,
+    MakeIndex,
+    CheckIndex,
+    SearchIndexed,
 }
 
 impl Call {
@@ -33,7 +36,7 @@ impl Call {
 }
 
 /// The refusals are numbered from 1 to this.
-const REFUSALS: usize = 15;
+const REFUSALS: usize = 16;
 
 /// At 0 how often a call succeeded, then how often it gave each refusal.
 type Counts = [u64; REFUSALS + 1];
@@ -48,6 +51,8 @@ pub struct Tally {
     pub with_pairs: u64,
     /// Answers from a set that covers, of a book of a record, and the record searched.
     pub from_sets: u64,
+    /// Searches by the record's own index, and without one.
+    pub indexed: u64,
     /// Answers from a set that covers, of a book of no record, that are not what the chosen set gives.
     pub apart: u64,
     /// Cheapest sets, those of them that an ordinary quote doesn't choose, and those that only their numbers decide.
@@ -80,12 +85,13 @@ impl fmt::Display for Tally {
             line(f, name, counts)?;
         }
         line(f, "all", &std::array::from_fn(|number| self.counts.iter().map(|counts| counts[number]).sum()))?;
-        let Tally { answered, with_pairs, from_sets, apart, cheapest, not_chosen, tied, sorted, disordered, .. } = self;
+        let Tally { answered, with_pairs, from_sets, indexed, apart, cheapest, not_chosen, tied, sorted, disordered, .. } = self;
         writeln!(
             f,
             "{answered} covered questions answered as the record is searched, {with_pairs} of them with pairs"
         )?;
         writeln!(f, "{from_sets} of them also by a set drawn apart that covers")?;
+        writeln!(f, "{indexed} searches by the record's index that give what the search without one gives")?;
         writeln!(f, "{apart} answers from books of no record that are not those of the chosen set")?;
         writeln!(f, "{cheapest} cheapest sets, {not_chosen} of them not the chosen one, {tied} tied with another up to the numbers")?;
         writeln!(f, "{sorted} old files sorted, {disordered} of them out of order, each with the links and the sheets it had")

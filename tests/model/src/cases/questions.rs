@@ -59,7 +59,8 @@ fn quotes(script: &mut Script) {
     script.round(SHOW_UNCOVERED);
 }
 
-/// The book of a record, where it fits, and the answers from it, beside searches where the question is covered.
+/// The book of a record, where it fits, and the answers from it, beside searches where the question is covered, without an
+/// index and with one.
 fn answers(script: &mut Script, rule: &mut Rule, files: &Files, items: u32, kinds: Kinds) {
     lay_record(script, rule, items, kinds);
     script.once(MAKE_BOOK);
@@ -74,6 +75,10 @@ fn answers(script: &mut Script, rule: &mut Rule, files: &Files, items: u32, kind
         script.same();
         script.set(SET, usize::from(covering(rule, files)));
         script.round(ANSWER_FROM);
+        script.same();
+        script.once(MAKE_INDEX);
+        keep_as(script, BOOK_PART);
+        script.round(SEARCH_INDEXED);
         script.same();
     }
 }

@@ -3,9 +3,10 @@
 
 use super::*;
 use crate::files::*;
+use crate::indexing::INDEX;
 
 /// The calls that read files, and which.
-const CALLS: [(usize, &[usize]); 15] = [
+const CALLS: [(usize, &[usize]); 18] = [
     (READ_PATTERN, &[QUESTION_PART]),
     (READ_CATALOGUE, &[CATALOGUE_PART]),
     (READ_RECORD, &[RECORD_PART]),
@@ -21,6 +22,9 @@ const CALLS: [(usize, &[usize]); 15] = [
     (CHEAPEST, &[QUESTION_PART, CATALOGUE_PART]),
     (ANSWER_FROM, &[QUESTION_PART, CATALOGUE_PART, BOOK_PART]),
     (SORT_RECORD, &[RECORD_PART]),
+    (MAKE_INDEX, &[RECORD_PART]),
+    (CHECK_INDEX, &[RECORD_PART, BOOK_PART]),
+    (SEARCH_INDEXED, &[QUESTION_PART, RECORD_PART, BOOK_PART]),
 ];
 
 /// A file for each refusal that falls to it.
@@ -80,8 +84,19 @@ const BOOKS: Faulty = &[
     (TAIL, &[0x00, 0x01]),
 ];
 
+/// Of K9: no entry, one less, one more, the first, a middle and the last one other.
+const INDEXES: Faulty = &[
+    (INDEX, &[]),
+    (INDEX, &[0, 0, 0, 1, 0, 2]),
+    (INDEX, &[0, 0, 0, 1, 0, 2, 0, 2, 0, 2]),
+    (INDEX, &[1, 0, 0, 1, 0, 2, 0, 2]),
+    (INDEX, &[0, 0, 0, 1, 0, 1, 0, 2]),
+    (INDEX, &[0, 0, 0, 1, 0, 2, 0, 3]),
+];
+
 fn faulty(call: usize, part: usize) -> Faulty {
     match part {
+        BOOK_PART if [CHECK_INDEX, SEARCH_INDEXED].contains(&call) => INDEXES,
         BOOK_PART if call == READ_SHEET => SHEETS,
         RECORD_PART if call == SORT_RECORD => OLD_RECORDS,
         _ => [PATTERNS, CATALOGUES, RECORDS, BOOKS][part],
@@ -97,7 +112,7 @@ fn lay(script: &mut Script, part: usize, file: &[u8]) {
     }
 }
 
-/// What a call is made on: its files but for a book, and the call whose output is the sheet or book.
+/// What a call is made on: its files but for a book, and the call whose output is the sheet, book or index.
 struct Good {
     question: Vec<u8>,
     catalogue: Vec<u8>,
@@ -135,12 +150,16 @@ fn small(call: usize) -> Good {
         question: D.to_vec(),
         catalogue: if call == SHOW_UNCOVERED { SLOW.to_vec() } else { C.to_vec() },
         record: pack_record(&[&[3, 2, 1, 6, 8], links].concat()),
-        made: if call == READ_SHEET { SEARCH } else { MAKE_BOOK },
+        made: match call {
+            READ_SHEET => SEARCH,
+            CHECK_INDEX | SEARCH_INDEXED => MAKE_INDEX,
+            _ => MAKE_BOOK,
+        },
     }
 }
 
 /// The largest question, and a catalogue that has it as its only extract, on a record of every kind.
-fn large() -> Good {
+fn large(made: usize) -> Good {
     let pattern = super::table::pattern(16, 32);
     let catalogue = [vec![1], pattern.clone()].concat();
     let mut links: Vec<(u32, u32)> = (0..64).map(|link| (link % 16, (link * 3 + link / 16) % 16)).collect();
@@ -150,7 +169,7 @@ fn large() -> Good {
         question: write_pattern(&pattern, PATTERN_BYTES, WORK_WORDS).unwrap(),
         catalogue: write_catalogue(&catalogue, CATALOGUE_BYTES, WORK_WORDS).unwrap(),
         record: write_record(&record, RECORD_BYTES, WORK_WORDS).unwrap(),
-        made: MAKE_BOOK,
+        made,
     }
 }
 
@@ -160,6 +179,17 @@ fn sweep(script: &mut Script, call: usize, part: usize, stride: usize) {
     assert!(script.is_accepted());
     script.cuts(part, stride);
     script.flips(part, stride);
+}
+
+/// Some calls, with each of their parts, a book or an index by a stride of its own.
+fn sweep_all(script: &mut Script, calls: &[usize], stride: usize) {
+    for (call, parts) in CALLS {
+        if calls.contains(&call) {
+            for &part in parts {
+                sweep(script, call, part, if part == BOOK_PART { stride } else { 1 });
+            }
+        }
+    }
 }
 
 /// Questions of zeros, from no bytes to some more than they may have.
@@ -202,16 +232,11 @@ pub fn write(script: &mut Script) {
     }
     script.name("every call on files with one fault\n");
     script.group();
-    let good = large();
-    good.lay_all(script);
+    large(MAKE_BOOK).lay_all(script);
     script.content(&[u32::MAX]);
-    for (call, parts) in CALLS {
-        if [SEARCH, MAKE_BOOK, QUOTE, ANSWER, CHEAPEST, ANSWER_FROM, SORT_RECORD].contains(&call) {
-            for &part in parts {
-                sweep(script, call, part, if part == BOOK_PART { 101 } else { 1 });
-            }
-        }
-    }
+    sweep_all(script, &[SEARCH, MAKE_BOOK, QUOTE, ANSWER, CHEAPEST, ANSWER_FROM, SORT_RECORD], 101);
+    large(MAKE_INDEX).lay_book(script);
+    sweep_all(script, &[MAKE_INDEX, CHECK_INDEX, SEARCH_INDEXED], 1);
     script.name("calls on large files with one fault\n");
     script.group();
 }

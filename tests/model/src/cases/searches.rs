@@ -1,5 +1,5 @@
-//! Searches and books of records that are drawn, from no items to the most, each search beside the plain one and each book
-//! beside the searches of its extracts.
+//! Searches and books of records that are drawn, from no items to the most, each search beside the plain one and the one with
+//! an index, and each book beside the searches of its extracts.
 
 use super::*;
 use crate::drawing::*;
@@ -40,7 +40,17 @@ fn draw_extracts(rule: &mut Rule, kinds: Kinds) -> Vec<Vec<u8>> {
     (0..number).map(extract).collect()
 }
 
-/// A record and a catalogue: a search for each extract, then the book. How many searches there are.
+/// The index of the record, beside where sheets are kept.
+fn lay_index(script: &mut Script) {
+    script.place(BOOK_PART, INDEX_PLACE, INDEX_PLACE);
+    script.round(MAKE_INDEX);
+    script.keep(BOOK_PART);
+    script.round(CHECK_INDEX);
+    script.short(RECORD_PART);
+}
+
+/// A record and a catalogue: a search for each extract, then the book. How many searches there are. Sheets are kept in the
+/// catalogue's part while an index is in theirs.
 fn case(script: &mut Script, rule: &mut Rule, n: u32) -> usize {
     let kinds = draw_kinds(rule);
     lay_record(script, rule, n, kinds);
@@ -48,17 +58,25 @@ fn case(script: &mut Script, rule: &mut Rule, n: u32) -> usize {
     let mut catalogue = vec![(extracts.len() << 3) as u8];
     catalogue.extend(extracts.concat());
     script.bytes(CATALOGUE_PART, &catalogue);
-    script.empty(BOOK_PART);
-    for (start, end) in places(&extracts) {
+    lay_index(script);
+    script.place(CATALOGUE_PART, PLACES[BOOK_PART], PLACES[BOOK_PART]);
+    for (i, (start, end)) in places(&extracts).into_iter().enumerate() {
         script.place(QUESTION_PART, start, end);
         script.round(PLAIN);
         script.hold();
-        script.round(SEARCH);
-        script.same();
-        script.keep(BOOK_PART);
-        script.short(QUESTION_PART);
-        script.short(RECORD_PART);
+        for search in [SEARCH, SEARCH_INDEXED] {
+            script.round(search);
+            script.same();
+            if i == 0 {
+                script.short(QUESTION_PART);
+                script.short(RECORD_PART);
+                script.once(search);
+            }
+        }
+        script.keep(CATALOGUE_PART);
     }
+    script.place(BOOK_PART, PLACES[BOOK_PART], script.register(END + CATALOGUE_PART));
+    script.place(CATALOGUE_PART, PLACES[CATALOGUE_PART], PLACES[CATALOGUE_PART] + catalogue.len());
     script.round(MAKE_BOOK);
     script.matches(BOOK_PART);
     script.short(CATALOGUE_PART);

@@ -157,6 +157,98 @@ fn answered(script: &mut Script, name: &str) {
     beside_plain(script, name);
 }
 
+/// A record's index.
+fn lay_index(script: &mut Script, name: &str) {
+    say(script, &format!("{name}, make_index"), MAKE_INDEX);
+    keep_as(script, BOOK_PART);
+}
+
+fn checked(script: &mut Script, name: &str) {
+    say(script, &format!("{name}, check_index"), CHECK_INDEX);
+}
+
+/// The record's own index, and searches with it and without.
+fn indexed(script: &mut Script, name: &str) {
+    lay_index(script, name);
+    checked(script, name);
+    script.once(SEARCH);
+    script.hold();
+    say(script, &format!("{name}, search_indexed"), SEARCH_INDEXED);
+    script.same();
+}
+
+/// The entry at a place becomes another by its last bit: what is said of it, and then it is as before.
+fn entry_off(script: &mut Script, name: &str, entry: usize) {
+    script.flip(BOOK_PART, 16 * entry + 15);
+    let name = format!("{name}, entry {entry} off by one");
+    checked(script, &name);
+    say(script, &format!("{name}, search_indexed"), SEARCH_INDEXED);
+    script.flip(BOOK_PART, 16 * entry + 15);
+}
+
+/// So many entries, those beyond the index being what follows it in the memory.
+fn of_length(script: &mut Script, name: &str, entries: usize) {
+    let end = script.register(END + BOOK_PART);
+    script.set(END + BOOK_PART, PLACES[BOOK_PART] + 2 * entries);
+    let name = format!("{name}, {entries} entries");
+    checked(script, &name);
+    say(script, &format!("{name}, search_indexed"), SEARCH_INDEXED);
+    script.set(END + BOOK_PART, end);
+}
+
+/// Indexes: a record's own; of wrong lengths, with an entry off at the first, a middle and the last place, of another record;
+/// and what is said first where the pattern, the record or the room has a fault too.
+fn indexes(script: &mut Script, k6: &[u8]) {
+    script.bytes(QUESTION_PART, &ONE);
+    script.bytes(RECORD_PART, &record(&[], &[]));
+    indexed(script, "an empty record");
+    entry_off(script, "an empty record", 0);
+    for entries in [0, 2] {
+        of_length(script, "an empty record", entries);
+    }
+    script.bytes(RECORD_PART, &record(&[1, 2, 8], &[]));
+    indexed(script, "three items without links");
+
+    script.bytes(QUESTION_PART, &SLOW[1..]);
+    script.bytes(RECORD_PART, k6);
+    indexed(script, "K6");
+    for entry in [0, 2, 4] {
+        entry_off(script, "K6", entry);
+    }
+    for entries in [0, 1, 4, 6, 33_000] {
+        of_length(script, "K6", entries);
+    }
+    script.flip(BOOK_PART, 15);
+    of_length(script, "K6, entry 0 off by one", 4);
+    script.set(ROOM, 9);
+    script.round(SEARCH_INDEXED);
+    script.set(ROOM, ROOM_MOST);
+    script.flip(BOOK_PART, 15);
+    script.round(SEARCH_INDEXED);
+    script.round(CHECK_INDEX);
+    script.round(MAKE_INDEX);
+
+    // As many items, other links.
+    script.bytes(RECORD_PART, &record(&[1, 2, 8, 2], &[(0, 1), (1, 2), (3, 2)]));
+    checked(script, "K6's index beside another record");
+    say(script, "K6's index beside another record, search_indexed", SEARCH_INDEXED);
+    // The same links from the same items, to others: it is its own too.
+    script.bytes(RECORD_PART, &record(&[1, 2, 8, 2], &[(0, 2), (0, 3), (1, 3)]));
+    checked(script, "K6's index beside a record whose links begin alike");
+    script.short(RECORD_PART);
+    script.short(QUESTION_PART);
+
+    full_record(script);
+    indexed(script, "4096 items, 8192 links");
+    assert_eq!(script.part(BOOK_PART)[8_192..], [32, 0]);
+    for entry in [0, 2_048, 4_096] {
+        entry_off(script, "4096 items, 8192 links", entry);
+    }
+    for entries in [4_096, 4_098] {
+        of_length(script, "4096 items, 8192 links", entries);
+    }
+}
+
 /// The content of a ring of n items, all with the same kinds.
 fn ring(n: u32, kinds: u32) -> Vec<u32> {
     let mut fields = vec![n, n];
@@ -223,6 +315,8 @@ pub fn write(script: &mut Script) {
     answered_from(script, "K9: D by extract 1 of C", 0);
     answered_from(script, "K9: D by extract 1 of C", 1);
 
+    indexes(script, &k6);
+
     script.bytes(QUESTION_PART, &pattern(&ring(8, 0)));
     script.bytes(CATALOGUE_PART, &catalogue(&[1, 1, 1, 0, 0, 0]));
     ring_record(script);
@@ -238,6 +332,14 @@ fn ring_record(script: &mut Script) {
     let drawn = crate::rule::Drawn { items: 4_096, links: 4_096, kinds: 1, link_form: 3, ..Default::default() };
     script.record(drawn, true);
     assert_eq!(script.content_now(), ring(4_096, 1));
+    script.once(WRITE_RECORD);
+    keep_as(script, RECORD_PART);
+}
+
+/// The most items and links, of every kind.
+fn full_record(script: &mut Script) {
+    let drawn = crate::rule::Drawn { items: 4_096, links: 8_192, item_form: 4, link_form: 6, ..Default::default() };
+    script.record(drawn, true);
     script.once(WRITE_RECORD);
     keep_as(script, RECORD_PART);
 }

@@ -1,11 +1,14 @@
 //! What a call answered, as the program has it.
 
-use super::{ANSWER, ANSWER_FROM, PLAIN, QUOTE, SEARCH};
+use super::{ANSWER, ANSWER_FROM, PLAIN, QUOTE, SEARCH, SEARCH_INDEXED};
 use crate::answering::Choice;
 use crate::cheapest::Cheapest;
 use crate::files::{Pattern, Refusal};
 use crate::quoting::Quote;
 use crate::steps::{steps, Items};
+
+/// The calls that write a sheet of their own.
+const SHEETS: [usize; 5] = [SEARCH, SEARCH_INDEXED, ANSWER, ANSWER_FROM, PLAIN];
 
 /// FNV-1a, a number at a time.
 pub const DIGEST_START: u64 = 0xcbf2_9ce4_8422_2325;
@@ -69,6 +72,29 @@ impl Outcome {
             Ok(bytes) => {
                 let (value, digest) = (bytes.len() as u64, over(DIGEST_START, &bytes));
                 Outcome { number: 0, value, other: 0, digest, output: Output::Bytes(bytes) }
+            }
+            Err(refusal) => Outcome::refused(refusal),
+        }
+    }
+
+    /// An index is written as bytes, two for each entry; its value is the number of entries.
+    pub fn entries(result: Result<Vec<u16>, Refusal>) -> Outcome {
+        match result {
+            Ok(entries) => {
+                let bytes: Vec<u8> = entries.iter().flat_map(|entry| entry.to_be_bytes()).collect();
+                let (value, digest) = (entries.len() as u64, over(DIGEST_START, &bytes));
+                Outcome { number: 0, value, other: 0, digest, output: Output::Bytes(bytes) }
+            }
+            Err(refusal) => Outcome::refused(refusal),
+        }
+    }
+
+    /// An index that was checked is not written.
+    pub fn checked(result: Result<usize, Refusal>) -> Outcome {
+        match result {
+            Ok(entries) => {
+                let (value, output) = (entries as u64, Output::Nothing);
+                Outcome { number: 0, value, other: 0, digest: DIGEST_START, output }
             }
             Err(refusal) => Outcome::refused(refusal),
         }
@@ -170,7 +196,7 @@ impl Outcome {
     pub fn is_listing(&self, call: usize) -> bool {
         match &self.output {
             _ if self.number != 0 => false,
-            Output::Bytes(sheet) if [SEARCH, ANSWER, ANSWER_FROM, PLAIN].contains(&call) => sheet[0] != 0 || sheet[1] >= 4,
+            Output::Bytes(sheet) if SHEETS.contains(&call) => sheet[0] != 0 || sheet[1] >= 4,
             _ => call == QUOTE && self.value == 1,
         }
     }

@@ -1,7 +1,9 @@
 -- `matching::engine::rest` meets its contract.
 use native.Mathlib.Omega.{arith}
-use Rattle.matching.proofs.RoundLaws.{fixed-prepared, fixed-then, fixed-told, prepared-ends, prepared-starts}
-use Rattle.matching.proofs.TurnLaws.{late-prepared, late-fixed}
+use mathlib.Core.Path.{sym}
+use Prim.Native.Nat.{ℕ}
+use lib.ListN.{length-replicate}
+use Rattle.matching.proofs.RoundLaws.{fixed-prepared, fixed-then, fixed-told}
 use Rattle.matching.proofs.engine.rest.Statement.{statement}
 use Rattle.matching.proofs.engine.rest.Tie as tie
 
@@ -35,72 +37,58 @@ returns c =
     let fix = c .before .before .before .before .before .before .before .before .before .fix in
     fixed-told (fix .ensures) 0 (λ z. c .if1 .taken)
 
-late-requires : tie.Need-late-requires
-late-requires c κs =
-    let pre = c .before .before .before .before .before .before .before .before .before .before .before .before .before .before .before .before .before .before .before .before .before .pre in
-    let fix = c .before .before .before .before .before .before .before .before .before .before .before .before .fix in
+slice-aggregate-firsts : tie.Need-slice-aggregate-firsts
+slice-aggregate-firsts c = sym (length-replicate {A = ℕ} 4097 0)
+
+firsts-requires : tie.Need-firsts-requires
+firsts-requires c κs =
+    let pre = c .before .before .before .before .before .before .before .before .before .before .before .before .before .before .before .before .before .before .before .before .pre in
+    let fix = c .before .before .before .before .before .before .before .before .before .before .before .fix in
     let P = fixed-prepared (fix .ensures) (pre .0) in
-    (P .ends, P .order, pre .1, omega (arith, P .nodes, P .leave-long), omega (arith, P .nodes, P .arrive-long))
+    (P .ends .most, P .ends .long, P .order, omega (arith, pre .1, length-replicate {A = ℕ} 4097 0))
 
-sweep-requires : tie.Need-sweep-requires
-sweep-requires c κs =
-    let pre = c .before .before .before .before .before .before .before .before .before .before .before .before .before .before .before .before .before .before .before .before .before .before .before .before .before .before .before .before .before .before .pre in
-    let fix = c .before .before .before .before .before .before .before .before .before .before .before .before .before .before .before .before .before .before .before .before .before .fix in
-    let late = c .before .before .before .before .before .before .before .before .late in
-    let P = late-prepared (fixed-prepared (fix .ensures) (pre .0)) (late .ensures) in
-    (prepared-ends P, P .leave-long, P .arrive-long, prepared-starts P)
+slice-aggregate-rest-by : tie.Need-slice-aggregate-rest-by
+slice-aggregate-rest-by c =
+    let first2 = c .before .before .first2 in
+    sym (first2 .given)
 
-clear-requires : tie.Need-clear-requires
-clear-requires c κs =
-    let pre = c .before .before .before .before .before .before .before .before .before .before .before .before .before .before .before .before .before .before .before .before .before .before .before .before .before .before .before .before .before .before .before .before .before .before .before .before .pre in
-    let fix = c .before .before .before .before .before .before .before .before .before .before .before .before .before .before .before .before .before .before .before .before .before .before .before .before .before .before .before .fix in
-    let sweep = c .before .before .before .before .before .sweep in
-    omega (arith, sweep .ensures .long, fix .ensures .out-long, pre .0 .nodes)
+rest-by-requires : tie.Need-rest-by-requires
+rest-by-requires c κs =
+    let pre = c .before .before .before .before .before .before .before .before .before .before .before .before .before .before .before .before .before .before .before .before .before .before .before .before .before .before .before .pre in
+    let fix = c .before .before .before .before .before .before .before .before .before .before .before .before .before .before .before .before .before .before .fix in
+    let firsts = c .before .before .before .before .before .before .firsts in
+    let first2 = c .before .before .before .before .before .first2 in
+    (fixed-prepared (fix .ensures) (pre .0), pre .1, omega (arith, pre .1, first2 .given), firsts .ensures .firsts)
 
 same-length-5 : tie.Need-same-length-5
 same-length-5 c =
-    let pre = c .before .before .before .before .before .before .before .before .before .before .before .before .before .before .before .before .before .before .before .before .before .before .before .before .before .before .before .before .before .before .before .before .before .before .before .before .before .before .before .pre in
-    let fix = c .before .before .before .before .before .before .before .before .before .before .before .before .before .before .before .before .before .before .before .before .before .before .before .before .before .before .before .before .before .before .fix in
-    let late = c .before .before .before .before .before .before .before .before .before .before .before .before .before .before .before .before .before .late in
-    let sweep = c .before .before .before .before .before .before .before .before .sweep in
-    let clear = c .before .before .clear in
-    fixed-then (fix .ensures) (late-fixed (fixed-prepared (fix .ensures) (pre .0)) (late .ensures) (sweep .ensures) (clear .ensures)) .falls .long
+    let fix = c .before .before .before .before .before .before .before .before .before .before .before .before .before .before .before .before .before .before .before .before .before .before .before .before .before .before .before .fix in
+    let rest-by = c .before .before .before .before .before .before .before .before .rest-by in
+    fixed-then (fix .ensures) (rest-by .ensures) .falls .long
 
 same-length-6 : tie.Need-same-length-6
 same-length-6 c =
-    let pre = c .before .before .before .before .before .before .before .before .before .before .before .before .before .before .before .before .before .before .before .before .before .before .before .before .before .before .before .before .before .before .before .before .before .before .before .before .before .before .before .pre in
-    let fix = c .before .before .before .before .before .before .before .before .before .before .before .before .before .before .before .before .before .before .before .before .before .before .before .before .before .before .before .before .before .before .fix in
-    let late = c .before .before .before .before .before .before .before .before .before .before .before .before .before .before .before .before .before .late in
-    let sweep = c .before .before .before .before .before .before .before .before .sweep in
-    let clear = c .before .before .clear in
-    fixed-then (fix .ensures) (late-fixed (fixed-prepared (fix .ensures) (pre .0)) (late .ensures) (sweep .ensures) (clear .ensures)) .leave-long
+    let fix = c .before .before .before .before .before .before .before .before .before .before .before .before .before .before .before .before .before .before .before .before .before .before .before .before .before .before .before .fix in
+    let rest-by = c .before .before .before .before .before .before .before .before .rest-by in
+    fixed-then (fix .ensures) (rest-by .ensures) .leave-long
 
 same-length-7 : tie.Need-same-length-7
 same-length-7 c =
-    let pre = c .before .before .before .before .before .before .before .before .before .before .before .before .before .before .before .before .before .before .before .before .before .before .before .before .before .before .before .before .before .before .before .before .before .before .before .before .before .before .before .pre in
-    let fix = c .before .before .before .before .before .before .before .before .before .before .before .before .before .before .before .before .before .before .before .before .before .before .before .before .before .before .before .before .before .before .fix in
-    let late = c .before .before .before .before .before .before .before .before .before .before .before .before .before .before .before .before .before .late in
-    let sweep = c .before .before .before .before .before .before .before .before .sweep in
-    let clear = c .before .before .clear in
-    fixed-then (fix .ensures) (late-fixed (fixed-prepared (fix .ensures) (pre .0)) (late .ensures) (sweep .ensures) (clear .ensures)) .arrive-long
+    let fix = c .before .before .before .before .before .before .before .before .before .before .before .before .before .before .before .before .before .before .before .before .before .before .before .before .before .before .before .fix in
+    let rest-by = c .before .before .before .before .before .before .before .before .rest-by in
+    fixed-then (fix .ensures) (rest-by .ensures) .arrive-long
 
 same-length-8 : tie.Need-same-length-8
 same-length-8 c =
-    let pre = c .before .before .before .before .before .before .before .before .before .before .before .before .before .before .before .before .before .before .before .before .before .before .before .before .before .before .before .before .before .before .before .before .before .before .before .before .before .before .before .pre in
-    let fix = c .before .before .before .before .before .before .before .before .before .before .before .before .before .before .before .before .before .before .before .before .before .before .before .before .before .before .before .before .before .before .fix in
-    let late = c .before .before .before .before .before .before .before .before .before .before .before .before .before .before .before .before .before .late in
-    let sweep = c .before .before .before .before .before .before .before .before .sweep in
-    let clear = c .before .before .clear in
-    fixed-then (fix .ensures) (late-fixed (fixed-prepared (fix .ensures) (pre .0)) (late .ensures) (sweep .ensures) (clear .ensures)) .out-long
+    let fix = c .before .before .before .before .before .before .before .before .before .before .before .before .before .before .before .before .before .before .before .before .before .before .before .before .before .before .before .fix in
+    let rest-by = c .before .before .before .before .before .before .before .before .rest-by in
+    fixed-then (fix .ensures) (rest-by .ensures) .out-long
 
 returns-2 : tie.Need-returns-2
 returns-2 c =
-    let pre = c .before .before .before .before .before .before .before .before .before .before .before .before .before .before .before .before .before .before .before .before .before .before .before .before .before .before .before .before .before .before .before .before .before .before .before .before .before .before .before .pre in
-    let fix = c .before .before .before .before .before .before .before .before .before .before .before .before .before .before .before .before .before .before .before .before .before .before .before .before .before .before .before .before .before .before .fix in
-    let late = c .before .before .before .before .before .before .before .before .before .before .before .before .before .before .before .before .before .late in
-    let sweep = c .before .before .before .before .before .before .before .before .sweep in
-    let clear = c .before .before .clear in
-    fixed-then (fix .ensures) (late-fixed (fixed-prepared (fix .ensures) (pre .0)) (late .ensures) (sweep .ensures) (clear .ensures))
+    let fix = c .before .before .before .before .before .before .before .before .before .before .before .before .before .before .before .before .before .before .before .before .before .before .before .before .before .before .before .fix in
+    let rest-by = c .before .before .before .before .before .before .before .before .rest-by in
+    fixed-then (fix .ensures) (rest-by .ensures)
 
 pub rest-spec : {M : Type 1} → statement M
 rest-spec =
@@ -112,9 +100,10 @@ rest-spec =
     same-length-3
     same-length-4
     returns
-    late-requires
-    sweep-requires
-    clear-requires
+    slice-aggregate-firsts
+    firsts-requires
+    slice-aggregate-rest-by
+    rest-by-requires
     same-length-5
     same-length-6
     same-length-7

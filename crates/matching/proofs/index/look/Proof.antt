@@ -2,23 +2,25 @@
 use borrow.Author.Needs.{needs}
 use native.Mathlib.Omega.{arith}
 use Prim.Native.Nat.{ℕ, _-_, _≤_}
-use mathlib.Core.Path.{_≡_, subst}
-use Rattle.matching.specs.Late.{Looked}
-use Rattle.matching.proofs.IndexLaws.{looked-start, looked-more, looked-all}
+use mathlib.Core.Path.{_≡_, ap, sym, _∙_}
+use Rattle.matching.specs.Late.{missed}
+use Rattle.matching.proofs.IndexLaws.{missed-none, missed-more, missed-all}
 use Rattle.matching.proofs.index.look.Statement.{statement}
 use Rattle.matching.proofs.index.look.Tie as tie
 
 abbrev Inv-loop : tie.InvT-loop
-Inv-loop work a b arrive want miss₀ i₀ miss i = (a ≤ i) × (i ≤ b) × Looked work a i arrive want miss
+Inv-loop work a b arrive want miss₀ i₀ miss i = (a ≤ i) × (i ≤ b) × (miss ≡ missed work arrive want a (i - a))
 
 abbrev μ-loop : tie.MeasureT-loop
 μ-loop work a b arrive want miss₀ i₀ miss i = b - i
 
 loop-holds : tie.Need-loop-holds Inv-loop μ-loop
-loop-holds c = (omega arith, c .pre .0, looked-start _ _ _ _)
+loop-holds c = (omega arith, c .pre .0, sym (missed-none _ _ _ _ _ (omega arith)))
 
 returns : tie.Need-returns Inv-loop μ-loop
-returns c = looked-all _ _ _ _ (c .before .before .loop .inv .2) _ (c .before .before .loop .inv .1) (c .if1 .taken)
+returns c =
+    let loop = c .before .before .loop in
+    sym (missed-all _ _ _ _ _ _ (loop .inv .0) (loop .inv .1) (sym (loop .inv .2) ∙ c .if1 .taken))
 
 mul-t : tie.Need-mul-t Inv-loop μ-loop
 mul-t c = search needs
@@ -51,12 +53,14 @@ loop-less : tie.Need-loop-less Inv-loop μ-loop
 loop-less c = search needs
 
 loop-again : tie.Need-loop-again Inv-loop μ-loop
-loop-again c = (omega arith, omega arith, looked-more _ _ _ _ (c .before .before .before .before .before .loop .inv .2) (c .before .before .before .before .before .loop .inv .0))
+loop-again c = (omega arith, omega arith, missed-more _ _ _ _ _ (c .before .before .before .before .before .loop .inv .0) (c .before .before .before .before .before .loop .inv .2))
 
 returns-2 : tie.Need-returns-2 Inv-loop μ-loop
 returns-2 c =
-    let e : c .before .loop .i ≡ c .before .before .args .b = omega arith in
-    subst (λ (k : ℕ). Looked (c .before .before .args .work .now) (c .before .before .args .a) k (c .before .before .args .arrive .now) (c .before .before .args .want) (c .before .loop .miss)) e (c .before .loop .inv .2)
+    let args = c .before .before .args in
+    let loop = c .before .loop in
+    let e : loop .i ≡ args .b = omega arith in
+    loop .inv .2 ∙ ap (λ (k : ℕ). missed (args .work .now) (args .arrive .now) (args .want) (args .a) (k - args .a)) e
 
 pub look-spec : {M : Type 1} → statement M
 look-spec =

@@ -31,7 +31,7 @@ returns : tie.Need-returns Inv-loop μ-loop
 returns c =
     let pre = c .before .before .before .before .pre in
     let loop = c .before .before .before .loop in
-    before-cut (loop .inv) (pre .2) (c .if1 .taken)
+    before-cut (loop .inv) (pre .2) (omega (arith, c .if1 .taken))
 
 add-i : tie.Need-add-i Inv-loop μ-loop
 add-i c = search needs

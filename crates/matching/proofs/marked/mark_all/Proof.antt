@@ -22,7 +22,7 @@ mark-requires c κs =
     let pre = c .before .before .before .before .before .pre in
     let loop = c .before .before .loop in
     let loop-test = c .before .loop-test in
-    (omega (arith, loop-test .taken, pre .0), pre .1, loop .inv .1 .long)
+    (omega (arith, loop-test .taken, pre .0), omega (arith, loop-test .taken, pre .1), loop .inv .1 .long)
 
 add-v : tie.Need-add-v Inv-loop μ-loop
 add-v c = search needs

@@ -8,14 +8,6 @@ use Rattle.matching.proofs.SetLaws.{blank-unmarked}
 use Rattle.matching.proofs.turns.late.Statement.{statement}
 use Rattle.matching.proofs.turns.late.Tie as tie
 
-slice-aggregate-firsts : tie.Need-slice-aggregate-firsts
-slice-aggregate-firsts c = sym (length-replicate {A = ℕ} 4097 0)
-
-firsts-requires : tie.Need-firsts-requires
-firsts-requires c κs =
-    let pre = c .before .before .before .before .pre in
-    (pre .0 .most, pre .0 .long, pre .1, omega (arith, pre .2, length-replicate {A = ℕ} 4097 0))
-
 slice-aggregate-ends : tie.Need-slice-aggregate-ends
 slice-aggregate-ends c = sym (length-replicate {A = ℕ} 4097 0)
 
@@ -24,51 +16,38 @@ slice-aggregate-ends-2 c = sym (length-replicate {A = ℕ} 8192 0)
 
 ends-requires : tie.Need-ends-requires
 ends-requires c κs =
-    let pre = c .before .before .before .before .before .before .before .before .pre in
+    let pre = c .before .before .before .before .before .before .pre in
     (pre .0, pre .2, zeroed, omega (arith, pre .0 .most, length-replicate {A = ℕ} 8192 0))
 
 slice-aggregate-mark-all : tie.Need-slice-aggregate-mark-all
-slice-aggregate-mark-all c =
-    let first2 = c .before .before .before .before .before .before .first2 in
-    sym (first2 .given)
-
-slice-aggregate-mark-all-2 : tie.Need-slice-aggregate-mark-all-2
-slice-aggregate-mark-all-2 c = sym (length-replicate {A = ℕ} 256 0)
+slice-aggregate-mark-all c = sym (length-replicate {A = ℕ} 256 0)
 
 mark-all-requires : tie.Need-mark-all-requires
 mark-all-requires c κs =
-    let pre = c .before .before .before .before .before .before .before .before .before .before .before .before .before .pre in
-    let first2 = c .before .before .before .before .before .before .before .first2 in
-    (pre .2, first2 .given, length-replicate {A = ℕ} 256 0, λ v l. blank-unmarked v)
+    let pre = c .before .before .before .before .before .before .before .before .before .before .pre in
+    (pre .2, pre .3, length-replicate {A = ℕ} 256 0, λ v l. blank-unmarked v)
 
 slice-aggregate-settle : tie.Need-slice-aggregate-settle
 slice-aggregate-settle c =
-    let first2 = c .before .before .before .before .before .before .before .before .before .before .first2 in
-    sym (first2 .given)
+    let back2 = c .before .before .before .before .before .back2 in
+    sym (back2 .given)
 
 slice-aggregate-settle-2 : tie.Need-slice-aggregate-settle-2
 slice-aggregate-settle-2 c =
-    let back2 = c .before .before .before .before .before .before .before .back2 in
-    sym (back2 .given)
+    let rev2 = c .before .before .before .before .before .rev2 in
+    sym (rev2 .given)
 
 slice-aggregate-settle-3 : tie.Need-slice-aggregate-settle-3
 slice-aggregate-settle-3 c =
-    let rev2 = c .before .before .before .before .before .before .before .rev2 in
-    sym (rev2 .given)
-
-slice-aggregate-settle-4 : tie.Need-slice-aggregate-settle-4
-slice-aggregate-settle-4 c =
-    let set2 = c .before .before .before .before .before .before .set2 in
+    let set2 = c .before .before .before .before .before .set2 in
     sym (set2 .given)
 
 settle-requires : tie.Need-settle-requires
 settle-requires c κs =
-    let pre = c .before .before .before .before .before .before .before .before .before .before .before .before .before .before .before .before .before .before .before .before .before .pre in
-    let firsts = c .before .before .before .before .before .before .before .before .before .before .before .before .before .before .before .before .firsts in
-    let first2 = c .before .before .before .before .before .before .before .before .before .before .before .before .before .before .before .first2 in
-    let ends = c .before .before .before .before .before .before .before .before .before .before .before .before .ends in
-    let mark-all = c .before .before .before .before .before .before .before .mark-all in
-    (pre .0, firsts .ensures .firsts, ends .ensures, pre .2, first2 .given, pre .3, pre .4, mark-all .ensures)
+    let pre = c .before .before .before .before .before .before .before .before .before .before .before .before .before .before .before .before .before .pre in
+    let ends = c .before .before .before .before .before .before .before .before .before .before .ends in
+    let mark-all = c .before .before .before .before .before .before .mark-all in
+    (pre .0, pre .1, ends .ensures, pre .2, pre .3, pre .4, pre .5, mark-all .ensures)
 
 same-length : tie.Need-same-length
 same-length c =
@@ -89,18 +68,14 @@ pub late-spec : {M : Type 1} → statement M
 late-spec =
     tie.close
     (tie.spec
-    slice-aggregate-firsts
-    firsts-requires
     slice-aggregate-ends
     slice-aggregate-ends-2
     ends-requires
     slice-aggregate-mark-all
-    slice-aggregate-mark-all-2
     mark-all-requires
     slice-aggregate-settle
     slice-aggregate-settle-2
     slice-aggregate-settle-3
-    slice-aggregate-settle-4
     settle-requires
     same-length
     same-length-2

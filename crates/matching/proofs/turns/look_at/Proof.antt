@@ -2,7 +2,7 @@
 use native.Mathlib.Omega.{arith}
 use borrow.Author.Needs.{needs}
 use lib.ListN.{length-set}
-use Rattle.matching.proofs.IndexLaws.{range-rises, ends-part, looked-cast}
+use Rattle.matching.proofs.IndexLaws.{range-rises, ends-part, looked-by}
 use Rattle.matching.proofs.TurnLaws.{turned-none, turned-some}
 use Rattle.matching.proofs.turns.look_at.Statement.{statement}
 use Rattle.matching.proofs.turns.look_at.Tie as tie
@@ -58,7 +58,7 @@ returns c =
     let wide = c .before .before .before .before .before .before .wide in
     let wide2 = c .before .before .before .before .wide2 in
     let look = c .before .look in
-    turned-none _ _ _ _ _ _ (pre .1) (pre .3) (looked-cast (wide .ensures) (wide2 .ensures) (look .ensures)) (c .if1 .taken)
+    turned-none _ _ _ _ _ _ (pre .1) (pre .3) (looked-by (wide .ensures) (wide2 .ensures) (range-rises (pre .1) _ (pre .3) .0) (look .ensures)) (c .if1 .taken)
 
 look-up-requires : tie.Need-look-up-requires
 look-up-requires c κs = search needs
@@ -114,7 +114,7 @@ returns-2 c =
     let look-up = c .before .before .before .before .before .before .before .look-up in
     let look-up2 = c .before .before .before .before .before .before .look-up2 in
     let mark-before = c .before .before .mark-before in
-    turned-some _ _ _ _ _ _ (pre .1) (pre .3) (looked-cast (wide .ensures) (wide2 .ensures) (look .ensures)) (pre .0) (look-up .ensures) (look-up2 .ensures) (pre .6) (pre .7) (if1 .left) (mark-before .ensures)
+    turned-some _ _ _ _ _ _ (pre .1) (pre .3) (looked-by (wide .ensures) (wide2 .ensures) (range-rises (pre .1) _ (pre .3) .0) (look .ensures)) (pre .0) (look-up .ensures) (look-up2 .ensures) (pre .6) (pre .7) (if1 .left) (mark-before .ensures)
 
 pub look-at-spec : {M : Type 1} → statement M
 look-at-spec =

@@ -77,7 +77,7 @@ mark-start-requires c κs =
     let l : loop .k < getD (args .back .now) (args .v + 1) 0 = omega (arith, wide .ensures, loop-test .taken) in
     let o = ends-of (pre .1) (args .v) (pre .2) (loop .k) (loop .inv .0) l in
     let f = pre .0 .from (wide3 .result) (omega (arith, wide3 .ensures, o .0)) in
-    (omega (arith, wide3 .ensures, o .0, pre .0 .most), pre .0 .long, omega (arith, f, pre .3), omega (arith, f, pre .4), pre .5, loop .inv .2 .long ∙ pre .6)
+    (omega (arith, wide3 .ensures, o .0, pre .0 .most), pre .0 .long, omega (arith, f, pre .3), omega (arith, f, pre .4), omega (arith, f, pre .5), loop .inv .2 .long ∙ pre .6)
 
 add-k : tie.Need-add-k Inv-loop μ-loop
 add-k c = search needs

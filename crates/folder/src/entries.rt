@@ -1,0 +1,41 @@
+// An index as a file: each entry has 16 bits, most significant byte first.
+ghost use mathlib.Core.Path.{_≡_};
+ghost use lib.ListN.{length};
+
+fn joined(high: u8, low: u8) -> u16 {
+    256 * high as u16 + low as u16
+}
+
+// The first or the second byte of an entry.
+fn byte_of(x: u16, second: usize) -> u8 {
+    if second == 0 {
+        return (x / 256) as u8;
+    }
+    (x % 256) as u8
+}
+
+// The entries of a file, as far as they go; zeros after them.
+pub fn unpack(bytes: &[u8], entries: &mut [u16])
+    requires { ⌜ (length (now bytes) ≡ 8196) × (length (now entries) ≡ 4098) ⌝ }
+{
+    let mut i: usize = 0;
+    while i < 4098 {
+        let high = 2 * i;
+        let low = high + 1;
+        entries[i] = joined(bytes[high], bytes[low]);
+        i += 1;
+    }
+}
+
+// The bytes of entries in a file.
+pub fn pack(entries: &[u16], bytes: &mut [u8])
+    requires { ⌜ (length (now entries) ≡ 4098) × (length (now bytes) ≡ 8196) ⌝ }
+{
+    let mut at: usize = 0;
+    while at < 8196 {
+        let i = at / 2;
+        let x = entries[i];
+        bytes[at] = byte_of(x, at % 2);
+        at += 1;
+    }
+}
