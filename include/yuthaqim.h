@@ -24,7 +24,8 @@
  * 77,928, quoting 47,148, the cheapest set 43,276, showing 43,180, reading a book 4,792, writing one 4,552, reading and
  * writing a record, making and checking an index under 2,500, the others under 1,500. So 96 KB suffice.
  *
- * Content is a file's fields in order, one word each, padding left out.
+ * Content is a file's fields in order, one word each, padding left out. That of a sheet is 0 alone where nothing was
+ * found, else 1 and then the counts and pairs.
  */
 #ifndef YUTHAQIM_H
 #define YUTHAQIM_H
@@ -39,7 +40,8 @@ extern "C" {
 /* The words that every call has to be lent to work in. */
 #define YUTHAQIM_WORK_WORDS 16384
 
-/* The most bytes of each file; an answer is a sheet. */
+/* The most bytes of each file; an answer is a sheet. A sheet for nothing found is one byte, 0; else with m links and t
+ * pairs it takes (1 + 14 m + 24 t) / 8 bytes, rounded up. */
 #define YUTHAQIM_PATTERN_BYTES 44
 #define YUTHAQIM_CATALOGUE_BYTES 705
 #define YUTHAQIM_RECORD_BYTES 40964
@@ -51,7 +53,7 @@ extern "C" {
 #define YUTHAQIM_CATALOGUE_WORDS 1313
 #define YUTHAQIM_RECORD_WORDS 20482
 #define YUTHAQIM_SHEET_WORDS 43690
-#define YUTHAQIM_BOOK_WORDS 43690
+#define YUTHAQIM_BOOK_WORDS 43701
 
 /* The most entries of a record's index. */
 #define YUTHAQIM_INDEX_ENTRIES 4097
@@ -67,7 +69,7 @@ enum {
                               * one is sorted */
     YUTHAQIM_ORDER = 6,      /* order: a record's link or a sheet's pair doesn't exceed the one before, by from, then to */
     YUTHAQIM_LOOSE = 7,      /* loose: a pattern item is at no link */
-    YUTHAQIM_UNEVEN = 8,     /* uneven: a sheet has zero and nonzero counts */
+    YUTHAQIM_UNEVEN = 8,     /* uneven: a count is zero in a sheet that begins with a 1 */
     YUTHAQIM_TAIL = 9,       /* tail: a padding bit isn't zero, or bytes or words follow */
     YUTHAQIM_CROWDED = 10,   /* crowded: over 8,192 different pairs stand in a book */
     YUTHAQIM_UNCOVERED = 11, /* uncovered: an answer or the cheapest set was wanted and the question isn't covered, or

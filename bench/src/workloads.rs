@@ -34,7 +34,7 @@ impl Workload {
 
 /// The workloads at a size: the full one divided by a power of two up to 8.
 pub fn all(part: usize) -> Vec<Workload> {
-    let makers = [layered, star, chain, cascade, hub, one_kind, nothing, everything];
+    let makers = [layered, star, chain, cascade, hub, one_kind, nothing, mostly_nothing, everything];
     makers.map(|make| make(ITEMS / part, LINKS / part)).into()
 }
 
@@ -301,9 +301,8 @@ fn one_kind(items: usize, links: usize) -> Workload {
     workload("one kind", about, (vec![1; items], all), question, extracts)
 }
 
-/// Eight kinds, and links from a kind to a greater one alone. The patterns ask for the other direction.
-fn nothing(items: usize, links: usize) -> Workload {
-    let mut rule = Rule::new(5);
+/// Eight kinds, and links from a kind to a greater one alone.
+fn upward(rule: &mut Rule, items: usize, links: usize) -> (Vec<u32>, Vec<(usize, usize)>) {
     let kind: Vec<u32> = (0..items).map(|_| rule.below(8) as u32).collect();
     let mut all = Vec::new();
     let mut seen = HashSet::new();
@@ -314,6 +313,13 @@ fn nothing(items: usize, links: usize) -> Workload {
             all.push(link);
         }
     }
+    (kind.iter().map(|kind| 1 << kind).collect(), all)
+}
+
+/// Of such a record the patterns ask for the other direction.
+fn nothing(items: usize, links: usize) -> Workload {
+    let mut rule = Rule::new(5);
+    let record = upward(&mut rule, items, links);
     let mut question = path(&[7, 6, 5, 4, 3, 2, 1, 0]);
     question.1.extend((0..6).map(|u| (u, u + 2)));
     let mut extracts: Vec<Pattern> = (0..7).map(|k| path(&[7 - k, 6 - k])).collect();
@@ -322,7 +328,21 @@ fn nothing(items: usize, links: usize) -> Workload {
     let about =
         "eight kinds, links from lesser to greater kinds alone; question of 8 items and 13 links the other way, \
                  16 extracts that are parts of it";
-    workload("nothing", about, (kind.iter().map(|kind| 1 << kind).collect(), all), question, extracts)
+    workload("nothing", about, record, question, extracts)
+}
+
+/// Of such a record two extracts ask for what is there, and fourteen, of up to 32 links each, for the other direction.
+fn mostly_nothing(items: usize, links: usize) -> Workload {
+    let mut rule = Rule::new(11);
+    let record = upward(&mut rule, items, links);
+    let mut extracts = vec![path(&[0, 1]), path(&[1, 2])];
+    for number in 0..14 {
+        let downward = (1..8).flat_map(|u| (1..=u).map(move |step| (u - step, u)));
+        extracts.push(((0..8).rev().collect(), downward.skip(number / 2).take(32).collect()));
+    }
+    let about = "links from lesser to greater kinds alone, as for nothing; question of 3 items and 2 links, 16 extracts, 14 of which ask \
+                 for the other direction and find nothing";
+    workload("mostly nothing", about, record, path(&[0, 1, 2]), extracts)
 }
 
 /// Sixteen kinds, and from each item two links to items of its own kind: every link is listed.
@@ -397,6 +417,7 @@ fn any_pattern(links: usize) -> Pattern {
 fn sheets(rule: &mut Rule, number: usize, lists: usize, pairs: usize, pool: &mut [u32]) -> Vec<u8> {
     let mut writer = Writer::default();
     for _ in 0..number {
+        writer.field(1, 1);
         for _ in 0..lists {
             rule.shuffle(pool);
             let mut list = pool[..pairs].to_vec();

@@ -23,12 +23,12 @@ static const uint8_t ONLY_SLOW[] = {0x08, 0x18, 0x40, 0x08, 0xc0, 0x44, 0x80};
 static const uint32_t K6_FIELDS[] = {4, 3, 1, 2, 8, 2, 0, 1, 0, 3, 1, 2};
 static const uint8_t K6[] = {0x00, 0x20, 0x00, 0x60, 0x00, 0x00, 0x00, 0x20, 0x00, 0x00, 0x00, 0x40, 0x00, 0x00, 0x01,
                              0x00, 0x00, 0x00, 0x00, 0x40, 0x00, 0x00, 0x20, 0x00, 0x00, 0x60, 0x02, 0x00, 0x40};
-static const uint8_t K6_SHEET[] = {0x00, 0x04, 0x00, 0x00, 0x04, 0x00, 0x10, 0x01, 0x00, 0x20};
-static const uint32_t K6_SHEET_FIELDS[] = {1, 0, 1, 1, 1, 2};
+static const uint8_t K6_SHEET[] = {0x80, 0x02, 0x00, 0x00, 0x02, 0x00, 0x08, 0x00, 0x80, 0x10};
+static const uint32_t K6_SHEET_FIELDS[] = {1, 1, 0, 1, 1, 1, 2};
 /* Extract 0 lists (0,1) and (0,3), extract 2 nothing. */
-static const uint8_t K6_BOOK[] = {0x00, 0x08, 0x00, 0x00, 0x04, 0x00, 0x00, 0x0c, 0x00, 0x04, 0x00,
-                                  0x00, 0x04, 0x00, 0x10, 0x01, 0x00, 0x20, 0x00, 0x00, 0x00, 0x00};
-static const uint32_t K6_BOOK_FIELDS[] = {2, 0, 1, 0, 3, 1, 0, 1, 1, 1, 2, 0, 0};
+static const uint8_t K6_BOOK[] = {0x80, 0x04, 0x00, 0x00, 0x02, 0x00, 0x00, 0x06, 0x80, 0x02,
+                                  0x00, 0x00, 0x02, 0x00, 0x08, 0x00, 0x80, 0x10, 0x00};
+static const uint32_t K6_BOOK_FIELDS[] = {1, 2, 0, 1, 0, 3, 1, 1, 0, 1, 1, 1, 2, 0};
 
 /* The index of K6: two links begin at item 0, one at item 1. */
 static const uint16_t K6_INDEX[] = {0, 2, 3, 3, 3};
@@ -36,8 +36,8 @@ static const uint16_t K6_INDEX[] = {0, 2, 3, 3, 3};
 /* Case K9: a section, a run of kinds {1, 2}, a reading; D lists (0,1), (0,1), (1,2), (1,2). */
 static const uint8_t K9[] = {0x00, 0x18, 0x00, 0x40, 0x00, 0x00, 0x00, 0x20, 0x00, 0x00, 0x00, 0xc0, 0x00, 0x00, 0x01,
                              0x00, 0x00, 0x00, 0x20, 0x02, 0x00, 0x40};
-static const uint8_t K9_SHEET[] = {0x00, 0x04, 0x00, 0x00, 0x04, 0x00, 0x10, 0x00, 0x00, 0x10, 0x00, 0x40, 0x04, 0x00,
-                                   0x80, 0x01, 0x00, 0x10, 0x02};
+static const uint8_t K9_SHEET[] = {0x80, 0x02, 0x00, 0x00, 0x02, 0x00, 0x08, 0x00, 0x00, 0x08,
+                                   0x00, 0x20, 0x02, 0x00, 0x40, 0x00, 0x80, 0x08, 0x01, 0x00};
 
 /* D read as a record, and without its link 1, which extract 1 alone leaves unmatched. */
 static const uint32_t SHOWN_FIELDS[] = {4, 4, 1, 2, 4, 8, 0, 1, 0, 2, 1, 3, 2, 3};
@@ -179,6 +179,42 @@ static void sorting(void) {
     mark();
     r = yuthaqim_write_record(TURNED_FIELDS, LENGTH(TURNED_FIELDS), bytes, sizeof bytes, work, LENGTH(work));
     expect_refusal("write_record: links out of order", r.number, r.value, YUTHAQIM_ORDER, YUTHAQIM_IN_RECORD);
+}
+
+/* A sheet for nothing found is the byte 0, its content the word 0. */
+static void nothing(void) {
+    static const uint8_t no_items[] = {0, 0, 0, 0}, zero[] = {0}, zeros[] = {0, 0, 0}, empty_list[] = {0x80, 0};
+    static const uint32_t no_pairs[] = {0}, no_sheets[] = {0, 0, 0}, no_list[] = {1, 0};
+    struct yuthaqim_reply r;
+
+    mark();
+    expect_bytes("search: D on a record of no items",
+                 yuthaqim_search(D, sizeof D, no_items, sizeof no_items, bytes, sizeof bytes, work, LENGTH(work)), zero,
+                 sizeof zero);
+    mark();
+    r = yuthaqim_search(D, sizeof D, no_items, sizeof no_items, bytes, 0, work, LENGTH(work));
+    expect_refusal("search: no room for nothing", r.number, r.value, YUTHAQIM_NO_FIT, 1);
+    mark();
+    expect_bytes("make_book: C on a record of no items",
+                 yuthaqim_make_book(C, sizeof C, no_items, sizeof no_items, bytes, sizeof bytes, work, LENGTH(work)),
+                 zeros, sizeof zeros);
+    mark();
+    expect_words("read_sheet: nothing",
+                 yuthaqim_read_sheet(D, sizeof D, zero, sizeof zero, words, LENGTH(words), work, LENGTH(work)), no_pairs,
+                 LENGTH(no_pairs));
+    mark();
+    expect_words("read_book: nothing",
+                 yuthaqim_read_book(C, sizeof C, zeros, sizeof zeros, words, LENGTH(words), work, LENGTH(work)),
+                 no_sheets, LENGTH(no_sheets));
+    mark();
+    r = yuthaqim_read_sheet(D, sizeof D, zeros, 2, words, LENGTH(words), work, LENGTH(work));
+    expect_refusal("read_sheet: a byte after nothing", r.number, r.value, YUTHAQIM_TAIL, YUTHAQIM_IN_BOOK);
+    mark();
+    r = yuthaqim_read_sheet(D, sizeof D, empty_list, sizeof empty_list, words, LENGTH(words), work, LENGTH(work));
+    expect_refusal("read_sheet: a zero count after a 1", r.number, r.value, YUTHAQIM_UNEVEN, YUTHAQIM_IN_BOOK);
+    mark();
+    r = yuthaqim_write_sheet(D, sizeof D, no_list, LENGTH(no_list), bytes, sizeof bytes, work, LENGTH(work));
+    expect_refusal("write_sheet: a zero count after a 1", r.number, r.value, YUTHAQIM_UNEVEN, YUTHAQIM_IN_BOOK);
 }
 
 static void matching(void) {
@@ -424,12 +460,13 @@ static void refusals(void) {
     expect_refusal("read_record: marks", r.number, r.value, YUTHAQIM_COUNT, YUTHAQIM_IN_RECORD);
     mark();
     r = yuthaqim_read_book(C, sizeof C, bytes, sizeof bytes, words, LENGTH(words), work, LENGTH(work));
-    expect_refusal("read_book: marks", r.number, r.value, YUTHAQIM_COUNT, YUTHAQIM_IN_BOOK);
+    expect_refusal("read_book: marks", r.number, r.value, YUTHAQIM_ORDER, YUTHAQIM_IN_BOOK);
 }
 
 int main(void) {
     files();
     sorting();
+    nothing();
     matching();
     indexing();
     quoting();

@@ -138,11 +138,18 @@ pub fn read_record(bytes: &[u8], room: usize) -> Result<Vec<u32>, Refusal> {
 // Sheets and books.
 
 fn sheet(reader: &mut Reader, links: usize) -> Result<Sheet, Refusal> {
+    if reader.field(1)? == 0 {
+        reader.padding()?;
+        return Ok(vec![Vec::new(); links]);
+    }
     let mut sheet = Vec::with_capacity(links);
     for _ in 0..links {
         let count = reader.field(14)?;
         if count > 8_192 {
             return reader.refuse(COUNT);
+        }
+        if count == 0 {
+            return reader.refuse(UNEVEN);
         }
         let mut pairs: Vec<Pair> = Vec::with_capacity(count as usize);
         for _ in 0..count {
@@ -153,9 +160,6 @@ fn sheet(reader: &mut Reader, links: usize) -> Result<Sheet, Refusal> {
             pairs.push(pair);
         }
         sheet.push(pairs);
-    }
-    if sheet.iter().any(Vec::is_empty) && !sheet.iter().all(Vec::is_empty) {
-        return reader.refuse(UNEVEN);
     }
     reader.padding()?;
     Ok(sheet)
@@ -183,17 +187,27 @@ pub fn parse_book(catalogue: &[Pattern], bytes: &[u8]) -> Result<Vec<Sheet>, Ref
 /// Reads a book: gives its content.
 pub fn read_book(catalogue: &[u8], bytes: &[u8], room: usize) -> Result<Vec<u32>, Refusal> {
     let book = parse_book(&parse_catalogue(catalogue)?, bytes)?;
-    let mut content = Vec::with_capacity(book.iter().flatten().map(|pairs| 1 + 2 * pairs.len()).sum());
-    for pairs in book.iter().flatten() {
-        content.push(pairs.len() as u32);
-        pairs.iter().for_each(|&pair| push_pair(&mut content, pair));
+    let words = |sheet: &Sheet| 1 + sheet.iter().map(|pairs| 1 + 2 * pairs.len()).sum::<usize>();
+    let mut content = Vec::with_capacity(book.iter().map(words).sum());
+    for sheet in &book {
+        content.push(lists(sheet).into());
+        for pairs in sheet.iter().filter(|pairs| !pairs.is_empty()) {
+            content.push(pairs.len() as u32);
+            pairs.iter().for_each(|&pair| push_pair(&mut content, pair));
+        }
     }
     give(content, room)
 }
 
+/// Whether a sheet lists pairs: then every list of it has some.
+fn lists(sheet: &Sheet) -> bool {
+    !sheet[0].is_empty()
+}
+
 /// Puts a sheet behind what was written.
 pub fn write_sheet(sheet: &Sheet, writer: &mut Writer) {
-    for pairs in sheet {
+    writer.field(1, lists(sheet).into());
+    for pairs in sheet.iter().filter(|pairs| !pairs.is_empty()) {
         writer.field(14, pairs.len() as u32);
         pairs.iter().for_each(|&pair| writer.field(24, pair));
     }

@@ -2,12 +2,12 @@
 use Prim.Native.Nat.{ℕ, _+_, _*_, _/_, _<_, _≤_}
 use mathlib.Core.Path.{_≡_, refl, sym, ap, subst, _∙_}
 use mathlib.Core.Bool.{Bool, true, false}
-use mathlib.Core.List.{List}
+use mathlib.Core.List.{List, map, flatten}
 use lib.ListN.{length, take}
 use native.Mathlib.Omega.{arith}
 use Rattle.packed.specs.Format.{ok, pick, decode, encode}
 use Rattle.packed.specs.Formats.{book, sheet}
-use Rattle.packed.specs.Contents.{edgeCounts, pairsIn, sum, sheetsIn, fieldsOf}
+use Rattle.packed.specs.Contents.{edgeCounts, sheetsIn, sheetFields}
 use Rattle.packed.specs.Accepting.{ContentTaken}
 use Rattle.packed.specs.Refusals.{Told, numberOf, detailOf, replyTold}
 use Rattle.packed.specs.Matches.{matchesOf, Marked}
@@ -67,7 +67,7 @@ module _ {q : Given} {table : List ℕ} {set : ℕ} {s counts : List ℕ} {k d :
         ∙ length-upTo _ (q .edges)
 
     -- the bytes that are written
-    pub answer-encodes : encode (sheet (q .edges)) (fieldsOf kept) ≡ ok (sheetBytes (answerSets (patternIn q) vs))
+    pub answer-encodes : encode (sheet (q .edges)) (sheetFields kept) ≡ ok (sheetBytes (answerSets (patternIn q) vs))
     answer-encodes =
         let x = matches-encode d (q .edges) w′ joined-marked in
         x .is ∙ ap ok (sym (sheet-is (q .edges) kept (x .bytes) kept-long (x .is)) ∙ ap sheetBytes (j .sets vs g))
@@ -117,7 +117,7 @@ module _ {q : Given} (t : Query q) {counts : List ℕ} {k : ℕ} (v : ViewCounts
       abbrev answers : List ℕ → Outcome
       answers bs = answerIn set (t .content) (v .views .content) bs (length out)
 
-      pairs : bookPairs s 0 (take k counts) ≡ pairsIn (sum (edgeCounts cs)) (content .fields)
+      pairs : bookPairs s 0 (take k counts) ≡ flatten (map flatten (sheetsIn (edgeCounts cs) (content .fields)))
       pairs = ap (bookPairs s 0) (v .are) ∙ book-pairs (edgeCounts cs) s (content .fields) (book-read .0)
 
       answer-is : answers (content .fields)

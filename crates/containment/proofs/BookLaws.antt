@@ -10,16 +10,16 @@ use Rattle.packed.specs.Format.{ok, decode}
 use Rattle.packed.specs.Formats.{book}
 use Rattle.packed.specs.Contents.{edgesOf, viewsOf, edgeCounts, distinct, sheetsIn}
 use Rattle.packed.specs.ByValue.{Small}
-use Rattle.packed.specs.Walks.{fieldOr, codesAt, listEnd, pairsAt, listsEnd, sheetEnd, bookPairs, Different}
+use Rattle.packed.specs.Walks.{fieldOr, codesAt, listEnd, pairsAt, listsEnd, listsFirst, listsCount, sheetPairs, sheetEnd, bookPairs, Different}
 use Rattle.packed.specs.BookSheets.{listAt, sheetAt}
 use Rattle.packed.proofs.DistinctLaws.{member-distinct, distinct-increasing}
 use Rattle.packed.proofs.DistinctMerge.{increasing-at}
-use Rattle.packed.proofs.Walks.{ends-none}
-use Rattle.packed.proofs.AcceptedBounds.{catalogue-views, catalogue-bounds}
-use Rattle.packed.proofs.BookSheetLaws.{sheet-many, list-is, list-increasing, list-small, list-in-book, list-fits}
+use Rattle.packed.proofs.Walks.{standing-most}
+use Rattle.packed.proofs.AcceptedBounds.{catalogue-bounds}
+use Rattle.packed.proofs.BookSheetLaws.{sheet-many, list-is, list-stands, list-increasing, list-small, list-in-book, lists-begin, list-fits}
 use Rattle.matching.specs.Lists.{In}
 use Rattle.matching.specs.Sweeps.{OneOf}
-use Rattle.matching.specs.Candidates.{Pool, Sheeted, Booked}
+use Rattle.matching.specs.Candidates.{Pool, SheetedAt, Booked}
 use Rattle.matching.proofs.ListLaws.{not-in-none, in-at, append-in}
 use Rattle.matching.proofs.CodeLaws.{in-member, member-in}
 use Rattle.containment.specs.Steps.{Views}
@@ -37,14 +37,14 @@ in-list s at (suc m) {c} i =
     (append-in (codesAt s (at + 14) (fieldOr s at 14)) i)
 
 in-sheet : (s : List ℕ) (at : ℕ) (ms : List ℕ) {c : ℕ} → In c (bookPairs s at ms)
-    → OneOf (length ms) (λ a. OneOf (getD ms a 0) (λ f. In c (listAt s (sheetAt s at ms a) f)))
+    → OneOf (length ms) (λ a. OneOf (listsCount s (sheetAt s at ms a) (getD ms a 0)) (λ f. In c (listAt s (listsFirst (sheetAt s at ms a)) f)))
 unfolding bookPairs sheetAt
 in-sheet s at [] i = absurd (not-in-none i)
 in-sheet s at (m ∷ ms) {c} i =
     ⊎-elim
-    (λ j. record { at = 0; below = omega arith; holds = in-list s at m j })
+    (λ j. record { at = 0; below = omega arith; holds = in-list s (listsFirst at) (listsCount s at m) j })
     (λ j. let r = in-sheet s (sheetEnd s at m) ms {c = c} j in record { at = suc (r .at); below = omega (arith, r .below); holds = r .holds })
-    (append-in (pairsAt s at m) i)
+    (append-in (sheetPairs s at m) i)
 
 -- ---- codes that were gathered
 module _ {codes : List ℕ} {d : ℕ} {w : List ℕ} (g : Different codes d w) (few : d ≤ 8192) where
@@ -86,16 +86,22 @@ module _ {c : List ℕ} {k : ℕ} (v : Views c k) (counts s bs : List ℕ) (same
   unfolding edgeCounts
   count-is a h = sym (getD-take k counts a 0 h) ∙ ap (λ (l : List ℕ). getD l a 0) same ∙ List·getD-map edgesOf (viewsOf (v .content)) a []
 
-  count-some : (a : ℕ) → a < k → 1 ≤ getD counts a 0
-  count-some a h = omega (arith, count-is a h, catalogue-views c (v .content) (v .is) .bounded a (omega (arith, v .number)) .some-edges)
-
   -- the lists of its sheets
   pub sheet-long : (a : ℕ) → a < k → length (getD (sheetsIn (edgeCounts (v .content)) bs) a []) ≡ getD counts a 0
   sheet-long a h = rw (← same) (sheet-many ms s bs read a (omega (arith, many)) ∙ getD-take k counts a 0 h)
 
-  pub list-same : (a f : ℕ) → a < k → f < getD counts a 0
-      → listAt s (sheetAt s 0 (take k counts) a) f ≡ getD (getD (sheetsIn (edgeCounts (v .content)) bs) a []) f []
-  list-same a f h l = rw (← same) (list-is ms s bs read a f (omega (arith, many)) (omega (arith, getD-take k counts a 0 h)))
+  -- of which so many stand
+  abbrev pub stand : ℕ → ℕ
+  stand a = listsCount s (sheetAt s 0 (take k counts) a) (getD counts a 0)
+
+  stand-is : (a : ℕ) → a < k → listsCount s (sheetAt s 0 ms a) (getD ms a 0) ≡ stand a
+  stand-is a h = ap (listsCount s (sheetAt s 0 ms a)) (getD-take k counts a 0 h)
+
+  pub list-same : (a f : ℕ) → a < k → f < stand a → listAt s (listsFirst (sheetAt s 0 (take k counts) a)) f ≡ getD (getD (sheetsIn (edgeCounts (v .content)) bs) a []) f []
+  list-same a f h l = rw (← same) (list-is ms s bs read a f (omega (arith, many)) (omega (arith, stand-is a h)))
+
+  pub list-there : (a f x : ℕ) → a < k → In x (getD (getD (sheetsIn (edgeCounts (v .content)) bs) a []) f []) → f < stand a
+  list-there a f x h i = omega (arith, stand-is a h, list-stands ms s bs read a f x (omega (arith, many)) (rw same (in-member i)))
 
   module _ {d : ℕ} {w : List ℕ} (g : Different (bookPairs s 0 (take k counts)) d w) (few : d ≤ 8192) (short : length s ≤ 65536) where
     pool : Pool d w
@@ -104,18 +110,17 @@ module _ {c : List ℕ} {k : ℕ} (v : Views c k) (counts s bs : List ℕ) (same
         let r = in-sheet s 0 ms i in
         list-small ms s bs read (r .at) (r .holds .at) (r .below) (r .holds .below) x (in-member (r .holds .holds))
 
-    sheeted : (a : ℕ) → a < k → getD counts a 0 ≤ 32 → Sheeted s (sheetAt s 0 (take k counts) a) (getD counts a 0) d w
+    sheeted : (a : ℕ) → a < k → getD counts a 0 ≤ 32 → SheetedAt s (sheetAt s 0 (take k counts) a) (getD counts a 0) d w
     unfolding listAt
     sheeted a h small =
-        let start : ℕ = sheetAt s 0 ms a in
-        let n : getD ms a 0 ≡ getD counts a 0 = getD-take k counts a 0 h in
+        let n = stand-is a h in
         let b : a < length ms = omega (arith, many) in
         record {
           pool = pool;
           short = short;
-          few = small;
-          begins = omega (arith, list-fits ms s bs read a 0 b (omega (arith, count-some a h)), ends-none s start 0 (omega arith));
-          each = λ f l. let j : f < getD ms a 0 = omega arith in record {
+          few = omega (arith, standing-most (fieldOr s (sheetAt s 0 ms a) 1) (getD counts a 0));
+          begins = lists-begin ms s bs read a b;
+          each = λ f l. let j : f < listsCount s (sheetAt s 0 ms a) (getD ms a 0) = omega arith in record {
             pool = pool;
             short = short;
             fits = list-fits ms s bs read a f b j;

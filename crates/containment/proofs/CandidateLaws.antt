@@ -10,13 +10,15 @@ use native.Mathlib.Omega.{arith}
 use Rattle.packed.specs.Format.{ok, pick, decode}
 use Rattle.packed.specs.Formats.{code, book}
 use Rattle.packed.specs.Contents.{viewsOf, edgeCounts, member, sheetsIn}
+use Rattle.packed.specs.Walks.{fieldOr}
 use Rattle.packed.specs.BookSheets.{sheetAt}
+use Rattle.packed.proofs.Walks.{standing-most}
 use Rattle.packed.specs.declared.by_value.Pattern.{Pattern as Given}
 use Rattle.matching.specs.Lists.{In, here, there, gather}
 use Rattle.matching.specs.Simulation.{Pair, Edge, Pattern, bit, edgesIn, patternOf, asGraph, viewSheet}
 use Rattle.matching.specs.Join.{listsEdge, View, pairOf, under, candidates}
 use Rattle.matching.specs.Sweeps.{Has, OneOf}
-use Rattle.matching.specs.Candidates.{SheetListing, BookListing}
+use Rattle.matching.specs.Candidates.{SheetListingAt, BookListing}
 use Rattle.matching.specs.Joining.{Agrees}
 use Rattle.matching.specs.Steps.{givenEdge}
 use Rattle.matching.proofs.ListLaws.{cond-case, not-in-none, in-cast, in-at, append-in, in-append-left, in-append-right, gather-in, in-gather, each-in, in-each}
@@ -33,7 +35,7 @@ use Rattle.containment.proofs.QueryLaws.{plain, few-edges, query-number
 use Rattle.containment.proofs.NotingLaws.{views-many as contents-many}
 use Rattle.containment.proofs.AnswerLaws.{viewPatterns, views-few, views-many}
 use Rattle.containment.proofs.QuoteLaws.{test-is, mapping-exactly}
-use Rattle.containment.proofs.BookLaws.{count-is, sheet-long, list-same}
+use Rattle.containment.proofs.BookLaws.{count-is, sheet-long, list-same, list-there}
 
 -- ---- the views in a set, by their numbers
 abbrev pub viewAt : List Pattern → List (List (List ℕ)) → ℕ → View
@@ -184,6 +186,7 @@ module _ {q : Given} (t : Query q) {c : List ℕ} {k : ℕ} (v : Views c k) (cou
         let u = o .holds .1 .under in
         let f : ℕ = u .at in
         let j = u .below in
+        let n = standing-most (fieldOr s (sheetAt s 0 (take k counts) a) 1) (getD counts a 0) in
         offered-by Q set Ps sheets (givenEdge q i)
         (record {
           view = a;
@@ -191,7 +194,7 @@ module _ {q : Given} (t : Query q) {c : List ℕ} {k : ℕ} (v : Views c k) (cou
           chosen = o .holds .0;
           edge = f;
           below = omega (arith, sheet-long v counts s bs same e a l);
-          matches = matches-exactly i a f h l j .0 (u .holds .1);
+          matches = matches-exactly i a f h l (omega arith) .0 (u .holds .1);
           lists = rw (← list-same v counts s bs same e a f l j) (u .holds .0);
         })
         (omega (arith, view-edges a l))
@@ -202,8 +205,9 @@ module _ {q : Given} (t : Query q) {c : List ℕ} {k : ℕ} (v : Views c k) (cou
         let f : ℕ = o .edge in
         let l : a < k = omega (arith, o .given, views-many v) in
         let j : f < getD counts a 0 = omega (arith, o .below, sheet-long v counts s bs same e a l) in
-        let u : SheetListing s (sheetAt s 0 (take k counts) a) (getD counts a 0) table a (q .edges) x i =
-        record { edge = h; under = record { at = f; below = j; holds = (rw (list-same v counts s bs same e a f l j) (o .lists), matches-exactly i a f h l j .1 (o .matches)) } } in
+        let b = list-there v counts s bs same e a f x l (o .lists) in
+        let u : SheetListingAt s (sheetAt s 0 (take k counts) a) (getD counts a 0) table a (q .edges) x i =
+        record { edge = h; under = record { at = f; below = b; holds = (rw (list-same v counts s bs same e a f l b) (o .lists), matches-exactly i a f h l j .1 (o .matches)) } } in
         record { at = a; below = l; holds = (o .chosen, u) }
 
     pub agrees-by : Agrees q table set s counts k (viewsIn set (viewPatterns (v .content)) (sheetsIn (edgeCounts (v .content)) bs))

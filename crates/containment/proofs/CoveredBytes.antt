@@ -11,7 +11,8 @@ use borrow.Author.Tests.{le-ltb}
 use native.Mathlib.Omega.{arith}
 use Rattle.packed.specs.Format.{ok, pick, decode}
 use Rattle.packed.specs.Formats.{pattern, catalogue, record′, book}
-use Rattle.packed.specs.Contents.{edgesOf, viewsOf, edgeCounts, sheetsIn, fieldsOf, member}
+use Rattle.packed.specs.Contents.{edgesOf, viewsOf, edgeCounts, sheetsIn, sheetFields, member}
+use Rattle.packed.specs.Walks.{listsFirst}
 use Rattle.packed.specs.BookSheets.{listAt, sheetAt}
 use Rattle.packed.specs.Matches.{allOrNone}
 use Rattle.packed.specs.Plain.{PlainPattern}
@@ -21,7 +22,7 @@ use Rattle.packed.proofs.SheetLaws.{all-twice, sheet-encodes}
 use Rattle.packed.proofs.Accepted.{pattern-accepted, catalogue-accepted, record-accepted, sheet-accepted, book-accepted, pattern-read, catalogue-read, record-read, sheet-read, book-read}
 use Rattle.packed.proofs.AcceptedBounds.{catalogue-views}
 use Rattle.packed.proofs.WalkLaws.{book-pairs}
-use Rattle.packed.proofs.BookSheetLaws.{sheets-back, sheet-many, list-is, list-small, list-in-book}
+use Rattle.packed.proofs.BookSheetLaws.{sheets-back, list-is, list-stands, list-small, list-in-book}
 use Rattle.packed.proofs.CallLaws.{overFile, overFile-no, fitFile-fits}
 use Rattle.matching.specs.Lists.{In, keep, each}
 use Rattle.matching.specs.Simulation.{Pattern, Graph, bit, patternOf, graphOf, sound, matchSets, viewSheet}
@@ -206,10 +207,11 @@ module _ (cs b bs : List ℕ) (k : Book cs b bs) where
   pool = keep (λ x. ltb x (2 ^ 24)) (pairsOf counts bs)
 
   -- the pairs of a sheet's list are in it
-  list-pool : (a f x : ℕ) → a < length counts → f < getD counts a 0 → In x (getD (getD sheets a []) f []) → In x pool
+  list-pool : (a f x : ℕ) → a < length counts → In x (getD (getD sheets a []) f []) → In x pool
   unfolding pool pairsOf
-  list-pool a f x h l i =
-      let m : member x (listAt b (sheetAt b 0 counts a) f) ≡ true = ap (member x) (list-is counts b bs decoded a f h l) ∙ in-member i in
+  list-pool a f x h i =
+      let l = list-stands counts b bs decoded a f x h (in-member i) in
+      let m : member x (listAt b (listsFirst (sheetAt b 0 counts a)) f) ≡ true = ap (member x) (list-is counts b bs decoded a f h l) ∙ in-member i in
       in-keep (λ y. ltb y (2 ^ 24))
       (member-in _ (member-distinct x _ ∙ ap (member x) (sym (book-pairs counts b bs decoded)) ∙ list-in-book counts b bs decoded a f h l x m))
       (lt→ltb x (2 ^ 24) (list-small counts b bs decoded a f h l x m))
@@ -221,8 +223,7 @@ module _ (cs b bs : List ℕ) (k : Book cs b bs) where
       let sheet : s .view .sheet ≡ getD sheets (v .at) [] = ap (λ (w : View). w .sheet) (v .holds .1) in
       let h : v .at < length counts = omega (arith, v .below, length-map (viewsOf cs) patternOf, length-map (viewsOf cs) edgesOf) in
       let o = place-of [] (s .of-view) in
-      let n : length (s .view .sheet) ≡ getD counts (v .at) 0 = ap length sheet ∙ sheet-many counts b bs decoded (v .at) h in
-      list-pool (v .at) (o .at) x h (omega (arith, o .below))
+      list-pool (v .at) (o .at) x h
       (subst (λ l. In x l) (o .holds ∙ ap (λ (ls : List (List ℕ)). getD ls (o .at) []) sheet) (s .here))
 
   pub answer-sheet : (Q : Pattern) (set : ℕ) → SheetFields (answerSets Q (viewsIn set (extracts cs) sheets))
@@ -238,14 +239,14 @@ module _ (cs b bs : List ℕ) (k : Book cs b bs) where
 
   -- it is read back beside its query
   pub answer-back : (q qs : List ℕ) → Question q qs → (set : ℕ) → length (answerBytes qs set (extracts cs) sheets) ≤ 65536
-      → readSheet qs (answerBytes qs set (extracts cs) sheets) ≡ accepted (fieldsOf (answerSets (patternOf qs) (viewsIn set (extracts cs) sheets)))
+      → readSheet qs (answerBytes qs set (extracts cs) sheets) ≡ accepted (sheetFields (answerSets (patternOf qs) (viewsIn set (extracts cs) sheets)))
   unfolding answerBytes
   answer-back q qs p set h =
       let Q = patternOf qs in
       let vs = viewsIn set (extracts cs) sheets in
       let ls = answerSets Q vs in
       let n : length ls ≡ edgesOf qs = ap length (answer-each Q vs) ∙ length-each _ (Q .edges) ∙ question-bounds q qs p .many in
-      sheet-read qs (sheetBytes ls) (fieldsOf ls) .1 (h, sheet-accepted (edgesOf qs) (sheetBytes ls) (fieldsOf ls) .0 (rw n at (answer-sheet Q set .back)))
+      sheet-read qs (sheetBytes ls) (sheetFields ls) .1 (h, sheet-accepted (edgesOf qs) (sheetBytes ls) (sheetFields ls) .0 (rw n at (answer-sheet Q set .back)))
 
 -- what is given, of a file, is the file, and it isn't too long
 pub given-file : (room : ℕ) (o out : List ℕ) → fitFile room o ≡ give [] (out ∷ []) → (out ≡ o) × (length o ≤ 65536)

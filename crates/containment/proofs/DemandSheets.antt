@@ -1,12 +1,12 @@
 -- Sheets from a record: read back as the match sets, of the length that is told, the same for every order of the record's edges.
-use Prim.Native.Nat.{ℕ, _+_, _*_, _/_, _%_, _<_}
+use Prim.Native.Nat.{ℕ, _/_, _%_, _<_}
 use mathlib.Core.Path.{_≡_, refl, sym, ap, _∙_}
 use mathlib.Core.List.{List, [], _∷_}
 use lib.ListN.{length, length-map, List·getD-map}
 use lib.Dec.{T}
 use native.Mathlib.Omega.{arith}
 use Rattle.packed.specs.Formats.{code}
-use Rattle.packed.specs.Contents.{edgesOf, viewsOf, edgeCounts, ends, fieldsOf, pairCount, sheetsIn}
+use Rattle.packed.specs.Contents.{edgesOf, viewsOf, edgeCounts, ends, pairCount, sheetFields, sheetLength, sheetsIn}
 use Rattle.packed.specs.Calls.{Outcome, give, withWorkspace, Verdict, accepted, rejected, judged, readPattern, readCatalogue, fitFile}
 use Rattle.matching.specs.Lists.{In}
 use Rattle.matching.specs.Simulation.{Pattern, patternOf, graphOf, sound, matchSets}
@@ -36,13 +36,13 @@ module _ (p r ps rs : List ℕ) (e : Question p ps) (f : Record r rs) where
   searched room = goes-on _ e ∙ goes-on _ f
 
   pub searched-back : (out : List ℕ) (room words : ℕ) → withWorkspace words (searchOutcome p r room) ≡ give [] (out ∷ [])
-      → Sheet ps out (fieldsOf (matchSets (patternOf ps) (graphOf rs)))
+      → Sheet ps out (sheetFields (matchSets (patternOf ps) (graphOf rs)))
   searched-back out room words g =
       let w = enough-for words (searchOutcome p r room) (λ z. not-refused (sym z)) g in
       let o = given-file room (sheetOf (patternOf ps) rs) out (sym (searched room) ∙ w .1) in
       rw (o .0) (search-back p r ps rs (question-is p ps e) (record-is r rs f) (o .1))
 
-  pub searched-length : length (sheetOf (patternOf ps) rs) ≡ (14 * edgesOf ps + 24 * pairCount (matchSets (patternOf ps) (graphOf rs)) + 7) / 8
+  pub searched-length : length (sheetOf (patternOf ps) rs) ≡ sheetLength (edgesOf ps) (pairCount (matchSets (patternOf ps) (graphOf rs)))
   searched-length = search-size p r ps rs (question-is p ps e) (record-is r rs f)
 
 pub book-made : (c r cs rs : List ℕ) → Catalogue c cs → Record r rs → (room : ℕ) → makeBookOutcome c r room ≡ fitFile room (bookOf cs rs)
@@ -51,7 +51,7 @@ book-made c r cs rs e f room = goes-on _ e ∙ goes-on _ f
 
 -- an answer is as long as such a sheet
 pub answer-size : (q qs cs b bs : List ℕ) → Question q qs → Book cs b bs → (set : ℕ)
-    → length (sheetBytes (answerOf set qs cs bs)) ≡ (14 * edgesOf qs + 24 * pairCount (answerOf set qs cs bs) + 7) / 8
+    → length (sheetBytes (answerOf set qs cs bs)) ≡ sheetLength (edgesOf qs) (pairCount (answerOf set qs cs bs))
 answer-size q qs cs b bs p k set =
     let Q = patternOf qs in
     let vs = viewsIn set (extracts cs) (sheetsIn (edgeCounts cs) bs) in

@@ -6,7 +6,7 @@ use mathlib.Core.List.{List, [], _∷_, map}
 use lib.ListN.{length, getD}
 use lib.Dec.{T}
 use native.Mathlib.Omega.{arith}
-use Rattle.packed.specs.Contents.{edgeCounts, viewsOf, fieldsOf, sheetsIn}
+use Rattle.packed.specs.Contents.{edgeCounts, viewsOf, sheetFields, sheetsIn}
 use Rattle.packed.specs.Calls.{Outcome, give, refuse, withWorkspace, Verdict, accepted, rejected, judged, readPattern, readSheet, readBook, fitFile}
 use Rattle.matching.specs.Lists.{In, here, there}
 use Rattle.matching.specs.Simulation.{Pattern, Graph, bit, patternOf, graphOf, asGraph, matchSets, viewSheet}
@@ -72,7 +72,7 @@ module _ (q c qs cs : List ℕ) (p : Question q qs) (d : Catalogue c cs) where
   -- ---- accepted books
   module _ (b bs : List ℕ) (k : Book cs b bs) where
     read-back : (choose : Choose) (out : List ℕ) (room : ℕ) → answerBy choose q c b room ≡ give [] (out ∷ [])
-        → Sheet qs out (fieldsOf (answerOf (choose qs cs) qs cs bs))
+        → Sheet qs out (sheetFields (answerOf (choose qs cs) qs cs bs))
     unfolding answerBytes
     read-back choose out room e =
         ⊎-elim

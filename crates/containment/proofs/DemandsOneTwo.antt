@@ -14,6 +14,7 @@ use Rattle.packed.specs.Contents.{edgesOf, edgeCounts, ends, fieldsOf}
 use Rattle.packed.specs.Plain.{BookFile}
 use Rattle.packed.specs.OldRecord.{sortedFields, recordSorted}
 use Rattle.packed.specs.Calls.{Outcome, give, toldOf, fronts, outputsOf, workOf, withWorkspace, judged, readPattern, readCatalogue, readRecord, patternRead, catalogueRead, recordRead, sheetRead, bookRead, patternWritten, catalogueWritten, recordWritten, sheetWritten, bookWritten}
+use Rattle.packed.proofs.SheetLaws.{fields-none, fields-some}
 use Rattle.packed.proofs.Accepted.{pattern-read, catalogue-read, record-read, sheet-read, book-read}
 use Rattle.packed.proofs.CallRoundTrips.{pattern-back, pattern-again, catalogue-back, catalogue-again, record-back, record-again, sheet-back, sheet-again, book-back, book-again}
 use Rattle.matching.specs.Lists.{In}
@@ -23,6 +24,7 @@ use Rattle.matching.specs.Index.{makeIndexOutcome, checkIndexOutcome, searchInd
 use Rattle.matching.proofs.SimLaws.{sim-is, sim-most}
 use Rattle.matching.proofs.MatchSetLaws.{view-sheet}
 use Rattle.matching.proofs.Listed.{listed-exactly, matches-related, related-matches}
+use Rattle.matching.proofs.SheetBytes.{none-bytes}
 use Rattle.matching.proofs.AllOrNone.{sets-even}
 use Rattle.matching.proofs.RecordLaws.{graph-narrow}
 use Rattle.containment.specs.Choice.{everyView, coversIn}
@@ -237,10 +239,13 @@ demand-2 = record {
   lists = lists-exactly;
   of-extracts = view-sheet;
   sheet-back = λ p r ps rs out e f room words. searched-back p r ps rs e f out room words;
+  none-found = fields-none;
+  some-found = λ ls h. fields-some ls (λ e. omega arith);
   each-link = λ l ls. refl;
   no-links = refl;
   each-pair = pair-fields;
   no-pairs = refl;
+  zero-byte = none-bytes;
   sheet-length = searched-length;
   any-order = λ r r′ rs rs′ e e′ s p room words. ap (withWorkspace words) (order-sheets r r′ rs rs′ e e′ s p room);
   any-order-books = λ r r′ rs rs′ e e′ s c room words. ap (withWorkspace words) (order-books r r′ rs rs′ e e′ s c room);

@@ -3,17 +3,17 @@ use Prim.Native.Nat.{ℕ, zero, suc, _+_, _%_, _^_, _≤_}
 use mathlib.Core.Path.{_≡_, refl}
 use mathlib.Core.Logic.{inl, inr}
 use mathlib.Core.List.{List, [], _∷_, _++_}
-use mathlib.Core.Bool.{Bool, true, false, not, _&&_, _||_}
+use mathlib.Core.Bool.{Bool, true, false, _&&_, _||_}
 use lib.ListN.{length, take, drop}
 use lib.Dec.{eqb, leb, ltb}
 use borrow.Author.Tests.{leb-true}
 use Rattle.packed.specs.Bits.{bitsOf, num, bits, zeros, gap}
 use Rattle.packed.specs.Format.{Format, done, ask, test, pad, then, times, whole, Got, got, fault, pick, push, within, scan, lay, Result, ok, bad, ended, inBytes, decode, encode}
 use Rattle.packed.specs.OldRecord.{oldRecord}
-use Rattle.packed.specs.Formats.{code, edges, label, joined, pattern, catalogue, labels, record′, pairs, lists, sheet, book}
+use Rattle.packed.specs.Formats.{code, edges, label, joined, pattern, catalogue, labels, record′, pairs, lists, standing, sheet, book}
 use Rattle.packed.specs.Refusals.{numberOf}
 use Rattle.packed.specs.declared.reply.Refusal.{Refusal}
-use Rattle.packed.specs.declared.reply.Refusal.the-variants.{TooLong, Truncated, OutOfRange, NoSuchNode, DuplicateEdge, NotAscending, IsolatedNode, MixedCounts, Trailing, TooManyPairs, NotContained, NoRoom, Contained, SmallWorkspace, WrongCharges, WrongIndex}
+use Rattle.packed.specs.declared.reply.Refusal.the-variants.{TooLong, Truncated, OutOfRange, NoSuchNode, DuplicateEdge, NotAscending, IsolatedNode, ZeroCount, Trailing, TooManyPairs, NotContained, NoRoom, Contained, SmallWorkspace, WrongCharges, WrongIndex}
 use Rattle.packed.specs.Calls.{Outcome, give, refuse, withWorkspace, rejected, inFile, readFile, writeFile, judged, pairsOf, uncrowdedBy, fit, fitFile}
 use Rattle.matching.specs.Index.{alike, ownIndex}
 use Rattle.containment.specs.Show.{fitBoth}
@@ -34,7 +34,7 @@ refusal-numbered (NoSuchNode d) = numbered 4 refl refl
 refusal-numbered (DuplicateEdge d) = numbered 5 refl refl
 refusal-numbered (NotAscending d) = numbered 6 refl refl
 refusal-numbered (IsolatedNode d) = numbered 7 refl refl
-refusal-numbered (MixedCounts d) = numbered 8 refl refl
+refusal-numbered (ZeroCount d) = numbered 8 refl refl
 refusal-numbered (Trailing d) = numbered 9 refl refl
 refusal-numbered (TooManyPairs d) = numbered 10 refl refl
 refusal-numbered (NotContained d) = numbered 11 refl refl
@@ -165,14 +165,14 @@ old-faults =
     asks three (λ nodes. asks three (λ number.
     then-faults (times-faults nodes (asks three (λ v. ends))) (edges-faults 12 nodes (λ es. done) (λ es. ends) number [])))
 
-lists-faults : (m : ℕ) (none some : Bool) → Faults (lists m none some)
+lists-faults : (m : ℕ) → Faults (lists m)
 unfolding lists
-lists-faults zero none some = tests (numbered 8 refl refl) ends
-lists-faults (suc m) none some = asks three (λ n. then-faults (pairs-faults 4096 three n 0) (lists-faults m (none || eqb n 0) (some || not (eqb n 0))))
+lists-faults zero = ends
+lists-faults (suc m) = asks three (λ n. tests (numbered 8 refl refl) (then-faults (pairs-faults 4096 three n 0) (lists-faults m)))
 
 pub sheet-faults : (m : ℕ) → Faults (sheet m)
 unfolding sheet
-sheet-faults m = lists-faults m false false
+sheet-faults m = asks three (λ lead. lists-faults (standing lead m))
 
 pub book-faults : (ms : List ℕ) → Faults (book ms)
 unfolding book

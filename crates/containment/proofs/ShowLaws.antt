@@ -1,5 +1,5 @@
 -- The two records shown for a query that is not covered: both are accepted, every view has the same sheet on both, and the query has not.
-use Prim.Native.Nat.{ℕ, _/_, _%_, _<_, _≤_}
+use Prim.Native.Nat.{ℕ, _<_, _≤_}
 use mathlib.Core.Path.{_≡_, refl, sym, ap, ap₂, subst, _∙_}
 use mathlib.Core.Bool.{Bool, not}
 use mathlib.Core.List.{List, [], _∷_, _++_, map}
@@ -8,11 +8,12 @@ use lib.Dec.{T, T-not}
 use native.Mathlib.Omega.{arith}
 use Rattle.packed.specs.Format.{ok, decode}
 use Rattle.packed.specs.Formats.{pattern, catalogue}
-use Rattle.packed.specs.Contents.{viewsOf, ends, fieldsOf}
+use Rattle.packed.specs.Contents.{viewsOf, sheetFields}
 use Rattle.packed.specs.Calls.{accepted, readRecord}
 use Rattle.packed.specs.Plain.{PlainPattern}
 use Rattle.packed.proofs.Accepted.{pattern-accepted, record-accepted, record-read}
 use Rattle.packed.proofs.AcceptedBounds.{catalogue-views}
+use Rattle.packed.proofs.BookSheetLaws.{sheet-injective}
 use Rattle.matching.specs.Lists.{In, here, there}
 use Rattle.matching.specs.Simulation.{Edge, sameEdge, noEdge, Pattern, Graph, patternOf, graphOf, asGraph, matchSets, viewSheet}
 use Rattle.matching.proofs.ByEdge.{matched}
@@ -36,39 +37,13 @@ use Rattle.containment.proofs.QuoteLaws.{chosenFrom, chosen-every, Lowe
 
 -- ---- sheets that differ as lists differ as bytes
 
--- the pairs of a list, and what follows them, are told from the fields where the number of pairs is known
-ends-split : (l m x y : List ℕ) → length l ≡ length m → ends l ++ x ≡ ends m ++ y → (l ≡ m) × (x ≡ y)
-unfolding ends
-ends-split [] [] x y n h = (refl, h)
-ends-split [] (d ∷ m) x y n h = absurd (omega arith)
-ends-split (c ∷ l) [] x y n h = absurd (omega arith)
-ends-split (c ∷ l) (d ∷ m) x y n h =
-    let a : c / 4096 ≡ d / 4096 = cc in
-    let b : c % 4096 ≡ d % 4096 = cc in
-    let r : ends l ++ x ≡ ends m ++ y = cc in
-    let e : c ≡ d = omega arith in
-    let i = ends-split l m x y (omega arith) r in
-    (ap₂ (λ (z : ℕ) (t : List ℕ). z ∷ t) e (i .0), i .1)
-
--- lists can be read off their fields
-pub fields-injective : (ls ms : List (List ℕ)) → length ls ≡ length ms → fieldsOf ls ≡ fieldsOf ms → ls ≡ ms
-unfolding fieldsOf
-fields-injective [] [] n h = refl
-fields-injective [] (m ∷ ms) n h = absurd (omega arith)
-fields-injective (l ∷ ls) [] n h = absurd (omega arith)
-fields-injective (l ∷ ls) (m ∷ ms) n h =
-    let a : length l ≡ length m = cc in
-    let r : ends l ++ fieldsOf ls ≡ ends m ++ fieldsOf ms = cc in
-    let s = ends-split l m (fieldsOf ls) (fieldsOf ms) a r in
-    ap₂ (λ (x : List ℕ) (t : List (List ℕ)). x ∷ t) (s .0) (fields-injective ls ms (omega arith) (s .1))
-
--- and so off the bytes of their sheet
+-- lists can be read off the bytes of their sheet
 pub bytes-injective : (ls ms : List (List ℕ)) → SheetFields ls → SheetFields ms → length ls ≡ length ms → sheetBytes ls ≡ sheetBytes ms → ls ≡ ms
 bytes-injective ls ms a b n h =
     let p = a .back in
     let q = b .back in
-    let f : fieldsOf ls ≡ fieldsOf ms = cc in
-    fields-injective ls ms n f
+    let f : sheetFields ls ≡ sheetFields ms = cc in
+    sheet-injective ls ms n f
 
 -- ---- the two records
 

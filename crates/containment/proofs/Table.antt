@@ -4,13 +4,13 @@ use Prim.Native.Nat.{ℕ, _+_, _-_, _*_}
 use Prim.Native.Char.{code as codeOf}
 use Prim.Native.String.{String, [] as []ˢ, _∷_ as _∷ˢ_}
 use mathlib.Core.Path.{_≡_, refl}
-use mathlib.Core.List.{List, [], _∷_, _++_, map}
+use mathlib.Core.List.{List, [], _∷_, _++_, map, flatten}
 use lib.ListN.{length, replicate}
 use lib.Dec.{eqb, ltb}
 use Rattle.packed.specs.Bits.{bitsOf, num, numFrom, bits, zeros, gap}
 use Rattle.packed.specs.Format.{pick, then, times, whole, within, scan, lay, bytesOf, decode, encode}
-use Rattle.packed.specs.Formats.{linked, edges, isEnd, allEnds, label, joined, pattern, catalogue, labels, record′, pairs, lists, sheet, book}
-use Rattle.packed.specs.Contents.{patternSize, patternsIn, viewsOf, edgeCounts, codesIn, listsIn, afterLists, ends, fieldsOf, sheetsIn, pairsIn, sum, member, insert, distinct, codes, sortedEnds}
+use Rattle.packed.specs.Formats.{linked, edges, isEnd, allEnds, label, joined, pattern, catalogue, labels, record′, pairs, lists, standing, sheet, book}
+use Rattle.packed.specs.Contents.{patternSize, patternsIn, viewsOf, edgeCounts, codesIn, listsIn, afterLists, sheetLists, afterSheet, ends, fieldsOf, pairCount, sheetFields, sheetsIn, member, insert, distinct, codes, sortedEnds}
 use Rattle.packed.specs.OldRecord.{oldRecord, sortedFields, recordSorted}
 use Rattle.packed.specs.Calls.{Outcome, give, refuse, withWorkspace, readFile, writeFile, judged, pairsOf, uncrowdedBy, fit, fitFile, patternRead, catalogueRead, recordRead, sheetRead, bookRead, patternWritten, catalogueWritten, recordWritten, sheetWritten, bookWritten}
 use Rattle.matching.specs.Lists.{_and_, _or_, _implies_, every, some, keep, gather, each, below, upTo}
@@ -147,37 +147,40 @@ r10 = hex "00 00 00 00"
 
 -- the sheets of K6 and of K9
 abbrev pub s6 : List ℕ
-s6 = hex "00 04 00 00 04 00 10 01 00 20"
+s6 = hex "80 02 00 00 02 00 08 00 80 10"
+
+abbrev pub s6Fields : List ℕ
+s6Fields = fields "1 1 0 1 1 1 2"
 
 abbrev pub s9 : List ℕ
-s9 = hex "00 04 00 00 04 00 10 00 00 10 00 40 04 00 80 01 00 10 02"
+s9 = hex "80 02 00 00 02 00 08 00 00 08 00 20 02 00 40 00 80 08 01 00"
 
 -- the books of C made from the records of K6 and K9, one of no record, in which extract 1 lists (0, 1), (1, 2) and extract 2 lists (0, 1), (3, 2),
 -- and one of extract 1 alone
 abbrev pub b6 : List ℕ
-b6 = hex "00 08 00 00 04 00 00 0c 00 04 00 00 04 00 10 01 00 20 00 00 00 00"
+b6 = hex "80 04 00 00 02 00 00 06 80 02 00 00 02 00 08 00 80 10 00"
 
 abbrev pub b6Fields : List ℕ
-b6Fields = fields "2 0 1 0 3 1 0 1 1 1 2 0 0"
+b6Fields = fields "1 2 0 1 0 3 1 1 0 1 1 1 2 0"
 
 abbrev pub b9 : List ℕ
-b9 = hex "00 04 00 00 04 00 04 00 00 04 00 10 01 00 20 00 04 00 00 04 00 10 01 00 20"
+b9 = hex "80 02 00 00 02 80 02 00 00 02 00 08 00 80 10 80 02 00 00 02 00 08 00 80 10"
 
 abbrev pub bn : List ℕ
-bn = hex "00 04 00 00 04 00 04 00 00 04 00 10 01 00 20 00 04 00 00 04 00 10 03 00 20"
+bn = hex "80 02 00 00 02 80 02 00 00 02 00 08 00 80 10 80 02 00 00 02 00 08 01 80 10"
 
 -- another of no record: (0, 3) stands in extract 0 but not in extract 1, though (3, 2) does; and what extracts 1 and 2 answer from it, and all three
 abbrev pub bw : List ℕ
-bw = hex "00 08 00 00 04 00 00 0c 00 04 00 00 04 00 20 01 00 20 03 00 20 00 04 00 00 04 00 10 01 00 20"
+bw = hex "80 04 00 00 02 00 00 06 80 02 00 00 02 00 10 00 80 10 01 80 10 80 02 00 00 02 00 08 00 80 10"
 
 abbrev pub sw12 : List ℕ
-sw12 = hex "00 04 00 00 04 00 10 00 00 10 00 80 04 00 80 0c 00 80 01 00 10 02"
+sw12 = hex "80 02 00 00 02 00 08 00 00 08 00 40 02 00 40 06 00 40 00 80 08 01 00"
 
 abbrev pub sw012 : List ℕ
-sw012 = hex "00 08 00 00 04 00 00 0c 00 10 00 00 10 00 80 04 00 80 0c 00 80 01 00 10 02"
+sw012 = hex "80 04 00 00 02 00 00 06 00 08 00 00 08 00 40 02 00 40 06 00 40 00 80 08 01 00"
 
 abbrev pub b3 : List ℕ
-b3 = hex "00 04 00 00 04 00 10 01 00 20"
+b3 = s6
 
 -- a row of a quote's table: three masks and zeros
 abbrev pub rowOf : ℕ → ℕ → ℕ → List ℕ
@@ -384,52 +387,72 @@ sortings =
 unfoldable pub sheets : List Case
 sheets =
     -- the sheets of K6 and K10, both directions
-    call (sheetRead extract1 s6 6) (output (fields "1 0 1 1 1 2"))
-    ∷ call (sheetWritten extract1 (fields "1 0 1 1 1 2") 10) (output s6)
-    ∷ call (sheetRead oneLink (hex "00 00") 1) (output (fields "0"))
-    ∷ call (sheetWritten oneLink (fields "0") 2) (output (hex "00 00"))
+    call (sheetRead extract1 s6 7) (output s6Fields)
+    ∷ call (sheetWritten extract1 s6Fields 10) (output s6)
+    ∷ call (sheetRead oneLink (hex "00") 1) (output (fields "0"))
+    ∷ call (sheetWritten oneLink (fields "0") 1) (output (hex "00"))
+    -- nothing found is the same byte for four links
+    ∷ call (sheetRead d (hex "00") 1) (output (fields "0"))
+    ∷ call (sheetWritten d (fields "0") 1) (output (hex "00"))
+    -- a lead is one bit: 1 passes, 2 gives 3
+    ∷ call (sheetWritten oneLink (fields "1") 99) (refuse 2 4)
+    ∷ call (sheetWritten oneLink (fields "2") 99) (refuse 3 4)
     -- 8,192 pairs pass, 8,193 give 3
-    ∷ call (sheetRead oneLink (hex "80 00") 99) (refuse 2 4)
-    ∷ call (sheetWritten oneLink (fields "8192") 99) (refuse 2 4)
-    ∷ call (sheetRead oneLink (hex "80 04") 99) (refuse 3 4)
-    ∷ call (sheetWritten oneLink (fields "8193") 99) (refuse 3 4)
+    ∷ call (sheetRead oneLink (hex "c0 00") 99) (refuse 2 4)
+    ∷ call (sheetWritten oneLink (fields "1 8192") 99) (refuse 2 4)
+    ∷ call (sheetRead oneLink (hex "c0 02") 99) (refuse 3 4)
+    ∷ call (sheetWritten oneLink (fields "1 8193") 99) (refuse 3 4)
     -- a pair's number has 12 bits: 4,095 passes, 4,096 gives 3, before 6
-    ∷ call (sheetRead oneLink (hex "00 07 ff ff fc") 3) (output (fields "1 4095 4095"))
-    ∷ call (sheetWritten oneLink (fields "1 4095 4095") 5) (output (hex "00 07 ff ff fc"))
-    ∷ call (sheetWritten oneLink (fields "1 4096 0") 99) (refuse 3 4)
-    ∷ call (sheetWritten oneLink (fields "2 5 0 4 5000") 99) (refuse 3 4)
+    ∷ call (sheetRead oneLink (hex "80 03 ff ff fe") 4) (output (fields "1 1 4095 4095"))
+    ∷ call (sheetWritten oneLink (fields "1 1 4095 4095") 5) (output (hex "80 03 ff ff fe"))
+    ∷ call (sheetWritten oneLink (fields "1 1 4096 0") 99) (refuse 3 4)
+    ∷ call (sheetWritten oneLink (fields "1 2 5 0 4 5000") 99) (refuse 3 4)
     -- pairs ascend by from, then to
-    ∷ call (sheetRead oneLink (hex "00 08 00 00 14 00 40 00") 5) (output (fields "2 0 5 1 0"))
-    ∷ call (sheetWritten oneLink (fields "2 0 5 1 0") 8) (output (hex "00 08 00 00 14 00 40 00"))
-    ∷ call (sheetRead oneLink (hex "00 08 00 40 00 00 00 04") 99) (refuse 6 4)
-    ∷ call (sheetWritten oneLink (fields "2 1 0 0 1") 99) (refuse 6 4)
-    ∷ call (sheetRead oneLink (hex "00 08 00 00 08 00 00 04") 99) (refuse 6 4)
-    ∷ call (sheetWritten oneLink (fields "2 0 2 0 1") 99) (refuse 6 4)
+    ∷ call (sheetRead oneLink (hex "80 04 00 00 0a 00 20 00") 6) (output (fields "1 2 0 5 1 0"))
+    ∷ call (sheetWritten oneLink (fields "1 2 0 5 1 0") 8) (output (hex "80 04 00 00 0a 00 20 00"))
+    ∷ call (sheetRead oneLink (hex "80 04 00 20 00 00 00 02") 99) (refuse 6 4)
+    ∷ call (sheetWritten oneLink (fields "1 2 1 0 0 1") 99) (refuse 6 4)
+    ∷ call (sheetRead oneLink (hex "80 04 00 00 04 00 00 02") 99) (refuse 6 4)
+    ∷ call (sheetWritten oneLink (fields "1 2 0 2 0 1") 99) (refuse 6 4)
     -- and none equals the one before
-    ∷ call (sheetRead oneLink (hex "00 08 00 00 04 00 00 04") 99) (refuse 6 4)
-    ∷ call (sheetWritten oneLink (fields "2 0 1 0 1") 99) (refuse 6 4)
-    -- a zero count first, last, and between
-    ∷ call (sheetRead extract1 (hex "00 00 00 10 00 00 10") 99) (refuse 8 4)
-    ∷ call (sheetWritten extract1 (fields "0 1 0 1") 99) (refuse 8 4)
-    ∷ call (sheetRead extract1 (hex "00 04 00 00 04 00 00") 99) (refuse 8 4)
-    ∷ call (sheetWritten extract1 (fields "1 0 1 0") 99) (refuse 8 4)
-    ∷ call (sheetRead d (hex "00 04 00 00 04 00 00 00 40 00 00 40 01 00 00 01") 99) (refuse 8 4)
-    ∷ call (sheetWritten d (fields "1 0 1 0 1 0 1 1 0 1") 99) (refuse 8 4)
-    -- 8 is judged after all lists: 2, 3 and 6 in a later one stand before it
-    ∷ call (sheetRead extract1 (hex "00 00 00 10") 99) (refuse 2 4)
-    ∷ call (sheetWritten extract1 (fields "0 1") 99) (refuse 2 4)
-    ∷ call (sheetRead extract1 (hex "00 02 00 10") 99) (refuse 3 4)
-    ∷ call (sheetWritten extract1 (fields "0 8193") 99) (refuse 3 4)
-    ∷ call (sheetWritten extract1 (fields "0 1 0 5000") 99) (refuse 3 4)
-    ∷ call (sheetRead extract1 (hex "00 00 00 20 00 00 10 00 00 10") 99) (refuse 6 4)
-    ∷ call (sheetWritten extract1 (fields "0 2 0 1 0 1") 99) (refuse 6 4)
-    -- and before a padding bit and what is left over
-    ∷ call (sheetRead extract1 (hex "00 00 00 10 00 00 11") 99) (refuse 8 4)
-    ∷ call (sheetWritten extract1 (fields "0 1 0 1 0") 99) (refuse 8 4)
-    -- a padding bit, a byte more, a field left over
-    ∷ call (sheetRead oneLink (hex "00 01") 99) (refuse 9 4)
-    ∷ call (sheetRead oneLink (hex "00 00 00") 99) (refuse 9 4)
+    ∷ call (sheetRead oneLink (hex "80 04 00 00 02 00 00 02") 99) (refuse 6 4)
+    ∷ call (sheetWritten oneLink (fields "1 2 0 1 0 1") 99) (refuse 6 4)
+    -- a zero count after a 1: first, last, and between
+    ∷ call (sheetRead extract1 (hex "80 00 00 08 00 00 08") 99) (refuse 8 4)
+    ∷ call (sheetWritten extract1 (fields "1 0 1 0 1") 99) (refuse 8 4)
+    ∷ call (sheetRead extract1 (hex "80 02 00 00 02 00 00") 99) (refuse 8 4)
+    ∷ call (sheetWritten extract1 (fields "1 1 0 1 0") 99) (refuse 8 4)
+    ∷ call (sheetRead d (hex "80 02 00 00 02 00 00 00 20 00 00 20 00 80 00 00 80") 99) (refuse 8 4)
+    ∷ call (sheetWritten d (fields "1 1 0 1 0 1 0 1 1 0 1") 99) (refuse 8 4)
+    -- and where all counts are zero
+    ∷ call (sheetRead oneLink (hex "80 00") 99) (refuse 8 4)
+    ∷ call (sheetWritten oneLink (fields "1 0") 99) (refuse 8 4)
+    ∷ call (sheetRead extract1 (hex "80 00 00 00") 99) (refuse 8 4)
+    ∷ call (sheetWritten extract1 (fields "1 0 0") 99) (refuse 8 4)
+    -- 8 is found at that count: 2, 3 and 6 in a later list, a padding bit and what is left over come after it
+    ∷ call (sheetRead extract1 (hex "80 00") 99) (refuse 8 4)
+    ∷ call (sheetWritten extract1 (fields "1 0") 99) (refuse 8 4)
+    ∷ call (sheetRead extract1 (hex "80 01 00 08") 99) (refuse 8 4)
+    ∷ call (sheetWritten extract1 (fields "1 0 8193") 99) (refuse 8 4)
+    ∷ call (sheetWritten extract1 (fields "1 0 1 0 5000") 99) (refuse 8 4)
+    ∷ call (sheetRead extract1 (hex "80 00 00 10 00 00 08 00 00 08") 99) (refuse 8 4)
+    ∷ call (sheetWritten extract1 (fields "1 0 2 0 1 0 1") 99) (refuse 8 4)
+    ∷ call (sheetRead extract1 (hex "80 00 00 08 00 00 09") 99) (refuse 8 4)
+    ∷ call (sheetWritten extract1 (fields "1 0 1 0 1 0") 99) (refuse 8 4)
+    -- 2, 3 and 6 in an earlier list stand before it
+    ∷ call (sheetRead extract1 (hex "80 02 00 00") 99) (refuse 2 4)
+    ∷ call (sheetWritten extract1 (fields "1 1 4096 0 0") 99) (refuse 3 4)
+    ∷ call (sheetRead extract1 (hex "80 04 00 00 02 00 00 02 00 00") 99) (refuse 6 4)
+    ∷ call (sheetWritten extract1 (fields "1 2 0 1 0 1 0") 99) (refuse 6 4)
+    -- a padding bit, a byte more, a field left over: after a 0, where two zero bytes are one too many, and after a 1
+    ∷ call (sheetRead oneLink (hex "01") 99) (refuse 9 4)
+    ∷ call (sheetRead oneLink (hex "40") 99) (refuse 9 4)
+    ∷ call (sheetRead oneLink (hex "00 00") 99) (refuse 9 4)
     ∷ call (sheetWritten oneLink (fields "0 0") 99) (refuse 9 4)
+    ∷ call (sheetWritten oneLink (fields "0 1 0 1") 99) (refuse 9 4)
+    ∷ call (sheetRead extract1 (hex "80 02 00 00 02 00 08 00 80 11") 99) (refuse 9 4)
+    ∷ call (sheetRead extract1 (s6 ++ hex "00") 99) (refuse 9 4)
+    ∷ call (sheetWritten extract1 (s6Fields ++ fields "0") 99) (refuse 9 4)
     -- over 65,536 bytes is too long
     ∷ call (sheetRead oneLink (replicate 65537 0) 99) (refuse 1 4)
     -- the pattern is judged first
@@ -438,18 +461,23 @@ sheets =
     ∷ call (sheetRead oneLink [] 99) (refuse 2 4)
     ∷ call (sheetWritten oneLink [] 99) (refuse 2 4)
     -- too little room, by one; too few words
-    ∷ call (sheetRead extract1 s6 5) (refuse 12 6)
-    ∷ call (sheetWritten extract1 (fields "1 0 1 1 1 2") 9) (refuse 12 10)
-    ∷ case (withWorkspace 16383 (sheetRead extract1 s6 6)) (refuse 14 0)
-    ∷ case (withWorkspace 16383 (sheetWritten extract1 (fields "1 0 1 1 1 2") 10)) (refuse 14 0)
+    ∷ call (sheetRead extract1 s6 6) (refuse 12 7)
+    ∷ call (sheetWritten extract1 s6Fields 9) (refuse 12 10)
+    ∷ call (sheetRead oneLink (hex "00") 0) (refuse 12 1)
+    ∷ call (sheetWritten oneLink (fields "0") 0) (refuse 12 1)
+    ∷ case (withWorkspace 16383 (sheetRead extract1 s6 7)) (refuse 14 0)
+    ∷ case (withWorkspace 16383 (sheetWritten extract1 s6Fields 10)) (refuse 14 0)
     ∷ []
 
 -- beside a catalogue
 unfoldable pub books : List Case
 books =
     -- the book of C made from the record of K6, both directions
-    call (bookRead c b6 13) (output b6Fields)
-    ∷ call (bookWritten c b6Fields 22) (output b6)
+    call (bookRead c b6 14) (output b6Fields)
+    ∷ call (bookWritten c b6Fields 19) (output b6)
+    -- one in which no extract finds anything
+    ∷ call (bookRead c (hex "00 00 00") 3) (output (fields "0 0 0"))
+    ∷ call (bookWritten c (fields "0 0 0") 3) (output (hex "00 00 00"))
     -- a catalogue without extracts has a book of no bytes, and any byte or field is too many
     ∷ call (bookRead c4 [] 0) (output [])
     ∷ call (bookWritten c4 [] 0) (output [])
@@ -459,50 +487,59 @@ books =
     ∷ call (bookRead c [] 99) (refuse 2 4)
     ∷ call (bookWritten c [] 99) (refuse 2 4)
     -- a fault in a sheet: 8,193 pairs, equal neighbours, a zero count
-    ∷ call (bookRead c3 (hex "80 04") 99) (refuse 3 4)
-    ∷ call (bookWritten c3 (fields "8193") 99) (refuse 3 4)
-    ∷ call (bookRead c3 (hex "00 08 00 00 04 00 00 04") 99) (refuse 6 4)
-    ∷ call (bookWritten c3 (fields "2 0 1 0 1") 99) (refuse 6 4)
-    ∷ call (bookRead c3 (hex "00 00 00 10 00 00 10") 99) (refuse 8 4)
-    ∷ call (bookWritten c3 (fields "0 1 0 1") 99) (refuse 8 4)
+    ∷ call (bookRead c3 (hex "c0 02") 99) (refuse 3 4)
+    ∷ call (bookWritten c3 (fields "1 8193") 99) (refuse 3 4)
+    ∷ call (bookRead c3 (hex "80 04 00 00 02 00 00 02") 99) (refuse 6 4)
+    ∷ call (bookWritten c3 (fields "1 2 0 1 0 1") 99) (refuse 6 4)
+    ∷ call (bookRead c3 (hex "80 00 00 08 00 00 08") 99) (refuse 8 4)
+    ∷ call (bookWritten c3 (fields "1 0 1 0 1") 99) (refuse 8 4)
     -- a padding bit after a sheet, before a fault in the next
-    ∷ call (bookRead c (hex "00 08 00 00 04 00 00 0d 80 04") 99) (refuse 9 4)
-    ∷ call (bookRead c (hex "00 08 00 00 04 00 00 0c 80 04") 99) (refuse 3 4)
+    ∷ call (bookRead c (hex "80 04 00 00 02 00 00 07 c0 02") 99) (refuse 9 4)
+    ∷ call (bookRead c (hex "80 04 00 00 02 00 00 06 c0 02") 99) (refuse 3 4)
+    ∷ call (bookRead c (hex "01 c0 02") 99) (refuse 9 4)
+    ∷ call (bookRead c (hex "00 c0 02") 99) (refuse 3 4)
+    -- a sheet that is missing after others for nothing found
+    ∷ call (bookRead c (hex "00 00") 99) (refuse 2 4)
+    ∷ call (bookWritten c (fields "0 0") 99) (refuse 2 4)
+    -- a book of the form without leads is judged like any other bytes: that of C and K6 is refused, one of three sheets for nothing found is too long
+    ∷ call (bookRead c (hex "00 08 00 00 04 00 00 0c 00 04 00 00 04 00 10 01 00 20 00 00 00 00") 99) (refuse 9 4)
+    ∷ call (bookRead c (replicate 10 0) 99) (refuse 9 4)
     -- a byte more, a field left over
-    ∷ call (bookRead c (b6 ++ hex "00") 13) (refuse 9 4)
-    ∷ call (bookWritten c (b6Fields ++ fields "0") 22) (refuse 9 4)
+    ∷ call (bookRead c (b6 ++ hex "00") 14) (refuse 9 4)
+    ∷ call (bookWritten c (b6Fields ++ fields "0") 19) (refuse 9 4)
     -- over 65,536 bytes is too long
     ∷ call (bookRead c (replicate 65537 0) 99) (refuse 1 4)
     -- the catalogue is judged first
     ∷ call (bookRead (hex "88") [] 99) (refuse 3 2)
     ∷ call (bookWritten (hex "88") [] 99) (refuse 3 2)
     -- too little room, by one; too few words
-    ∷ call (bookRead c b6 12) (refuse 12 13)
-    ∷ call (bookWritten c b6Fields 21) (refuse 12 22)
-    ∷ case (withWorkspace 16383 (bookRead c b6 13)) (refuse 14 0)
-    ∷ case (withWorkspace 16383 (bookWritten c b6Fields 22)) (refuse 14 0)
+    ∷ call (bookRead c b6 13) (refuse 12 14)
+    ∷ call (bookWritten c b6Fields 18) (refuse 12 19)
+    ∷ case (withWorkspace 16383 (bookRead c b6 14)) (refuse 14 0)
+    ∷ case (withWorkspace 16383 (bookWritten c b6Fields 19)) (refuse 14 0)
     -- a sheet, book or answer of 65,536 bytes fits, one of a byte more does not, however much is lent
     ∷ call (fitFile 65536 (replicate 65536 0)) (output (replicate 65536 0))
     ∷ call (fitFile 65537 (replicate 65537 0)) (refuse 12 65537)
     -- what 10 counts: a pair that is listed under two extracts, or under two links of one, counts once, wherever it stands
     ∷ case (number (length (pairsOf (edgeCounts cFields) b6Fields))) (number 3)
-    ∷ case (number (length (pairsOf (edgeCounts cFields) (fields "1 0 1 1 0 1 1 1 2 1 0 1 1 1 2")))) (number 2)
-    ∷ case (number (length (pairsOf (edgeCounts cFields) (fields "2 0 1 1 2 2 0 1 1 2 2 0 1 1 2 0 0")))) (number 2)
+    ∷ case (number (length (pairsOf (edgeCounts cFields) (fields "1 1 0 1 1 1 0 1 1 1 2 1 1 0 1 1 1 2")))) (number 2)
+    ∷ case (number (length (pairsOf (edgeCounts cFields) (fields "1 2 0 1 1 2 1 2 0 1 1 2 2 0 1 1 2 0")))) (number 2)
     ∷ []
 
 unfoldable pub searches : List Case
 searches =
     -- K6, the sheet of extract 1 of C, and the book of C
     call (searchOutcome extract1 r6 10) (output s6)
-    ∷ call (makeBookOutcome c r6 22) (output b6)
+    ∷ call (makeBookOutcome c r6 19) (output b6)
     -- K7, K8
-    ∷ call (searchOutcome selfLoop r7 8) (output (hex "00 08 00 00 04 00 40 00"))
-    ∷ call (searchOutcome selfLoop r8 2) (output (hex "00 00"))
+    ∷ call (searchOutcome selfLoop r7 8) (output (hex "80 04 00 00 02 00 20 00"))
+    ∷ call (searchOutcome selfLoop r8 1) (output (hex "00"))
     -- K9, and the book of C
-    ∷ call (searchOutcome d r9 19) (output s9)
+    ∷ call (searchOutcome d r9 20) (output s9)
     ∷ call (makeBookOutcome c r9 25) (output b9)
-    -- K10
-    ∷ call (searchOutcome oneLink r10 2) (output (hex "00 00"))
+    -- K10, and the book of C: nothing found is one zero byte for each
+    ∷ call (searchOutcome oneLink r10 1) (output (hex "00"))
+    ∷ call (makeBookOutcome c r10 3) (output (hex "00 00 00"))
     -- no extracts, no bytes
     ∷ call (makeBookOutcome c4 r9 0) (output [])
     -- the pattern or catalogue is judged first, then the record
@@ -512,9 +549,11 @@ searches =
     ∷ call (makeBookOutcome c (hex "80 08") 99) (refuse 3 3)
     -- too little room, by one; too few words
     ∷ call (searchOutcome extract1 r6 9) (refuse 12 10)
-    ∷ call (makeBookOutcome c r6 21) (refuse 12 22)
+    ∷ call (makeBookOutcome c r6 18) (refuse 12 19)
+    ∷ call (searchOutcome oneLink r10 0) (refuse 12 1)
+    ∷ call (makeBookOutcome c r10 2) (refuse 12 3)
     ∷ case (withWorkspace 16383 (searchOutcome extract1 r6 10)) (refuse 14 0)
-    ∷ case (withWorkspace 16383 (makeBookOutcome c r6 22)) (refuse 14 0)
+    ∷ case (withWorkspace 16383 (makeBookOutcome c r6 19)) (refuse 14 0)
     ∷ []
 
 unfoldable pub indexes : List Case
@@ -525,7 +564,7 @@ indexes =
     ∷ call (searchIndexedOutcome extract1 r6 (fields "0 2 3 3 3") 10) (output s6)
     -- K9
     ∷ call (makeIndexOutcome r9 4) (output (fields "0 1 2 2"))
-    ∷ call (searchIndexedOutcome d r9 (fields "0 1 2 2") 19) (output s9)
+    ∷ call (searchIndexedOutcome d r9 (fields "0 1 2 2") 20) (output s9)
     -- the index of an empty record is one entry, 0
     ∷ call (makeIndexOutcome r10 1) (output (fields "0"))
     ∷ call (checkIndexOutcome r10 (fields "0")) (number 1)
@@ -631,42 +670,43 @@ showings =
 unfoldable pub answers : List Case
 answers =
     -- K9, as it is searched
-    call (answerOutcome d c b9 19) (output s9)
-    -- none where a list is empty, and none where a pair is not supported
-    ∷ call (answerOutcome d c b6 7) (output (replicate 7 0))
-    ∷ call (answerOutcome d c bn 7) (output (replicate 7 0))
+    call (answerOutcome d c b9 20) (output s9)
+    -- nothing where a list is empty, and nothing where a pair is not supported: one zero byte
+    ∷ call (answerOutcome d c b6 1) (output (hex "00"))
+    ∷ call (answerOutcome d c bn 1) (output (hex "00"))
     -- K3 is uncovered, link 1, which is told before too little room
-    ∷ call (answerOutcome d c3 b3 19) (refuse 11 1)
+    ∷ call (answerOutcome d c3 b3 20) (refuse 11 1)
     ∷ call (answerOutcome d c3 b3 0) (refuse 11 1)
     -- the question is judged first, then the catalogue, then the book, each before 11
     ∷ call (answerOutcome (hex "88") (hex "88") [] 0) (refuse 3 1)
     ∷ call (answerOutcome d (hex "88") [] 0) (refuse 3 2)
     ∷ call (answerOutcome d c3 [] 0) (refuse 2 4)
     -- too little room, by one; too few words
-    ∷ call (answerOutcome d c b9 18) (refuse 12 19)
-    ∷ case (withWorkspace 16383 (answerOutcome d c b9 19)) (refuse 14 0)
+    ∷ call (answerOutcome d c b9 19) (refuse 12 20)
+    ∷ call (answerOutcome d c b6 0) (refuse 12 1)
+    ∷ case (withWorkspace 16383 (answerOutcome d c b9 20)) (refuse 14 0)
     -- K9 by two sets that cover D; bits that name no extract are ignored
-    ∷ call (answerFrom d c 6 b9 19) (output s9)
-    ∷ call (answerFrom d c 7 b9 19) (output s9)
-    ∷ call (answerFrom d c 65534 b9 19) (output s9)
+    ∷ call (answerFrom d c 6 b9 20) (output s9)
+    ∷ call (answerFrom d c 7 b9 20) (output s9)
+    ∷ call (answerFrom d c 65534 b9 20) (output s9)
     -- a set that doesn't cover D, though C does: 11 with the lowest link that the set leaves unmatched, before too little room
-    ∷ call (answerFrom d c 5 b9 19) (refuse 11 2)
-    ∷ call (answerFrom d c 3 b9 19) (refuse 11 1)
+    ∷ call (answerFrom d c 5 b9 20) (refuse 11 2)
+    ∷ call (answerFrom d c 3 b9 20) (refuse 11 1)
     ∷ call (answerFrom d c 65528 b9 0) (refuse 11 0)
     -- and one for K3, which is uncovered
-    ∷ call (answerFrom d c3 65535 b3 19) (refuse 11 1)
+    ∷ call (answerFrom d c3 65535 b3 20) (refuse 11 1)
     -- from a book of no record each covering set has its own answer, since all of a named set gives candidates; without a set the chosen one has
-    ∷ call (answerFrom d c 6 bw 22) (output sw12)
-    ∷ call (answerFrom d c 7 bw 25) (output sw012)
-    ∷ call (answerOutcome d c bw 22) (output sw12)
+    ∷ call (answerFrom d c 6 bw 23) (output sw12)
+    ∷ call (answerFrom d c 7 bw 26) (output sw012)
+    ∷ call (answerOutcome d c bw 23) (output sw12)
     -- too little room, by one; too few words
-    ∷ call (answerFrom d c 7 bw 24) (refuse 12 25)
-    ∷ case (withWorkspace 16383 (answerFrom d c 6 b9 19)) (refuse 14 0)
+    ∷ call (answerFrom d c 7 bw 25) (refuse 12 26)
+    ∷ case (withWorkspace 16383 (answerFrom d c 6 b9 20)) (refuse 14 0)
     ∷ []
 
 unfoldable pub table : List (List Case)
 table = patterns ∷ catalogues ∷ records ∷ sortings ∷ sheets ∷ books ∷ searches ∷ indexes ∷ quotes ∷ cheapests ∷ showings ∷ answers ∷ []
 
 pub cases : Agree table
-unfolding Agree table patterns catalogues records sortings sheets books searches indexes quotes cheapests showings answers digit hex next turned numbers bitsOf num numFrom bits zeros gap then times whole within scan lay bytesOf decode encode linked edges isEnd allEnds label joined pattern catalogue labels record′ pairs lists sheet book patternSize patternsIn viewsOf edgeCounts codesIn listsIn afterLists ends fieldsOf sheetsIn pairsIn sum member insert distinct codes sortedEnds oldRecord sortedFields recordSorted withWorkspace readFile writeFile judged pairsOf uncrowdedBy fit fitFile patternRead catalogueRead recordRead sheetRead bookRead patternWritten catalogueWritten recordWritten sheetWritten bookWritten _and_ _or_ _implies_ every some keep gather each below upTo settle greatest same has sameEdge allPairs bit edgesIn patternOf graphOf asGraph fits follows sim total row ascending matchSets viewSheet sheetBytes bookBytes searchOutcome viewSheets makeBookOutcome beginBelow indexFor alike ownIndex makeIndexOutcome checkIndexOutcome searchIndexedOutcome pairOf listsHere under candidates supported join complete keptFor answerSets matches matchedIn coversIn lowestUnmatched addsTo taken kept chosen used maskIn matchMask maskAt mapping valuesFrom quoteValues flat quoteOutcome viewsIn answerBytes answerIn answerBy usedFor asRecord graphFields fewerFields recordBytes fitBoth showFor showOutcome weigh lesser better misses ahead foremost cheapest cheapestFrom cheapestFor cheapestOutcome
+unfolding Agree table flatten patterns catalogues records sortings sheets books searches indexes quotes cheapests showings answers digit hex next turned numbers bitsOf num numFrom bits zeros gap then times whole within scan lay bytesOf decode encode linked edges isEnd allEnds label joined pattern catalogue labels record′ pairs lists standing sheet book patternSize patternsIn viewsOf edgeCounts codesIn listsIn afterLists sheetLists afterSheet ends fieldsOf pairCount sheetFields sheetsIn member insert distinct codes sortedEnds oldRecord sortedFields recordSorted withWorkspace readFile writeFile judged pairsOf uncrowdedBy fit fitFile patternRead catalogueRead recordRead sheetRead bookRead patternWritten catalogueWritten recordWritten sheetWritten bookWritten _and_ _or_ _implies_ every some keep gather each below upTo settle greatest same has sameEdge allPairs bit edgesIn patternOf graphOf asGraph fits follows sim total row ascending matchSets viewSheet sheetBytes bookBytes searchOutcome viewSheets makeBookOutcome beginBelow indexFor alike ownIndex makeIndexOutcome checkIndexOutcome searchIndexedOutcome pairOf listsHere under candidates supported join complete keptFor answerSets matches matchedIn coversIn lowestUnmatched addsTo taken kept chosen used maskIn matchMask maskAt mapping valuesFrom quoteValues flat quoteOutcome viewsIn answerBytes answerIn answerBy usedFor asRecord graphFields fewerFields recordBytes fitBoth showFor showOutcome weigh lesser better misses ahead foremost cheapest cheapestFrom cheapestFor cheapestOutcome
 cases = (refl, (refl, (refl, (refl, (refl, (refl, (refl, (refl, (refl, (refl, (refl, (refl, tt))))))))))))

@@ -15,7 +15,7 @@ use lib.Dec.{T}
 use Rattle.packed.specs.Limits.{patternMost, catalogueMost, recordMost, bookMost, pairsMost, workspace}
 use Rattle.packed.specs.Formats.{code}
 use Rattle.packed.specs.Plain.{Below, PatternFile, CatalogueFile, RecordFile, SheetFile, BookFile}
-use Rattle.packed.specs.Contents.{edgesOf, viewsOf, edgeCounts, sheetsIn, ends, fieldsOf, pairCount}
+use Rattle.packed.specs.Contents.{edgesOf, viewsOf, edgeCounts, sheetsIn, ends, fieldsOf, pairCount, sheetFields, sheetLength}
 use Rattle.packed.specs.Refusals.{Told, told}
 use Rattle.packed.specs.OldRecord.{readOldRecord, sortedFields, recordSorted}
 use Rattle.packed.specs.Calls.{Outcome, give, refuse, fronts, Settled, Fulfils, withWorkspace, accepted, readPattern, readCatalogue, readRecord, readSheet, readBook, pairsOf, fit, fitFile, patternRead, catalogueRead, recordRead, sheetRead, bookRead, patternWritten, catalogueWritten, recordWritten, sheetWritten, bookWritten}
@@ -223,7 +223,7 @@ pub record Demand1 : Type 0 where
   pub desk : (a : Outcome) (words : ℕ) → words < workspace → withWorkspace words a ≡ refuse 14 0
   pub enough : (a : Outcome) (words : ℕ) → workspace ≤ words → withWorkspace words a ≡ a
   -- a file is accepted, with its content, exactly when the plain conditions of its format hold (packed/specs/Plain.antt:
-  -- counts in range, ends that are items, no repeat, each item at a link, ascending, even, padding zero and nothing after it)
+  -- counts in range, ends that are items, no repeat, each item at a link, ascending, no zero count after a 1, padding zero and nothing after it)
   pub accepts-pattern : (s ws : List ℕ) → Question s ws ↔ ((length s ≤ patternMost) × PatternFile s ws)
   pub accepts-catalogue : (s ws : List ℕ) → Catalogue s ws ↔ ((length s ≤ catalogueMost) × CatalogueFile s ws)
   pub accepts-record : (s ws : List ℕ) → Record s ws ↔ ((length s ≤ recordMost) × RecordFile s ws)
@@ -348,23 +348,28 @@ pub record Demand2 : Type 1 where
       → In (code (f .0) (f .1)) (getD (matchSets P (graphOf rs)) i []) ↔ Matching P (graphOf rs) (getD (P .edges) i noEdge) f
   -- and so do the lists of an extract, in a book as on a question read as a record
   pub of-extracts : (P : Pattern) (G : Graph) → viewSheet P G ≡ matchSets P G
-  -- the sheet that a search gives is read back as its match sets: for each link the number of its pairs, then each pair's from and to
+  -- the sheet that a search gives is read back as its match sets: a 0 where nothing was found, else a 1, and for each link the number of its
+  -- pairs, then each pair's from and to
   pub sheet-back : (p r ps rs out : List ℕ) → Question p ps → Record r rs → (room words : ℕ) → withWorkspace words (searchOutcome p r room) ≡ give [] (out ∷ [])
-      → Sheet ps out (fieldsOf (matchSets (patternOf ps) (graphOf rs)))
+      → Sheet ps out (sheetFields (matchSets (patternOf ps) (graphOf rs)))
+  pub none-found : (ls : List (List ℕ)) → pairCount ls ≡ 0 → sheetFields ls ≡ 0 ∷ []
+  pub some-found : (ls : List (List ℕ)) → 1 ≤ pairCount ls → sheetFields ls ≡ 1 ∷ fieldsOf ls
   pub each-link : (l : List ℕ) (ls : List (List ℕ)) → fieldsOf (l ∷ ls) ≡ length l ∷ (ends l ++ fieldsOf ls)
   pub no-links : fieldsOf [] ≡ []
   pub each-pair : (a b : ℕ) (l : List ℕ) → b < 4096 → ends (code a b ∷ l) ≡ a ∷ b ∷ ends l
   pub no-pairs : ends [] ≡ []
-  -- "a sheet with m links and t pairs takes (14·m + 24·t)/8 bytes, rounded up"
+  -- "0 and then padding, so a single zero byte": wherever the sheet stands, of a search, an extract or an answer
+  pub zero-byte : (ls : List (List ℕ)) → pairCount ls ≡ 0 → sheetBytes ls ≡ 0 ∷ []
+  -- "its length is 1 byte, or (1 + 14·m + 24·t)/8 rounded up", with m links and t pairs
   pub sheet-length : (p r ps rs : List ℕ) → Question p ps → Record r rs
-      → length (sheetOf (patternOf ps) rs) ≡ (14 * edgesOf ps + 24 * pairCount (matchSets (patternOf ps) (graphOf rs)) + 7) / 8
+      → length (sheetOf (patternOf ps) rs) ≡ sheetLength (edgesOf ps) (pairCount (matchSets (patternOf ps) (graphOf rs)))
   -- "links stand in any order, and that order never alters a sheet"
   pub any-order : (r r′ rs rs′ : List ℕ) → Record r rs → Record r′ rs′ → SameLinks rs rs′ → (p : List ℕ) (room words : ℕ)
       → withWorkspace words (searchOutcome p r room) ≡ withWorkspace words (searchOutcome p r′ room)
   pub any-order-books : (r r′ rs rs′ : List ℕ) → Record r rs → Record r′ rs′ → SameLinks rs rs′ → (c : List ℕ) (room words : ℕ)
       → withWorkspace words (makeBookOutcome c r room) ≡ withWorkspace words (makeBookOutcome c r′ room)
-  -- "all links or none", of a lone pattern and of each extract of a catalogue
-  pub all-or-none : (P : Pattern) (G : Graph) → T (sound P) → ((l : List ℕ) → In l (matchSets P G) → 0 < length l) ⊎ ((l : List ℕ) → In l (matchSets P G) → l ≡ [])
+  -- "all links or none", of a lone pattern and of each extract of a catalogue: each link lists a pair, or nothing is found
+  pub all-or-none : (P : Pattern) (G : Graph) → T (sound P) → ((l : List ℕ) → In l (matchSets P G) → 0 < length l) ⊎ (pairCount (matchSets P G) ≡ 0)
   pub patterns-sound : (p ps : List ℕ) → Question p ps → T (sound (patternOf ps))
   pub extracts-sound : (c cs : List ℕ) → Catalogue c cs → (P : Pattern) → In P (extracts cs) → T (sound P)
   -- "a quote says covered exactly when .."
@@ -497,7 +502,7 @@ pub record GreatestChoice (Q : Pattern) (Candidates K : Edge → Pair → Type 0
   pub supports : SupportsItself Q K
   pub greatest : (L : Edge → Pair → Type 0) → Chooses Q Candidates L → SupportsItself Q L → (e : Edge) (f : Pair) → L e f → K e f
 
--- the answer lists, for each link, what the greatest choice keeps; "if any link keeps none, all are zero"
+-- the answer lists, for each link, what the greatest choice keeps; "if any link keeps none", nothing is found
 pub record Joins (set : ℕ) (qs cs bs : List ℕ) : Type 1 where
   pub keeps : Edge → Pair → Type 0
   pub is : GreatestChoice (patternOf qs) (Candidate (patternOf qs) (extracts cs) (sheetsIn (edgeCounts cs) bs) set) keeps
@@ -520,9 +525,9 @@ pub record Answering : Type 1 where
       → answerFrom q c set b room ≡ answerFrom q c set′ b room
   -- an answer, also from a book of no record, is read back as its content, and is as long as such a sheet
   pub back : (choose : Choose) (q c b qs cs bs out : List ℕ) → Question q qs → Catalogue c cs → Book cs b bs → (room : ℕ)
-      → answerBy choose q c b room ≡ give [] (out ∷ []) → Sheet qs out (fieldsOf (answerOf (choose qs cs) qs cs bs))
+      → answerBy choose q c b room ≡ give [] (out ∷ []) → Sheet qs out (sheetFields (answerOf (choose qs cs) qs cs bs))
   pub answer-length : (q qs cs b bs : List ℕ) → Question q qs → Book cs b bs → (set : ℕ)
-      → length (sheetBytes (answerOf set qs cs bs)) ≡ (14 * edgesOf qs + 24 * pairCount (answerOf set qs cs bs) + 7) / 8
+      → length (sheetBytes (answerOf set qs cs bs)) ≡ sheetLength (edgesOf qs) (pairCount (answerOf set qs cs bs))
   -- for an uncovered question no function whatsoever of the extracts' lists gives the question's sheet on every record
   pub no-other-way : (q c qs cs : List ℕ) → Question q qs → Catalogue c cs → Uncovered qs cs → (F : List (List (List ℕ)) → List ℕ)
       → ((r rs : List ℕ) → Record r rs → F (viewSheets cs (graphOf rs)) ≡ sheetOf (patternOf qs) rs) → ⊥

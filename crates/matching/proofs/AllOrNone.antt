@@ -9,8 +9,10 @@ use lib.ListN.{length}
 use lib.Dec.{T, eqb}
 use borrow.Author.Tests.{eqb-true, eqb-false}
 use Rattle.packed.specs.Format.{pick}
+use Rattle.packed.specs.Contents.{pairCount}
 use Rattle.packed.specs.Matches.{anyEmpty, emptied, allOrNone}
 use Rattle.packed.proofs.OrderCases.{or-cases, or-neither}
+use Rattle.packed.proofs.SheetLaws.{total-emptied}
 use Rattle.matching.specs.Lists.{In, here, there, each}
 use Rattle.matching.specs.Simulation.{Pair, Edge, asPair, Pattern, Graph, sim, total, row, ascending, matchSets, sound}
 use Rattle.matching.proofs.ListLaws.{not-in-none, in-cases, each-in, in-each, in-length, first-in}
@@ -37,11 +39,6 @@ pub emptied-each : {A : Type 0} (f : A → List ℕ) (l : List A) → emptied (e
 unfolding emptied each
 emptied-each f [] = refl
 emptied-each f (x ∷ l) = ap (λ ls. [] ∷ ls) (emptied-each f l)
-
-emptied-in : (ls : List (List ℕ)) (l : List ℕ) → In l (emptied ls) → l ≡ []
-unfolding emptied
-emptied-in [] l i = absurd (not-in-none i)
-emptied-in (m ∷ ls) l i = ⊎-elim (λ e. e) (λ j. emptied-in ls l j) (in-cases i)
 
 -- both cases of `allOrNone`
 pub allOrNone-case : (Q : List (List ℕ) → Type 0) (ls : List (List ℕ)) → (((l : List ℕ) → In l ls → 0 < length l) → Q ls) → ((l : List ℕ) × In l ls × (length l ≡ 0) → Q (emptied ls)) → Q (allOrNone ls)
@@ -84,12 +81,12 @@ cond-all-or-none {A} f es b h = allOrNone-case (λ ls. sets b ≡ ls) lists (λ 
     none true t = absurd (t tt)
     none false t = ap (λ l. each (λ e. l) es) ascending-none ∙ sym (emptied-each (λ e. ascending (f e)) es)
 
--- they are all empty, or none is
-pub allOrNone-even : (ls : List (List ℕ)) → ((l : List ℕ) → In l (allOrNone ls) → 0 < length l) ⊎ ((l : List ℕ) → In l (allOrNone ls) → l ≡ [])
-allOrNone-even ls = allOrNone-case Even ls (λ f. inl f) (λ r. inr (emptied-in ls))
-  where
-    Even : List (List ℕ) → Type 0
-    Even ms = ((l : List ℕ) → In l ms → 0 < length l) ⊎ ((l : List ℕ) → In l ms → l ≡ [])
+-- each has a code, or none has
+abbrev Even : List (List ℕ) → Type 0
+Even ls = ((l : List ℕ) → In l ls → 0 < length l) ⊎ (pairCount ls ≡ 0)
+
+allOrNone-even : (ls : List (List ℕ)) → Even (allOrNone ls)
+allOrNone-even ls = allOrNone-case Even ls (λ f. inl f) (λ r. inr (total-emptied ls))
 
 -- ---- the match sets
 module _ (P : Pattern) (G : Graph) (ok : T (sound P)) where
@@ -115,6 +112,6 @@ module _ (P : Pattern) (G : Graph) (ok : T (sound P)) where
   unfolding matchSets
   sets-all-or-none = cond-all-or-none (row G (sim P G)) (P .edges) (total P (sim P G)) all-or-none
 
-  -- the match sets are all empty, or none is
-  pub sets-even : ((l : List ℕ) → In l (matchSets P G) → 0 < length l) ⊎ ((l : List ℕ) → In l (matchSets P G) → l ≡ [])
-  sets-even = subst (λ ls. ((l : List ℕ) → In l ls → 0 < length l) ⊎ ((l : List ℕ) → In l ls → l ≡ [])) (sym sets-all-or-none) (allOrNone-even _)
+  -- each match set has a code, or none has
+  pub sets-even : ((l : List ℕ) → In l (matchSets P G) → 0 < length l) ⊎ (pairCount (matchSets P G) ≡ 0)
+  sets-even = subst Even (sym sets-all-or-none) (allOrNone-even _)

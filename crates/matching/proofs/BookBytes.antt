@@ -1,22 +1,20 @@
 -- The book of sheets in bytes: it is read back as their fields, one after the other, and has no more different pairs than the record has edges.
-use Prim.Native.Nat.{ℕ, suc, _+_, _*_, _≤_}
+use Prim.Native.Nat.{ℕ, _≤_}
 use mathlib.Core.Path.{_≡_, refl, sym, ap, ap₂, subst, _∙_}
 use mathlib.Core.Logic.{⊎-elim}
 use mathlib.Core.Bool.{Bool}
 use mathlib.Core.List.{List, [], _∷_, _++_, map, flatten, append-assoc, append-nil}
-use lib.ListN.{length, drop, getD}
-use lib.Seq.{drop-at}
+use lib.ListN.{length, getD}
 use native.Mathlib.Omega.{arith}
-use native.Mathlib.Nat.{suc-add, zero-add}
 use Rattle.packed.specs.Bits.{bits}
 use Rattle.packed.specs.Format.{ok, decode}
 use Rattle.packed.specs.Formats.{catalogue, record′, book}
-use Rattle.packed.specs.Contents.{edgesOf, viewsOf, edgeCounts, codesIn, pairsIn, sum, ends, fieldsOf}
+use Rattle.packed.specs.Contents.{edgesOf, viewsOf, edgeCounts, sheetFields, sheetsIn}
 use Rattle.packed.specs.Calls.{accepted, readBook, pairsOf}
 use Rattle.packed.specs.Plain.{PlainPattern, PlainSheet, Whole, InTurn}
 use Rattle.packed.proofs.BitsLaws.{bits-append}
 use Rattle.packed.proofs.AcceptedTurns.{no-turns, more-turns}
-use Rattle.packed.proofs.BookSheetLaws.{ends-long, codes-back}
+use Rattle.packed.proofs.BookSheetLaws.{sheets-back}
 use Rattle.packed.proofs.Accepted.{sheet-accepted, book-accepted, book-read}
 use Rattle.matching.specs.Lists.{In, here, there, gather}
 use Rattle.matching.specs.Simulation.{Graph, patternOf, graphOf, viewSheet}
@@ -40,7 +38,7 @@ book-one ls = append-nil (sheetBytes ls)
 
 -- the fields of the sheets
 abbrev pub bookFields : List (List (List ℕ)) → List ℕ
-bookFields sheets = flatten (map fieldsOf sheets)
+bookFields sheets = flatten (map sheetFields sheets)
 
 abbrev Sheets : List ℕ → ℕ → List ℕ → List Bool → Type 0
 Sheets ms k ws bs = InTurn (λ i. Whole (PlainSheet (getD ms i 0))) k ws bs
@@ -53,13 +51,13 @@ sheets-turn (ls ∷ sheets) f =
     let ms : List ℕ = map length sheets in
     more-turns (λ i. Whole (PlainSheet (getD (length ls ∷ ms) i 0))) (length ms) (bookFields (ls ∷ sheets)) (bits (sheetBytes ls ++ bookBytes sheets)) .0
     (record {
-      first = fieldsOf ls;
+      first = sheetFields ls;
       second = bookFields sheets;
       front = bits (sheetBytes ls);
       back = bits (bookBytes sheets);
       content = refl;
       layout = bits-append (sheetBytes ls) (bookBytes sheets);
-      before = sheet-accepted (length ls) (sheetBytes ls) (fieldsOf ls) .0 (f ls (here refl) .back);
+      before = sheet-accepted (length ls) (sheetBytes ls) (sheetFields ls) .0 (f ls (here refl) .back);
       after = sheets-turn sheets (λ x i. f x (there i));
     })
 
@@ -71,30 +69,15 @@ book-back sheets f = book-accepted (map length sheets) (bookBytes sheets) (bookF
 abbrev listed : List (List ℕ) → List ℕ
 listed ls = gather (λ l. l) ls
 
--- the first list of so many
-first-pairs : (n k : ℕ) (l : List ℕ) → pairsIn (suc n) (k ∷ l) ≡ codesIn k l ++ pairsIn n (drop (2 * k) l)
-unfolding pairsIn
-first-pairs n k l =
-    let z : 1 + 2 * k ≡ suc (2 * k) = omega arith in
-    ap (λ (j : ℕ). codesIn k l ++ pairsIn n (drop j (k ∷ l))) z
+all-in : (ls : List (List ℕ)) → flatten ls ≡ listed ls
+unfolding flatten gather
+all-in [] = refl
+all-in (l ∷ ls) = ap (λ (x : List ℕ). l ++ x) (all-in ls)
 
-pairs-back : (ls : List (List ℕ)) (k : ℕ) (tail : List ℕ) → pairsIn (length ls + k) (fieldsOf ls ++ tail) ≡ listed ls ++ pairsIn k tail
-unfolding fieldsOf gather
-pairs-back [] k tail = ap (λ (n : ℕ). pairsIn n tail) (zero-add k)
-pairs-back (l ∷ ls) k tail =
-    let rest : List ℕ = fieldsOf ls ++ tail in
-    let e : (ends l ++ fieldsOf ls) ++ tail ≡ ends l ++ rest = append-assoc (ends l) (fieldsOf ls) tail in
-    ap (λ (n : ℕ). pairsIn n (length l ∷ ((ends l ++ fieldsOf ls) ++ tail))) (suc-add (length ls) k)
-    ∙ ap (λ (x : List ℕ). pairsIn (suc (length ls + k)) (length l ∷ x)) e
-    ∙ first-pairs (length ls + k) (length l) (ends l ++ rest)
-    ∙ ap₂ (λ (x y : List ℕ). x ++ y) (codes-back l rest) (ap (pairsIn (length ls + k)) (drop-at (ends l) rest (2 * length l) (ends-long l)) ∙ pairs-back ls k tail)
-    ∙ sym (append-assoc l (listed ls) (pairsIn k tail))
-
-all-back : (sheets : List (List (List ℕ))) → pairsIn (sum (map length sheets)) (bookFields sheets) ≡ gather listed sheets
-unfolding sum flatten gather
-all-back [] = unfold pairsIn in refl
-all-back (ls ∷ sheets) =
-    pairs-back ls (sum (map length sheets)) (bookFields sheets) ∙ ap (λ (x : List ℕ). listed ls ++ x) (all-back sheets)
+all-listed : (sheets : List (List (List ℕ))) → flatten (map flatten sheets) ≡ gather listed sheets
+unfolding flatten gather
+all-listed [] = refl
+all-listed (ls ∷ sheets) = ap₂ (λ (x y : List ℕ). x ++ y) (all-in ls) (all-listed sheets)
 
 gather-views : (G : Graph) (vs : List (List ℕ)) → gather listed (map (λ v. viewSheet (patternOf v) G) vs) ≡ gather (λ P. listed (viewSheet P G)) (map patternOf vs)
 unfolding gather
@@ -146,6 +129,8 @@ module _ (c r cs rs : List ℕ) (e : decode catalogue c ≡ ok cs) (f : decode r
   pub made-few : length (pairsOf (edgeCounts cs) (bookFields sheets)) ≤ 8192
   unfolding pairsOf viewSheets
   made-few =
-      let p : pairsIn (sum (edgeCounts cs)) (bookFields sheets) ≡ gather (λ P. listed (viewSheet P (graphOf rs))) (map patternOf (viewsOf cs)) =
-      ap (λ (ms : List ℕ). pairsIn (sum ms) (bookFields sheets)) counts-are ∙ all-back sheets ∙ gather-views (graphOf rs) (viewsOf cs) in
+      let p : flatten (map flatten (sheetsIn (edgeCounts cs) (bookFields sheets))) ≡ gather (λ P. listed (viewSheet P (graphOf rs))) (map patternOf (viewsOf cs)) =
+      ap (λ (x : List (List (List ℕ))). flatten (map flatten x)) (ap (λ (ms : List ℕ). sheetsIn ms (bookFields sheets)) counts-are ∙ sheets-back sheets)
+      ∙ all-listed sheets
+      ∙ gather-views (graphOf rs) (viewsOf cs) in
       rw p (omega (arith, book-pairs (map patternOf (viewsOf cs)) (graphOf rs), graph-few r rs f))

@@ -1,5 +1,5 @@
 -- The loops over the views of an accepted catalogue: one sheet a turn.
-use Prim.Native.Nat.{ℕ, zero, suc, _+_, _-_, _*_, _/_, _<_, _≤_}
+use Prim.Native.Nat.{ℕ, zero, suc, _+_, _-_, _*_, _<_, _≤_}
 use mathlib.Core.Path.{_≡_, refl, sym, ap, ap₂, subst, _∙_}
 use mathlib.Core.List.{List, [], _∷_, _++_, map, append-assoc, append-nil}
 use mathlib.Core.Bool.{Bool, true, false}
@@ -11,12 +11,13 @@ use native.Mathlib.Nat.{add-zero, zero-add}
 use borrow.Rule.Slice.PartMut.{putMid, postOf}
 use Rattle.packed.specs.Format.{pick, ok, decode, encode}
 use Rattle.packed.specs.Formats.{catalogue, sheet as sheetFormat}
-use Rattle.packed.specs.Contents.{viewsOf, fieldsOf, pairCount}
+use Rattle.packed.specs.Contents.{viewsOf, pairCount, sheetFields, sheetLength}
 use Rattle.packed.specs.Reading.{Stands}
 use Rattle.packed.specs.LoadedGraph.{Holds}
 use Rattle.packed.specs.Matches.{marked, markedFrom, anyEmpty, emptied, allOrNone, matchesOf, SheetWritten}
 use Rattle.packed.proofs.Sets.{sets-append, sets-drop}
-use Rattle.packed.proofs.SheetLaws.{Fit, fit-none, fit-next, fit-all}
+use Rattle.packed.proofs.SheetLaws.{Fit, fit-none, fit-next, fit-all, length-one, length-most}
+use Rattle.packed.proofs.BookSheetLaws.{none-total}
 use Rattle.packed.proofs.MatchLaws.{fit-lists, matches-encode}
 use Rattle.packed.proofs.AcceptedBounds.{catalogue-views}
 use Rattle.packed.specs.declared.by_value.Pattern.{Pattern as Given}
@@ -56,29 +57,31 @@ module _ {p : Given} {s : List ℕ} {n m : ℕ} {w : List ℕ} {d : ℕ} {w′ :
   made-long = ap length (q .sets) ∙ sets-length (patternIn p) (graphIn s n m w) ∙ length-upTo _ (p .edges)
 
   -- the bytes that are counted
-  pub size-is : (14 * p .edges + 24 * pairCount made + 7) / 8 ≡ length (sheetBytes listed)
+  pub size-is : sheetLength (p .edges) (pairCount made) ≡ length (sheetBytes listed)
   size-is =
       let x = sheet-by (p .edges) made made-long (matches-encode d (p .edges) w′ (q .marked)) in
       let y = rw made-long at (x .size) in
       sym y ∙ ap (λ (ls : List (List ℕ)). length (sheetBytes ls)) (q .sets)
 
-  pub size-most : p .edges ≤ 32 → (14 * p .edges + 24 * pairCount made + 7) / 8 ≤ 786489
+  pub size-most : p .edges ≤ 32 → sheetLength (p .edges) (pairCount made) ≤ 786489
   unfolding matchesOf
-  size-most h = omega (arith, total-most (fit-all _ (fit-lists d (p .edges) w′ (q .marked))), made-long)
+  size-most h =
+      let t = total-most (fit-all _ (fit-lists d (p .edges) w′ (q .marked))) in
+      omega (arith, length-most (p .edges) (pairCount made) (8192 * p .edges) (omega (arith, t, made-long)))
 
   -- the bytes that are written
   pub bytes-are : {out out′ : List ℕ} {r : ℕ} (x : SheetWritten d (p .edges) w′ out r out′) → x .bytes ≡ sheetBytes listed
   bytes-are x = sym (sheet-is (p .edges) made (x .bytes) made-long (x .is)) ∙ ap sheetBytes (q .sets)
 
   -- and they are those of the sheet
-  pub encodes : encode (sheetFormat (p .edges)) (fieldsOf made) ≡ ok (sheetBytes listed)
+  pub encodes : encode (sheetFormat (p .edges)) (sheetFields made) ≡ ok (sheetBytes listed)
   encodes =
       let x = matches-encode d (p .edges) w′ (q .marked) in
       x .is ∙ ap ok (sym (sheet-is (p .edges) made (x .bytes) made-long (x .is)) ∙ ap sheetBytes (q .sets))
 
   -- what is kept of its size
-  pub size-kept : (14 * p .edges + 24 * pairCount made + 7) / 8 ≡ sheetSize listed
-  size-kept = ap (λ (k : ℕ). (14 * k + 24 * pairCount made + 7) / 8) (sym made-long) ∙ ap sheetSize (q .sets)
+  pub size-kept : sheetLength (p .edges) (pairCount made) ≡ sheetSize listed
+  size-kept = ap (λ (k : ℕ). sheetLength k (pairCount made)) (sym made-long) ∙ ap sheetSize (q .sets)
 
 -- ---- a sheet that lists nothing
 none-marked : (e m : ℕ) (qs : List ℕ) → markedFrom e m [] qs ≡ replicate m []
@@ -101,20 +104,14 @@ none-matches m w =
     ap (λ (ls : List (List ℕ)). pick (anyEmpty ls) (emptied ls) ls) (none-marked 0 m [])
     ∙ pick-same (anyEmpty (replicate m [])) (none-emptied m)
 
-none-total : (ls : List (List ℕ)) → pairCount ls ≡ 0 → ls ≡ replicate (length ls) []
-unfolding pairCount
-none-total [] h = refl
-none-total ([] ∷ ls) h = ap (λ (x : List (List ℕ)). [] ∷ x) (none-total ls (omega arith))
-none-total ((x ∷ l) ∷ ls) h = absurd (omega arith)
-
 -- it is made from no pairs
 pub sheeted-none : (p : Given) (s : List ℕ) (n m : ℕ) (w : List ℕ) → Ready s n m w
-    → (14 * p .edges + 7) / 8 ≡ sheetSize (matchSets (patternIn p) (graphIn s n m w)) → SheetSized p s n m w 0 w
+    → sheetSize (matchSets (patternIn p) (graphIn s n m w)) ≡ 1 → SheetSized p s n m w 0 w
 unfolding patternIn
 sheeted-none p s n m w r e =
     let ls : List (List ℕ) = matchSets (patternIn p) (graphIn s n m w) in
     let l : length ls ≡ p .edges = sets-length (patternIn p) (graphIn s n m w) ∙ length-upTo _ (p .edges) in
-    let z : pairCount ls ≡ 0 = omega arith in
+    let z : pairCount ls ≡ 0 = length-one (length ls) (pairCount ls) e in
     record {
       edges = record { long = refl; same = λ i h. refl };
       marked = record { long = omega (arith, r .long); most = omega arith; small = λ i h. absurd (omega arith); rises = λ i j a b. absurd (omega arith) };
@@ -285,7 +282,7 @@ sizing-start b = record { turn = turned-start b; is = refl; most = omega arith }
 
 pub sizing-next : {c s : List ℕ} {n m : ℕ} {w₀ : List ℕ} {k size byte a : ℕ} {w : List ℕ} (z : Sizing c s n m w₀ k size byte a w)
     (some : a < k) (v : View) (at : ViewAt c byte v) {d : ℕ} {w′ : List ℕ} (q : SheetSized (v .pattern) s n m w d w′) (r : ℕ)
-    → r ≡ (14 * v .pattern .edges + 24 * pairCount (matchesOf d (v .pattern .edges) w′) + 7) / 8 → Sizing c s n m w₀ k (size + r) (v .next) (a + 1) w′
+    → r ≡ sheetLength (v .pattern .edges) (pairCount (matchesOf d (v .pattern .edges) w′)) → Sizing c s n m w₀ k (size + r) (v .next) (a + 1) w′
 sizing-next z some v at q r e =
     let t = z .turn in
     let f = turn-fair t some v at .edges in
@@ -309,7 +306,7 @@ module _ {c s : List ℕ} {n m : ℕ} {w₀ : List ℕ} {k size byte a : ℕ} {s
   keeping-room h = omega (arith, z .long, z .sizing .turn .few)
 
   pub keeping-next : (some : a < k) (v : View) (at : ViewAt c byte v) {w′ : List ℕ} (q : EdgesMatched (v .pattern) s n m w w′) (r : ℕ)
-      → r ≡ (14 * v .pattern .edges + 24 * pairCount (matchesOf m (v .pattern .edges) w′) + 7) / 8 → Keeping c s n m w₀ k (size + r) (v .next) (a + 1) (set sizes a r) w′
+      → r ≡ sheetLength (v .pattern .edges) (pairCount (matchesOf m (v .pattern .edges) w′)) → Keeping c s n m w₀ k (size + r) (v .next) (a + 1) (set sizes a r) w′
   unfolding sizing-next turned-next
   keeping-next some v at q r e =
       let t = z .sizing .turn in

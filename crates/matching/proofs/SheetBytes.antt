@@ -1,5 +1,5 @@
 -- The sheet of match sets in bytes: how many they are, and that they are read back as the same lists.
-use Prim.Native.Nat.{ℕ, _+_, _*_, _/_, _≤_}
+use Prim.Native.Nat.{ℕ, _≤_}
 use mathlib.Core.Path.{_≡_, refl, sym, ap, _∙_}
 use mathlib.Core.List.{List, [], _∷_}
 use lib.ListN.{length}
@@ -7,10 +7,10 @@ use lib.Dec.{T}
 use native.Mathlib.Omega.{arith}
 use Rattle.packed.specs.Format.{ok, decode, encode}
 use Rattle.packed.specs.Formats.{pattern, record′, sheet}
-use Rattle.packed.specs.Contents.{edgesOf, fieldsOf, pairCount}
+use Rattle.packed.specs.Contents.{edgesOf, pairCount, sheetFields, sheetLength}
 use Rattle.packed.specs.Matches.{allOrNone}
 use Rattle.packed.specs.Calls.{accepted, readSheet}
-use Rattle.packed.proofs.SheetLaws.{Fit, fit-none, fit-next, rising-by, all-twice, Encoded, sheet-encodes}
+use Rattle.packed.proofs.SheetLaws.{Fit, fit-none, fit-next, rising-by, all-twice, fields-none, none-encodes, Encoded, sheet-encodes}
 use Rattle.packed.proofs.Accepted.{pattern-accepted, sheet-accepted, sheet-read}
 use Rattle.matching.specs.Lists.{In, here, there}
 use Rattle.matching.specs.Simulation.{Pattern, Graph, patternOf, graphOf, matchSets, sound}
@@ -21,14 +21,18 @@ use Rattle.matching.proofs.PatternLaws.{sound-of, edges-many}
 use Rattle.matching.proofs.RecordLaws.{graph-narrow, graph-few}
 
 -- the bytes that are written for lists
-pub sheet-is : (m : ℕ) (ls : List (List ℕ)) (bytes : List ℕ) → length ls ≡ m → encode (sheet m) (fieldsOf ls) ≡ ok bytes → sheetBytes ls ≡ bytes
+pub sheet-is : (m : ℕ) (ls : List (List ℕ)) (bytes : List ℕ) → length ls ≡ m → encode (sheet m) (sheetFields ls) ≡ ok bytes → sheetBytes ls ≡ bytes
 unfolding sheetBytes
-sheet-is m ls bytes e h = ap (λ (k : ℕ). bytesIn (encode (sheet k) (fieldsOf ls))) e ∙ ap bytesIn h
+sheet-is m ls bytes e h = ap (λ (k : ℕ). bytesIn (encode (sheet k) (sheetFields ls))) e ∙ ap bytesIn h
+
+-- where nothing was found they are one zero byte
+pub none-bytes : (ls : List (List ℕ)) → pairCount ls ≡ 0 → sheetBytes ls ≡ 0 ∷ []
+none-bytes ls e = sheet-is (length ls) ls (0 ∷ []) refl (ap (encode (sheet (length ls))) (fields-none ls e) ∙ none-encodes (length ls))
 
 -- what they are
 pub record SheetFields (ls : List (List ℕ)) : Type 0 where
-  pub back : decode (sheet (length ls)) (sheetBytes ls) ≡ ok (fieldsOf ls)
-  pub size : length (sheetBytes ls) ≡ (14 * length ls + 24 * pairCount ls + 7) / 8
+  pub back : decode (sheet (length ls)) (sheetBytes ls) ≡ ok (sheetFields ls)
+  pub size : length (sheetBytes ls) ≡ sheetLength (length ls) (pairCount ls)
 
 pub sheet-by : (m : ℕ) (ls : List (List ℕ)) → length ls ≡ m → Encoded m ls → SheetFields ls
 sheet-by m ls e x =
@@ -59,13 +63,13 @@ module _ (p r ps rs : List ℕ) (e : decode pattern p ≡ ok ps) (f : decode rec
   pub search-many : length lists ≡ edgesOf ps
   search-many = sets-length (patternOf ps) (graphOf rs) ∙ edges-many (pattern-accepted p ps .0 e .laid)
 
-  -- a sheet with m edges and t pairs takes (14 m + 24 t) / 8 bytes, rounded up
-  pub search-size : length (sheetBytes lists) ≡ (14 * edgesOf ps + 24 * pairCount lists + 7) / 8
+  -- a sheet takes 1 byte where nothing was found, and with m edges and t pairs (1 + 14 m + 24 t) / 8 bytes, rounded up
+  pub search-size : length (sheetBytes lists) ≡ sheetLength (edgesOf ps) (pairCount lists)
   search-size = rw search-many at (search-sheet .size)
 
   -- the sheet that a search gives is accepted beside its pattern, as the same content
-  pub search-is : decode (sheet (edgesOf ps)) (sheetBytes lists) ≡ ok (fieldsOf lists)
+  pub search-is : decode (sheet (edgesOf ps)) (sheetBytes lists) ≡ ok (sheetFields lists)
   search-is = rw search-many at (search-sheet .back)
 
-  pub search-back : length (sheetBytes lists) ≤ 65536 → readSheet ps (sheetBytes lists) ≡ accepted (fieldsOf lists)
-  search-back h = sheet-read ps (sheetBytes lists) (fieldsOf lists) .1 (h, sheet-accepted (edgesOf ps) (sheetBytes lists) (fieldsOf lists) .0 search-is)
+  pub search-back : length (sheetBytes lists) ≤ 65536 → readSheet ps (sheetBytes lists) ≡ accepted (sheetFields lists)
+  search-back h = sheet-read ps (sheetBytes lists) (sheetFields lists) .1 (h, sheet-accepted (edgesOf ps) (sheetBytes lists) (sheetFields lists) .0 search-is)

@@ -9,12 +9,12 @@ use lib.ListN.{length, getD, take}
 use lib.Seq.{getD-take, length-take-le}
 use Rattle.packed.specs.Bits.{gap}
 use Rattle.packed.specs.Order.{Outside}
-use Rattle.packed.specs.Walks.{codesAt, pairPlace, listFirst, listCount, listEnd, Spans, listsEnd, sheetEnd}
+use Rattle.packed.specs.Walks.{codesAt, pairPlace, listFirst, listCount, listEnd, Spans, listsEnd, listsFirst, listsCount, sheetEnd}
 use Rattle.packed.specs.BookSheets.{listAt, sheetAt}
 use Rattle.packed.specs.declared.cursor.Extent.{Extent}
 use Rattle.matching.specs.Lists.{In}
 use Rattle.matching.specs.Sweeps.{Has, Mask, OneOf}
-use Rattle.matching.specs.Candidates.{Walkable, Sheeted, Booked, Taken, Listing, SheetListing, BookListing}
+use Rattle.matching.specs.Candidates.{Walkable, Sheeted, SheetedAt, Booked, Taken, Listing, SheetListing, SheetListingAt, BookListing}
 use Rattle.matching.proofs.Taking.{pool-keep, walkable-keep}
 use Rattle.matching.proofs.MaskBits.{mask-cast, mask-self, none-has, one-none, one-last, one-more, one-cases}
 
@@ -128,10 +128,19 @@ module _ {s : List ℕ} {start lists : ℕ} {t : List ℕ} {a m d : ℕ} {w₀ w
               (taken-then (p .pool .most) (g .taken) u);
         }
 
-  pub sheet-end : lists ≤ f → {next : ℕ} → next ≡ at + gap at → (next ≡ sheetEnd s start lists) × Taken d (SheetListing s start lists t a m) w₀ w
-  sheet-end h n =
+  pub lists-done : lists ≤ f → (at ≡ listsEnd s start lists) × (at ≤ 8 * length s) × Taken d (SheetListing s start lists t a m) w₀ w
+  lists-done h =
       let e : f ≡ lists = let z = g .upto in omega arith in
-      (n ∙ ap (λ (x : ℕ). x + gap x) (g .ends ∙ ap (listsEnd s start) e), subst (λ (x : ℕ). Taken d (SheetListing s start x t a m) w₀ w) e (g .taken))
+      (g .ends ∙ ap (listsEnd s start) e, g .fits, subst (λ (x : ℕ). Taken d (SheetListing s start x t a m) w₀ w) e (g .taken))
+
+-- ---- a sheet: of its lists k stand
+module _ (s : List ℕ) (at edges k : ℕ) (e : k ≡ listsCount s at edges) where
+  pub sheet-lists : {d : ℕ} {w : List ℕ} → SheetedAt s at edges d w → Sheeted s (listsFirst at) k d w
+  sheet-lists p = rw e p
+
+  pub sheet-end : {t : List ℕ} {a m d end next : ℕ} {w w′ : List ℕ} → end ≡ listsEnd s (listsFirst at) k → next ≡ end + gap end
+      → Taken d (SheetListing s (listsFirst at) k t a m) w w′ → (next ≡ sheetEnd s at edges) × Taken d (SheetListingAt s at edges t a m) w w′
+  sheet-end {t} {a} {m} {d} {w = w} {w′} p n u = (n ∙ ap (λ (x : ℕ). x + gap x) (p ∙ ap (listsEnd s (listsFirst at)) e), subst (λ (x : ℕ). Taken d (SheetListing s (listsFirst at) x t a m) w w′) e u)
 
 -- ---- the sheets of a book
 sheet-next : (s : List ℕ) (at : ℕ) (ms : List ℕ) (a : ℕ) → a < length ms → sheetAt s at ms (suc a) ≡ sheetEnd s (sheetAt s at ms a) (getD ms a 0)
@@ -144,7 +153,7 @@ sheet-next s at (m ∷ ms) (suc a) h = sheet-next s (sheetEnd s at m) ms a (omeg
 pub record TakingBook (s counts : List ℕ) (k : ℕ) (t : List ℕ) (set m d : ℕ) (w₀ w : List ℕ) (at a : ℕ) : Type 0 where
   pub upto : a ≤ k
   pub begins : at ≡ sheetAt s 0 (take k counts) a
-  pub taken : Taken d (λ c e. OneOf a (λ j. Has set j × SheetListing s (sheetAt s 0 (take k counts) j) (getD counts j 0) t j m c e)) w₀ w
+  pub taken : Taken d (λ c e. OneOf a (λ j. Has set j × SheetListingAt s (sheetAt s 0 (take k counts) j) (getD counts j 0) t j m c e)) w₀ w
 
 pub book-start : (s counts : List ℕ) (k : ℕ) (t : List ℕ) (set m d : ℕ) (w : List ℕ) → TakingBook s counts k t set m d w w 0 0
 unfolding sheetAt
@@ -153,11 +162,11 @@ book-start s counts k t set m d w = record { upto = zero-le; begins = refl; take
 module _ {s counts : List ℕ} {k : ℕ} {t : List ℕ} {set m d : ℕ} {w₀ w : List ℕ} {at a : ℕ} (g : TakingBook s counts k t set m d w₀ w at a) where
   module _ (p : Booked s counts k d w₀) (l : a < k) where
     -- the sheet a can be walked
-    pub book-sheet : Sheeted s at (getD counts a 0) d w
-    book-sheet = sheeted-keep (subst (λ (x : ℕ). Sheeted s x (getD counts a 0) d w₀) (sym (g .begins)) (p .each a l)) (g .taken .around)
+    pub book-sheet : SheetedAt s at (getD counts a 0) d w
+    book-sheet = sheeted-keep (subst (λ (x : ℕ). SheetedAt s x (getD counts a 0) d w₀) (sym (g .begins)) (p .each a l)) (g .taken .around)
 
     pub book-more : {r next : ℕ} {w′ : List ℕ} → k ≤ length counts → ((e : ℕ) → e < r → (e < m) × Has set a) → ((e : ℕ) → e < m → Has set a → e < r)
-        → next ≡ sheetEnd s at (getD counts a 0) → Taken d (SheetListing s at (getD counts a 0) t a r) w w′
+        → next ≡ sheetEnd s at (getD counts a 0) → Taken d (SheetListingAt s at (getD counts a 0) t a r) w w′
         → TakingBook s counts k t set m d w₀ w′ next (a + 1)
     book-more {r} {next} {w′} h within has ends u =
         let there : sheetEnd s at (getD counts a 0) ≡ sheetAt s 0 (take k counts) (a + 1) =
@@ -176,10 +185,10 @@ module _ {s counts : List ℕ} {k : ℕ} {t : List ℕ} {set m d : ℕ} {w₀ w 
               (λ q. inr (record { edge = has e (q .1 .edge) (q .0); under = q .1 .under }))
               (one-cases a o))
               (taken-then (p .pool .most) (g .taken)
-              (subst (λ (x : ℕ). Taken d (SheetListing s x (getD counts a 0) t a r) w w′) (g .begins) u));
+              (subst (λ (x : ℕ). Taken d (SheetListingAt s x (getD counts a 0) t a r) w w′) (g .begins) u));
         }
 
   pub book-end : k ≤ a → Taken d (BookListing s counts k t set m) w₀ w
   book-end h =
       let e : a ≡ k = let z = g .upto in omega arith in
-      subst (λ (x : ℕ). Taken d (λ c y. OneOf x (λ j. Has set j × SheetListing s (sheetAt s 0 (take k counts) j) (getD counts j 0) t j m c y)) w₀ w) e (g .taken)
+      subst (λ (x : ℕ). Taken d (λ c y. OneOf x (λ j. Has set j × SheetListingAt s (sheetAt s 0 (take k counts) j) (getD counts j 0) t j m c y)) w₀ w) e (g .taken)

@@ -1,12 +1,12 @@
 -- inner: what the loops over the views of an accepted catalogue c need and leave, where the edges of the record s stand in the workspace.
-use Prim.Native.Nat.{ℕ, _+_, _*_, _/_, _<_, _≤_}
+use Prim.Native.Nat.{ℕ, _<_, _≤_}
 use mathlib.Core.Path.{_≡_}
 use mathlib.Core.List.{List, []}
 use lib.ListN.{length, getD}
 use lib.Seq.{sets}
 use Rattle.packed.specs.Format.{ok, decode}
 use Rattle.packed.specs.Formats.{catalogue}
-use Rattle.packed.specs.Contents.{viewsOf, pairCount}
+use Rattle.packed.specs.Contents.{viewsOf, pairCount, sheetLength}
 use Rattle.packed.specs.Refusals.{Told}
 use Rattle.packed.specs.Calls.{Fulfils}
 use Rattle.matching.specs.Simulation.{patternOf, viewSheet}
@@ -32,7 +32,7 @@ bookIn cs s n m w = bookBytes (viewSheets cs (graphIn s n m w))
 
 -- how many bytes the sheet of these lists takes
 abbrev pub sheetSize : List (List ℕ) → ℕ
-sheetSize ls = (14 * length ls + 24 * pairCount ls + 7) / 8
+sheetSize ls = sheetLength (length ls) (pairCount ls)
 
 -- the sizes of the sheets
 abbrev pub Sizes : List ℕ → List ℕ → ℕ → ℕ → List ℕ → List ℕ → Type 0

@@ -9,7 +9,7 @@ use Rattle.packed.specs.Limits.{bookMost, pairsMost, pairWidth, workspace}
 use Rattle.packed.specs.ByValue.{Small}
 use Rattle.packed.specs.Distinct.{Increasing}
 use Rattle.packed.specs.Order.{Outside}
-use Rattle.packed.specs.Walks.{codesAt, pairPlace, listFirst, listCount, listsEnd}
+use Rattle.packed.specs.Walks.{codesAt, pairPlace, listFirst, listCount, listsEnd, listsFirst, listsCount}
 use Rattle.packed.specs.BookSheets.{listAt, sheetAt}
 use Rattle.matching.specs.Lists.{In}
 use Rattle.matching.specs.Sweeps.{Has, Mask, OneOf}
@@ -50,13 +50,17 @@ pub record Sheeted (s : List ℕ) (start lists d : ℕ) (w : List ℕ) : Type 0 
   pub begins : start ≤ 8 * length s
   pub each : (f : ℕ) → f < lists → Walkable s (listFirst (listsEnd s start f)) (listCount s (listsEnd s start f)) d w
 
+-- the same of the lists that stand in the sheet at a bit offset, for so many edges
+abbrev pub SheetedAt : List ℕ → ℕ → ℕ → ℕ → List ℕ → Type 0
+SheetedAt s at edges d w = Sheeted s (listsFirst at) (listsCount s at edges) d w
+
 -- the same of the sheets of k views
 pub record Booked (s counts : List ℕ) (k d : ℕ) (w : List ℕ) : Type 0 where
   pub pool : Pool d w
   pub short : length s ≤ bookMost
   pub few : k ≤ 16
   pub small : Small counts
-  pub each : (a : ℕ) → a < k → Sheeted s (sheetAt s 0 (take k counts) a) (getD counts a 0) d w
+  pub each : (a : ℕ) → a < k → SheetedAt s (sheetAt s 0 (take k counts) a) (getD counts a 0) d w
 
 -- the masks are 0
 pub record Blank (d : ℕ) (w w′ : List ℕ) : Type 0 where
@@ -73,11 +77,15 @@ pub record Listing (s : List ℕ) (first n x c e : ℕ) : Type 0 where
   pub listed : In c (codesAt s first n)
   pub asked : Has x e
 
--- c is listed under an edge f of the view a, and the table t says that f matches the edge e, which is below m
+-- c is listed under an edge f of the view a, one of so many lists, and the table t says that f matches the edge e, which is below m
 pub record SheetListing (s : List ℕ) (start lists : ℕ) (t : List ℕ) (a m c e : ℕ) : Type 0 where
   pub edge : e < m
   pub under : OneOf lists (λ f. In c (listAt s start f) × Has (getD t (16 * e + a) 0) f)
 
+-- the same in the sheet at a bit offset, for so many edges
+abbrev pub SheetListingAt : List ℕ → ℕ → ℕ → List ℕ → ℕ → ℕ → ℕ → ℕ → Type 0
+SheetListingAt s at edges t a m c e = SheetListing s (listsFirst at) (listsCount s at edges) t a m c e
+
 -- the same for one of the k views that is in the set
 abbrev pub BookListing : List ℕ → List ℕ → ℕ → List ℕ → ℕ → ℕ → ℕ → ℕ → Type 0
-BookListing s counts k t set m c e = OneOf k (λ a. Has set a × SheetListing s (sheetAt s 0 (take k counts) a) (getD counts a 0) t a m c e)
+BookListing s counts k t set m c e = OneOf k (λ a. Has set a × SheetListingAt s (sheetAt s 0 (take k counts) a) (getD counts a 0) t a m c e)

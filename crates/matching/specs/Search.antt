@@ -4,7 +4,7 @@ use Prim.Native.Nat.{ℕ}
 use lib.ListN.{length}
 use Rattle.packed.specs.Format.{Result, ok, bad, encode}
 use Rattle.packed.specs.Formats.{sheet}
-use Rattle.packed.specs.Contents.{viewsOf, fieldsOf}
+use Rattle.packed.specs.Contents.{viewsOf, sheetFields}
 use Rattle.packed.specs.Calls.{Outcome, judged, readPattern, readCatalogue, readRecord, fitFile}
 use Rattle.matching.specs.Simulation.{Pattern, Graph, patternOf, graphOf, matchSets, viewSheet}
 
@@ -14,7 +14,7 @@ bytesIn (bad e) = []
 
 -- a sheet with these lists, in bytes
 unfoldable pub sheetBytes : List (List ℕ) → List ℕ
-sheetBytes ls = bytesIn (encode (sheet (length ls)) (fieldsOf ls))
+sheetBytes ls = bytesIn (encode (sheet (length ls)) (sheetFields ls))
 
 -- sheets laid out as a book: each starts on the byte after the one before
 unfoldable pub bookBytes : List (List (List ℕ)) → List ℕ

@@ -112,7 +112,7 @@ fn match_again(
     requires { ⌜ Fair p × Proper p × Ready (now «record») n m (now work) × Rises m (now work) × NodeRoom n (now leave) (now arrive) (now held) × (size ≡ sheetSize (matchSets (patternIn p) (graphIn (now «record») n m (now work)))) ⌝ }
     ensures { λ r. ⌜ SheetSized p (now («record» .entry)) n m (now (work .entry)) r (now (work .exit)) × NodeRoom n (now (leave .exit)) (now (arrive .exit)) (now (held .exit)) ⌝ }
 {
-    if size == (14 * p.edges + 7) / 8 {
+    if size == 1 {
         return 0;
     }
     matched::match_edges(record, n, m, p, work, leave, arrive, held);

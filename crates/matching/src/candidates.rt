@@ -4,9 +4,9 @@ ghost use mathlib.Core.Path.{_≡_};
 ghost use Prim.Native.Nat.{ℕ, _+_, _*_, _<_, _≤_};
 ghost use lib.ListN.{length, getD};
 ghost use Rattle.packed.specs.Limits.{pairsMost, workspace};
-ghost use Rattle.packed.specs.Walks.{sheetEnd};
+ghost use Rattle.packed.specs.Walks.{listsEnd, sheetEnd};
 ghost use Rattle.matching.specs.Sweeps.{Has, Mask};
-ghost use Rattle.matching.specs.Candidates.{Pool, Beyond, PlaceIn, Walkable, Sheeted, Booked, Blank, Taken, Listing, SheetListing, BookListing};
+ghost use Rattle.matching.specs.Candidates.{Pool, Beyond, PlaceIn, Walkable, Sheeted, SheetedAt, Booked, Blank, Taken, Listing, SheetListing, SheetListingAt, BookListing};
 use packed::cursor;
 use packed::limits;
 
@@ -91,9 +91,8 @@ fn matched_by(t: &[u32; 512], a: usize, f: u32, m: usize) -> u32
     r
 }
 
-// The lists of the sheet of the view a, from the bit offset start on, are taken for the edges below m that they match; where the next sheet
-// begins.
-fn take_sheet(
+// So many lists of the view a, from the bit offset start on, are taken for the edges below m that they match; where they end.
+fn take_lists(
     s: &[u8],
     start: usize,
     lists: u32,
@@ -104,7 +103,7 @@ fn take_sheet(
     d: usize,
 ) -> usize
     requires { ⌜ (a < 16) × (m ≤ 32) × Sheeted (now s) start lists d (now work) ⌝ }
-    ensures { λ r. ⌜ (r ≡ sheetEnd (now (s .entry)) start lists) × Taken d (SheetListing (now (s .entry)) start lists (now (t .entry)) a m) (now (work .entry)) (now (work .exit)) ⌝ }
+    ensures { λ r. ⌜ (r ≡ listsEnd (now (s .entry)) start lists) × (r ≤ 8 * length (now (s .entry))) × Taken d (SheetListing (now (s .entry)) start lists (now (t .entry)) a m) (now (work .entry)) (now (work .exit)) ⌝ }
 {
     let mut at = start;
     let mut f: u32 = 0;
@@ -117,7 +116,27 @@ fn take_sheet(
         at = l.next;
         f += 1;
     }
-    cursor::next_sheet(at)
+    at
+}
+
+// The sheet of the view a, which has so many edges, from the bit offset start on, is taken for the edges below m that its lists match; where the
+// next sheet begins.
+fn take_sheet(
+    s: &[u8],
+    start: usize,
+    edges: u32,
+    t: &[u32; 512],
+    a: usize,
+    m: usize,
+    work: &mut [u32],
+    d: usize,
+) -> usize
+    requires { ⌜ (a < 16) × (m ≤ 32) × SheetedAt (now s) start edges d (now work) ⌝ }
+    ensures { λ r. ⌜ (r ≡ sheetEnd (now (s .entry)) start edges) × Taken d (SheetListingAt (now (s .entry)) start edges (now (t .entry)) a m) (now (work .entry)) (now (work .exit)) ⌝ }
+{
+    let lists = cursor::lists_at(s, start, edges);
+    let end = take_lists(s, start + limits::LEAD_BITS, lists, t, a, m, work, d);
+    cursor::next_sheet(end)
 }
 
 // m, where the set has the view a; else 0.

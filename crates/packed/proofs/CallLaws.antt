@@ -1,18 +1,17 @@
 -- What a call answers, by what its parts found: for any file and both directions.
 use Prim.Native.Nat.{ℕ, zero, suc, _+_, _-_, _<_, _≤_}
 use mathlib.Core.Path.{_≡_, refl, ap, sym, _∙_}
-use mathlib.Core.List.{List, [], _∷_, _++_}
+use mathlib.Core.List.{List, [], _∷_, _++_, map, flatten}
 use mathlib.Core.Bool.{Bool, true, false, _||_}
 use lib.ListN.{length, take, drop, getD, replicate, length-take}
 use lib.Seq.{sets, take-at, drop-at}
 use lib.Dec.{ltb}
 use native.Mathlib.Omega.{arith}
 use native.Mathlib.Nat.{sub-zero}
-use native.Mathlib.Numerals.{add-one}
 use borrow.Author.Tests.{lt-ltb, le-ltb, ltb-false}
 use borrow.Rule.Slice.PartMut.{putMid, postOf}
 use Rattle.packed.specs.Format.{Format, Result, ok, bad, pick, decode, encode}
-use Rattle.packed.specs.Contents.{edgeCounts, pairsIn, sum}
+use Rattle.packed.specs.Contents.{edgeCounts, sheetsIn}
 use Rattle.packed.specs.ByValue.{CountTable, Small}
 use Rattle.packed.specs.Refusals.{Told, numberOf, detailOf, replyTold}
 use Rattle.packed.specs.Reading.{Content, Judges}
@@ -106,7 +105,7 @@ unfolding uncrowdedBy
 uncrowded-is ms ws a h = rw (le-ltb 8192 (length (pairsOf ms ws)) h)
 
 -- the different pairs that were gathered are those of the content
-module _ {codes w : List ℕ} {n : ℕ} (ms ws : List ℕ) (d : Different codes n w) (e : codes ≡ pairsIn (sum ms) ws) where
+module _ {codes w : List ℕ} {n : ℕ} (ms ws : List ℕ) (d : Different codes n w) (e : codes ≡ flatten (map flatten (sheetsIn ms ws))) where
   pub gathered-many : (a : Outcome) → 8192 < n → uncrowdedBy ms ws a ≡ refuse 10 4
   unfolding pairsOf
   gathered-many a h = crowded ms ws a (rw e at (d .many h))
@@ -216,20 +215,6 @@ module _ {ws counts : List ℕ} (c : CountTable ws counts) (few : getD ws 0 0 �
       padded [] n j h = zero-at n j
       padded (m ∷ ms) n zero h = h 0
       padded (m ∷ ms) n (suc j) h = padded ms n j (λ i. h (suc i))
-
-sum-suc : (l : List ℕ) (j : ℕ) → sum (take (suc j) l) ≡ sum (take j l) + getD l j 0
-unfolding sum
-sum-suc [] zero = refl
-sum-suc [] (suc j) = refl
-sum-suc (x ∷ l) zero = omega arith
-sum-suc (x ∷ l) (suc j) = omega (arith, sum-suc l j)
-
-pub sum-none : (l : List ℕ) → sum (take 0 l) ≡ 0
-unfolding sum
-sum-none l = refl
-
-pub sum-more : (l : List ℕ) (j : ℕ) → sum (take (j + 1) l) ≡ sum (take j l) + getD l j 0
-sum-more l j = rw add-one (sum-suc l j)
 
 -- ---- the workspace
 

@@ -182,6 +182,9 @@ pub different-many : {codes : List ℕ} {g : Gather} {w : List ℕ} → Gathers 
 different-many t h =
     record { few = λ l. absurd (omega arith); number = λ l. absurd (omega arith); many = λ l. t .many h; long = t .long }
 
+pub adds-same : {more more′ w w′ : List ℕ} {g g′ : Gather} → more ≡ more′ → Adds more g w g′ w′ → Adds more′ g w g′ w′
+adds-same e a codes t = rw (← e) (a codes t)
+
 -- ---- a walk that gathers the codes of a whole part after part, of which some are left
 pub record Walked (whole : List ℕ) (g₀ : Gather) (w₀ left : List ℕ) (g : Gather) (w : List ℕ) : Type 0 where
   pub past : List ℕ

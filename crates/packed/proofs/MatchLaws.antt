@@ -15,15 +15,15 @@ use native.Mathlib.Nat.{add-zero, zero-add}
 use Rattle.packed.specs.Bits.{bits, bitsOf, gap}
 use Rattle.packed.specs.Format.{pick, encode, ok}
 use Rattle.packed.specs.Formats.{sheet}
-use Rattle.packed.specs.Matches.{marks, marked, markedFrom, anyEmpty, emptied, allOrNone, codesOf, masksOf, matchesOf, Marked, Counts, SheetWritten, Added, anyZero, sumOf, Listed, pairBits, codedList, ListsWritten}
-use Rattle.packed.specs.Contents.{pairCount, fieldsOf}
+use Rattle.packed.specs.Matches.{marks, marked, markedFrom, anyEmpty, emptied, allOrNone, codesOf, masksOf, matchesOf, Marked, Counts, SheetWritten, Added, anyZero, sumOf, Listed, pairBits, codedList, sheetBits, ListsWritten, ListingWritten}
+use Rattle.packed.specs.Contents.{pairCount, sheetFields, sheetLength}
 use Rattle.packed.proofs.BitsLaws.{length-bits, bitsOf-zero, bits-injective}
 use Rattle.packed.proofs.OrderCases.{lt-or-ge}
 use Rattle.packed.proofs.Sets.{sets-append}
 use Rattle.packed.proofs.SetBits.{Next, no-bits}
 use Rattle.packed.proofs.RoundTrip.{Bytes}
 use Rattle.packed.proofs.Files.{bits-sets, bytes-sets}
-use Rattle.packed.proofs.SheetLaws.{Rising, rising-none, rising-next, rising-by, rising-less, Fit, fit-none, fit-next, fit-all, length-all, all-twice, padded, Encoded, sheet-encodes}
+use Rattle.packed.proofs.SheetLaws.{Rising, rising-none, rising-next, rising-by, rising-less, Fit, fit-none, fit-next, fit-all, length-all, all-twice, bits-none, bits-one, padded, Encoded, sheet-encodes}
 
 -- the codes under the edge e, and the lists of the first m edges, by the first n pairs of the workspace
 abbrev pub under : ℕ → ℕ → List ℕ → List ℕ
@@ -288,13 +288,32 @@ pub names-not : (e q : ℕ) → (q / 2 ^ e % 2 ≡ 1 → ⊥) → marks e q ≡ 
 unfolding marks
 names-not e q h = ne-eqb (q / 2 ^ e % 2) 1 h
 
-pub sheet-written : {n m : ℕ} {w b₀ : List ℕ} {k at : ℕ} {b : List ℕ} {r : ℕ} {b′ : List ℕ} → Marked n w → Listed n m w k → ListsWritten k m w b₀ at b
+-- the lead, and the lists where there are pairs
+pub listing-none : {n m : ℕ} {w c b b′ : List ℕ} → Counts n w c → m ≤ 32 → sumOf m c ≡ 0 → bits b′ ≡ sets (bits b) 0 (bitsOf 1 0) → ListingWritten n m w b 1 b′
+unfolding sheetBits
+listing-none {n} {m} {w} {c} {b} t h z q =
+    let e = eq-eqb (pairCount (listsOf m n w)) 0 (sym (sum-is n m w c t h) ∙ z) in
+    record { holds = q ∙ ap (sets (bits b) 0) bits-none ∙ rw e; next = rw e; most = omega arith }
+
+pub listing-all : {n m : ℕ} {w c b b₁ : List ℕ} {r : ℕ} {b′ : List ℕ} → Counts n w c → m ≤ 32 → (sumOf m c ≡ 0 → ⊥) → bits b₁ ≡ sets (bits b) 0 (bitsOf 1 1)
+    → ListsWritten n m w b₁ r b′ → ListingWritten n m w b r b′
+unfolding sheetBits
+listing-all {n} {m} {w} {c} {b} t h z q s =
+    let ls : List (List ℕ) = listsOf m n w in
+    let e = ne-eqb (pairCount ls) 0 (λ y. z (sum-is n m w c t h ∙ y)) in
+    record {
+      holds = s .holds ∙ ap (λ (x : List Bool). sets x 1 (codedList ls)) (q ∙ ap (sets (bits b) 0) bits-one) ∙ rw e (sets-append (bits b) 0 (true ∷ []) (codedList ls));
+      next = s .next ∙ rw e (omega arith);
+      most = s .most;
+    }
+
+pub sheet-written : {n m : ℕ} {w b₀ : List ℕ} {k at : ℕ} {b : List ℕ} {r : ℕ} {b′ : List ℕ} → Marked n w → Listed n m w k → ListingWritten k m w b₀ at b
     → 8 * r ≡ at + gap at → bits b′ ≡ sets (bits b) at (bitsOf (gap at) 0) → Bytes b₀ → Bytes b′ → SheetWritten n m w b₀ r b′
 unfolding padded
 sheet-written {n} {m} {w} {b₀} {k} {at} {b} {r} {b′} t l s e q y₀ y =
     let x : Encoded m (matchesOf n m w) = matches-encode n m w t in
-    let ls : List Bool = codedList (matchesOf n m w) in
-    let f : codedList (listsOf m k w) ≡ ls = ap codedList (l .lists) in
+    let ls : List Bool = sheetBits (matchesOf n m w) in
+    let f : sheetBits (listsOf m k w) ≡ ls = ap sheetBits (l .lists) in
     let a : at ≡ length ls = s .next ∙ ap length f in
     let v : bits b′ ≡ sets (bits b₀) 0 (bits (x .bytes)) =
     q
@@ -310,8 +329,8 @@ sheet-written {n} {m} {w} {b₀} {k} {at} {b} {r} {b′} t l s e q y₀ y =
     }
 
 -- the bytes of a sheet, however they were come by
-module _ (n m : ℕ) (w : List ℕ) (t : Marked n w) {o : List ℕ} (e : encode (sheet m) (fieldsOf (matchesOf n m w)) ≡ ok o) where
-  pub bytes-number : (14 * m + 24 * pairCount (matchesOf n m w) + 7) / 8 ≡ length o
+module _ (n m : ℕ) (w : List ℕ) (t : Marked n w) {o : List ℕ} (e : encode (sheet m) (sheetFields (matchesOf n m w)) ≡ ok o) where
+  pub bytes-number : sheetLength m (pairCount (matchesOf n m w)) ≡ length o
   bytes-number =
       let x : Encoded m (matchesOf n m w) = matches-encode n m w t in
       let y : x .bytes ≡ o = cc (x .is) in

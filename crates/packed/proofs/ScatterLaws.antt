@@ -7,7 +7,7 @@ use mathlib.Core.Bool.{Bool, true, false}
 use lib.ListN.{length, getD, set, replicate, length-append, length-set, length-replicate, getD-replicate}
 use lib.Seq.{sets, getD-set-same, getD-set-other}
 use native.Mathlib.Omega.{arith}
-use native.Mathlib.Nat.{add-zero, zero-add, add-suc, div-one}
+use native.Mathlib.Nat.{add-zero, add-suc, div-one}
 use native.Mathlib.Numerals.{add-one}
 use borrow.Author.Count.{below-more}
 use Rattle.packed.specs.Bits.{bits, bitsOf}
@@ -146,12 +146,12 @@ scattering-next {i} {m} {w} {ps₀} {b₀} {ps} {b} {ps′} {b′} t h l s r p =
 
 -- ---- the counts
 
-start-most : (e : ℕ) (c : List ℕ) → ((j : ℕ) → getD c j 0 ≤ 8192) → listStart e c ≤ 196622 * e
+start-most : (e : ℕ) (c : List ℕ) → ((j : ℕ) → getD c j 0 ≤ 8192) → listStart e c ≤ 1 + 196622 * e
 unfolding listStart
 start-most zero c h = omega arith
 start-most (suc e) c h = omega (arith, start-most e c h, h e)
 
-pub counts-begin : (c b ps : List ℕ) → ps ≡ replicate 32 0 → CountsWritten 0 c b ps 0 b
+pub counts-begin : (c b ps : List ℕ) → ps ≡ replicate 32 0 → CountsWritten 0 c b ps 1 b
 unfolding listStart laid
 counts-begin c b ps h =
     record {
@@ -162,7 +162,7 @@ counts-begin c b ps h =
       next = refl;
     }
 
-pub counts-bound : {e : ℕ} {c b₀ ps : List ℕ} {at : ℕ} {b : List ℕ} → CountsWritten e c b₀ ps at b → ((j : ℕ) → getD c j 0 ≤ 8192) → at ≤ 196622 * e
+pub counts-bound : {e : ℕ} {c b₀ ps : List ℕ} {at : ℕ} {b : List ℕ} → CountsWritten e c b₀ ps at b → ((j : ℕ) → getD c j 0 ≤ 8192) → at ≤ 1 + 196622 * e
 counts-bound {e} {c} t h = omega (arith, t .next, start-most e c h)
 
 start-next : (e : ℕ) (c : List ℕ) → listStart (e + 1) c ≡ listStart e c + (14 + 24 * getD c e 0)
@@ -176,7 +176,7 @@ laid-next e c b = rw (add-one, append-nil)
 pub counts-put : {e : ℕ} {c b₀ ps : List ℕ} {at : ℕ} {b : List ℕ} (b′ : List ℕ) → CountsWritten e c b₀ ps at b → e < 32 → ((j : ℕ) → getD c j 0 ≤ 8192)
     → bits b′ ≡ sets (bits b) at (bitsOf 14 (getD c e 0)) → CountsWritten (e + 1) c b₀ (set ps e (at + 14)) (at + (14 + 24 * getD c e 0)) b′
 counts-put {e} {c} {b₀} {ps} {at} {b} b′ t l h q =
-    let a : at ≤ 196622 * e = counts-bound t h in
+    let a : at ≤ 1 + 196622 * e = counts-bound t h in
     record {
       long = length-set ps e (at + 14) ∙ t .long;
       most = λ j r. ⊎-elim
@@ -281,7 +281,7 @@ module _ (n : ℕ) (w c : List ℕ) (t : Counts n w c) (k : Marked n w) where
   lists-more : (e : ℕ) → codedList (listsOf (suc e) n w) ≡ codedList (listsOf e n w) ++ (bitsOf 14 (length (listed e n w)) ++ pairBits (listed e n w))
   lists-more e = ap codedList (lists-next e n w) ∙ bits-next (listsOf e n w) (listed e n w)
 
-  start-is : (m : ℕ) → m ≤ 32 → listStart m c ≡ length (codedList (listsOf m n w))
+  start-is : (m : ℕ) → m ≤ 32 → listStart m c ≡ 1 + length (codedList (listsOf m n w))
   unfolding listStart
   start-is zero h = unfold codedList markedFrom in refl
   start-is (suc e) h =
@@ -298,7 +298,7 @@ module _ (n : ℕ) (w c : List ℕ) (t : Counts n w c) (k : Marked n w) where
         length-pairBits u,
       )
 
-  laid-end : (m : ℕ) (b : List Bool) → m ≤ 32 → laid m (λ e. listed e n w) c b ≡ sets b 0 (codedList (listsOf m n w))
+  laid-end : (m : ℕ) (b : List Bool) → m ≤ 32 → laid m (λ e. listed e n w) c b ≡ sets b 1 (codedList (listsOf m n w))
   unfolding laid
   laid-end zero b h = unfold codedList markedFrom in refl
   laid-end (suc e) b h =
@@ -306,9 +306,9 @@ module _ (n : ℕ) (w c : List ℕ) (t : Counts n w c) (k : Marked n w) where
       let ls : List Bool = codedList (listsOf e n w) in
       let p : List Bool = bitsOf 14 (length u) ++ pairBits u in
       ap (λ (z : ℕ). sets (laid e (λ j. listed j n w) c b) (listStart e c) (bitsOf 14 z ++ pairBits u)) (t .each e (omega arith))
-      ∙ ap₂ (λ (l : List Bool) (z : ℕ). sets l z p) (laid-end e b (omega arith)) (start-is e (omega arith) ∙ sym (zero-add (length ls)))
-      ∙ sets-append b 0 ls p
-      ∙ ap (sets b 0) (sym (lists-more e))
+      ∙ ap₂ (λ (l : List Bool) (z : ℕ). sets l z p) (laid-end e b (omega arith)) (start-is e (omega arith))
+      ∙ sets-append b 1 ls p
+      ∙ ap (sets b 1) (sym (lists-more e))
 
   pub lists-written : {m : ℕ} {b₀ ps : List ℕ} {r : ℕ} {b b′ : List ℕ} → m ≤ 32 → CountsWritten m c b₀ ps r b
       → bits b′ ≡ scatters n m w (λ e. getD ps e 0) (bits b) → ListsWritten n m w b₀ r b′

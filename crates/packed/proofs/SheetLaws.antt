@@ -2,18 +2,20 @@
 use Prim.Native.Nat.{ℕ, suc, _+_, _*_, _/_, _%_, _^_, _<_, _≤_}
 use mathlib.Core.Path.{_≡_, refl, ap, sym, _∙_}
 use mathlib.Core.List.{List, [], _∷_, _++_, append-nil}
-use mathlib.Core.Bool.{Bool, true, false, not, _&&_, _||_, or-assoc}
+use mathlib.Core.Bool.{Bool, true, false, not}
+use mathlib.Core.Logic.{⊎-elim}
 use lib.ListN.{length, getD, replicate, length-append, length-replicate}
 use lib.Dec.{eqb, leb}
 use native.Mathlib.Omega.{arith}
 use native.Mathlib.Nat.{zero-add}
-use borrow.Author.Tests.{le-leb}
-use Rattle.packed.specs.Bits.{bits, bitsOf, gap}
+use borrow.Author.Tests.{le-leb, eq-eqb, ne-eqb}
+use Rattle.packed.specs.Bits.{bits, bitsOf, num, numFrom, gap}
 use Rattle.packed.specs.Format.{Format, done, ask, test, pad, then, whole, Got, got, fault, pick, push, lay, ok, ended, bytesOf, inBytes, decode, encode}
-use Rattle.packed.specs.Formats.{code, pairs, lists, sheet}
-use Rattle.packed.specs.Matches.{anyEmpty, emptied, allOrNone, pairBits, codedList}
-use Rattle.packed.specs.Contents.{ends, fieldsOf, pairCount}
+use Rattle.packed.specs.Formats.{code, pairs, lists, standing, sheet}
+use Rattle.packed.specs.Matches.{anyEmpty, emptied, allOrNone, pairBits, codedList, sheetBits}
+use Rattle.packed.specs.Contents.{ends, fieldsOf, pairCount, sheetFields, sheetLength}
 use Rattle.packed.proofs.BitsLaws.{length-bitsOf, bitsOf-add, bitsOf-mod}
+use Rattle.packed.proofs.OrderCases.{eq-or-ne, or-neither}
 use Rattle.packed.proofs.RoundTrip.{Bytes, bits-bytesOf, encode-decode, lay-done, lay-ask, lay-test, lay-pad, lay-then, whole-is, pick-yes, push-push, onward}
 use Rattle.packed.proofs.ReadingLaws.{in-range}
 use Rattle.packed.proofs.Files.{bytes-bytesOf, length-bytesOf}
@@ -88,22 +90,18 @@ all-twice ls = go (anyEmpty ls) refl
     go true e = same (anyEmpty (emptied ls))
     go false e = rw e
 
--- whether one of the lists has a code
-unfoldable anyFull : List (List ℕ) → Bool
-anyFull [] = false
-anyFull (l ∷ ls) = not (eqb (length l) 0) || anyFull ls
+pub total-emptied : (ls : List (List ℕ)) → pairCount (emptied ls) ≡ 0
+unfolding pairCount emptied
+total-emptied [] = refl
+total-emptied (l ∷ ls) = omega (arith, total-emptied ls)
 
-full-emptied : (ls : List (List ℕ)) → anyFull (emptied ls) ≡ false
-unfolding anyFull emptied
-full-emptied [] = refl
-full-emptied (l ∷ ls) = full-emptied ls
-
-not-both : (ls : List (List ℕ)) → allOrNone ls ≡ ls → anyEmpty ls && anyFull ls ≡ false
+-- where there are pairs, none is empty
+none-empty : (ls : List (List ℕ)) → allOrNone ls ≡ ls → (pairCount ls ≡ 0 → ⊥) → anyEmpty ls ≡ false
 unfolding allOrNone
-not-both ls e = go (anyEmpty ls) e
+none-empty ls e n = go (anyEmpty ls) e
   where
-    go : (b : Bool) → pick b (emptied ls) ls ≡ ls → b && anyFull ls ≡ false
-    go true e = ap anyFull (sym e) ∙ full-emptied ls
+    go : (b : Bool) → pick b (emptied ls) ls ≡ ls → b ≡ false
+    go true e = absurd (n (ap pairCount (sym e) ∙ total-emptied ls))
     go false e = refl
 
 -- ---- lengths
@@ -125,6 +123,40 @@ length-listBits (l ∷ ls) =
       length-pairBits l,
       length-listBits ls,
     )
+
+-- ---- what the lead says
+
+pub fields-none : (ls : List (List ℕ)) → pairCount ls ≡ 0 → sheetFields ls ≡ 0 ∷ []
+unfolding sheetFields
+fields-none ls e = rw (eq-eqb (pairCount ls) 0 e)
+
+pub fields-some : (ls : List (List ℕ)) → (pairCount ls ≡ 0 → ⊥) → sheetFields ls ≡ 1 ∷ fieldsOf ls
+unfolding sheetFields
+fields-some ls n = rw (ne-eqb (pairCount ls) 0 n)
+
+-- how many bytes the bits of a sheet take
+sheet-bytes : (ls : List (List ℕ)) → (length (sheetBits ls) + 7) / 8 ≡ sheetLength (length ls) (pairCount ls)
+unfolding sheetBits sheetLength
+sheet-bytes ls = go (eqb (pairCount ls) 0)
+  where
+    go : (b : Bool) → (length (pick b (false ∷ []) (true ∷ codedList ls)) + 7) / 8 ≡ pick b 1 ((1 + 14 * length ls + 24 * pairCount ls + 7) / 8)
+    go true = refl
+    go false = omega (arith, length-listBits ls)
+
+pub length-none : (m t : ℕ) → t ≡ 0 → sheetLength m t ≡ 1
+unfolding sheetLength
+length-none m t e = rw (eq-eqb t 0 e)
+
+pub length-some : (m t : ℕ) → (t ≡ 0 → ⊥) → sheetLength m t ≡ (1 + 14 * m + 24 * t + 7) / 8
+unfolding sheetLength
+length-some m t n = rw (ne-eqb t 0 n)
+
+-- a sheet that takes one byte has no pairs
+pub length-one : (m t : ℕ) → sheetLength m t ≡ 1 → t ≡ 0
+length-one m t h = ⊎-elim (λ e. e) (λ n. absurd (n (omega (arith, length-some m t n)))) (eq-or-ne t 0)
+
+pub length-most : (m t k : ℕ) → t ≤ k → sheetLength m t ≤ (1 + 14 * m + 24 * k + 7) / 8
+length-most m t k h = ⊎-elim (λ e. omega (arith, length-none m t e)) (λ n. omega (arith, length-some m t n)) (eq-or-ne t 0)
 
 -- ---- the bits of a sheet
 
@@ -157,33 +189,47 @@ lay-pairs least at l tail (rising-next {c = c} {cs = cs} h s r) =
     ∙ ap (λ (n : ℕ). lay (pairs 4096 3 (length cs) (suc n)) (at + 12 + 12) ws) e
     ∙ lay-pairs (suc c) (at + 12 + 12) cs tail r)
 
-not-and : (a b : Bool) → (a || false) && (b || false) ≡ false → not (a && b) ≡ true
-not-and true true h = sym h
-not-and true false h = refl
-not-and false b h = refl
-
-lay-lists : (none some : Bool) (at : ℕ) (ls : List (List ℕ)) → Fit ls → (none || anyEmpty ls) && (some || anyFull ls) ≡ false
-    → lay (lists (length ls) none some) at (fieldsOf ls) ≡ got (codedList ls) []
-unfolding lists fieldsOf codedList anyEmpty anyFull
-lay-lists none some at ls fit-none h =
-    lay-test (not (none && some)) 8 done at [] ∙ pick-yes (not (none && some)) (lay done at []) (fault 8) (not-and none some h) ∙ lay-done at []
-lay-lists none some at ls (fit-next {l = l} {ls = rest} r s f) h =
+lay-lists : (at : ℕ) (ls : List (List ℕ)) → Fit ls → anyEmpty ls ≡ false → lay (lists (length ls)) at (fieldsOf ls) ≡ got (codedList ls) []
+unfolding lists fieldsOf codedList anyEmpty
+lay-lists at ls fit-none h = lay-done at []
+lay-lists at ls (fit-next {l = l} {ls = rest} r s f) h =
     let n : ℕ = length l in
-    let z : Bool = eqb n 0 in
     let ws : List ℕ = ends l ++ fieldsOf rest in
-    let g : Format = lists (length rest) (none || z) (some || not z) in
-    let h′ : ((none || z) || anyEmpty rest) && ((some || not z) || anyFull rest) ≡ false =
-    rw (or-assoc none z (anyEmpty rest), or-assoc some (not z) (anyFull rest)) h in
-    lay-ask 14 0 8193 3 (λ k. then (pairs 4096 3 k 0) (lists (length rest) (none || eqb k 0) (some || not (eqb k 0)))) at n ws
-    (in-range 0 8193 n (omega arith) (omega arith)) (omega arith)
+    let g : Format = lists (length rest) in
+    let e = or-neither (eqb n 0) (anyEmpty rest) h in
+    lay-ask 14 0 8193 3 (λ k. test (not (eqb k 0)) 8 (then (pairs 4096 3 k 0) g)) at n ws (in-range 0 8193 n (omega arith) (omega arith)) (omega arith)
     ∙ ap (push (bitsOf 14 n))
-    (lay-then (pairs 4096 3 n 0) g (at + 14) ws
+    (lay-test (not (eqb n 0)) 8 (then (pairs 4096 3 n 0) g) (at + 14) ws
+    ∙ pick-yes (not (eqb n 0)) (lay (then (pairs 4096 3 n 0) g) (at + 14) ws) (fault 8) (ap not (e .0))
+    ∙ lay-then (pairs 4096 3 n 0) g (at + 14) ws
     ∙ ap (λ (x : Got Bool ℕ). onward x (λ bs t. lay g (at + 14 + length bs) t)) (lay-pairs 0 (at + 14) l (fieldsOf rest) r)
-    ∙ ap (push (pairBits l)) (lay-lists (none || z) (some || not z) (at + 14 + length (pairBits l)) rest f h′))
+    ∙ ap (push (pairBits l)) (lay-lists (at + 14 + length (pairBits l)) rest f (e .1)))
 
-pub sheet-lays : (m at : ℕ) (ls : List (List ℕ)) → length ls ≡ m → Fit ls → allOrNone ls ≡ ls → lay (sheet m) at (fieldsOf ls) ≡ got (codedList ls) []
+-- the lead, and what follows it
+pub bits-none : bitsOf 1 0 ≡ false ∷ []
+unfolding bitsOf
+bits-none = refl
+
+pub bits-one : bitsOf 1 1 ≡ true ∷ []
+unfolding bitsOf
+bits-one = refl
+
+lay-lead : (m at lead : ℕ) (ws : List ℕ) (bs : List Bool) → lead < 2 → lay (lists (standing lead m)) (at + 1) ws ≡ got bs []
+    → lay (sheet m) at (lead ∷ ws) ≡ got (bitsOf 1 lead ++ bs) []
 unfolding sheet
-sheet-lays m at ls e f u = ap (λ (k : ℕ). lay (lists k false false) at (fieldsOf ls)) (sym e) ∙ lay-lists false false at ls f (not-both ls u)
+lay-lead m at lead ws bs h e =
+    lay-ask 1 0 2 3 (λ v. lists (standing v m)) at lead ws (in-range 0 2 lead (omega arith) h) h ∙ ap (push (bitsOf 1 lead)) e
+
+pub sheet-lays : (m at : ℕ) (ls : List (List ℕ)) → length ls ≡ m → Fit ls → allOrNone ls ≡ ls → lay (sheet m) at (sheetFields ls) ≡ got (sheetBits ls) []
+unfolding sheetBits
+sheet-lays m at ls e f u =
+    ⊎-elim
+    (λ z. rw (fields-none ls z, eq-eqb (pairCount ls) 0 z) (lay-lead m at 0 [] [] (omega arith) (unfold standing lists in lay-done (at + 1) []) ∙ ap (λ (l : List Bool). got (l ++ []) []) bits-none))
+    (λ z. rw (fields-some ls z, ne-eqb (pairCount ls) 0 z)
+    (lay-lead m at 1 (fieldsOf ls) (codedList ls) (omega arith)
+    (unfold standing in (ap (λ (k : ℕ). lay (lists k) (at + 1) (fieldsOf ls)) (sym e) ∙ lay-lists (at + 1) ls f (none-empty ls u z)))
+    ∙ ap (λ (l : List Bool). got (l ++ codedList ls) []) bits-one))
+    (eq-or-ne (pairCount ls) 0)
 
 -- ---- whole files
 
@@ -213,25 +259,30 @@ whole-encodes f ws bs e =
     let k : length (padded bs) / 8 ≡ (length bs + 7) / 8 = omega (arith, length-padded bs) in
     ap (λ (g : Got Bool ℕ). inBytes (ended g)) (whole-lays f ws bs e) ∙ ap (λ (j : ℕ). ok (bytesOf j (padded bs))) k
 
+-- the sheet for nothing found
+pub none-encodes : (m : ℕ) → encode (sheet m) (0 ∷ []) ≡ ok (0 ∷ [])
+unfolding bitsOf padded gap bytesOf num numFrom
+none-encodes m = whole-encodes (sheet m) (0 ∷ []) (bitsOf 1 0 ++ []) (lay-lead m 0 0 [] [] (omega arith) (unfold standing lists in lay-done 1 []))
+
 -- the sheet of m lists, as bytes
 pub record Encoded (m : ℕ) (ls : List (List ℕ)) : Type 0 where
   pub bytes : List ℕ
   pub small : Bytes bytes
-  pub is : encode (sheet m) (fieldsOf ls) ≡ ok bytes
-  pub back : decode (sheet m) bytes ≡ ok (fieldsOf ls)
-  pub holds : bits bytes ≡ padded (codedList ls)
-  pub number : length bytes ≡ (14 * m + 24 * pairCount ls + 7) / 8
+  pub is : encode (sheet m) (sheetFields ls) ≡ ok bytes
+  pub back : decode (sheet m) bytes ≡ ok (sheetFields ls)
+  pub holds : bits bytes ≡ padded (sheetBits ls)
+  pub number : length bytes ≡ sheetLength m (pairCount ls)
 
 pub sheet-encodes : (m : ℕ) (ls : List (List ℕ)) → length ls ≡ m → Fit ls → allOrNone ls ≡ ls → Encoded m ls
 sheet-encodes m ls e f u =
-    let bs : List Bool = codedList ls in
+    let bs : List Bool = sheetBits ls in
     let k : ℕ = (length bs + 7) / 8 in
-    let p : encode (sheet m) (fieldsOf ls) ≡ ok (bytesOf k (padded bs)) = whole-encodes (sheet m) (fieldsOf ls) bs (sheet-lays m 0 ls e f u) in
+    let p : encode (sheet m) (sheetFields ls) ≡ ok (bytesOf k (padded bs)) = whole-encodes (sheet m) (sheetFields ls) bs (sheet-lays m 0 ls e f u) in
     record {
       bytes = bytesOf k (padded bs);
       small = bytes-bytesOf k (padded bs);
       is = p;
-      back = encode-decode (sheet m) (fieldsOf ls) (bytesOf k (padded bs)) p;
+      back = encode-decode (sheet m) (sheetFields ls) (bytesOf k (padded bs)) p;
       holds = bits-bytesOf k (padded bs) (length-padded bs);
-      number = length-bytesOf k (padded bs) ∙ omega (arith, length-listBits ls);
+      number = length-bytesOf k (padded bs) ∙ sheet-bytes ls ∙ ap (λ (j : ℕ). sheetLength j (pairCount ls)) e;
     }

@@ -2,22 +2,24 @@
 use Prim.Native.Nat.{ℕ, zero, suc, _+_, _-_, _*_, _<_, _≤_}
 use mathlib.Core.Path.{_≡_, refl, ap, sym, _∙_}
 use mathlib.Core.List.{List, [], _∷_}
-use mathlib.Core.Bool.{Bool, true, false, not, _&&_, _||_}
+use mathlib.Core.Bool.{not}
 use lib.ListN.{length, take, drop, getD, length-take, drop-of-length-le}
 use lib.Seq.{drop-cons, getD-take}
 use lib.Dec.{eqb, leb}
 use native.Mathlib.Omega.{arith}
 use native.Mathlib.Numerals.{add-one}
-use borrow.Author.Tests.{le-leb, lt-leb}
+use borrow.Author.Tests.{le-leb, lt-leb, eq-eqb, ne-eqb}
 use Rattle.packed.specs.Format.{Format, done, ask, test, pad, then, whole}
-use Rattle.packed.specs.Formats.{code, pairs, lists, sheet, book}
-use Rattle.packed.specs.Reading.{Reading, Refuses, Value, TwoValues}
-use Rattle.packed.specs.Writing.{Writing, Rejects, Put, TwoPut}
+use Rattle.packed.specs.Formats.{code, pairs, lists, standing, sheet, book}
+use Rattle.packed.specs.Reading.{Reading, Refuses, ReadsPart, Value, TwoValues}
+use Rattle.packed.specs.Writing.{Writing, Rejects, WritesPart, Put, TwoPut}
+use Rattle.packed.specs.declared.reply.Part.{Part}
+use Rattle.packed.specs.declared.reply.Part.the-variants as part-is
 use Rattle.packed.specs.declared.reply.Refusal.{Refusal}
-use Rattle.packed.specs.declared.reply.Refusal.the-variants.{NotAscending, MixedCounts}
+use Rattle.packed.specs.declared.reply.Refusal.the-variants.{NotAscending, ZeroCount}
 use Rattle.packed.proofs.RoundTrip.{whole-is}
-use Rattle.packed.proofs.ReadingLaws.{starts, same-at, left-is, reads, passes, fails, refused, calls, calls-refused}
-use Rattle.packed.proofs.WritingLaws.{begins, same-to, left-to, writes, accepts, denies, rejected, parts, parts-rejected}
+use Rattle.packed.proofs.ReadingLaws.{starts, same-at, left-is, goes-on, reads, passes, fails, refused, calls, calls-refused}
+use Rattle.packed.proofs.WritingLaws.{begins, same-to, left-to, writes, accepts, denies, rejected, closes, parts, parts-rejected}
 
 -- ---- what is left of a format, one step on
 
@@ -38,19 +40,19 @@ pairs-end bound e zero least h = refl
 pairs-end bound e (suc k) least h = absurd (omega arith)
 
 -- after a list's count n
-abbrev pub afterList : ℕ → Bool → Bool → ℕ → Format
-afterList left none some n = lists (left - 1) (none || eqb n 0) (some || not (eqb n 0))
+abbrev afterCount : ℕ → ℕ → Format
+afterCount left n = test (not (eqb n 0)) 8 (then (pairs 4096 3 n 0) (lists (left - 1)))
 
-lists-more : (left : ℕ) (none some : Bool) → 0 < left → lists left none some ≡ ask 14 0 8193 3 (λ n. then (pairs 4096 3 n 0) (afterList left none some n))
+lists-more : (left : ℕ) → 0 < left → lists left ≡ ask 14 0 8193 3 (λ n. afterCount left n)
 unfolding lists
-lists-more left none some h = ap (λ (k : ℕ). lists k none some) (one-less left h)
+lists-more left h = ap lists (one-less left h)
 
-lists-end : (left : ℕ) (none some : Bool) → left ≤ 0 → lists left none some ≡ test (not (none && some)) 8 done
+pub lists-end : (left : ℕ) → left ≤ 0 → lists left ≡ done
 unfolding lists
-lists-end zero none some h = refl
-lists-end (suc k) none some h = absurd (omega arith)
+lists-end zero h = refl
+lists-end (suc k) h = absurd (omega arith)
 
-pub sheet-is : (m : ℕ) → sheet m ≡ lists m false false
+sheet-is : (m : ℕ) → sheet m ≡ ask 1 0 2 3 (λ lead. lists (standing lead m))
 unfolding sheet
 sheet-is m = refl
 
@@ -92,29 +94,26 @@ module _ {F : Format} {s : List ℕ} {at₀ : ℕ} {w₀ : List ℕ} {i₀ : ℕ
     pair-refused p = refused (left-is (pairs-more bound e left least h) r) (p (afterPair bound e left least))
 
   -- one list more
-  module _ (left : ℕ) (none some : Bool) {at : ℕ} {w : List ℕ} {i : ℕ} (h : 0 < left) (r : Reading F s at₀ w₀ i₀ (lists left none some) at w i) where
-    count-read : {n : ℕ} {w′ : List ℕ} → Value 14 0 8193 s at w i n w′
-        → Reading F s at₀ w₀ i₀ (then (pairs 4096 3 n 0) (afterList left none some n)) (at + 14) w′ (i + 1)
-    count-read p = reads (left-is (lists-more left none some h) r) p
+  module _ (left : ℕ) {at : ℕ} {w : List ℕ} {i : ℕ} (h : 0 < left) (r : Reading F s at₀ w₀ i₀ (lists left) at w i) where
+    count-read : {n : ℕ} {w′ : List ℕ} → Value 14 0 8193 s at w i n w′ → Reading F s at₀ w₀ i₀ (afterCount left n) (at + 14) w′ (i + 1)
+    count-read p = reads (left-is (lists-more left h) r) p
 
     pub count-refused : {file : ℕ} {x : Refusal} → ((f : ℕ → Format) → Refuses (ask 14 0 8193 3 f) s at file x) → Refuses F s at₀ file x
-    count-refused p = refused (left-is (lists-more left none some h) r) (p (λ n. then (pairs 4096 3 n 0) (afterList left none some n)))
+    count-refused p = refused (left-is (lists-more left h) r) (p (afterCount left))
 
-    pub list-passes : {n : ℕ} {w′ : List ℕ} {at′ : ℕ} {w″ : List ℕ} {i′ : ℕ} → Value 14 0 8193 s at w i n w′
-        → Reading (pairs 4096 3 n 0) s (at + 14) w′ (i + 1) done at′ w″ i′ → Reading F s at₀ w₀ i₀ (afterList left none some n) at′ w″ i′
-    list-passes {n} p q = calls (pairs 4096 3 n 0) (afterList left none some n) (count-read p) q
+    -- it is zero
+    pub count-falls : {n : ℕ} {w′ : List ℕ} → Value 14 0 8193 s at w i n w′ → n ≡ 0 → Refuses F s at₀ 4 (ZeroCount 4)
+    count-falls {n} p z = fails (ZeroCount 4) (ap not (eq-eqb n 0 z)) refl (count-read p)
 
-    pub list-refused : {n : ℕ} {w′ : List ℕ} {file : ℕ} {x : Refusal} → Value 14 0 8193 s at w i n w′
-        → Refuses (pairs 4096 3 n 0) s (at + 14) file x → Refuses F s at₀ file x
-    list-refused {n} p q = calls-refused (pairs 4096 3 n 0) (afterList left none some n) (count-read p) q
+    module _ {n : ℕ} {w′ : List ℕ} (p : Value 14 0 8193 s at w i n w′) (z : n ≡ 0 → ⊥) where
+      count-passes : Reading F s at₀ w₀ i₀ (then (pairs 4096 3 n 0) (lists (left - 1))) (at + 14) w′ (i + 1)
+      count-passes = passes (ap not (ne-eqb n 0 z)) (count-read p)
 
-  -- no list more
-  module _ (left : ℕ) (none some : Bool) {at : ℕ} {w : List ℕ} {i : ℕ} (h : left ≤ 0) (r : Reading F s at₀ w₀ i₀ (lists left none some) at w i) where
-    pub lists-passes : none && some ≡ false → Reading F s at₀ w₀ i₀ done at w i
-    lists-passes e = passes (ap not e) (left-is (lists-end left none some h) r)
+      pub list-passes : {at′ : ℕ} {w″ : List ℕ} {i′ : ℕ} → Reading (pairs 4096 3 n 0) s (at + 14) w′ (i + 1) done at′ w″ i′ → Reading F s at₀ w₀ i₀ (lists (left - 1)) at′ w″ i′
+      list-passes q = calls (pairs 4096 3 n 0) (lists (left - 1)) count-passes q
 
-    pub lists-mixed : none && some ≡ true → Refuses F s at₀ 4 (MixedCounts 4)
-    lists-mixed e = fails (MixedCounts 4) (ap not e) refl (left-is (lists-end left none some h) r)
+      pub list-refused : {file : ℕ} {x : Refusal} → Refuses (pairs 4096 3 n 0) s (at + 14) file x → Refuses F s at₀ file x
+      list-refused q = calls-refused (pairs 4096 3 n 0) (lists (left - 1)) count-passes q
 
   -- one sheet more
   module _ (counts : List ℕ) (k j : ℕ) {at : ℕ} {w : List ℕ} {i : ℕ} (l : k ≤ length counts) (h : j < k) (r : Reading F s at₀ w₀ i₀ (bookFrom counts k j) at w i) where
@@ -124,6 +123,19 @@ module _ {F : Format} {s : List ℕ} {at₀ : ℕ} {w₀ : List ℕ} {i₀ : ℕ
 
     pub sheet-refused : {file : ℕ} {x : Refusal} → Refuses (whole (sheet (getD counts j 0))) s at file x → Refuses F s at₀ file x
     sheet-refused p = calls-refused (whole (sheet (getD counts j 0))) (bookFrom counts k (j + 1)) (left-is (book-more counts k j l h) r) p
+
+-- the lead of a sheet, and then the lists that stand
+module _ (m : ℕ) {s : List ℕ} {at : ℕ} where
+  pub lead-refused : {file : ℕ} {x : Refusal} → ((f : ℕ → Format) → Refuses (ask 1 0 2 3 f) s at file x) → Refuses (sheet m) s at file x
+  lead-refused p = rw (sheet-is m) (p (λ lead. lists (standing lead m)))
+
+  module _ {w : List ℕ} {i lead k : ℕ} {w′ : List ℕ} (h : at ≤ 8 * length s) (p : Value 1 0 2 s at w i lead w′) (e : k ≡ standing lead m) where
+    lead-read : Reading (sheet m) s at w i (lists k) (at + 1) w′ (i + 1)
+    lead-read = left-is (ap lists (sym e)) (reads (left-is (sheet-is m) (starts h)) p)
+
+    pub lists-read : (r : Part) (w″ : List ℕ) → ReadsPart (lists k) s (at + 1) w′ (i + 1) 4 r w″ → ReadsPart (sheet m) s at w i 4 r w″
+    lists-read (part-is.Upto at′ i′) w″ q = goes-on lead-read q
+    lists-read (part-is.Refused x) w″ q = refused lead-read q
 
 -- a file up to its padding
 module _ (f : Format) {s : List ℕ} {at₀ : ℕ} {w₀ : List ℕ} {i₀ : ℕ} (h : at₀ ≤ 8 * length s) where
@@ -154,29 +166,26 @@ module _ {F : Format} {ws : List ℕ} {i₀ : ℕ} {b₀ : List ℕ} {at₀ : �
     pair-rejected p = rejected (left-to (pairs-more bound e left least h) r) (p (afterPair bound e left least))
 
   -- one list more
-  module _ (left : ℕ) (none some : Bool) {i : ℕ} {b : List ℕ} {at : ℕ} (h : 0 < left) (r : Writing F ws i₀ b₀ at₀ (lists left none some) i b at) where
-    count-put : {n : ℕ} {b′ : List ℕ} → Put 14 0 8193 ws i b at n b′
-        → Writing F ws i₀ b₀ at₀ (then (pairs 4096 3 n 0) (afterList left none some n)) (i + 1) b′ (at + 14)
-    count-put p = writes (left-to (lists-more left none some h) r) p
+  module _ (left : ℕ) {i : ℕ} {b : List ℕ} {at : ℕ} (h : 0 < left) (r : Writing F ws i₀ b₀ at₀ (lists left) i b at) where
+    count-put : {n : ℕ} {b′ : List ℕ} → Put 14 0 8193 ws i b at n b′ → Writing F ws i₀ b₀ at₀ (afterCount left n) (i + 1) b′ (at + 14)
+    count-put p = writes (left-to (lists-more left h) r) p
 
     pub count-rejected : {file : ℕ} {x : Refusal} → ((f : ℕ → Format) → Rejects (ask 14 0 8193 3 f) ws i at file x) → Rejects F ws i₀ at₀ file x
-    count-rejected p = rejected (left-to (lists-more left none some h) r) (p (λ n. then (pairs 4096 3 n 0) (afterList left none some n)))
+    count-rejected p = rejected (left-to (lists-more left h) r) (p (afterCount left))
 
-    pub list-accepted : {n : ℕ} {b′ : List ℕ} {i′ : ℕ} {b″ : List ℕ} {at′ : ℕ} → Put 14 0 8193 ws i b at n b′
-        → Writing (pairs 4096 3 n 0) ws (i + 1) b′ (at + 14) done i′ b″ at′ → Writing F ws i₀ b₀ at₀ (afterList left none some n) i′ b″ at′
-    list-accepted {n} p q = parts (pairs 4096 3 n 0) (afterList left none some n) (count-put p) q
+    -- it is zero
+    pub count-denied : {n : ℕ} {b′ : List ℕ} → Put 14 0 8193 ws i b at n b′ → n ≡ 0 → Rejects F ws i₀ at₀ 4 (ZeroCount 4)
+    count-denied {n} p z = denies (ZeroCount 4) (ap not (eq-eqb n 0 z)) refl (count-put p)
 
-    pub list-rejected : {n : ℕ} {b′ : List ℕ} {file : ℕ} {x : Refusal} → Put 14 0 8193 ws i b at n b′
-        → Rejects (pairs 4096 3 n 0) ws (i + 1) (at + 14) file x → Rejects F ws i₀ at₀ file x
-    list-rejected {n} p q = parts-rejected (pairs 4096 3 n 0) (afterList left none some n) (count-put p) q
+    module _ {n : ℕ} {b′ : List ℕ} (p : Put 14 0 8193 ws i b at n b′) (z : n ≡ 0 → ⊥) where
+      count-accepted : Writing F ws i₀ b₀ at₀ (then (pairs 4096 3 n 0) (lists (left - 1))) (i + 1) b′ (at + 14)
+      count-accepted = accepts (ap not (ne-eqb n 0 z)) (count-put p)
 
-  -- no list more
-  module _ (left : ℕ) (none some : Bool) {i : ℕ} {b : List ℕ} {at : ℕ} (h : left ≤ 0) (r : Writing F ws i₀ b₀ at₀ (lists left none some) i b at) where
-    pub lists-accepted : none && some ≡ false → Writing F ws i₀ b₀ at₀ done i b at
-    lists-accepted e = accepts (ap not e) (left-to (lists-end left none some h) r)
+      pub list-accepted : {i′ : ℕ} {b″ : List ℕ} {at′ : ℕ} → Writing (pairs 4096 3 n 0) ws (i + 1) b′ (at + 14) done i′ b″ at′ → Writing F ws i₀ b₀ at₀ (lists (left - 1)) i′ b″ at′
+      list-accepted q = parts (pairs 4096 3 n 0) (lists (left - 1)) count-accepted q
 
-    pub lists-denied : none && some ≡ true → Rejects F ws i₀ at₀ 4 (MixedCounts 4)
-    lists-denied e = denies (MixedCounts 4) (ap not e) refl (left-to (lists-end left none some h) r)
+      pub list-rejected : {file : ℕ} {x : Refusal} → Rejects (pairs 4096 3 n 0) ws (i + 1) (at + 14) file x → Rejects F ws i₀ at₀ file x
+      list-rejected q = parts-rejected (pairs 4096 3 n 0) (lists (left - 1)) count-accepted q
 
   -- one sheet more
   module _ (counts : List ℕ) (k j : ℕ) {i : ℕ} {b : List ℕ} {at : ℕ} (l : k ≤ length counts) (h : j < k) (r : Writing F ws i₀ b₀ at₀ (bookFrom counts k j) i b at) where
@@ -186,6 +195,18 @@ module _ {F : Format} {ws : List ℕ} {i₀ : ℕ} {b₀ : List ℕ} {at₀ : �
 
     pub sheet-rejected : {file : ℕ} {x : Refusal} → Rejects (whole (sheet (getD counts j 0))) ws i at file x → Rejects F ws i₀ at₀ file x
     sheet-rejected p = parts-rejected (whole (sheet (getD counts j 0))) (bookFrom counts k (j + 1)) (left-to (book-more counts k j l h) r) p
+
+-- the lead of a sheet, and then the lists that stand
+module _ (m : ℕ) {ws : List ℕ} {i : ℕ} where
+  pub lead-rejected : {file : ℕ} {x : Refusal} → ((f : ℕ → Format) → Rejects (ask 1 0 2 3 f) ws i 0 file x) → Rejects (sheet m) ws i 0 file x
+  lead-rejected p = rw (sheet-is m) (p (λ lead. lists (standing lead m)))
+
+  module _ {b : List ℕ} {lead k : ℕ} {b′ : List ℕ} (h : i ≤ length ws) (p : Put 1 0 2 ws i b 0 lead b′) (e : k ≡ standing lead m) where
+    lead-put : Writing (sheet m) ws i b 0 (lists k) (i + 1) b′ 1
+    lead-put = left-to (ap lists (sym e)) (writes (left-to (sheet-is m) (begins h)) p)
+
+    pub lists-put : (r : Part) (b″ : List ℕ) → WritesPart (lists k) ws (i + 1) b′ 1 (196622 * k) 4 r b″ → k ≤ m → WritesPart (sheet m) ws i b 0 (1 + 196622 * m) 4 r b″
+    lists-put r b″ q l = closes (196622 * k) (1 + 196622 * m) 4 r b″ lead-put q (omega arith)
 
 -- a file up to its padding
 module _ (f : Format) {ws : List ℕ} {i₀ : ℕ} {b₀ : List ℕ} {at₀ : ℕ} (h : i₀ ≤ length ws) where

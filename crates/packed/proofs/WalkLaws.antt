@@ -1,21 +1,21 @@
 -- For an accepted book, the walks over its bits and over its fields find the pairs of its content, list by list.
 use mathlib.Core.Path.{_≡_, refl, ap, ap₂, _∙_, sym, subst}
-use mathlib.Core.Bool.{Bool, false, not, _&&_, _||_}
-use mathlib.Core.List.{List, [], _∷_, _++_, append-nil, append-assoc}
+use mathlib.Core.Bool.{Bool, not}
+use mathlib.Core.List.{List, [], _∷_, _++_, map, flatten, append-nil, append-assoc}
 use Prim.Native.Nat.{ℕ, zero, suc, _+_, _-_, _*_, _%_, _<_, _≤_}
 use native.Mathlib.Omega.{arith}
 use native.Mathlib.Numerals.{one-add}
-use native.Mathlib.Nat.{add-zero, zero-add, suc-add, add-assoc, mod-eq-of-lt}
+use native.Mathlib.Nat.{add-zero, mod-eq-of-lt}
 use lib.Dec.{leb, eqb}
-use lib.ListN.{length, take, drop, getD, length-append, length-drop}
+use lib.ListN.{length, take, drop, getD, replicate, length-append, length-drop}
 use lib.Seq.{drop-at, drop-drop, getD-drop}
 use borrow.Author.Tests.{leb-true}
 use Rattle.packed.specs.Bits.{bits, num, field, zeros, gap}
 use Rattle.packed.specs.Format.{Format, done, ask, pad, then, whole, Got, got, fault, within, scan, ok, decode, encode}
-use Rattle.packed.specs.Formats.{code, pairs, lists, sheet, book}
-use Rattle.packed.specs.Contents.{codesIn, pairsIn, sum, listsIn, afterLists, sheetsIn}
+use Rattle.packed.specs.Formats.{code, pairs, lists, standing, sheet, book}
+use Rattle.packed.specs.Contents.{codesIn, listsIn, afterLists, sheetLists, afterSheet, sheetsIn}
 use Rattle.packed.specs.Distinct.{BelowHead, Increasing}
-use Rattle.packed.specs.Walks.{fieldOr, codesAt, listEnd, pairsAt, listsEnd, sheetEnd, bookPairs, codesFrom, pairsFrom}
+use Rattle.packed.specs.Walks.{fieldOr, codesAt, listEnd, pairsAt, listsEnd, listsFirst, listsCount, listsLast, sheetPairs, sheetEnd, bookPairs, codesFrom, pairsFrom, fieldsEnd, bookPairsFrom}
 use Rattle.packed.specs.BookSheets.{sheetAt}
 use Rattle.packed.proofs.BitsLaws.{length-bits, field-add}
 use Rattle.packed.proofs.RoundTrip.{push-got, pick-got, below-bound, ended-ok, onward, scan-done, scan-test, scan-then, encode-decode}
@@ -86,8 +86,11 @@ record PairFields (k : ℕ) (ps codes : List ℕ) : Type 0 where
 
 -- ws are the fields of m lists with these codes
 record ListFields (m : ℕ) (ws codes : List ℕ) : Type 0 where
-  within : (k : ℕ) (more : List ℕ) → pairsIn (m + k) (ws ++ more) ≡ codes ++ pairsIn k more
-  from : (k : ℕ) (l : List ℕ) (i : ℕ) (more : List ℕ) → drop i l ≡ ws ++ more → pairsFrom l i (m + k) ≡ codes ++ pairsFrom l (i + length ws) k
+  from : (l : List ℕ) (i : ℕ) (more : List ℕ) → drop i l ≡ ws ++ more → (pairsFrom l i m ≡ codes) × (fieldsEnd l i m ≡ i + length ws)
+
+-- ws are the fields of a book with these codes
+record BookFields (ms ws codes : List ℕ) : Type 0 where
+  from : (l : List ℕ) (i : ℕ) (more : List ℕ) → drop i l ≡ ws ++ more → bookPairsFrom l i ms ≡ codes
 
 -- what stands at i, and after it
 head-at : (l : List ℕ) (i x : ℕ) (xs : List ℕ) → drop i l ≡ x ∷ xs → getD l i 0 ≡ x
@@ -113,39 +116,40 @@ pair-fields k a b ps codes ha hb t =
     }
 
 no-lists : ListFields 0 [] []
-no-lists =
-    record {
-      within = λ k more. rw (zero-add k);
-      from = λ k l i more e. rw (zero-add k, add-zero i);
-    }
+no-lists = record { from = λ l i more e. ((unfold pairsFrom in refl), (unfold fieldsEnd in sym (add-zero i))) }
 
 -- one list more, in front
 list-fields : (m n : ℕ) (ps codes ws others : List ℕ) → n < 16384 → PairFields n ps codes → ListFields m ws others → ListFields (suc m) (n ∷ (ps ++ ws)) (codes ++ others)
+unfolding pairsFrom fieldsEnd
 list-fields m n ps codes ws others h p t =
     record {
-      within = λ k more. (unfold pairsIn in
-          rw (suc-add, append-assoc ps ws more, one-add, drop-at ps (ws ++ more) (2 * n) (p .long), p .within (ws ++ more), t .within k more) (sym (append-assoc codes others (pairsIn k more))));
-      from = λ k l i more e.
-          (unfold pairsFrom in
+      from = λ l i more e.
           let f : drop i l ≡ n ∷ (ps ++ (ws ++ more)) = e ∙ ap (λ (x : List ℕ). n ∷ x) (append-assoc ps ws more) in
           let x : getD l i 0 ≡ n = head-at l i n (ps ++ (ws ++ more)) f in
           let d : drop (i + 1) l ≡ ps ++ (ws ++ more) = tail-at l i (n ∷ []) (ps ++ (ws ++ more)) 1 refl f in
           let r : drop (i + (1 + 2 * n)) l ≡ ws ++ more = tail-at l i (n ∷ ps) (ws ++ more) (1 + 2 * n) (omega (arith, p .long)) f in
-          let z : i + (1 + 2 * n) + length ws ≡ i + suc (length (ps ++ ws)) = omega (arith, length-append ps ws, p .long) in
-          rw (suc-add, x, mod-eq-of-lt h, p .from l (i + 1) (ws ++ more) d, t .from k l (i + (1 + 2 * n)) more r, z) (sym (append-assoc codes others (pairsFrom l (i + suc (length (ps ++ ws))) k))));
+          let q = t .from l (i + (1 + 2 * n)) more r in (
+            rw (x, mod-eq-of-lt h, p .from l (i + 1) (ws ++ more) d, q .0),
+            rw (x, mod-eq-of-lt h, q .1) (omega (arith, length-append ps ws, p .long)),
+          );
     }
 
--- lists, and then others
-both-fields : (m n : ℕ) (ws codes us others : List ℕ) → ListFields m ws codes → ListFields n us others → ListFields (m + n) (ws ++ us) (codes ++ others)
-both-fields m n ws codes us others a b =
+no-sheets : BookFields [] [] []
+no-sheets = record { from = λ l i more e. (unfold bookPairsFrom in refl) }
+
+-- one sheet more, in front: its lead, and the lists that stand
+sheet-fields : (m lead : ℕ) (ms ws codes us others : List ℕ) → lead < 2 → ListFields (standing lead m) ws codes → BookFields ms us others
+    → BookFields (m ∷ ms) ((lead ∷ ws) ++ us) (codes ++ others)
+unfolding bookPairsFrom
+sheet-fields m lead ms ws codes us others h t b =
     record {
-      within = λ k more.
-          rw (add-assoc m n k, append-assoc ws us more, a .within (n + k) (us ++ more), b .within k more) (sym (append-assoc codes others (pairsIn k more)));
-      from = λ k l i more e.
-          (let f : drop i l ≡ ws ++ (us ++ more) = e ∙ append-assoc ws us more in
-          let r : drop (i + length ws) l ≡ us ++ more = tail-at l i ws (us ++ more) (length ws) refl f in
-          let z : i + length ws + length us ≡ i + length (ws ++ us) = omega (arith, length-append ws us) in
-          rw (add-assoc m n k, a .from (n + k) l i (us ++ more) f, b .from k l (i + length ws) more r, z) (sym (append-assoc codes others (pairsFrom l (i + length (ws ++ us)) k))));
+      from = λ l i more e.
+          let f : drop i l ≡ lead ∷ (ws ++ (us ++ more)) = e ∙ append-assoc (lead ∷ ws) us more in
+          let x : getD l i 0 ≡ lead = head-at l i lead (ws ++ (us ++ more)) f in
+          let d : drop (i + 1) l ≡ ws ++ (us ++ more) = tail-at l i (lead ∷ []) (ws ++ (us ++ more)) 1 refl f in
+          let q = t .from l (i + 1) (us ++ more) d in
+          let r : drop (i + 1 + length ws) l ≡ us ++ more = tail-at l (i + 1) ws (us ++ more) (length ws) refl d in
+          rw (x, mod-eq-of-lt h, q .0, q .1, b .from l (i + 1 + length ws) more r);
     }
 
 -- ws are the fields of these m lists, and what follows stands after them
@@ -167,10 +171,11 @@ more-of m n ps codes ws ls long is t =
       after = λ more. rw (append-assoc ps ws more, one-add, drop-at ps (ws ++ more) (2 * n) long, t .after more);
     }
 
--- a sheet, and then the others
-pub sheets-more : (m : ℕ) (ms ws us : List ℕ) (ls : List (List ℕ)) → ListsOf m ws ls → sheetsIn (m ∷ ms) (ws ++ us) ≡ ls ∷ sheetsIn ms us
-unfolding sheetsIn
-sheets-more m ms ws us ls t = rw (t .within us, t .after us)
+-- a sheet, its lead and the lists that stand, and then the others
+pub sheets-more : (m lead : ℕ) (ms ws us : List ℕ) (ls : List (List ℕ)) → ListsOf (standing lead m) ws ls
+    → sheetsIn (m ∷ ms) ((lead ∷ ws) ++ us) ≡ (ls ++ replicate (m - standing lead m) []) ∷ sheetsIn ms us
+unfolding sheetsIn sheetLists afterSheet
+sheets-more m lead ms ws us ls t = rw (t .within us, t .after us)
 
 -- ---- what a pass reads
 -- the codes ascend, from least on
@@ -244,24 +249,24 @@ list-end : (s : List ℕ) (at : ℕ) → at + 14 + 24 * fieldOr s at 14 ≡ list
 unfolding listEnd
 list-end s at = omega arith
 
-read-lists : (s : List ℕ) (m : ℕ) (none some : Bool) (at : ℕ) (ws : List ℕ) (rest : List Bool) → at ≤ 8 * length s
-    → scan (lists m none some) (drop at (bits s)) ≡ got ws rest → ListsRead s at m ws rest
+read-lists : (s : List ℕ) (m at : ℕ) (ws : List ℕ) (rest : List Bool) → at ≤ 8 * length s → scan (lists m) (drop at (bits s)) ≡ got ws rest
+    → ListsRead s at m ws rest
 unfolding lists listsEnd pairsAt listsAt
-read-lists s zero none some at ws rest h e =
-    let c = pick-got (not (none && some)) (scan done (drop at (bits s))) 8 ws rest (sym (scan-test _ _ _ _) ∙ e) in
-    let q : got [] (drop at (bits s)) ≡ got ws rest = sym (scan-done (drop at (bits s))) ∙ c .1 in
+read-lists s zero at ws rest h e =
+    let q : got [] (drop at (bits s)) ≡ got ws rest = sym (scan-done (drop at (bits s))) ∙ e in
     let p : [] ≡ ws = cc in
     let r : drop at (bits s) ≡ rest = cc in
     record { ends = sym r; fits = h; fields = rw (← p) no-lists; lists = rw (← p) none-of; each = λ f l. absurd (omega arith) }
-read-lists s (suc m) none some at ws rest h e =
+read-lists s (suc m) at ws rest h e =
     let n : ℕ = fieldOr s at 14 in
     let a = took s at 14 0 8193 3 _ ws rest h e in
-    let q = parts (pairs 4096 3 n 0) _ (drop (at + 14) (bits s)) (a .next) rest (a .goes) in
+    let c = pick-got (not (eqb n 0)) _ 8 (a .next) rest (sym (scan-test _ _ _ _) ∙ a .goes) in
+    let q = parts (pairs 4096 3 n 0) (lists m) (drop (at + 14) (bits s)) (a .next) rest (c .1) in
     let p = read-pairs s n 0 (at + 14) (q .front) (q .left) (a .fits) (q .first) in
     let z : at + 14 + 24 * n ≡ listEnd s at = list-end s at in
-    let r = read-lists s m (none || eqb n 0) (some || not (eqb n 0)) (listEnd s at) (q .back) rest
+    let r = read-lists s m (listEnd s at) (q .back) rest
     (subst (λ (i : ℕ). i ≤ 8 * length s) z (p .fits))
-    (ap (scan (lists m (none || eqb n 0) (some || not (eqb n 0)))) (ap (λ (i : ℕ). drop i (bits s)) (sym z) ∙ sym (p .ends)) ∙ q .second) in
+    (ap (scan (lists m)) (ap (λ (i : ℕ). drop i (bits s)) (sym z) ∙ sym (p .ends)) ∙ q .second) in
     let w : ws ≡ n ∷ (q .front ++ q .back) = a .splits ∙ ap (λ (l : List ℕ). n ∷ l) (q .splits) in
     record {
       ends = r .ends;
@@ -271,13 +276,17 @@ read-lists s (suc m) none some at ws rest h e =
       each = lists-each s at m (record { fits = p .fits; rises = p .rises }) (r .each);
     }
 
--- a sheet, and zero bits up to a whole byte
+-- a sheet, its lead and the lists that stand, and zero bits up to a whole byte
 record SheetRead (s : List ℕ) (at m : ℕ) (ws : List ℕ) (rest : List Bool) : Type 0 where
+  inner : List ℕ
+  splits : ws ≡ fieldOr s at 1 ∷ inner
+  small : fieldOr s at 1 < 2
+  begins : listsFirst at ≤ 8 * length s
   ends : rest ≡ drop (sheetEnd s at m) (bits s)
   fits : sheetEnd s at m ≤ 8 * length s
-  fields : ListFields m ws (pairsAt s at m)
-  lists : ListsOf m ws (listsAt s at m)
-  each : (f : ℕ) → f < m → ListRead s (listsEnd s at f)
+  fields : ListFields (listsCount s at m) inner (sheetPairs s at m)
+  lists : ListsOf (listsCount s at m) inner (listsAt s (listsFirst at) (listsCount s at m))
+  each : (f : ℕ) → f < listsCount s at m → ListRead s (listsEnd s (listsFirst at) f)
 
 -- what is before the padding is all
 before-padding : {f : Format} {bs : List Bool} {ws : List ℕ} {rest : List Bool} (p : Parts f (pad done) bs ws rest) → ws ≡ p .front
@@ -292,54 +301,72 @@ read-sheet : (s : List ℕ) (m at : ℕ) (ws : List ℕ) (rest : List Bool) → 
     → SheetRead s at m ws rest
 unfolding sheet
 read-sheet s m at ws rest h e =
-    let end : ℕ = listsEnd s at m in
+    let end : ℕ = listsLast s at m in
     let p = whole-parts (sheet m) (drop at (bits s)) ws rest e in
-    let l = read-lists s m false false at (p .front) (p .left) h (p .first) in
+    let a = took s at 1 0 2 3 _ (p .front) (p .left) h (p .first) in
+    let l = read-lists s (listsCount s at m) (at + 1) (a .next) (p .left) (a .fits) (a .goes) in
     let g : length (p .left) % 8 ≡ gap end =
     ap (λ (x : List Bool). length x % 8) (l .ends)
     ∙ ap (λ (n : ℕ). n % 8) (length-drop end (bits s) ∙ ap (λ (n : ℕ). n - end) (length-bits s))
     ∙ gap-of end (length s) (l .fits) in
     record {
+      inner = a .next;
+      splits = before-padding p ∙ a .splits;
+      small = a .small;
+      begins = a .fits;
       ends = pad-got (p .left) (p .back) rest (p .second) .1 ∙ ap₂ (λ (n : ℕ) (x : List Bool). drop n x) g (l .ends) ∙ drop-drop (gap end) end (bits s);
       fits = gap-in end (length s) (l .fits);
-      fields = rw (before-padding p) (l .fields);
-      lists = rw (before-padding p) (l .lists);
+      fields = l .fields;
+      lists = l .lists;
       each = l .each;
     }
+
+-- the lists of a sheet, of which those that don't stand are empty
+abbrev pub sheetListsAt : List ℕ → ℕ → ℕ → List (List ℕ)
+sheetListsAt s at m = listsAt s (listsFirst at) (listsCount s at m) ++ replicate (m - listsCount s at m) []
 
 -- the sheets of a book from the bit offset at on
 unfoldable pub sheetsAt : List ℕ → ℕ → List ℕ → List (List (List ℕ))
 sheetsAt s at [] = []
-sheetsAt s at (m ∷ ms) = listsAt s at m ∷ sheetsAt s (sheetEnd s at m) ms
+sheetsAt s at (m ∷ ms) = sheetListsAt s at m ∷ sheetsAt s (sheetEnd s at m) ms
+
+-- the sheet at a bit offset: where its lists begin, and each of them
+pub record ListsStand (s : List ℕ) (at m : ℕ) : Type 0 where
+  pub begins : listsFirst at ≤ 8 * length s
+  pub each : (f : ℕ) → f < listsCount s at m → ListRead s (listsEnd s (listsFirst at) f)
 
 pub record BookRead (s : List ℕ) (at : ℕ) (ms ws : List ℕ) : Type 0 where
-  fields : ListFields (sum ms) ws (bookPairs s at ms)
+  fields : BookFields ms ws (bookPairs s at ms)
   pub sheets : sheetsIn ms ws ≡ sheetsAt s at ms
-  pub each : (a f : ℕ) → a < length ms → f < getD ms a 0 → ListRead s (listsEnd s (sheetAt s at ms a) f)
+  pub stand : (a : ℕ) → a < length ms → ListsStand s (sheetAt s at ms a) (getD ms a 0)
 
 -- the first sheet, and then the others
-sheets-each : (s : List ℕ) (at m : ℕ) (ms : List ℕ) → ((f : ℕ) → f < m → ListRead s (listsEnd s at f))
-    → ((a f : ℕ) → a < length ms → f < getD ms a 0 → ListRead s (listsEnd s (sheetAt s (sheetEnd s at m) ms a) f))
-    → (a f : ℕ) → a < length (m ∷ ms) → f < getD (m ∷ ms) a 0 → ListRead s (listsEnd s (sheetAt s at (m ∷ ms) a) f)
+sheets-stand : (s : List ℕ) (at m : ℕ) (ms : List ℕ) → ListsStand s at m
+    → ((a : ℕ) → a < length ms → ListsStand s (sheetAt s (sheetEnd s at m) ms a) (getD ms a 0))
+    → (a : ℕ) → a < length (m ∷ ms) → ListsStand s (sheetAt s at (m ∷ ms) a) (getD (m ∷ ms) a 0)
 unfolding sheetAt
-sheets-each s at m ms here more zero f h l = here f l
-sheets-each s at m ms here more (suc a) f h l = more a f (omega arith) l
+sheets-stand s at m ms here more zero h = here
+sheets-stand s at m ms here more (suc a) h = more a (omega arith)
 
 read-book : (s ms : List ℕ) (at : ℕ) (ws : List ℕ) (rest : List Bool) → at ≤ 8 * length s → scan (book ms) (drop at (bits s)) ≡ got ws rest
     → BookRead s at ms ws
-unfolding book sum bookPairs sheetsAt
+unfolding book bookPairs sheetsAt
 read-book s [] at ws rest h e =
     let q : got [] (drop at (bits s)) ≡ got ws rest = sym (scan-done (drop at (bits s))) ∙ e in
     let p : [] ≡ ws = cc in
-    record { fields = rw (← p) no-lists; sheets = unfold sheetsIn in refl; each = λ a f l. absurd (omega arith) }
+    record { fields = rw (← p) no-sheets; sheets = unfold sheetsIn in refl; stand = λ a l. absurd (omega arith) }
 read-book s (m ∷ ms) at ws rest h e =
     let p = parts (whole (sheet m)) (book ms) (drop at (bits s)) ws rest e in
     let l = read-sheet s m at (p .front) (p .left) h (p .first) in
     let r = read-book s ms (sheetEnd s at m) (p .back) rest (l .fits) (ap (scan (book ms)) (sym (l .ends)) ∙ p .second) in
+    let lead : ℕ = fieldOr s at 1 in
+    let w : ws ≡ (lead ∷ l .inner) ++ p .back = p .splits ∙ ap (λ (x : List ℕ). x ++ p .back) (l .splits) in
     record {
-      fields = rw (p .splits) (both-fields m (sum ms) (p .front) (pairsAt s at m) (p .back) (bookPairs s (sheetEnd s at m) ms) (l .fields) (r .fields));
-      sheets = rw (p .splits, sheets-more m ms (p .front) (p .back) (listsAt s at m) (l .lists), r .sheets);
-      each = sheets-each s at m ms (l .each) (r .each);
+      fields = rw w (sheet-fields m lead ms (l .inner) (sheetPairs s at m) (p .back) (bookPairs s (sheetEnd s at m) ms) (l .small) (l .fields) (r .fields));
+      sheets = ap (sheetsIn (m ∷ ms)) w
+          ∙ sheets-more m lead ms (l .inner) (p .back) (listsAt s (listsFirst at) (listsCount s at m)) (l .lists)
+          ∙ ap (λ (x : List (List (List ℕ))). sheetListsAt s at m ∷ x) (r .sheets);
+      stand = sheets-stand s at m ms (record { begins = l .begins; each = l .each }) (r .stand);
     }
 
 pub read-whole : (ms s ws : List ℕ) → decode (book ms) s ≡ ok ws → BookRead s 0 ms ws
@@ -348,21 +375,25 @@ read-whole ms s ws e =
     let p = whole-parts (book ms) (bits s) ws [] (ended-ok (scan (whole (book ms)) (bits s)) ws e) in
     rw (before-padding p) (read-book s ms 0 (p .front) (p .left) (omega arith) (p .first))
 
--- the codes of the content, and those that the walk over the fields finds
-module _ (m : ℕ) (ws codes : List ℕ) (t : ListFields m ws codes) where
-  content-pairs : pairsIn m ws ≡ codes
-  unfolding pairsIn
-  content-pairs = ap₂ pairsIn (sym (add-zero m)) (sym (append-nil ws)) ∙ t .within 0 [] ∙ append-nil codes
+-- ---- the codes of the lists are those of the walk
+lists-codes : (s : List ℕ) (at m n : ℕ) → flatten (listsAt s at m ++ replicate n []) ≡ pairsAt s at m
+unfolding flatten listsAt pairsAt
+lists-codes s at zero zero = refl
+lists-codes s at zero (suc n) = lists-codes s at zero n
+lists-codes s at (suc m) n = ap (λ (l : List ℕ). codesAt s (at + 14) (fieldOr s at 14) ++ l) (lists-codes s (listEnd s at) m n)
 
-  walked-pairs : pairsFrom ws 0 m ≡ codes
-  unfolding pairsFrom
-  walked-pairs = ap (pairsFrom ws 0) (sym (add-zero m)) ∙ t .from 0 ws 0 [] (sym (append-nil ws)) ∙ append-nil codes
+sheets-codes : (s : List ℕ) (at : ℕ) (ms : List ℕ) → flatten (map flatten (sheetsAt s at ms)) ≡ bookPairs s at ms
+unfolding flatten sheetsAt bookPairs
+sheets-codes s at [] = refl
+sheets-codes s at (m ∷ ms) =
+    ap₂ (λ (x y : List ℕ). x ++ y) (lists-codes s (listsFirst at) (listsCount s at m) (m - listsCount s at m)) (sheets-codes s (sheetEnd s at m) ms)
 
 -- ---- the walks
-pub book-pairs : (ms s ws : List ℕ) → decode (book ms) s ≡ ok ws → bookPairs s 0 ms ≡ pairsIn (sum ms) ws
-book-pairs ms s ws e = sym (content-pairs (sum ms) ws (bookPairs s 0 ms) (read-whole ms s ws e .fields))
+pub book-pairs : (ms s ws : List ℕ) → decode (book ms) s ≡ ok ws → bookPairs s 0 ms ≡ flatten (map flatten (sheetsIn ms ws))
+book-pairs ms s ws e =
+    sym (ap (λ (x : List (List (List ℕ))). flatten (map flatten x)) (read-whole ms s ws e .sheets) ∙ sheets-codes s 0 ms)
 
-pub field-pairs : (ms ws s : List ℕ) → encode (book ms) ws ≡ ok s → pairsFrom ws 0 (sum ms) ≡ pairsIn (sum ms) ws
+pub field-pairs : (ms ws s : List ℕ) → encode (book ms) ws ≡ ok s → bookPairsFrom ws 0 ms ≡ flatten (map flatten (sheetsIn ms ws))
 field-pairs ms ws s e =
-    let t = read-whole ms s ws (encode-decode (book ms) ws s e) .fields in
-    walked-pairs (sum ms) ws (bookPairs s 0 ms) t ∙ sym (content-pairs (sum ms) ws (bookPairs s 0 ms) t)
+    let d = encode-decode (book ms) ws s e in
+    read-whole ms s ws d .fields .from ws 0 [] (sym (append-nil ws)) ∙ book-pairs ms s ws d

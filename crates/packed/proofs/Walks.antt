@@ -1,17 +1,20 @@
 -- The walks over the pairs of sheets and books, one step at a time.
 use mathlib.Core.Path.{_≡_, refl, sym, ap₂, _∙_}
 use mathlib.Core.List.{List, [], _∷_, _++_}
+use mathlib.Core.Logic.{⊎-elim}
 use Prim.Native.Nat.{ℕ, zero, suc, _+_, _-_, _*_, _%_, _<_, _≤_}
 use native.Mathlib.Omega.{arith}
 use native.Mathlib.Numerals.{add-one}
 use native.Mathlib.Nat.{mod-eq-of-lt}
 use lib.ListN.{length, take, drop, getD, length-take, drop-of-length-le, List·getD-eq-default}
 use lib.Seq.{drop-cons, getD-take, length-take-le}
-use borrow.Author.Tests.{le-leb, lt-leb}
+use borrow.Author.Tests.{le-leb, lt-leb, eq-eqb, ne-eqb}
 use Rattle.packed.specs.Bits.{field}
 use Rattle.packed.specs.Limits.{pairWidth}
-use Rattle.packed.specs.Walks.{fieldOr, codesAt, pairPlace, codesOn, Spans, pairsAt, listsEnd, sheetEnd, bookPairs, codesFrom, pairsFrom}
+use Rattle.packed.specs.Formats.{standing}
+use Rattle.packed.specs.Walks.{fieldOr, codesAt, pairPlace, codesOn, Spans, pairsAt, listsEnd, sheetPairs, sheetEnd, bookPairs, codesFrom, pairsFrom, fieldsEnd, fieldsCount, bookPairsFrom}
 use Rattle.packed.specs.declared.cursor.Extent.{Extent}
+use Rattle.packed.proofs.OrderCases.{eq-or-ne}
 
 -- ---- a field, or 0
 pub field-or-in : (s : List ℕ) (at n : ℕ) → at + n ≤ 8 * length s → fieldOr s at n ≡ field s at n
@@ -68,16 +71,27 @@ module _ {s : List ℕ} {at : ℕ} {l : Extent} (p : Spans s at l) where
   ends-more (suc m) h = let z : suc m - 1 ≡ m = omega arith in rw (z, p .next)
 
 -- ---- a book, sheet by sheet
+pub standing-none : (lead m : ℕ) → lead ≡ 0 → 0 ≡ standing lead m
+unfolding standing
+standing-none lead m e = rw (eq-eqb lead 0 e)
+
+pub standing-all : (lead m : ℕ) → (lead ≡ 0 → ⊥) → m ≡ standing lead m
+unfolding standing
+standing-all lead m n = rw (ne-eqb lead 0 n)
+
+pub standing-most : (lead m : ℕ) → standing lead m ≤ m
+standing-most lead m = ⊎-elim (λ e. omega (arith, standing-none lead m e)) (λ n. omega (arith, standing-all lead m n)) (eq-or-ne lead 0)
+
 pub book-none : (s : List ℕ) (at j k : ℕ) (counts : List ℕ) → k ≤ j → bookPairs s at (drop j (take k counts)) ≡ []
 unfolding bookPairs
 book-none s at j k counts h = rw (drop-of-length-le (take k counts) {i = j} (omega (arith, length-take k counts)))
 
 pub book-more : (s : List ℕ) (at j k next : ℕ) (counts : List ℕ) → j < k → k ≤ length counts → next ≡ sheetEnd s at (getD counts j 0)
-    → bookPairs s at (drop j (take k counts)) ≡ pairsAt s at (getD counts j 0) ++ bookPairs s next (drop (j + 1) (take k counts))
+    → bookPairs s at (drop j (take k counts)) ≡ sheetPairs s at (getD counts j 0) ++ bookPairs s next (drop (j + 1) (take k counts))
 unfolding bookPairs
 book-more s at j k next counts h l e =
     let z = length-take-le k counts l in
-    rw (drop-cons (take k counts) j 0 (omega arith), getD-take k counts j 0 h, ← e, add-one)
+    rw (drop-cons (take k counts) j 0 (omega arith), getD-take k counts j 0 h, ← e, add-one j)
 
 -- ---- the same among fields
 pub codes-from-none : (ws : List ℕ) (i k : ℕ) → k ≤ 0 → codesFrom ws i k ≡ []
@@ -101,3 +115,24 @@ pub pairs-from-more : (ws : List ℕ) (i m n : ℕ) → 0 < m → n ≡ getD ws 
 unfolding pairsFrom
 pairs-from-more ws i zero n h e = absurd (omega arith)
 pairs-from-more ws i (suc m) n h e = let z : suc m - 1 ≡ m = omega arith in rw (z, e)
+
+pub fields-end-none : (ws : List ℕ) (i m : ℕ) → m ≤ 0 → fieldsEnd ws i m ≡ i
+unfolding fieldsEnd
+fields-end-none ws i zero h = refl
+fields-end-none ws i (suc m) h = absurd (omega arith)
+
+pub fields-end-more : (ws : List ℕ) (i m n : ℕ) → 0 < m → n ≡ getD ws i 0 % 16384 → fieldsEnd ws i m ≡ fieldsEnd ws (i + (1 + 2 * n)) (m - 1)
+unfolding fieldsEnd
+fields-end-more ws i zero n h e = absurd (omega arith)
+fields-end-more ws i (suc m) n h e = let z : suc m - 1 ≡ m = omega arith in rw (z, e)
+
+pub book-from-none : (ws : List ℕ) (i j k : ℕ) (counts : List ℕ) → k ≤ j → bookPairsFrom ws i (drop j (take k counts)) ≡ []
+unfolding bookPairsFrom
+book-from-none ws i j k counts h = rw (drop-of-length-le (take k counts) {i = j} (omega (arith, length-take k counts)))
+
+pub book-from-more : (ws : List ℕ) (i j k m next : ℕ) (counts : List ℕ) → j < k → k ≤ length counts → m ≡ fieldsCount ws i (getD counts j 0) → next ≡ fieldsEnd ws (i + 1) m
+    → bookPairsFrom ws i (drop j (take k counts)) ≡ pairsFrom ws (i + 1) m ++ bookPairsFrom ws next (drop (j + 1) (take k counts))
+unfolding bookPairsFrom
+book-from-more ws i j k m next counts h l e f =
+    let z = length-take-le k counts l in
+    rw (drop-cons (take k counts) j 0 (omega arith), getD-take k counts j 0 h, ← e, ← f, add-one j)

@@ -3,7 +3,7 @@ use Prim.Native.Nat.{ℕ, zero, suc}
 use mathlib.Core.List.{List, [], _∷_}
 use Rattle.packed.specs.Walks.{codesAt, listFirst, listCount, listsEnd, sheetEnd}
 
--- the codes of the list f of the sheet at a bit offset
+-- the codes of the list f of those from a bit offset on
 unfoldable pub listAt : List ℕ → ℕ → ℕ → List ℕ
 listAt s at f = codesAt s (listFirst (listsEnd s at f)) (listCount s (listsEnd s at f))
 

@@ -1,14 +1,14 @@
 -- What each call answers, and what it settles for every input.
 use Prim.Native.Nat.{ℕ}
 use mathlib.Core.Path.{_≡_}
-use mathlib.Core.List.{List, [], _∷_, _++_, map}
+use mathlib.Core.List.{List, [], _∷_, _++_, map, flatten}
 use mathlib.Core.Bool.{_||_}
 use lib.ListN.{length, drop, replicate}
 use lib.Dec.{ltb}
 use Rattle.packed.specs.Limits.{patternMost, catalogueMost, recordMost, bookMost, pairsMost, workspace}
 use Rattle.packed.specs.Format.{Format, Result, ok, bad, pick, decode, encode}
 use Rattle.packed.specs.Formats.{pattern, catalogue, record′, sheet, book}
-use Rattle.packed.specs.Contents.{edgesOf, edgeCounts, pairsIn, sum, distinct}
+use Rattle.packed.specs.Contents.{edgesOf, edgeCounts, sheetsIn, distinct}
 use Rattle.packed.specs.Refusals.{Told, told}
 
 -- ---- the protocol
@@ -100,7 +100,7 @@ writeBook c ws = writeFile 4 (book (edgeCounts c)) ws
 
 -- the different pairs of a book for views with so many edges, by their codes, ascending
 unfoldable pub pairsOf : List ℕ → List ℕ → List ℕ
-pairsOf ms ws = distinct (pairsIn (sum ms) ws)
+pairsOf ms ws = distinct (flatten (map flatten (sheetsIn ms ws)))
 
 -- 10: over 8,192 different pairs stand in a book
 unfoldable pub uncrowdedBy : List ℕ → List ℕ → Outcome → Outcome

@@ -1,11 +1,12 @@
 -- What stands in the content of a file: its fields in order, one number each.
-use Prim.Native.Nat.{ℕ, zero, suc, _+_, _*_, _/_, _%_}
+use Prim.Native.Nat.{ℕ, zero, suc, _+_, _-_, _*_, _/_, _%_}
 use mathlib.Core.List.{List, [], _∷_, _++_, map}
 use mathlib.Core.Bool.{Bool, false, cond, _||_}
-use lib.ListN.{length, take, drop, getD}
+use lib.ListN.{length, take, drop, getD, replicate}
 use lib.Dec.{eqb, ltb}
 use Rattle.packed.specs.Limits.{nodesMost}
-use Rattle.packed.specs.Formats.{code}
+use Rattle.packed.specs.Format.{pick}
+use Rattle.packed.specs.Formats.{code, standing}
 
 -- ---- a pattern: how many nodes and edges it has, and how many fields
 abbrev pub nodesOf : List ℕ → ℕ
@@ -47,6 +48,13 @@ unfoldable pub afterLists : ℕ → List ℕ → List ℕ
 afterLists zero ws = ws
 afterLists (suc m) ws = afterLists m (drop (1 + 2 * getD ws 0 0) ws)
 
+-- the lists of a sheet for m edges, of which those that don't stand are empty; and what stands after the sheet
+unfoldable pub sheetLists : ℕ → List ℕ → List (List ℕ)
+sheetLists m ws = let k = standing (getD ws 0 0) m in listsIn k (drop 1 ws) ++ replicate (m - k) []
+
+unfoldable pub afterSheet : ℕ → List ℕ → List ℕ
+afterSheet m ws = afterLists (standing (getD ws 0 0) m) (drop 1 ws)
+
 -- the fields of a list's pairs, and of lists: each a count and its pairs
 unfoldable pub ends : List ℕ → List ℕ
 ends [] = []
@@ -61,21 +69,20 @@ unfoldable pub pairCount : List (List ℕ) → ℕ
 pairCount [] = 0
 pairCount (l ∷ ls) = length l + pairCount ls
 
+-- the fields of a sheet with these lists: a 0 where nothing was found, else a 1 and the lists
+unfoldable pub sheetFields : List (List ℕ) → List ℕ
+sheetFields ls = pick (eqb (pairCount ls) 0) (0 ∷ []) (1 ∷ fieldsOf ls)
+
+-- how many bytes a sheet with m lists and t pairs takes: 1 where nothing was found, else (1 + 14 m + 24 t) / 8, rounded up
+unfoldable pub sheetLength : ℕ → ℕ → ℕ
+sheetLength m t = pick (eqb t 0) 1 ((1 + 14 * m + 24 * t + 7) / 8)
+
 -- ---- a book
 
 -- the sheets in the content of a book for views with so many edges
 unfoldable pub sheetsIn : List ℕ → List ℕ → List (List (List ℕ))
 sheetsIn [] ws = []
-sheetsIn (m ∷ ms) ws = listsIn m ws ∷ sheetsIn ms (afterLists m ws)
-
--- the codes in so many lists, each a count and its pairs
-unfoldable pub pairsIn : ℕ → List ℕ → List ℕ
-pairsIn zero ws = []
-pairsIn (suc m) ws = codesIn (getD ws 0 0) (drop 1 ws) ++ pairsIn m (drop (1 + 2 * getD ws 0 0) ws)
-
-unfoldable pub sum : List ℕ → ℕ
-sum [] = 0
-sum (m ∷ ms) = m + sum ms
+sheetsIn (m ∷ ms) ws = sheetLists m ws ∷ sheetsIn ms (afterSheet m ws)
 
 -- ---- lists of codes
 

@@ -3,9 +3,9 @@ use Prim.Native.Nat.{ℕ, zero, suc, _+_, _*_, _^_}
 use mathlib.Core.List.{List, [], _∷_, _++_}
 use mathlib.Core.Bool.{Bool, true, false, not, _&&_, _||_}
 use lib.Dec.{eqb, leb}
-use Rattle.packed.specs.Format.{Format, done, ask, test, pad, then, times, whole}
+use Rattle.packed.specs.Format.{Format, done, ask, test, pad, then, times, whole, pick}
 use Rattle.packed.specs.Limits.{patternNodesMost, patternEdgesMost, viewsMost, nodesMost, edgesMost, countMost}
-use Rattle.packed.specs.Limits.{patternNodesWidth, patternEdgesWidth, labelWidth, endWidth, viewsWidth, nodesWidth, edgesWidth, labelsWidth, nodeWidth, countWidth}
+use Rattle.packed.specs.Limits.{patternNodesWidth, patternEdgesWidth, labelWidth, endWidth, viewsWidth, nodesWidth, edgesWidth, labelsWidth, nodeWidth, leadWidth, countWidth}
 
 -- a count: w bits, low to high, else 3
 abbrev pub countField : ℕ → ℕ → ℕ → (ℕ → Format) → Format
@@ -86,13 +86,18 @@ record′ =
 
 -- ---- a sheet: the match sets of a pattern with m edges
 
--- so many lists; none: a count was zero, some: a count was not; not both (8)
-unfoldable pub lists : ℕ → Bool → Bool → Format
-lists zero none some = test (not (none && some)) 8 done
-lists (suc m) none some = countField countWidth 0 countMost (λ n. then (pairs nodesMost 3 n 0) (lists m (none || eqb n 0) (some || not (eqb n 0))))
+-- so many lists, each a count that is not zero (8) and so many pairs
+unfoldable pub lists : ℕ → Format
+lists zero = done
+lists (suc m) = countField countWidth 0 countMost (λ n. test (not (eqb n 0)) 8 (then (pairs nodesMost 3 n 0) (lists m)))
 
+-- how many of the m lists stand, by the lead ("one bit") of the sheet: none after a 0, which says that nothing was found, and all after a 1
+unfoldable pub standing : ℕ → ℕ → ℕ
+standing lead m = pick (eqb lead 0) 0 m
+
+-- the lead, and the lists
 unfoldable pub sheet : ℕ → Format
-sheet m = lists m false false
+sheet m = ask leadWidth 0 (2 ^ leadWidth) 3 (λ lead. lists (standing lead m))
 
 -- ---- a book: a sheet for each view, whose numbers of edges are listed, each on a byte
 unfoldable pub book : List ℕ → Format

@@ -73,7 +73,10 @@ labelsWidth = 32
 abbrev pub nodeWidth : ℕ
 nodeWidth = 12
 
--- the count of a list, and a pair, which is two nodes
+-- the lead of a sheet, the count of a list, and a pair, which is two nodes
+abbrev pub leadWidth : ℕ
+leadWidth = 1
+
 abbrev pub countWidth : ℕ
 countWidth = 14
 

@@ -2,14 +2,14 @@
 use Prim.Native.Nat.{ℕ, zero, suc, _+_, _*_, _/_, _%_, _^_, _<_, _≤_}
 use mathlib.Core.Path.{_≡_}
 use mathlib.Core.List.{List, [], _∷_, _++_}
-use mathlib.Core.Bool.{Bool, false, _||_}
+use mathlib.Core.Bool.{Bool, true, false, _||_}
 use lib.ListN.{length, take, drop, getD}
 use lib.Seq.{sets}
 use lib.Dec.{eqb}
 use Rattle.packed.specs.Bits.{odd, bits, bitsOf}
 use Rattle.packed.specs.Format.{pick, encode, ok}
 use Rattle.packed.specs.Formats.{sheet}
-use Rattle.packed.specs.Contents.{fieldsOf}
+use Rattle.packed.specs.Contents.{pairCount, sheetFields}
 
 -- whether the mask q names the edge e
 unfoldable pub marks : ℕ → ℕ → Bool
@@ -63,7 +63,7 @@ pub record Counts (n : ℕ) (w c : List ℕ) : Type 0 where
 -- the bytes of the sheet stand at the front of out as far as it goes
 pub record SheetWritten (n m : ℕ) (w out : List ℕ) (r : ℕ) (out′ : List ℕ) : Type 0 where
   pub bytes : List ℕ
-  pub is : encode (sheet m) (fieldsOf (matchesOf n m w)) ≡ ok bytes
+  pub is : encode (sheet m) (sheetFields (matchesOf n m w)) ≡ ok bytes
   pub number : r ≡ length bytes
   pub front : out′ ≡ sets out 0 bytes
 
@@ -97,9 +97,13 @@ unfoldable pub codedList : List (List ℕ) → List Bool
 codedList [] = []
 codedList (l ∷ ls) = bitsOf 14 (length l) ++ (pairBits l ++ codedList ls)
 
--- where the list of the edge e begins, by the counts of the lists
+-- the bits of a sheet with these lists: its lead, and the lists where there are pairs
+unfoldable pub sheetBits : List (List ℕ) → List Bool
+sheetBits ls = pick (eqb (pairCount ls) 0) (false ∷ []) (true ∷ codedList ls)
+
+-- where the list of the edge e begins, by the counts of the lists: the first behind the lead
 unfoldable pub listStart : ℕ → List ℕ → ℕ
-listStart zero c = 0
+listStart zero c = 1
 listStart (suc e) c = listStart e c + (14 + 24 * getD c e 0)
 
 -- the first m lists, each from its start on: its count, and the codes that it has so far
@@ -132,7 +136,14 @@ pub record PairPut (x v : ℕ) (ps out ps′ out′ : List ℕ) : Type 0 where
   pub moved : (e : ℕ) → e < 32 → getD ps′ e 0 ≡ getD ps e 0 + 24 * (x / 2 ^ e % 2)
   pub holds : bits out′ ≡ scatter 32 (λ e. getD ps e 0) x v (bits out)
 
+-- the lists stand behind the lead
 pub record ListsWritten (n m : ℕ) (w out : List ℕ) (r : ℕ) (out′ : List ℕ) : Type 0 where
-  pub holds : bits out′ ≡ sets (bits out) 0 (codedList (markedFrom 0 m (codesOf n w) (masksOf n w)))
-  pub next : r ≡ length (codedList (markedFrom 0 m (codesOf n w) (masksOf n w)))
-  pub most : r ≤ 196622 * m
+  pub holds : bits out′ ≡ sets (bits out) 1 (codedList (markedFrom 0 m (codesOf n w) (masksOf n w)))
+  pub next : r ≡ 1 + length (codedList (markedFrom 0 m (codesOf n w) (masksOf n w)))
+  pub most : r ≤ 1 + 196622 * m
+
+-- the lead stands, and the lists where there are pairs
+pub record ListingWritten (n m : ℕ) (w out : List ℕ) (r : ℕ) (out′ : List ℕ) : Type 0 where
+  pub holds : bits out′ ≡ sets (bits out) 0 (sheetBits (markedFrom 0 m (codesOf n w) (masksOf n w)))
+  pub next : r ≡ length (sheetBits (markedFrom 0 m (codesOf n w) (masksOf n w)))
+  pub most : r ≤ 1 + 196622 * m

@@ -119,23 +119,24 @@ RecordFile s ws = Whole PlainRecord ws (bits s)
 
 -- ---- a sheet: a list of pairs for each edge of a pattern
 
--- a count, 0 to 8,192, and that many pairs, strictly ascending (6)
+-- a count, 1 to 8,192 (8, 3), and that many pairs, strictly ascending (6)
 pub record PlainList (ws : List ℕ) (bs : List Bool) : Type 0 where
   pub number : ℕ
   pub ends : List ℕ
   pub content : ws ≡ number ∷ ends
   pub layout : bs ≡ bitsOf 14 number ++ fieldBits 12 ends
+  pub some : 1 ≤ number
   pub most : number ≤ 8192
   pub pairs : PlainPairs 4096 number ends
 
--- the first number of each content, its count
-abbrev pub countAt : List (List ℕ) → ℕ → ℕ
-countAt contents i = getD (getD contents i []) 0 0
-
--- m lists, whose counts are all at least 1 or all zero (8)
+-- one bit: 0 and nothing more, or 1 and m lists
 pub record PlainSheet (m : ℕ) (ws : List ℕ) (bs : List Bool) : Type 0 where
-  pub lists : InTurn (λ i. PlainList) m ws bs
-  pub even : ((i : ℕ) → i < m → 1 ≤ countAt (lists .contents) i) ⊎ ((i : ℕ) → i < m → countAt (lists .contents) i ≡ 0)
+  pub lead : ℕ
+  pub inner : List ℕ
+  pub laid : List Bool
+  pub content : ws ≡ lead ∷ inner
+  pub layout : bs ≡ bitsOf 1 lead ++ laid
+  pub either : ((lead ≡ 0) × (inner ≡ []) × (laid ≡ [])) ⊎ ((lead ≡ 1) × InTurn (λ i. PlainList) m inner laid)
 
 abbrev pub SheetFile : ℕ → List ℕ → List ℕ → Type 0
 SheetFile m s ws = Whole (PlainSheet m) ws (bits s)

@@ -2,7 +2,7 @@
 use Prim.Native.Nat.{ℕ}
 use mathlib.Core.List.{List, [], _∷_}
 use Rattle.packed.specs.declared.reply.Refusal.{Refusal}
-use Rattle.packed.specs.declared.reply.Refusal.the-variants.{TooLong, Truncated, OutOfRange, NoSuchNode, DuplicateEdge, NotAscending, IsolatedNode, MixedCounts, Trailing, TooManyPairs, NotContained, NoRoom, Contained, SmallWorkspace, WrongCharges, WrongIndex}
+use Rattle.packed.specs.declared.reply.Refusal.the-variants.{TooLong, Truncated, OutOfRange, NoSuchNode, DuplicateEdge, NotAscending, IsolatedNode, ZeroCount, Trailing, TooManyPairs, NotContained, NoRoom, Contained, SmallWorkspace, WrongCharges, WrongIndex}
 use Rattle.packed.specs.declared.reply.Reply.{Reply}
 use Rattle.packed.specs.declared.reply.Reply.the-variants as reply-is
 
@@ -14,7 +14,7 @@ numberOf (NoSuchNode d) = 4
 numberOf (DuplicateEdge d) = 5
 numberOf (NotAscending d) = 6
 numberOf (IsolatedNode d) = 7
-numberOf (MixedCounts d) = 8
+numberOf (ZeroCount d) = 8
 numberOf (Trailing d) = 9
 numberOf (TooManyPairs d) = 10
 numberOf (NotContained d) = 11
@@ -34,7 +34,7 @@ detailOf (NoSuchNode d) = d
 detailOf (DuplicateEdge d) = d
 detailOf (NotAscending d) = d
 detailOf (IsolatedNode d) = d
-detailOf (MixedCounts d) = d
+detailOf (ZeroCount d) = d
 detailOf (Trailing d) = d
 detailOf (TooManyPairs d) = d
 detailOf (NotContained d) = d

@@ -5,9 +5,9 @@ use mathlib.Core.List.{List, [], _∷_, _++_}
 use lib.ListN.{length, take, drop, getD}
 use lib.Dec.{leb}
 use Rattle.packed.specs.Bits.{field, gap}
-use Rattle.packed.specs.Limits.{pairsMost, nodesMost, countWidth, pairWidth, workspace, chunkPlace, chunkMost}
+use Rattle.packed.specs.Limits.{pairsMost, nodesMost, leadWidth, countWidth, pairWidth, workspace, chunkPlace, chunkMost}
 use Rattle.packed.specs.Format.{pick}
-use Rattle.packed.specs.Formats.{code}
+use Rattle.packed.specs.Formats.{code, standing}
 use Rattle.packed.specs.Distinct.{Absorbable}
 use Rattle.packed.specs.Contents.{distinct}
 use Rattle.packed.specs.declared.cursor.Extent.{Extent}
@@ -60,24 +60,52 @@ unfoldable pub listsEnd : List ℕ → ℕ → ℕ → ℕ
 listsEnd s at zero = at
 listsEnd s at (suc m) = listsEnd s (listEnd s at) m
 
--- the same with the bits up to the next whole byte
-abbrev pub sheetEnd : List ℕ → ℕ → ℕ → ℕ
-sheetEnd s at m = listsEnd s at m + gap (listsEnd s at m)
+-- the sheet at the bit offset at is a lead and the lists that stand: where they begin, how many of m they are, and where the next whole byte
+-- after them is
+abbrev pub listsFirst : ℕ → ℕ
+listsFirst at = at + leadWidth
 
--- the codes of the sheets of a book
+abbrev pub listsCount : List ℕ → ℕ → ℕ → ℕ
+listsCount s at m = standing (fieldOr s at leadWidth) m
+
+abbrev pub listsLast : List ℕ → ℕ → ℕ → ℕ
+listsLast s at m = listsEnd s (listsFirst at) (listsCount s at m)
+
+abbrev pub sheetEnd : List ℕ → ℕ → ℕ → ℕ
+sheetEnd s at m = listsLast s at m + gap (listsLast s at m)
+
+-- the codes of a sheet, and of the sheets of a book
+abbrev pub sheetPairs : List ℕ → ℕ → ℕ → List ℕ
+sheetPairs s at m = pairsAt s (listsFirst at) (listsCount s at m)
+
 unfoldable pub bookPairs : List ℕ → ℕ → List ℕ → List ℕ
 bookPairs s at [] = []
-bookPairs s at (m ∷ ms) = pairsAt s at m ++ bookPairs s (sheetEnd s at m) ms
+bookPairs s at (m ∷ ms) = sheetPairs s at m ++ bookPairs s (sheetEnd s at m) ms
 
 -- the codes of so many pairs among fields, of which only what a pair's number can hold counts
 unfoldable pub codesFrom : List ℕ → ℕ → ℕ → List ℕ
 codesFrom ws i zero = []
 codesFrom ws i (suc k) = code (getD ws i 0 % nodesMost) (getD ws (i + 1) 0 % nodesMost) ∷ codesFrom ws (i + 2) k
 
--- the codes of so many lists among fields, each with a count of which only what its field can hold counts
+-- the codes of so many lists among fields, each with a count of which only what its field can hold counts; and where they end
+abbrev pub fieldCount : List ℕ → ℕ → ℕ
+fieldCount ws i = getD ws i 0 % 2 ^ countWidth
+
 unfoldable pub pairsFrom : List ℕ → ℕ → ℕ → List ℕ
 pairsFrom ws i zero = []
-pairsFrom ws i (suc m) = codesFrom ws (i + 1) (getD ws i 0 % 2 ^ countWidth) ++ pairsFrom ws (i + (1 + 2 * (getD ws i 0 % 2 ^ countWidth))) m
+pairsFrom ws i (suc m) = codesFrom ws (i + 1) (fieldCount ws i) ++ pairsFrom ws (i + (1 + 2 * fieldCount ws i)) m
+
+unfoldable pub fieldsEnd : List ℕ → ℕ → ℕ → ℕ
+fieldsEnd ws i zero = i
+fieldsEnd ws i (suc m) = fieldsEnd ws (i + (1 + 2 * fieldCount ws i)) m
+
+-- the codes of the sheets of a book among fields, each a lead, of which only what its field can hold counts, and the lists that stand
+abbrev pub fieldsCount : List ℕ → ℕ → ℕ → ℕ
+fieldsCount ws i m = standing (getD ws i 0 % 2 ^ leadWidth) m
+
+unfoldable pub bookPairsFrom : List ℕ → ℕ → List ℕ → List ℕ
+bookPairsFrom ws i [] = []
+bookPairsFrom ws i (m ∷ ms) = pairsFrom ws (i + 1) (fieldsCount ws i m) ++ bookPairsFrom ws (fieldsEnd ws (i + 1) (fieldsCount ws i m)) ms
 
 -- the different codes so far: held of them ascending at the front of the workspace, and a chunk with fill more; once
 -- there are too many, only that is known

@@ -1,9 +1,8 @@
 // The client calls with room to work in: 16,384 words, which are left in any state.
 ghost use mathlib.Core.Path.{_≡_};
-ghost use Prim.Native.Nat.{_+_, _≤_};
+ghost use Prim.Native.Nat.{_≤_};
 ghost use lib.ListN.{length, take, replicate};
 ghost use Rattle.packed.specs.Formats.{sheet, book};
-ghost use Rattle.packed.specs.Contents.{sum};
 ghost use Rattle.packed.specs.ByValue.{Small};
 ghost use Rattle.packed.specs.Refusals.{replyTold};
 ghost use Rattle.packed.specs.OldRecord.{recordSorted};
@@ -206,20 +205,6 @@ pub fn write_sheet(pattern: &[u8], fields: &[u32], out: &mut [u8], work: &mut [u
     write_sheet_of(fields, f.pattern.edges as u32, out)
 }
 
-// How many lists a book for views with so many edges has.
-fn list_count(counts: [u32; 16], k: usize) -> u32
-    requires { ⌜ (k ≤ 16) × Small counts ⌝ }
-    ensures { λ r. ⌜ (r ≡ sum (take k counts)) × (r ≤ 512) ⌝ }
-{
-    let mut total: u32 = 0;
-    let mut j: usize = 0;
-    while j < k {
-        total += counts[j];
-        j += 1;
-    }
-    total
-}
-
 // A book for views with so many edges.
 fn write_book_of(
     fields: &[u32],
@@ -234,7 +219,7 @@ fn write_book_of(
     let p = sheet::judge_book_fields(fields, counts, k, &mut out[0..0]);
     match p {
         Part::Upto(n, _) => {
-            let different = gather::gather_fields(fields, list_count(counts, k), work);
+            let different = gather::gather_fields(fields, counts, k, work);
             if limits::PAIRS_MOST < different {
                 return Reply::Refused(Refusal::TooManyPairs(4));
             }

@@ -1,12 +1,13 @@
-// The cursor over a sheet's lists and a book's sheets: where each list, each pair and the next sheet stand among the bits. A sheet has a list
-// for each edge of its pattern, a list is a count and so many pairs, and each sheet of a book begins on a byte. Nothing is refused here: what
-// the bits end before is taken for zero, so that books are walked which were judged already.
+// The cursor over a sheet's lists and a book's sheets: where each list, each pair and the next sheet stand among the bits. A sheet has a lead,
+// and where that is not 0 a list for each edge of its pattern, a list is a count and so many pairs, and each sheet of a book begins on a byte.
+// Nothing is refused here: what the bits end before is taken for zero, so that books are walked which were judged already.
 ghost use mathlib.Core.Path.{_≡_};
 ghost use Prim.Native.Nat.{_+_, _*_, _/_, _^_, _<_, _≤_};
 ghost use lib.ListN.{length};
 ghost use Rattle.packed.specs.Bits.{gap};
 ghost use Rattle.packed.specs.Limits.{bookMost, pairWidth};
-ghost use Rattle.packed.specs.Walks.{fieldOr, pairPlace, Spans};
+ghost use Rattle.packed.specs.Formats.{standing};
+ghost use Rattle.packed.specs.Walks.{fieldOr, listsCount, pairPlace, Spans};
 use crate::bits;
 use crate::limits;
 
@@ -26,6 +27,22 @@ fn field_or(s: &[u8], at: usize, n: u32) -> u32
         return bits::get_bits(s, at, n);
     }
     0
+}
+
+// How many of the m lists of a sheet stand, by its lead: none after a 0.
+pub(crate) fn standing(lead: u32, m: u32) -> u32
+    ensures { λ r. ⌜ (r ≡ standing lead m) × (r ≤ m) ⌝ }
+{
+    if lead == 0 { 0 } else { m }
+}
+
+// The same of the sheet at a bit offset; they begin behind the lead.
+pub fn lists_at(s: &[u8], at: usize, m: u32) -> u32
+    requires { ⌜ (at < 2 ^ 40) × (length (now s) ≤ bookMost) ⌝ }
+    ensures { λ r. ⌜ (r ≡ listsCount (now (s .entry)) at m) × (r ≤ m) ⌝ }
+{
+    let lead = field_or(s, at, limits::LEAD_WIDTH);
+    standing(lead, m)
 }
 
 // The list at a bit offset.

@@ -5,7 +5,7 @@ ghost use Prim.Native.Nat.{ℕ, _+_, _*_, _^_, _%_, _<_, _≤_};
 ghost use lib.ListN.{length, take, getD};
 ghost use Rattle.packed.specs.ByValue.{Small};
 ghost use Rattle.packed.specs.Limits.{bookMost, countWidth, pairWidth, workspace};
-ghost use Rattle.packed.specs.Walks.{codesAt, pairsAt, listBits, sheetEnd, bookPairs, codesFrom, pairsFrom, Gathering, Gathers, Adds, Different};
+ghost use Rattle.packed.specs.Walks.{codesAt, pairsAt, listBits, listsEnd, sheetPairs, sheetEnd, bookPairs, codesFrom, pairsFrom, fieldsEnd, bookPairsFrom, Gathering, Gathers, Adds, Different};
 use crate::cursor;
 use crate::distinct;
 use crate::limits;
@@ -16,7 +16,7 @@ struct Gather {
     fill: usize,
 }
 
-// A place in the bits of a book, with what was gathered up to it.
+// A place in the bits or the fields of a book, with what was gathered up to it.
 struct Walk {
     at: usize,
     gather: Gather,
@@ -78,10 +78,10 @@ fn gather_pairs(s: &[u8], first: usize, n: usize, work: &mut [u32], g: Gather) -
     sofar
 }
 
-// The pairs of a sheet of m lists, from the bit offset start on, and where the next sheet begins.
-fn gather_sheet(s: &[u8], start: usize, m: u32, work: &mut [u32], g: Gather) -> Walk
-    requires { ⌜ (length (now s) ≤ bookMost) × (start < 2 ^ 30) × (m ≤ 32) × Gathering g (now work) ⌝ }
-    ensures { λ r. ⌜ (r .at ≡ sheetEnd (now (s .entry)) start m) × (r .at ≤ start + listBits * m + 7) × Adds (pairsAt (now (s .entry)) start m) g (now (work .entry)) (r .gather) (now (work .exit)) ⌝ }
+// The pairs of m lists, from the bit offset start on, and where they end.
+fn gather_lists(s: &[u8], start: usize, m: u32, work: &mut [u32], g: Gather) -> Walk
+    requires { ⌜ (length (now s) ≤ bookMost) × (start ≤ 2 ^ 30) × (m ≤ 32) × Gathering g (now work) ⌝ }
+    ensures { λ r. ⌜ (r .at ≡ listsEnd (now (s .entry)) start m) × (r .at ≤ start + listBits * m) × Adds (pairsAt (now (s .entry)) start m) g (now (work .entry)) (r .gather) (now (work .exit)) ⌝ }
 {
     let mut at = start;
     let mut sofar = g;
@@ -92,9 +92,20 @@ fn gather_sheet(s: &[u8], start: usize, m: u32, work: &mut [u32], g: Gather) -> 
         at = l.next;
         left -= 1;
     }
+    Walk { at, gather: sofar }
+}
+
+// The pairs of a sheet for m edges, from the bit offset start on, and where the next sheet begins.
+fn gather_sheet(s: &[u8], start: usize, m: u32, work: &mut [u32], g: Gather) -> Walk
+    requires { ⌜ (length (now s) ≤ bookMost) × (start < 2 ^ 30) × (m ≤ 32) × Gathering g (now work) ⌝ }
+    ensures { λ r. ⌜ (r .at ≡ sheetEnd (now (s .entry)) start m) × (r .at ≤ start + listBits * m + 8) × Adds (sheetPairs (now (s .entry)) start m) g (now (work .entry)) (r .gather) (now (work .exit)) ⌝ }
+{
+    let lists = cursor::lists_at(s, start, m);
+    let w = gather_lists(s, start + limits::LEAD_BITS, lists, work, g);
+    let gather = w.gather;
     Walk {
-        at: cursor::next_sheet(at),
-        gather: sofar,
+        at: cursor::next_sheet(w.at),
+        gather,
     }
 }
 
@@ -141,19 +152,38 @@ fn gather_pair_fields(words: &[u32], first: usize, n: u32, work: &mut [u32], g: 
     sofar
 }
 
-// The different pairs of m lists among fields, ascending at the front of the workspace, and their number.
-pub(crate) fn gather_fields(words: &[u32], m: u32, work: &mut [u32]) -> usize
-    requires { ⌜ (m ≤ 512) × (length (now work) ≡ workspace) ⌝ }
-    ensures { λ r. ⌜ Different (pairsFrom (now (words .entry)) 0 m) r (now (work .exit)) ⌝ }
+// The pairs of m lists among fields, from the word first on, and where they end.
+fn gather_list_fields(words: &[u32], first: usize, m: u32, work: &mut [u32], g: Gather) -> Walk
+    requires { ⌜ (first < 2 ^ 39) × (m ≤ 32) × Gathering g (now work) ⌝ }
+    ensures { λ r. ⌜ (r .at ≡ fieldsEnd (now (words .entry)) first m) × (r .at ≤ first + 32769 * m) × Adds (pairsFrom (now (words .entry)) first m) g (now (work .entry)) (r .gather) (now (work .exit)) ⌝ }
 {
-    let mut i: usize = 0;
-    let mut sofar = no_pairs();
+    let mut at = first;
+    let mut sofar = g;
     let mut left = m;
     while 0 < left {
-        let n = low_at(words, i, limits::COUNT_RANGE);
-        sofar = gather_pair_fields(words, i + 1, n, work, sofar);
-        i += 1 + 2 * n as usize;
+        let n = low_at(words, at, limits::COUNT_RANGE);
+        sofar = gather_pair_fields(words, at + 1, n, work, sofar);
+        at += 1 + 2 * n as usize;
         left -= 1;
+    }
+    Walk { at, gather: sofar }
+}
+
+// The different pairs of a book among fields, whose views have so many edges, ascending at the front of the workspace, and their number.
+pub(crate) fn gather_fields(words: &[u32], counts: [u32; 16], k: usize, work: &mut [u32]) -> usize
+    requires { ⌜ (k ≤ 16) × Small counts × (length (now work) ≡ workspace) ⌝ }
+    ensures { λ r. ⌜ Different (bookPairsFrom (now (words .entry)) 0 (take k counts)) r (now (work .exit)) ⌝ }
+{
+    let mut at: usize = 0;
+    let mut sofar = no_pairs();
+    let mut j: usize = 0;
+    while j < k {
+        let lead = low_at(words, at, limits::LEAD_RANGE);
+        let lists = cursor::standing(lead, counts[j]);
+        let w = gather_list_fields(words, at + 1, lists, work, sofar);
+        at = w.at;
+        sofar = w.gather;
+        j += 1;
     }
     finish(work, sofar)
 }

@@ -97,7 +97,16 @@ pub const EDGE_BITS: usize = 2 * NODE_BITS;
 // Where the labels of a record begin, in bits: behind its two numbers.
 pub const LABELS: usize = NODES_BITS + EDGES_WIDTH as usize;
 
-// A list of a sheet has its count, and two nodes for each pair.
+// A sheet has its lead, and a list for each edge of its pattern where the lead is not 0; a list has its count, and two nodes for each pair.
+pub const LEAD_WIDTH: u32 = 1;
+
+pub const LEAD_BITS: usize = LEAD_WIDTH as usize;
+
+pub const LEAD_BOUND: u64 = 1 << LEAD_WIDTH;
+
+// What a field for a lead can hold stays below this.
+pub const LEAD_RANGE: u32 = 1 << LEAD_WIDTH;
+
 pub const COUNT_WIDTH: u32 = 14;
 
 pub const COUNT_BITS: usize = COUNT_WIDTH as usize;

@@ -7,8 +7,8 @@ ghost use mathlib.Core.List.{List};
 ghost use Rattle.packed.specs.Bits.{bits};
 ghost use Rattle.packed.specs.Format.{encode, ok};
 ghost use Rattle.packed.specs.Formats.{sheet};
-ghost use Rattle.packed.specs.Matches.{matchesOf, Marked, Counts, SheetWritten, Added, CountsWritten, PairPut, scatters, ListsWritten, Listed, anyZero, sumOf};
-ghost use Rattle.packed.specs.Contents.{pairCount, fieldsOf};
+ghost use Rattle.packed.specs.Matches.{matchesOf, Marked, Counts, SheetWritten, Added, CountsWritten, PairPut, scatters, ListsWritten, ListingWritten, Listed, anyZero, sumOf};
+ghost use Rattle.packed.specs.Contents.{pairCount, sheetFields, sheetLength};
 ghost use Rattle.packed.specs.Refusals.{replyTold};
 ghost use Rattle.packed.specs.Calls.{Fulfils, fitFile};
 use crate::bits;
@@ -116,19 +116,22 @@ pub fn listed(work: &[u32], n: usize, m: u32) -> usize
     l.pairs
 }
 
-// How many bytes m lists with such counts take.
+// How many bytes a sheet of m lists with such counts takes.
 fn size_of(c: [u32; 32], m: u32) -> usize
     requires { ⌜ (m ≤ 32) × ((e : ℕ) → getD c e 0 ≤ 8192) ⌝ }
-    ensures { λ r. ⌜ r ≡ (14 * m + 24 * sumOf m c + 7) / 8 ⌝ }
+    ensures { λ r. ⌜ r ≡ sheetLength m (sumOf m c) ⌝ }
 {
-    let t = sum(c, m);
-    cursor::byte_after(limits::COUNT_BITS * m as usize + limits::PAIR_BITS * t as usize)
+    let t = sum(c, m) as usize;
+    if t == 0 {
+        return 1;
+    }
+    cursor::byte_after(limits::LEAD_BITS + limits::COUNT_BITS * m as usize + limits::PAIR_BITS * t)
 }
 
 // How many bytes the sheet for m edges takes.
 pub fn sheet_size(work: &[u32], n: usize, m: u32) -> usize
     requires { ⌜ (m ≤ 32) × (n ≤ 8192) × (16384 ≤ length (now work)) ⌝ }
-    ensures { λ r. ⌜ r ≡ (14 * m + 24 * pairCount (matchesOf n m (now (work .entry))) + 7) / 8 ⌝ }
+    ensures { λ r. ⌜ r ≡ sheetLength m (pairCount (matchesOf n m (now (work .entry)))) ⌝ }
 {
     let l = listing_of(work, n, m);
     let c = l.counts;
@@ -155,7 +158,7 @@ fn write_counts(c: [u32; 32], m: u32, places: &mut [usize; 32], out: &mut [u8]) 
     requires { ⌜ (m ≤ 32) × ((e : ℕ) → getD c e 0 ≤ 8192) × (now places ≡ replicate 32 0) ⌝ }
     ensures { λ r. ⌜ CountsWritten m c (now (out .entry)) (now (places .exit)) r (now (out .exit)) ⌝ }
 {
-    let mut at: usize = 0;
+    let mut at: usize = limits::LEAD_BITS;
     let mut e: usize = 0;
     while e < m as usize {
         let count = c[e];
@@ -198,7 +201,7 @@ fn write_pairs(work: &[u32], n: usize, m: u32, places: &mut [usize; 32], out: &m
     }
 }
 
-// The first m lists, each a count and its pairs; the result is the bit offset after them.
+// The first m lists, each a count and its pairs, behind the lead; the result is the bit offset after them.
 fn write_lists(work: &[u32], n: usize, c: [u32; 32], m: u32, out: &mut [u8]) -> usize
     requires { ⌜ Marked n (now work) × Counts n (now work) c × (m ≤ 32) ⌝ }
     ensures { λ r. ⌜ ListsWritten n m (now (work .entry)) (now (out .entry)) r (now (out .exit)) ⌝ }
@@ -209,6 +212,19 @@ fn write_lists(work: &[u32], n: usize, c: [u32; 32], m: u32, out: &mut [u8]) -> 
     at
 }
 
+// The lead of a sheet with such counts, and its lists where there are pairs; the result is the bit offset after them.
+fn write_listing(work: &[u32], n: usize, c: [u32; 32], m: u32, out: &mut [u8]) -> usize
+    requires { ⌜ Marked n (now work) × Counts n (now work) c × (m ≤ 32) ⌝ }
+    ensures { λ r. ⌜ ListingWritten n m (now (work .entry)) (now (out .entry)) r (now (out .exit)) ⌝ }
+{
+    if sum(c, m) == 0 {
+        bits::put_bits(out, 0, limits::LEAD_WIDTH, 0);
+        return limits::LEAD_BITS;
+    }
+    bits::put_bits(out, 0, limits::LEAD_WIDTH, 1);
+    write_lists(work, n, c, m, out)
+}
+
 // The sheet for m edges goes to the front of out as far as it goes; the result is how many bytes it takes.
 pub fn write_sheet(work: &[u32], n: usize, m: u32, out: &mut [u8]) -> usize
     requires { ⌜ Marked n (now work) × (m ≤ 32) ⌝ }
@@ -216,14 +232,14 @@ pub fn write_sheet(work: &[u32], n: usize, m: u32, out: &mut [u8]) -> usize
 {
     let l = listing_of(work, n, m);
     let c = l.counts;
-    let at = write_lists(work, l.pairs, c, m, out);
+    let at = write_listing(work, l.pairs, c, m, out);
     field::write_padding(out, at)
 }
 
 // The sheet for m edges as an output, whose lists are counted once: 12 where it is too long.
 pub fn give_sheet(work: &[u32], n: usize, m: u32, out: &mut [u8]) -> Reply
     requires { ⌜ Marked n (now work) × (m ≤ 32) ⌝ }
-    ensures { λ r. ⌜ ((bytes : List ℕ) → encode (sheet m) (fieldsOf (matchesOf n m (now (work .entry)))) ≡ ok bytes → Fulfils (fitFile (length (now (out .entry))) bytes) (replyTold r) (now (out .entry)) (now (out .exit))) ⌝ }
+    ensures { λ r. ⌜ ((bytes : List ℕ) → encode (sheet m) (sheetFields (matchesOf n m (now (work .entry)))) ≡ ok bytes → Fulfils (fitFile (length (now (out .entry))) bytes) (replyTold r) (now (out .entry)) (now (out .exit))) ⌝ }
 {
     let l = listing_of(work, n, m);
     let c = l.counts;
@@ -231,7 +247,7 @@ pub fn give_sheet(work: &[u32], n: usize, m: u32, out: &mut [u8]) -> Reply
     if (out.len() < size) | (limits::BOOK_MOST < size) {
         return Reply::Refused(Refusal::NoRoom(size));
     }
-    let at = write_lists(work, l.pairs, c, m, out);
+    let at = write_listing(work, l.pairs, c, m, out);
     field::write_padding(out, at);
     Reply::Done(size)
 }

@@ -18,8 +18,8 @@ pub enum Refusal {
     NotAscending(u32),
     // 7, loose: a pattern's node is at no edge
     IsolatedNode(u32),
-    // 8, uneven: a sheet has zero and nonzero counts
-    MixedCounts(u32),
+    // 8, uneven: a zero count after a 1, found at that count
+    ZeroCount(u32),
     // 9, tail: a padding bit isn't zero, or something follows the last field
     Trailing(u32),
     // 10, crowded: over 8,192 different pairs stand in a book
@@ -80,7 +80,7 @@ pub fn number_of(x: Refusal) -> usize
         Refusal::DuplicateEdge(_) => 5,
         Refusal::NotAscending(_) => 6,
         Refusal::IsolatedNode(_) => 7,
-        Refusal::MixedCounts(_) => 8,
+        Refusal::ZeroCount(_) => 8,
         Refusal::Trailing(_) => 9,
         Refusal::TooManyPairs(_) => 10,
         Refusal::NotContained(_) => 11,
@@ -104,7 +104,7 @@ pub fn detail_of(x: Refusal) -> usize
         Refusal::DuplicateEdge(d) => d as usize,
         Refusal::NotAscending(d) => d as usize,
         Refusal::IsolatedNode(d) => d as usize,
-        Refusal::MixedCounts(d) => d as usize,
+        Refusal::ZeroCount(d) => d as usize,
         Refusal::Trailing(d) => d as usize,
         Refusal::TooManyPairs(d) => d as usize,
         Refusal::NotContained(d) => d as usize,

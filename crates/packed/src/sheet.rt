@@ -3,9 +3,9 @@
 ghost use mathlib.Core.Path.{_≡_};
 ghost use Prim.Native.Nat.{_+_, _*_, _^_, _<_, _≤_};
 ghost use lib.ListN.{length, take};
-ghost use Rattle.packed.specs.Limits.{bookMost, countMost, nodesMost, countWidth, pairWidth};
+ghost use Rattle.packed.specs.Limits.{bookMost, countMost, nodesMost, leadWidth, countWidth, pairWidth};
 ghost use Rattle.packed.specs.Format.{whole, decode, encode};
-ghost use Rattle.packed.specs.Formats.{pairs, sheet, book};
+ghost use Rattle.packed.specs.Formats.{pairs, lists, sheet, book};
 ghost use Rattle.packed.specs.ByValue.{Small};
 ghost use Rattle.packed.specs.Refusals.{numberOf, detailOf};
 ghost use Rattle.packed.specs.Reading.{Stands, ReadsPart, ReadsBytes, Judges};
@@ -58,15 +58,13 @@ fn read_pairs(s: &[u8], start: usize, n: u32, words: &mut [u32], first: usize) -
     Part::Upto(at, i)
 }
 
-// The lists of a sheet for a pattern with m edges.
+// So many lists of a sheet, none of which is empty.
 fn read_lists(s: &[u8], start: usize, m: u32, words: &mut [u32], first: usize) -> Part
     requires { ⌜ Stands (now s) start first ⌝ }
-    ensures { λ r. ⌜ ReadsPart (sheet m) (now (s .entry)) start (now (words .entry)) first 4 r (now (words .exit)) ⌝ }
+    ensures { λ r. ⌜ ReadsPart (lists m) (now (s .entry)) start (now (words .entry)) first 4 r (now (words .exit)) ⌝ }
 {
     let mut at = start;
     let mut i = first;
-    let mut none = false;
-    let mut some = false;
     let mut left = m;
     while 0 < left {
         let f = field::read_field(
@@ -86,20 +84,42 @@ fn read_lists(s: &[u8], start: usize, m: u32, words: &mut [u32], first: usize) -
                 return Part::Refused(x);
             }
         };
+        if n == 0 {
+            return Part::Refused(Refusal::ZeroCount(4));
+        }
         let p = read_pairs(s, at + limits::COUNT_BITS, n, words, i + 1);
         let Part::Upto(next, word) = p else {
             return p;
         };
         at = next;
         i = word;
-        none = none | (n == 0);
-        some = some | (n != 0);
         left -= 1;
     }
-    if none & some {
-        Part::Refused(Refusal::MixedCounts(4))
-    } else {
-        Part::Upto(at, i)
+    Part::Upto(at, i)
+}
+
+// A sheet for a pattern with m edges, up to its padding: its lead, and the lists that stand.
+fn read_listing(s: &[u8], start: usize, m: u32, words: &mut [u32], first: usize) -> Part
+    requires { ⌜ Stands (now s) start first ⌝ }
+    ensures { λ r. ⌜ ReadsPart (sheet m) (now (s .entry)) start (now (words .entry)) first 4 r (now (words .exit)) ⌝ }
+{
+    let f = field::read_field(
+        s,
+        start,
+        limits::LEAD_WIDTH,
+        0,
+        limits::LEAD_BOUND,
+        Refusal::OutOfRange(4),
+        4,
+        words,
+        first,
+    );
+    match f {
+        Field::Value(lead) => {
+            let k = cursor::standing(lead, m);
+            read_lists(s, start + limits::LEAD_BITS, k, words, first + 1)
+        }
+        Field::Refused(x) => Part::Refused(x),
     }
 }
 
@@ -108,7 +128,7 @@ fn read_sheet(s: &[u8], byte: usize, m: u32, words: &mut [u32], first: usize) ->
     requires { ⌜ Stands (now s) (8 * byte) first ⌝ }
     ensures { λ r. ⌜ ReadsBytes (whole (sheet m)) (now (s .entry)) byte (now (words .entry)) first 4 r (now (words .exit)) ⌝ }
 {
-    let p = read_lists(s, 8 * byte, m, words, first);
+    let p = read_listing(s, 8 * byte, m, words, first);
     let Part::Upto(at, i) = p else {
         return p;
     };
@@ -217,15 +237,13 @@ pub(crate) fn write_pairs(
     Part::Upto(at, i)
 }
 
-// The lists of a sheet for a pattern with m edges.
+// So many lists of a sheet, none of which is empty, behind its lead.
 fn write_lists(words: &[u32], first: usize, m: u32, out: &mut [u8]) -> Part
     requires { ⌜ (first ≤ length (now words)) × (m ≤ 32) ⌝ }
-    ensures { λ r. ⌜ WritesPart (sheet m) (now (words .entry)) first (now (out .entry)) 0 ((countWidth + pairWidth * countMost) * m) 4 r (now (out .exit)) ⌝ }
+    ensures { λ r. ⌜ WritesPart (lists m) (now (words .entry)) first (now (out .entry)) leadWidth ((countWidth + pairWidth * countMost) * m) 4 r (now (out .exit)) ⌝ }
 {
     let mut i = first;
-    let mut at: usize = 0;
-    let mut zero = false;
-    let mut nonzero = false;
+    let mut at: usize = limits::LEAD_BITS;
     let mut left = m;
     while 0 < left {
         let f = field::write_field(
@@ -245,6 +263,9 @@ fn write_lists(words: &[u32], first: usize, m: u32, out: &mut [u8]) -> Part
                 return Part::Refused(x);
             }
         };
+        if n == 0 {
+            return Part::Refused(Refusal::ZeroCount(4));
+        }
         let p = write_pairs(
             words,
             i + 1,
@@ -260,14 +281,33 @@ fn write_lists(words: &[u32], first: usize, m: u32, out: &mut [u8]) -> Part
         };
         at = next;
         i = word;
-        zero = zero | (n == 0);
-        nonzero = nonzero | (n != 0);
         left -= 1;
     }
-    if zero & nonzero {
-        Part::Refused(Refusal::MixedCounts(4))
-    } else {
-        Part::Upto(at, i)
+    Part::Upto(at, i)
+}
+
+// A sheet for a pattern with m edges, up to its padding: its lead, and the lists that stand.
+fn write_listing(words: &[u32], first: usize, m: u32, out: &mut [u8]) -> Part
+    requires { ⌜ (first ≤ length (now words)) × (m ≤ 32) ⌝ }
+    ensures { λ r. ⌜ WritesPart (sheet m) (now (words .entry)) first (now (out .entry)) 0 (leadWidth + (countWidth + pairWidth * countMost) * m) 4 r (now (out .exit)) ⌝ }
+{
+    let f = field::write_field(
+        words,
+        first,
+        limits::LEAD_WIDTH,
+        0,
+        limits::LEAD_BOUND,
+        Refusal::OutOfRange(4),
+        4,
+        out,
+        0,
+    );
+    match f {
+        Field::Value(lead) => {
+            let k = cursor::standing(lead, m);
+            write_lists(words, first + 1, k, out)
+        }
+        Field::Refused(x) => Part::Refused(x),
     }
 }
 
@@ -276,7 +316,7 @@ fn write_sheet(words: &[u32], first: usize, m: u32, out: &mut [u8]) -> Part
     requires { ⌜ (first ≤ length (now words)) × (m ≤ 32) ⌝ }
     ensures { λ r. ⌜ WritesBytes (whole (sheet m)) (now (words .entry)) first (now (out .entry)) 0 800000 4 r (now (out .exit)) ⌝ }
 {
-    let p = write_lists(words, first, m, out);
+    let p = write_listing(words, first, m, out);
     let Part::Upto(at, i) = p else {
         return p;
     };

@@ -1,4 +1,4 @@
-// The content of a sheet: for each edge of the pattern the number of its pairs and the pairs.
+// The content of a sheet: 0 where there are no pairs, else 1 and for each edge of the pattern the number of its pairs and the pairs.
 ghost use Prim.Native.Nat.{_+_, _*_, _≤_};
 use crate::graph;
 use crate::simulation;
@@ -88,12 +88,13 @@ fn list_edge(
     end
 }
 
+// The lists from place 1 on: the place after them.
 fn list_edges(pattern: &[u32], codes: &[u32], m: usize, related: &[u8], out: &mut [u32]) -> usize
     requires { ⌜ m ≤ 8192 ⌝ }
 {
     let nodes = graph::pattern_nodes(pattern);
     let edges = graph::pattern_edges(pattern);
-    let mut at: usize = 0;
+    let mut at: usize = 1;
     let mut e: usize = 0;
     while e < edges {
         let u = graph::from(pattern, nodes, e);
@@ -104,7 +105,7 @@ fn list_edges(pattern: &[u32], codes: &[u32], m: usize, related: &[u8], out: &mu
     at
 }
 
-// The lists are empty where a node of the pattern has no partner.
+// There are no pairs where a node of the pattern has no partner.
 pub fn list(
     pattern: &[u32],
     record: &[u32],
@@ -117,8 +118,10 @@ pub fn list(
 {
     let n = graph::record_nodes(record);
     if is_total(pattern, related, n) {
+        graph::put(out, 0, 1);
         list_edges(pattern, codes, m, related, out)
     } else {
-        list_edges(pattern, codes, 0, related, out)
+        graph::put(out, 0, 0);
+        1
     }
 }

@@ -128,3 +128,10 @@ pub fn add_lists(lists: usize, words: &mut [u32], cells: &mut [u64]) {
         i += 1;
     }
 }
+
+// The content becomes that of a sheet: 0 where nothing was found, else 1 and so many lists.
+pub fn sheet(lists: usize, words: &mut [u32], cells: &mut [u64]) {
+    cells::set(cells, cells::CONTENT, 0);
+    add(words, cells, slices::least(lists, 1));
+    add_lists(lists, words, cells);
+}

@@ -22,7 +22,7 @@ fn cell_of(number: usize, detail: usize) -> usize {
     number % 32 * 5 + detail % 5
 }
 
-// Whether a quote is covered, or a sheet lists pairs: its first count has 14 bits.
+// Whether a quote is covered, or a sheet lists pairs, which its first bit says.
 fn is_listing(k: usize, o: Outcome, out: &[u8]) -> bool {
     if o.number != 0 {
         return false;
@@ -30,10 +30,10 @@ fn is_listing(k: usize, o: Outcome, out: &[u8]) -> bool {
     if k == calls::QUOTE {
         return o.value == 1;
     }
-    let count = (slices::byte_at(out, 0) != 0) | (3 < slices::byte_at(out, 1));
+    let lists = 127 < slices::byte_at(out, 0);
     let answer = (k == calls::ANSWER) | (k == calls::ANSWER_FROM);
     let search = (k == calls::SEARCH) | (k == calls::SEARCH_INDEXED) | (k == calls::PLAIN);
-    (answer | search) & count
+    (answer | search) & lists
 }
 
 // A cell of a call's block, in its group and of all groups.

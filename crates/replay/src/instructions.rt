@@ -57,6 +57,9 @@ const PAIRS: usize = 50;
 // The content, which is that of a record, becomes a part, whatever it says.
 const PACK: usize = 51;
 
+// The content becomes that of a sheet of so many lists.
+const SHEET: usize = 52;
+
 // A single call, and a round, of the call that the last five bits say.
 const ONCE: usize = 64;
 
@@ -128,6 +131,7 @@ fn on_content(fd: i32, op: usize, value: usize, words: &mut [u32], cells: &mut [
         LISTS => content::add_lists(value, words, cells),
         FIELDS => content::add_bytes(fd, value, words, cells),
         PAIRS => states::draw_pairs(value, words, cells),
+        SHEET => content::sheet(value, words, cells),
         _ => records::draw(value == 0, words, cells),
     }
 }
@@ -204,7 +208,7 @@ fn act(
         cells::set(cells, op, value);
     } else if (op <= KEEP) | (op == FLIP) | (op == PACK) {
         on_memory(fd, op, value, memory, out, words, cells);
-    } else if (op < FLIP) | (op == FIELDS) | (op == PAIRS) {
+    } else if (op < FLIP) | (op == FIELDS) | (op == PAIRS) | (op == SHEET) {
         on_content(fd, op, value, words, cells);
     } else if op < ONCE {
         on_cells(fd, op, value, memory, out, words, cells);

@@ -18,10 +18,10 @@ pub fn output() -> [u8; 66000]
 }
 
 // The content that a reader gives and a writer takes. A sheet has at most 32 lists of 8,192 pairs.
-pub fn words() -> [u32; 524320]
-    ensures { λ r. ⌜ 524320 ≡ length r ⌝ }
+pub fn words() -> [u32; 524321]
+    ensures { λ r. ⌜ 524321 ≡ length r ⌝ }
 {
-    [0; 524320]
+    [0; 524321]
 }
 
 // More than a call asks for.

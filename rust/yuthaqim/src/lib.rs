@@ -6,7 +6,8 @@
 //! a [`Refusal`], which leaves the output as it was. The words may hold anything before a call. Afterwards the first
 //! [`WORK_WORDS`] of them are zero and those beyond are as they were; on [`DESK`] all of them are.
 //!
-//! Content is a file's fields in order, one word each, padding left out.
+//! Content is a file's fields in order, one word each, padding left out. That of a sheet is 0 alone where nothing was found,
+//! else 1 and then the counts and pairs.
 //!
 //! ```
 //! # fn main() -> Result<(), yuthaqim::Refusal> {
@@ -31,7 +32,7 @@
 //! let length = yuthaqim::answer(&question, &catalogue, book, &mut sheet, &mut work)?;
 //! let mut content = [0; yuthaqim::SHEET_WORDS];
 //! let length = yuthaqim::read_sheet(&question, &sheet[..length], &mut content, &mut work)?;
-//! assert_eq!(content[..length], [1, 0, 1, 1, 0, 1, 1, 1, 2, 1, 1, 2]);
+//! assert_eq!(content[..length], [1, 1, 0, 1, 1, 0, 1, 1, 1, 2, 1, 1, 2]);
 //!
 //! // Any set that covers the question answers it: here the cheapest.
 //! let mut same = [0; yuthaqim::SHEET_BYTES];
@@ -64,7 +65,8 @@ use std::fmt;
 /// The words that every call has to be lent to work in.
 pub const WORK_WORDS: usize = 16_384;
 
-/// The most bytes of each file; an answer is a sheet.
+/// The most bytes of each file; an answer is a sheet. A sheet for nothing found is one byte, 0; else with m links and t pairs
+/// it takes (1 + 14 · m + 24 · t) / 8 bytes, rounded up.
 pub const PATTERN_BYTES: usize = 44;
 pub const CATALOGUE_BYTES: usize = 705;
 pub const RECORD_BYTES: usize = 40_964;
@@ -76,7 +78,7 @@ pub const PATTERN_WORDS: usize = 82;
 pub const CATALOGUE_WORDS: usize = 1_313;
 pub const RECORD_WORDS: usize = 20_482;
 pub const SHEET_WORDS: usize = 43_690;
-pub const BOOK_WORDS: usize = 43_690;
+pub const BOOK_WORDS: usize = 43_701;
 
 /// The most entries of a record's index.
 pub const INDEX_ENTRIES: usize = 4_097;

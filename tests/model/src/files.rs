@@ -293,9 +293,17 @@ fn walk_old_record(walk: &mut Walk) -> Result<Record, Refusal> {
 }
 
 fn walk_sheet(walk: &mut Walk, pattern: &Pattern) -> Result<Sheet, Refusal> {
+    let lead = walk.field(1, 0..=1, COUNT)?;
+    if lead == 0 {
+        walk.padding()?;
+        return Ok(vec![Vec::new(); pattern.links.len()]);
+    }
     let mut lists = Vec::new();
     for _ in &pattern.links {
         let count = walk.field(14, 0..=8_192, COUNT)?;
+        if count == 0 {
+            return walk.refuse(UNEVEN);
+        }
         let mut list: Vec<(u32, u32)> = Vec::new();
         for _ in 0..count {
             let from = walk.field(12, 0..=4_095, COUNT)?;
@@ -308,10 +316,6 @@ fn walk_sheet(walk: &mut Walk, pattern: &Pattern) -> Result<Sheet, Refusal> {
             list.push((from, to));
         }
         lists.push(list);
-    }
-    let empty = lists.iter().filter(|list| list.is_empty()).count();
-    if empty != 0 && empty != lists.len() {
-        return walk.refuse(UNEVEN);
     }
     walk.padding()?;
     Ok(lists)

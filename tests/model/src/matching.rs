@@ -59,9 +59,12 @@ pub fn sheet(pattern: &Pattern, record: &Record) -> Sheet {
     pattern.links.iter().map(listed).collect()
 }
 
-/// A sheet's content: the count and the pairs of each list.
+/// A sheet's content: 0 where nothing was found, else 1 and the count and the pairs of each list.
 pub fn fields(sheet: &Sheet) -> Vec<u32> {
-    let mut fields = Vec::new();
+    if sheet.iter().all(|list| list.is_empty()) {
+        return vec![0];
+    }
+    let mut fields = vec![1];
     for list in sheet {
         fields.push(list.len() as u32);
         for &(from, to) in list {
@@ -127,15 +130,15 @@ mod tests {
 
     #[test]
     fn k6_lists_two_of_three() {
-        let bytes = [0x00, 0x04, 0x00, 0x00, 0x04, 0x00, 0x10, 0x01, 0x00, 0x20];
+        let bytes = [0x80, 0x02, 0x00, 0x00, 0x02, 0x00, 0x08, 0x00, 0x80, 0x10];
         assert_eq!(search(&SLOW, &k6(), ROOM, WORK), Ok(bytes.to_vec()));
-        assert_eq!(listed(&SLOW, &k6()), [1, 0, 1, 1, 1, 2]);
+        assert_eq!(listed(&SLOW, &k6()), [1, 1, 0, 1, 1, 1, 2]);
     }
 
     #[test]
     fn k7_the_greatest_and_not_the_least() {
         let both_ways = record(&[32, 32], &[(0, 1), (1, 0)]);
-        assert_eq!(listed(&pattern(&SELF), &both_ways), [2, 0, 1, 1, 0]);
+        assert_eq!(listed(&pattern(&SELF), &both_ways), [1, 2, 0, 1, 1, 0]);
     }
 
     #[test]
@@ -147,13 +150,14 @@ mod tests {
     #[test]
     fn k9_one_item_for_two() {
         let run = record(&[1, 6, 8], &[(0, 1), (1, 2)]);
-        assert_eq!(listed(&D, &run), [1, 0, 1, 1, 0, 1, 1, 1, 2, 1, 1, 2]);
+        assert_eq!(listed(&D, &run), [1, 1, 0, 1, 1, 0, 1, 1, 1, 2, 1, 1, 2]);
     }
 
     #[test]
     fn k10_an_empty_record() {
         let one = pattern(&[2, 1, 0, 1, 0, 1]);
-        assert_eq!(search(&one, &record(&[], &[]), ROOM, WORK), Ok(vec![0, 0]));
+        assert_eq!(search(&one, &record(&[], &[]), ROOM, WORK), Ok(vec![0]));
+        assert_eq!(search(&one, &record(&[], &[]), 0, WORK), refused(NO_FIT, 1));
     }
 
     #[test]
@@ -199,7 +203,7 @@ mod tests {
         links.sort();
         let full = record(&vec![1; 4_096], &links);
         let three = pattern(&[2, 3, 0, 0, 0, 0, 0, 1, 1, 0]);
-        let length = (3 * 14 + 3 * 8_192 * 24usize).div_ceil(8);
+        let length = (1 + 3 * 14 + 3 * 8_192 * 24usize).div_ceil(8);
         assert_eq!(search(&three, &full, ENOUGH, WORK), refused(NO_FIT, length));
     }
 }

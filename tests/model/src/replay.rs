@@ -55,6 +55,7 @@ const ALL: usize = 48;
 const FIELDS: usize = 49;
 const PAIRS: usize = 50;
 const PACK: usize = 51;
+const SHEET: usize = 52;
 const ONCE: usize = 64;
 const ROUND: usize = 96;
 const CUTS: usize = 128;
@@ -138,7 +139,7 @@ pub const INDEX_PLACE: usize = 118_784;
 
 /// What the program has.
 const MEMORY: usize = 393_216;
-const WORDS: usize = 524_320;
+const WORDS: usize = 524_321;
 const OUTPUT: usize = 66_000;
 const ENTRIES: usize = 33_000;
 
@@ -288,6 +289,21 @@ impl Script {
 
     /// So many lists are added to the content.
     pub fn lists(&mut self, number: usize, lists: Lists) {
+        self.set_lists(lists);
+        self.instruction(LISTS, number);
+        self.add_lists(number, lists);
+    }
+
+    /// The content becomes that of a sheet: 0 where nothing was found, else 1 and so many lists.
+    pub fn sheet(&mut self, number: usize, lists: Lists) {
+        self.set_lists(lists);
+        self.instruction(SHEET, number);
+        self.registers[CONTENT] = 0;
+        self.add(&[number.min(1) as u32]);
+        self.add_lists(number, lists);
+    }
+
+    fn set_lists(&mut self, lists: Lists) {
         for (register, value) in [
             (LEAST, lists.least),
             (MOST, lists.most),
@@ -298,7 +314,9 @@ impl Script {
         ] {
             self.set(register, value);
         }
-        self.instruction(LISTS, number);
+    }
+
+    fn add_lists(&mut self, number: usize, lists: Lists) {
         let mut state = self.registers[SEED] as u32;
         for _ in 0..number {
             self.add(&lists.content(&mut state));

@@ -200,7 +200,7 @@ fn pair(code: usize) -> (u32, u32) {
     (code as u32 / 4_096, code as u32 % 4_096)
 }
 
-/// A sheet of a few pairs; one in eight has none.
+/// A sheet of a few pairs; one in eight is for nothing found.
 fn draw_few(draw: &mut Draw, links: usize, items: usize, most: usize) -> Sheet {
     if draw.one_in(8) {
         return vec![Vec::new(); links];

@@ -217,12 +217,14 @@ impl Test {
         if draw.one_in(2) {
             let pattern = subject.question(draw, 16);
             let sheet = draw_book(draw, subject.size, &[subject.question]);
-            let bytes = file(draw, of_book(&sheet), 2, BOOK_BYTES);
+            let layout = of_book(draw, &sheet, 4);
+            let bytes = file(draw, layout, 2, BOOK_BYTES);
             reply!(self.words, draw, fitted(lent), ReadSheet, files::read_sheet(pattern, bytes))?;
         } else {
             let catalogue = subject.catalogue(draw, 16);
             let book = draw_book(draw, subject.size, &subject.catalogue);
-            let bytes = file(draw, of_book(&book), 2, BOOK_BYTES);
+            let layout = of_book(draw, &book, 4);
+            let bytes = file(draw, layout, 2, BOOK_BYTES);
             reply!(self.words, draw, fitted(lent), ReadBook, files::read_book(catalogue, bytes))?;
         }
         Ok(())
@@ -234,12 +236,14 @@ impl Test {
         if draw.one_in(2) {
             let pattern = subject.question(draw, 16);
             let sheet = draw_book(draw, subject.size, &[subject.question]);
-            let fields = content(draw, of_book(&sheet), 2);
+            let layout = of_book(draw, &sheet, 4);
+            let fields = content(draw, layout, 2);
             reply!(self.bytes, draw, fitted(lent), WriteSheet, files::write_sheet(pattern, fields))?;
         } else {
             let catalogue = subject.catalogue(draw, 16);
             let book = draw_book(draw, subject.size, &subject.catalogue);
-            let fields = content(draw, of_book(&book), 2);
+            let layout = of_book(draw, &book, 4);
+            let fields = content(draw, layout, 2);
             reply!(self.bytes, draw, fitted(lent), WriteBook, files::write_book(catalogue, fields))?;
         }
         Ok(())
@@ -327,7 +331,8 @@ impl Test {
         let question = subject.question(draw, 16);
         let catalogue = subject.catalogue(draw, 16);
         let sheets = draw_book(draw, subject.size, &subject.catalogue);
-        let book = file(draw, of_book(&sheets), 8, BOOK_BYTES);
+        let layout = of_book(draw, &sheets, 16);
+        let book = file(draw, layout, 8, BOOK_BYTES);
         reply!(self.bytes, draw, fitted(lent), Answer, answering::answer(question, catalogue, book))?;
         Ok(())
     }
@@ -341,7 +346,8 @@ impl Test {
         let catalogue = subject.catalogue(draw, 16);
         let set = draw_set(draw, &question, &catalogue);
         let sheets = draw_book(draw, subject.size, &subject.catalogue);
-        let book = file(draw, of_book(&sheets), 8, BOOK_BYTES);
+        let layout = of_book(draw, &sheets, 16);
+        let book = file(draw, layout, 8, BOOK_BYTES);
         let model = |room, work| answering::answer_from(&question, &catalogue, set, &book, room, work);
         let (lent, _) = fitted(draw, lent, model);
         let from = self.from_set(draw, lent, &question, &catalogue, set, &book)?;
@@ -405,7 +411,7 @@ impl Test {
             }
             self.notes.tally.from_sets += 1;
         }
-        if answered.outcome.is_ok_and(|sheet| sheet.iter().any(|&byte| byte != 0)) {
+        if answered.outcome.is_ok_and(|sheet| sheet != [0]) {
             self.notes.tally.with_pairs += 1;
         }
         Ok(())

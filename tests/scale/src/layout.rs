@@ -44,11 +44,36 @@ impl Layout {
         self.padding();
     }
 
-    fn add_sheet(&mut self, sheet: &Sheet) {
+    fn add_lists(&mut self, sheet: &Sheet) {
         for list in sheet {
             self.field(14, list.len() as u32);
             self.pairs(12, list);
         }
+    }
+
+    fn add_sheet(&mut self, sheet: &Sheet) {
+        self.field(1, lists(sheet).into());
+        if lists(sheet) {
+            self.add_lists(sheet);
+        }
+        self.padding();
+    }
+
+    /// The same with the bit in front turned.
+    fn add_turned(&mut self, sheet: &Sheet) {
+        self.field(1, (!lists(sheet)).into());
+        if lists(sheet) {
+            self.add_lists(sheet);
+        }
+        self.padding();
+    }
+
+    /// Lists of which one at least has no pairs, after a 1.
+    fn add_uneven(&mut self, sheet: &Sheet, empty: usize) {
+        let mut sheet = sheet.clone();
+        sheet[empty].clear();
+        self.field(1, 1);
+        self.add_lists(&sheet);
         self.padding();
     }
 
@@ -116,11 +141,29 @@ pub fn of_record(record: &Record) -> Layout {
     layout
 }
 
-/// A book; a lone sheet is a book of one.
-pub fn of_book(sheets: &[Sheet]) -> Layout {
+/// Whether a sheet lists pairs. In a right one either all lists have some or none has.
+fn lists(sheet: &Sheet) -> bool {
+    sheet.iter().any(|list| !list.is_empty())
+}
+
+/// A book; a lone sheet is a book of one. One in so many has a fault that only sheets have: the bit in front of one is turned,
+/// a list after a 1 has no pairs, or a byte follows a sheet for nothing found.
+pub fn of_book(draw: &mut Draw, sheets: &[Sheet], faulty_one_in: usize) -> Layout {
     let mut layout = Layout::default();
-    for sheet in sheets {
-        layout.add_sheet(sheet);
+    let faulty = (!sheets.is_empty() && draw.one_in(faulty_one_in)).then(|| draw.below(sheets.len()));
+    for (i, sheet) in sheets.iter().enumerate() {
+        if faulty != Some(i) {
+            layout.add_sheet(sheet);
+            continue;
+        }
+        match draw.below(3) {
+            0 => layout.add_turned(sheet),
+            1 => layout.add_uneven(sheet, draw.below(sheet.len())),
+            _ => {
+                layout.add_sheet(&vec![Vec::new(); sheet.len()]);
+                layout.field(8, draw.of(&[0, 0, 1, 0x80]));
+            }
+        }
     }
     layout
 }

@@ -100,8 +100,8 @@ fn both_answers(script: &mut Script, rule: &mut Rule, files: &Files) {
     script.round(ANSWER_FROM);
 }
 
-/// A book that may belong to no record, sheet by sheet: a crowded one can't be written whole. One sheet in eight has no
-/// pairs.
+/// A book that may belong to no record, sheet by sheet: a crowded one can't be written whole. One sheet in eight is
+/// for nothing found.
 fn lay_book(script: &mut Script, rule: &mut Rule, files: &Files) {
     let lists = draw_lists(rule, files.extracts.iter().map(|extract| extract.links.len()).sum());
     script.seed(rule.draw(65_536));
@@ -109,11 +109,7 @@ fn lay_book(script: &mut Script, rule: &mut Rule, files: &Files) {
     let patterns: Vec<Vec<u8>> = files.extracts.iter().map(pattern_file).collect();
     for (extract, (start, end)) in files.extracts.iter().zip(places(&patterns)) {
         script.place(QUESTION_PART, start, end);
-        script.set(CONTENT, 0);
-        match rule.draw(8) {
-            0 => script.fields(&vec![0; extract.links.len()]),
-            _ => script.lists(extract.links.len(), lists),
-        }
+        script.sheet(if rule.draw(8) == 0 { 0 } else { extract.links.len() }, lists);
         script.once(WRITE_SHEET);
         script.keep(BOOK_PART);
     }

@@ -65,25 +65,15 @@ const OLD_RECORDS: Faulty = &[
     (TWICE, &[0x00, 0x08, 0x00, 0x40, 0x00, 0x00, 0x00, 0x00, 0x00, 0x00, 0x00, 0x00, 0x00, 0x00]),
     (TAIL, &[0x00, 0x00, 0x00, 0x01]),
 ];
-/// Of D.
-const SHEETS: Faulty = &[
-    (LONG, &[0; BOOK_BYTES + 1]),
-    (SHORT, &[]),
-    (COUNT, &[0x80, 0x04]),
-    (ORDER, &[0x00, 0x08, 0x01, 0x40, 0x00, 0x01, 0x00, 0x24]),
-    (UNEVEN, &[0x00, 0x00, 0x00, 0x10, 0x00, 0x00, 0x00, 0x00, 0x00, 0x00]),
-    (TAIL, &[0; 8]),
-];
-/// Of C, and of its extract 1 alone.
+/// Of D, of C, and of extract 1 of C alone.
 const BOOKS: Faulty = &[
     (LONG, &[0; BOOK_BYTES + 1]),
     (SHORT, &[]),
-    (COUNT, &[0x80, 0x04]),
-    (ORDER, &[0x00, 0x08, 0x01, 0x40, 0x00, 0x01, 0x00, 0x24]),
-    (UNEVEN, &[0x00, 0x00, 0x00, 0x00, 0x00, 0x10, 0x00, 0x00, 0x00]),
-    (TAIL, &[0x00, 0x01]),
+    (COUNT, &[0xc0, 0x02]),
+    (ORDER, &[0x80, 0x04, 0x00, 0xa0, 0x00, 0x00, 0x80, 0x12]),
+    (UNEVEN, &[0x80, 0x00]),
+    (TAIL, &[0x01]),
 ];
-
 /// Of K9: no entry, one less, one more, the first, a middle and the last one other.
 const INDEXES: Faulty = &[
     (INDEX, &[]),
@@ -97,7 +87,6 @@ const INDEXES: Faulty = &[
 fn faulty(call: usize, part: usize) -> Faulty {
     match part {
         BOOK_PART if [CHECK_INDEX, SEARCH_INDEXED].contains(&call) => INDEXES,
-        BOOK_PART if call == READ_SHEET => SHEETS,
         RECORD_PART if call == SORT_RECORD => OLD_RECORDS,
         _ => [PATTERNS, CATALOGUES, RECORDS, BOOKS][part],
     }
@@ -199,14 +188,9 @@ fn zeros(script: &mut Script, call: usize) {
     script.cuts(QUESTION_PART, 1);
 }
 
-/// The content that a writer takes, or the charges: a field for each link of D, of C, or for each extract of it.
+/// The content that a writer takes, of sheets for nothing found, or the charges: a field for each extract of C.
 fn lay_content(script: &mut Script, call: usize) {
-    let fields = match call {
-        WRITE_SHEET => 4,
-        CHEAPEST => 3,
-        _ => 5,
-    };
-    script.content(&[0; 5][..fields]);
+    script.content(&[0; 3][..if call == WRITE_SHEET { 1 } else { 3 }]);
 }
 
 pub fn write(script: &mut Script) {

@@ -28,8 +28,8 @@ fn kind(word: &str) -> Kind {
         "pattern" => (READ_PATTERN, None),
         "catalogue" => (READ_CATALOGUE, None),
         "record" => (READ_RECORD, None),
-        "sheet" | "list" => (READ_SHEET, Some(QUESTION_PART)),
-        "book" | "distinct" | "wide" | "none" | "joined" => (READ_BOOK, Some(CATALOGUE_PART)),
+        "sheet" | "list" | "nothing" => (READ_SHEET, Some(QUESTION_PART)),
+        "book" | "distinct" | "wide" | "words" | "none" | "joined" => (READ_BOOK, Some(CATALOGUE_PART)),
         _ => panic!("no kind: {word}"),
     };
     Kind { read, beside }
@@ -177,6 +177,7 @@ const DISTINCT: [&[(u32, usize)]; 3] =
     [&[(1_639, 0)], &[(1_639, 2_039), (1_638, 4_078)], &[(1_638, 6_117), (0, 8_156)]];
 
 fn distinct_sheet(script: &mut Script, sheet: usize, last: u32) {
+    script.fields(&[1]);
     for &(count, first) in DISTINCT[sheet] {
         list(script, if count == 0 { last } else { count }, first, 10_195);
     }
@@ -186,9 +187,10 @@ fn distinct_sheet(script: &mut Script, sheet: usize, last: u32) {
 fn content(script: &mut Script, name: &str, a: u32, b: u32) -> Kind {
     let kind = kind(name);
     let beside = match name {
-        "list" => ONE.to_vec(),
+        "list" | "nothing" => ONE.to_vec(),
         "sheet" => D.to_vec(),
         "wide" => full_catalogue(),
+        "words" => [&[16 << 3], &ONE.repeat(16)[..]].concat(),
         "none" => vec![0],
         _ => C.to_vec(),
     };
@@ -198,9 +200,14 @@ fn content(script: &mut Script, name: &str, a: u32, b: u32) -> Kind {
         "pattern" => script.fields(&pattern(a, b)),
         "catalogue" => script.fields(&catalogue(a)),
         "record" => record(script, a, b, true),
-        "list" => list(script, a, 0, 1),
-        // With 5,460 pairs in its last list it takes 65,536 bytes.
+        "nothing" => script.fields(&[0]),
+        "list" => {
+            script.fields(&[1]);
+            list(script, a, 0, 1);
+        }
+        // With 5,459 pairs in its last list it takes 65,534 bytes, with one more 65,537.
         "sheet" => {
+            script.fields(&[1]);
             for (count, first) in [(5_461, 0), (5_461, 1_000), (5_461, 2_000), (a, 3_000)] {
                 list(script, count, first, 3_071);
             }
@@ -208,13 +215,30 @@ fn content(script: &mut Script, name: &str, a: u32, b: u32) -> Kind {
         // 8,192 different pairs, each of which stands in several lists. With 4,421 pairs in its last list it takes 65,536
         // bytes.
         "book" => {
-            for (count, first) in [(5_000, 0), (4_000, 4_192), (4_000, 0), (4_421, 3_771), (a, 3_000)] {
-                list(script, count, first * 2_039, 2_039);
+            for lists in [&[(5_000, 0)][..], &[(4_000, 4_192), (4_000, 0)], &[(4_421, 3_771), (a, 3_000)]] {
+                script.fields(&[1]);
+                for &(count, first) in lists {
+                    list(script, count, first * 2_039, 2_039);
+                }
             }
         }
+        // Fifteen sheets of a list each and one for nothing found. With 1,465 pairs in the last list the book takes 65,536 bytes
+        // and has 43,701 words, the most that one can have.
+        "words" => {
+            for i in 0..15 {
+                script.fields(&[1]);
+                list(script, if i == 14 { a } else { 1_455 }, 0, 1);
+            }
+            script.fields(&[0]);
+        }
         "distinct" => (0..3).for_each(|sheet| distinct_sheet(script, sheet, a)),
-        // Lists of one pair each: 512 are a book of 16 full patterns.
-        "wide" => (0..a).for_each(|i| script.fields(&[1, i % 7, i])),
+        // Lists of one pair each: 512 are a book of 16 full patterns, each with the bit in front.
+        "wide" => (0..a).for_each(|i| {
+            if i % 32 == 0 {
+                script.fields(&[1]);
+            }
+            script.fields(&[1, i % 7, i]);
+        }),
         _ => (),
     }
     kind

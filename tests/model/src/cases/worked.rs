@@ -142,7 +142,7 @@ fn chosen_by_the_client(script: &mut Script, name: &str) {
     for set in [0xffff, 0xfffe, 0xfff8] {
         answered_from(script, name, set);
     }
-    script.content(&[1, 0, 3, 1, 0, 1, 2, 1, 2, 3, 4, 1, 0, 1, 1, 1, 5]);
+    script.content(&[1, 1, 0, 3, 1, 1, 0, 1, 2, 1, 2, 3, 4, 1, 1, 0, 1, 1, 1, 5]);
     script.once(WRITE_BOOK);
     keep_as(script, BOOK_PART);
     answered_from(script, "a book of no record", 6);
@@ -263,11 +263,11 @@ fn crowd(script: &mut Script, name: &str, other: u32) {
     script.bytes(QUESTION_PART, &ONE);
     script.bytes(CATALOGUE_PART, &catalogue(&[2, 2, 1, 0, 1, 0, 1, 2, 1, 0, 1, 0, 1]));
     script.empty(BOOK_PART);
-    script.set(CONTENT, 0);
+    script.content(&[1]);
     script.lists(1, Lists { least: BOOK_PAIRS, most: 0, first: 0, step: 2_048, gap: 0, items: 4_096 });
     script.once(WRITE_SHEET);
     script.keep(BOOK_PART);
-    script.content(&[1, 0, other]);
+    script.content(&[1, 1, 0, other]);
     script.once(WRITE_SHEET);
     script.keep(BOOK_PART);
     say(script, &format!("{name}, answer"), ANSWER);

@@ -16,8 +16,8 @@ const SLOW: [u8; 6] = [0x18, 0x40, 0x08, 0xc0, 0x44, 0x80];
 /// Extract 0 of C alone, with one link.
 const ONE: [u8; 4] = [0x10, 0x20, 0x08, 0x08];
 
-const K6_SHEET: [u8; 10] = [0x00, 0x04, 0x00, 0x00, 0x04, 0x00, 0x10, 0x01, 0x00, 0x20];
-const K6_SHEET_FIELDS: [u32; 6] = [1, 0, 1, 1, 1, 2];
+const K6_SHEET: [u8; 10] = [0x80, 0x02, 0x00, 0x00, 0x02, 0x00, 0x08, 0x00, 0x80, 0x10];
+const K6_SHEET_FIELDS: [u32; 7] = [1, 1, 0, 1, 1, 1, 2];
 
 fn no<T>(number: u32, detail: usize) -> Result<T, Refusal> {
     refused(number, detail)
@@ -51,8 +51,11 @@ fn the_known_bytes() {
     assert_eq!(write_catalogue(&C_FIELDS, ROOM, WORK), Ok(C.to_vec()));
     assert_eq!(read_sheet(&SLOW, &K6_SHEET, ROOM, WORK), Ok(K6_SHEET_FIELDS.to_vec()));
     assert_eq!(write_sheet(&SLOW, &K6_SHEET_FIELDS, ROOM, WORK), Ok(K6_SHEET.to_vec()));
-    assert_eq!(read_sheet(&ONE, &[0, 0], ROOM, WORK), Ok(vec![0]));
-    assert_eq!(write_sheet(&ONE, &[0], ROOM, WORK), Ok(vec![0, 0]));
+    for pattern in [&ONE[..], &SLOW, &D] {
+        assert_eq!(read_sheet(pattern, &[0], ROOM, WORK), Ok(vec![0]));
+        assert_eq!(write_sheet(pattern, &[0], ROOM, WORK), Ok(vec![0]));
+        assert_eq!(write_sheet(pattern, &[0], 0, WORK), no(NO_FIT, 1));
+    }
 }
 
 #[test]
@@ -83,7 +86,8 @@ fn a_field_is_read_then_judged() {
     // A record's counts stand before its kinds: 4,096 items that aren't there, and 8,193 links.
     assert_eq!(read_record(&packed(&[(13, 4_096), (14, 8_193)]), ROOM, WORK), no(COUNT, RECORD));
     // A pair's 6 needs its to.
-    assert_eq!(read_sheet(&ONE, &packed(&[(14, 2), (12, 1), (12, 1), (12, 0)]), ROOM, WORK), no(SHORT, BOOK));
+    let pair = packed(&[(1, 1), (14, 2), (12, 1), (12, 1), (12, 0)]);
+    assert_eq!(read_sheet(&ONE, &pair, ROOM, WORK), no(SHORT, BOOK));
 }
 
 #[test]
@@ -180,32 +184,35 @@ fn a_record() {
 #[test]
 fn a_sheet() {
     // The contents of which a value's own fault stands first.
-    assert_eq!(write_sheet(&ONE, &[2, 5, 0, 4, 5_000], ROOM, WORK), no(COUNT, BOOK));
-    assert_eq!(write_sheet(&SLOW, &[0, 1, 0, 5_000], ROOM, WORK), no(COUNT, BOOK));
-    assert_eq!(write_sheet(&ONE, &[2, 5, 0, 4, 4_095], ROOM, WORK), no(ORDER, BOOK));
-    assert_eq!(write_sheet(&ONE, &[2, 5, 0, 5, 0], ROOM, WORK), no(ORDER, BOOK));
-    assert_eq!(write_sheet(&ONE, &[2, 5, 1, 5, 0], ROOM, WORK), no(ORDER, BOOK));
-    assert!(write_sheet(&ONE, &[2, 5, 0, 5, 1], ROOM, WORK).is_ok());
-    assert!(write_sheet(&ONE, &[2, 4, 9, 5, 0], ROOM, WORK).is_ok());
-    assert_eq!(write_sheet(&SLOW, &[0, 1, 0, 0], ROOM, WORK), no(UNEVEN, BOOK));
-    assert_eq!(write_sheet(&SLOW, &[1, 0, 0, 0], ROOM, WORK), no(UNEVEN, BOOK));
-    // A fault in a later list wins over 8.
-    assert_eq!(write_sheet(&SLOW, &[0, 1, 0], ROOM, WORK), no(SHORT, BOOK));
-    assert_eq!(write_sheet(&SLOW, &[0, 8_193], ROOM, WORK), no(COUNT, BOOK));
-    assert_eq!(write_sheet(&SLOW, &[0, 2, 1, 0, 0, 0], ROOM, WORK), no(ORDER, BOOK));
+    assert_eq!(write_sheet(&ONE, &[1, 2, 5, 0, 4, 5_000], ROOM, WORK), no(COUNT, BOOK));
+    assert_eq!(write_sheet(&ONE, &[1, 2, 5, 0, 4, 4_095], ROOM, WORK), no(ORDER, BOOK));
+    assert_eq!(write_sheet(&ONE, &[1, 2, 5, 0, 5, 0], ROOM, WORK), no(ORDER, BOOK));
+    assert_eq!(write_sheet(&ONE, &[1, 2, 5, 1, 5, 0], ROOM, WORK), no(ORDER, BOOK));
+    assert!(write_sheet(&ONE, &[1, 2, 5, 0, 5, 1], ROOM, WORK).is_ok());
+    assert!(write_sheet(&ONE, &[1, 2, 4, 9, 5, 0], ROOM, WORK).is_ok());
     // Each list starts anew.
-    assert!(write_sheet(&SLOW, &[1, 5, 5, 1, 0, 0], ROOM, WORK).is_ok());
+    assert!(write_sheet(&SLOW, &[1, 1, 5, 5, 1, 0, 0], ROOM, WORK).is_ok());
+    // The bit in front.
     assert_eq!(write_sheet(&ONE, &[], ROOM, WORK), no(SHORT, BOOK));
+    assert_eq!(write_sheet(&ONE, &[2], ROOM, WORK), no(COUNT, BOOK));
+    assert_eq!(write_sheet(&ONE, &[u32::MAX, 1, 0, 0], ROOM, WORK), no(COUNT, BOOK));
+    assert_eq!(write_sheet(&ONE, &[1], ROOM, WORK), no(SHORT, BOOK));
     assert_eq!(write_sheet(&ONE, &[0, 0], ROOM, WORK), no(TAIL, BOOK));
-    // 8 stands before the padding.
-    let mut uneven = packed(&[(14, 0), (14, 1), (12, 0), (12, 0), (4, 1)]);
-    assert_eq!(read_sheet(&SLOW, &uneven, ROOM, WORK), no(UNEVEN, BOOK));
-    uneven[2] = 0;
-    uneven[3] = 0;
-    uneven.truncate(4);
-    assert_eq!(read_sheet(&SLOW, &uneven, ROOM, WORK), Ok(vec![0, 0]));
-    assert_eq!(read_sheet(&ONE, &[0, 1], ROOM, WORK), no(TAIL, BOOK));
-    assert_eq!(read_sheet(&ONE, &[0, 0, 0], ROOM, WORK), no(TAIL, BOOK));
+    assert_eq!(write_sheet(&ONE, &[0, 1, 0, 0], ROOM, WORK), no(TAIL, BOOK));
+    assert_eq!(read_sheet(&ONE, &[], ROOM, WORK), no(SHORT, BOOK));
+    assert_eq!(read_sheet(&ONE, &[0x80], ROOM, WORK), no(SHORT, BOOK));
+    for other in 1..128 {
+        assert_eq!(read_sheet(&ONE, &[other], ROOM, WORK), no(TAIL, BOOK));
+    }
+    assert_eq!(read_sheet(&ONE, &[0, 0], ROOM, WORK), no(TAIL, BOOK));
+    // What follows the lists.
+    let mut one = packed(&[(1, 1), (14, 1), (12, 0), (12, 0)]);
+    assert_eq!(read_sheet(&ONE, &one, ROOM, WORK), Ok(vec![1, 1, 0, 0]));
+    one.push(0);
+    assert_eq!(read_sheet(&ONE, &one, ROOM, WORK), no(TAIL, BOOK));
+    one.pop();
+    one[4] |= 1;
+    assert_eq!(read_sheet(&ONE, &one, ROOM, WORK), no(TAIL, BOOK));
     // The pattern stands first.
     assert_eq!(read_sheet(&[0x88], &[0; 65_537], ROOM, WORK), no(COUNT, PATTERN));
     assert_eq!(read_sheet(&[0; 45], &[0, 0], ROOM, WORK), no(LONG, PATTERN));
@@ -214,14 +221,70 @@ fn a_sheet() {
 }
 
 #[test]
+fn a_zero_count_after_a_1() {
+    assert_eq!(write_sheet(&ONE, &[1, 0], ROOM, WORK), no(UNEVEN, BOOK));
+    assert_eq!(write_sheet(&SLOW, &[1, 0, 0], ROOM, WORK), no(UNEVEN, BOOK));
+    assert_eq!(write_sheet(&SLOW, &[1, 0, 1, 0, 0], ROOM, WORK), no(UNEVEN, BOOK));
+    assert_eq!(write_sheet(&SLOW, &[1, 1, 0, 0, 0], ROOM, WORK), no(UNEVEN, BOOK));
+    // It is found at the count: no later fault stands before it, and an earlier one does.
+    assert_eq!(write_sheet(&SLOW, &[1, 0], ROOM, WORK), no(UNEVEN, BOOK));
+    assert_eq!(write_sheet(&SLOW, &[1, 0, 1, 0], ROOM, WORK), no(UNEVEN, BOOK));
+    assert_eq!(write_sheet(&SLOW, &[1, 0, 8_193], ROOM, WORK), no(UNEVEN, BOOK));
+    assert_eq!(write_sheet(&SLOW, &[1, 0, 1, 0, 5_000], ROOM, WORK), no(UNEVEN, BOOK));
+    assert_eq!(write_sheet(&SLOW, &[1, 0, 2, 1, 0, 0, 0], ROOM, WORK), no(UNEVEN, BOOK));
+    assert_eq!(write_sheet(&SLOW, &[1, 2, 1, 0, 0, 0, 0], ROOM, WORK), no(ORDER, BOOK));
+    assert_eq!(write_sheet(&SLOW, &[1, 8_193, 0], ROOM, WORK), no(COUNT, BOOK));
+    assert_eq!(read_sheet(&SLOW, &packed(&[(1, 1), (14, 0)]), ROOM, WORK), no(UNEVEN, BOOK));
+    assert_eq!(read_sheet(&SLOW, &packed(&[(1, 1), (14, 0), (1, 1)]), ROOM, WORK), no(UNEVEN, BOOK));
+    assert_eq!(read_sheet(&SLOW, &packed(&[(1, 1), (14, 0), (14, 0), (3, 1)]), ROOM, WORK), no(UNEVEN, BOOK));
+    let last = packed(&[(1, 1), (14, 1), (12, 0), (12, 0), (14, 0), (3, 1)]);
+    assert_eq!(read_sheet(&SLOW, &last, ROOM, WORK), no(UNEVEN, BOOK));
+}
+
+#[test]
+fn the_size_of_a_sheet() {
+    for (pattern, links) in [(&ONE[..], 1), (&SLOW, 2), (&D, 4)] {
+        for pairs in [1, 2, 3, 100] {
+            let list = |_| [vec![pairs], (0..pairs).flat_map(|i| [0, i]).collect()].concat();
+            let fields = [vec![1], (0..links).flat_map(list).collect()].concat();
+            let length = (1 + 14 * links + 24 * links * pairs as usize).div_ceil(8);
+            assert_eq!(write_sheet(pattern, &fields, ROOM, WORK).unwrap().len(), length);
+        }
+    }
+}
+
+/// A sheet of the form without the bit in front.
+fn old_sheet(lists: &[Vec<(u32, u32)>]) -> Vec<u8> {
+    let mut fields = Vec::new();
+    for list in lists {
+        fields.push((14, list.len() as u32));
+        fields.extend(list.iter().flat_map(|&(from, to)| [(12, from), (12, to)]));
+    }
+    packed(&fields)
+}
+
+/// Sheets of the old form are judged by the new rules.
+#[test]
+fn sheets_as_they_were() {
+    assert_eq!(read_sheet(&SLOW, &old_sheet(&[vec![(0, 1)], vec![(1, 2)]]), ROOM, WORK), no(TAIL, BOOK));
+    assert_eq!(read_sheet(&ONE, &old_sheet(&[vec![]]), ROOM, WORK), no(TAIL, BOOK));
+    // One that is accepted and means something else: its first count, 8,192, is read as the bit and a count of 1.
+    let mut list = vec![(3_071, 0)];
+    list.extend((0..8_190).map(|i| (3_072 + i / 8, 512 * (i % 8))));
+    list.push((4_095, 3_073));
+    let read = read_sheet(&SLOW, &old_sheet(&[list, vec![(4_095, 4_095)]]), ROOM, WORK).unwrap();
+    assert_eq!((read[..2].to_vec(), read[4]), (vec![1, 1], 8_192));
+}
+
+#[test]
 fn a_book() {
     assert_eq!(read_book(&[0], &[], 0, WORK), Ok(vec![]));
     assert_eq!(write_book(&[0], &[], 0, WORK), Ok(vec![]));
     assert_eq!(read_book(&[0], &[0], ROOM, WORK), no(TAIL, BOOK));
     assert_eq!(write_book(&[0], &[0], ROOM, WORK), no(TAIL, BOOK));
-    let fields = [1, 0, 1, 1, 0, 1, 1, 1, 2, 0, 0];
+    let fields = [1, 1, 0, 1, 1, 1, 0, 1, 1, 1, 2, 0];
     let book = write_book(&C, &fields, ROOM, WORK).unwrap();
-    assert_eq!(book.len(), 5 + 10 + 4);
+    assert_eq!(book.len(), 5 + 10 + 1);
     assert_eq!(book[5..15], K6_SHEET);
     assert_eq!(read_book(&C, &book, ROOM, WORK), Ok(fields.to_vec()));
     // Each sheet's padding stands before the next sheet.
@@ -244,13 +307,13 @@ fn twice_one() -> Vec<u8> {
     catalogue
 }
 
-/// Two lists of 4,097 pairs that share `shared`.
+/// Two sheets of a list of 4,097 pairs each that share `shared`.
 fn two_lists(shared: u32) -> Vec<u32> {
-    let mut fields = vec![4_097];
+    let mut fields = vec![1, 4_097];
     for i in 0..4_097 {
         fields.extend([i / 4_096, i % 4_096]);
     }
-    fields.push(4_097);
+    fields.extend([1, 4_097]);
     for i in 4_097 - shared..8_194 - shared {
         fields.extend([i / 4_096, i % 4_096]);
     }
@@ -274,7 +337,9 @@ fn a_crowded_book() {
     let lone = write_pattern(&[1, 2, 0, 0, 0, 0, 0], ROOM, WORK);
     assert_eq!(lone, no(TWICE, PATTERN));
     let two_links = write_pattern(&[2, 2, 0, 0, 0, 1, 1, 0], ROOM, WORK).unwrap();
-    assert!(write_sheet(&two_links, &crowded, ROOM, WORK).is_ok());
+    let mut both = crowded;
+    both.remove(2 + 2 * 4_097);
+    assert!(write_sheet(&two_links, &both, ROOM, WORK).is_ok());
 }
 
 #[test]
@@ -289,14 +354,14 @@ fn room_and_desk() {
     assert_eq!(read_pattern(&[0x88], 0, WORK), no(COUNT, PATTERN));
     // Over 65,536 bytes are 12 however much is lent: 3 lists of 8,192 pairs, counted exactly.
     let pattern = write_pattern(&[2, 3, 0, 0, 0, 0, 0, 1, 1, 0], ROOM, WORK).unwrap();
-    let mut fields = Vec::new();
+    let mut fields = vec![1];
     for _ in 0..3 {
         fields.push(8_192);
         for i in 0..8_192 {
             fields.extend([i / 4_096, i % 4_096]);
         }
     }
-    let length = (14 * 3 + 24 * 3 * 8_192usize).div_ceil(8);
+    let length = (1 + 14 * 3 + 24 * 3 * 8_192usize).div_ceil(8);
     assert_eq!(write_sheet(&pattern, &fields, 1_000_000, WORK), no(NO_FIT, length));
     assert_eq!(length, 73_734);
 }

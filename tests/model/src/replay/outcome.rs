@@ -192,11 +192,11 @@ impl Outcome {
         over(digest, &[self.number, self.value, self.other, self.digest])
     }
 
-    /// Whether a quote is covered, or a sheet lists pairs: its first count has 14 bits.
+    /// Whether a quote is covered, or a sheet lists pairs, which its first bit says.
     pub fn is_listing(&self, call: usize) -> bool {
         match &self.output {
             _ if self.number != 0 => false,
-            Output::Bytes(sheet) if SHEETS.contains(&call) => sheet[0] != 0 || sheet[1] >= 4,
+            Output::Bytes(sheet) if SHEETS.contains(&call) => sheet[0] >= 128,
             _ => call == QUOTE && self.value == 1,
         }
     }

@@ -5,16 +5,10 @@ use Rattle.matching.proofs.BookLaws.{sheeted-by, sheeted-none}
 use Rattle.matching.proofs.calls.match_again.Statement.{statement}
 use Rattle.matching.proofs.calls.match_again.Tie as tie
 
-mul-if1 : tie.Need-mul-if1
-mul-if1 c = search needs
-
-add-if1 : tie.Need-add-if1
-add-if1 c = search needs
-
 returns : tie.Need-returns
 returns c =
-    let pre = c .before .before .before .before .before .before .before .pre in
-    (sheeted-none _ _ _ _ _ (pre .2) (sym (c .if1 .taken) ∙ pre .5), pre .4)
+    let pre = c .before .before .before .before .before .before .pre in
+    (sheeted-none _ _ _ _ _ (pre .2) (sym (pre .5) ∙ c .if1 .taken), pre .4)
 
 match-edges-requires : tie.Need-match-edges-requires
 match-edges-requires c κs = search needs
@@ -37,4 +31,4 @@ returns-2 c =
     (sheeted-by (match-edges .ensures .0), match-edges .ensures .1)
 
 pub match-again-spec : {M : Type 1} → statement M
-match-again-spec = tie.close (tie.spec mul-if1 add-if1 returns match-edges-requires same-length same-length-2 same-length-3 same-length-4 returns-2)
+match-again-spec = tie.close (tie.spec returns match-edges-requires same-length same-length-2 same-length-3 same-length-4 returns-2)

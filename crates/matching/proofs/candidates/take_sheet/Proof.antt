@@ -1,82 +1,35 @@
 -- `matching::candidates::take_sheet` meets its contract.
 use borrow.Author.Needs.{needs}
-use mathlib.Core.Logic.{⊎-elim}
-use Prim.Native.Nat.{_-_}
-use native.Mathlib.Omega.{arith}
-use Rattle.matching.proofs.TakingSheets.{TakingSheet, sheet-start, sheet-list, sheet-more, sheet-end, taken-zero}
+use Rattle.matching.proofs.TakingSheets.{sheet-lists, sheet-end}
 use Rattle.matching.proofs.candidates.take_sheet.Statement.{statement}
 use Rattle.matching.proofs.candidates.take_sheet.Tie as tie
 
-abbrev Inv-loop : tie.InvT-loop
-Inv-loop s start lists t a m work₀ d at₀ f₀ work at f = TakingSheet s start lists t a m d work₀ work at f
+lists-at-requires : tie.Need-lists-at-requires
+lists-at-requires c κs = search needs
 
-abbrev μ-loop : tie.MeasureT-loop
-μ-loop s start lists t a m work₀ d at₀ f₀ work at f = lists - f
+add-take-lists : tie.Need-add-take-lists
+add-take-lists c = search needs
 
-loop-holds : tie.Need-loop-holds Inv-loop μ-loop
-loop-holds c = sheet-start _ _ _ _ _ _ _ _ (c .before .before .pre .2 .begins)
-
-list-at-requires : tie.Need-list-at-requires Inv-loop μ-loop
-list-at-requires c κs =
+take-lists-requires : tie.Need-take-lists-requires
+take-lists-requires c κs =
+    let args = c .before .before .before .before .args in
     let pre = c .before .before .before .before .pre in
-    let loop = c .before .loop in
-    (omega (arith, loop .inv .fits, pre .2 .short), pre .2 .short)
+    let lists-at = c .before .lists-at in
+    (pre .0, pre .1, sheet-lists (args .s .now) (args .start) (args .edges) (lists-at .result) (lists-at .ensures .0) (pre .2))
 
-matched-by-requires : tie.Need-matched-by-requires Inv-loop μ-loop
-matched-by-requires c κs =
-    let pre = c .before .before .before .before .before .pre in
-    let loop-test = c .before .loop-test in
-    (pre .0, omega (arith, loop-test .taken, pre .2 .few), pre .1)
+next-sheet-requires : tie.Need-next-sheet-requires
+next-sheet-requires c κs = search needs
 
-take-list-requires : tie.Need-take-list-requires Inv-loop μ-loop
-take-list-requires c κs =
-    let pre = c .before .before .before .before .before .before .before .before .pre in
-    let loop = c .before .before .before .before .before .loop in
-    let loop-test = c .before .before .before .before .loop-test in
-    let list-at = c .before .before .before .list-at in
-    sheet-list (loop .inv) (pre .2) (loop-test .taken) (list-at .ensures)
+same-length : tie.Need-same-length
+same-length c = search needs
 
-add-f : tie.Need-add-f Inv-loop μ-loop
-add-f c = search needs
-
-loop-less : tie.Need-loop-less Inv-loop μ-loop
-loop-less c = search needs
-
-loop-again : tie.Need-loop-again Inv-loop μ-loop
-loop-again c =
-    let pre = c .before .before .before .before .before .before .before .pre in
-    let loop = c .before .before .before .before .loop in
-    let loop-test = c .before .before .before .loop-test in
-    let list-at = c .before .before .list-at in
-    let matched-by = c .before .matched-by in
-    sheet-more (loop .inv) (pre .2) (loop-test .taken) (list-at .ensures) (matched-by .ensures)
-    (⊎-elim (λ w. rw (w .5) (w .2 .ensures)) (λ w. rw (w .1) (taken-zero _ (w .0 .left))) (c .if1 .came))
-
-next-sheet-requires : tie.Need-next-sheet-requires Inv-loop μ-loop
-next-sheet-requires c κs =
-    let pre = c .before .before .before .before .pre in
-    let loop = c .before .loop in
-    omega (arith, loop .inv .fits, pre .2 .short)
-
-same-length : tie.Need-same-length Inv-loop μ-loop
-same-length c = c .before .before .loop .inv .taken .around .long
-
-returns : tie.Need-returns Inv-loop μ-loop
-returns c = sheet-end (c .before .before .loop .inv) (c .before .loop-test .left) (c .next-sheet .ensures .0)
+returns : tie.Need-returns
+returns c =
+    let args = c .before .before .before .before .before .before .before .before .args in
+    let lists-at = c .before .before .before .before .before .lists-at in
+    let take-lists = c .before .before .before .take-lists in
+    let u = take-lists .ensures in
+    sheet-end (args .s .now) (args .start) (args .edges) (lists-at .result) (lists-at .ensures .0) (u .0) (c .next-sheet .ensures .0) (u .2)
 
 pub take-sheet-spec : {M : Type 1} → statement M
-take-sheet-spec =
-    tie.close
-    (tie.spec
-    Inv-loop
-    μ-loop
-    loop-holds
-    list-at-requires
-    matched-by-requires
-    take-list-requires
-    add-f
-    loop-less
-    loop-again
-    next-sheet-requires
-    same-length
-    returns)
+take-sheet-spec = tie.close (tie.spec lists-at-requires add-take-lists take-lists-requires next-sheet-requires same-length returns)

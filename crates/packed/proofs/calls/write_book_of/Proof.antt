@@ -1,9 +1,7 @@
 -- `packed::calls::write_book_of` meets its contract.
-use mathlib.Core.Path.{ap, _∙_}
 use lib.ListN.{length, take}
 use Rattle.packed.specs.Format.{encode}
 use Rattle.packed.specs.Formats.{book}
-use Rattle.packed.specs.Walks.{pairsFrom}
 use Rattle.packed.specs.Calls.{uncrowdedBy, fitFile}
 use Rattle.packed.specs.declared.reply.Refusal.the-variants.{TooManyPairs}
 use Rattle.packed.proofs.WalkLaws.{field-pairs}
@@ -27,9 +25,6 @@ judge-book-fields-requires c κs = search needs
 enum-known-p : tie.Need-enum-known-p
 enum-known-p c = search needs
 
-list-count-requires : tie.Need-list-count-requires
-list-count-requires c κs = search needs
-
 gather-fields-requires : tie.Need-gather-fields-requires
 gather-fields-requires c κs = search needs
 
@@ -41,16 +36,15 @@ same-length-2 c = search needs
 
 returns : tie.Need-returns
 returns c =
-    let args = c .before .before .before .before .before .before .before .before .before .before .before .before .before .before .before .before .args in
-    let judge-book-fields = c .before .before .before .before .before .before .before .before .before .before .before .judge-book-fields in
-    let p = c .before .before .before .before .before .before .before .p in
-    let list-count = c .before .before .before .before .before .list-count in
+    let args = c .before .before .before .before .before .before .before .before .before .before .before .before .before .before .before .args in
+    let judge-book-fields = c .before .before .before .before .before .before .before .before .before .before .judge-book-fields in
+    let p = c .before .before .before .before .before .before .p in
     let gather-fields = c .before .before .before .gather-fields in
     let a = args in
     let j = judge-book-fields in
     let ms = take (a .k) (a .counts) in
     let q = rw (p .given .1) at (j .ensures) in
-    body-declined (λ o. uncrowdedBy ms (a .fields .now) (fitFile (length (a .out .now)) o)) (accepted-by (write-finds 4 (book ms) (a .fields .now)) (q .is)) (a .out .now) (none-lent (a .out .now) (j .last .1 .1 .1 .0) (j .kept .1 .1 .1 .0)) (TooManyPairs 4) (gathered-many ms (a .fields .now) (gather-fields .ensures) (ap (pairsFrom (a .fields .now) 0) (list-count .ensures .0) ∙ field-pairs ms (a .fields .now) (q .fields) (q .is)) (fitFile (length (a .out .now)) (q .fields)) (c .if1 .taken))
+    body-declined (λ o. uncrowdedBy ms (a .fields .now) (fitFile (length (a .out .now)) o)) (accepted-by (write-finds 4 (book ms) (a .fields .now)) (q .is)) (a .out .now) (none-lent (a .out .now) (j .last .1 .1 .1 .0) (j .kept .1 .1 .1 .0)) (TooManyPairs 4) (gathered-many ms (a .fields .now) (gather-fields .ensures) (field-pairs ms (a .fields .now) (q .fields) (q .is)) (fitFile (length (a .out .now)) (q .fields)) (c .if1 .taken))
 
 same-length-3 : tie.Need-same-length-3
 same-length-3 c = search needs
@@ -60,10 +54,9 @@ same-length-4 c = search needs
 
 returns-2 : tie.Need-returns-2
 returns-2 c =
-    let args = c .before .before .before .before .before .before .before .before .before .before .before .before .before .before .before .before .before .args in
-    let judge-book-fields = c .before .before .before .before .before .before .before .before .before .before .before .before .judge-book-fields in
-    let p = c .before .before .before .before .before .before .before .before .p in
-    let list-count = c .before .before .before .before .before .before .list-count in
+    let args = c .before .before .before .before .before .before .before .before .before .before .before .before .before .before .before .before .args in
+    let judge-book-fields = c .before .before .before .before .before .before .before .before .before .before .before .judge-book-fields in
+    let p = c .before .before .before .before .before .before .before .p in
     let gather-fields = c .before .before .before .before .gather-fields in
     let if1 = c .before .if1 in
     let a = args in
@@ -71,7 +64,7 @@ returns-2 c =
     let ms = take (a .k) (a .counts) in
     let q = rw (p .given .1) at (j .ensures) in
     body-goes-on (λ o. uncrowdedBy ms (a .fields .now) (fitFile (length (a .out .now)) o)) (accepted-by (write-finds 4 (book ms) (a .fields .now)) (q .is))
-    (fitted-tight fitFile-fits (a .out .now) (q .fields) (none-lent (a .out .now) (j .last .1 .1 .1 .0) (j .kept .1 .1 .1 .0)) (gathered-few ms (a .fields .now) (gather-fields .ensures) (ap (pairsFrom (a .fields .now) 0) (list-count .ensures .0) ∙ field-pairs ms (a .fields .now) (q .fields) (q .is)) (fitFile (length (a .out .now)) (q .fields)) (if1 .left)) (q .number) (c .if2 .taken))
+    (fitted-tight fitFile-fits (a .out .now) (q .fields) (none-lent (a .out .now) (j .last .1 .1 .1 .0) (j .kept .1 .1 .1 .0)) (gathered-few ms (a .fields .now) (gather-fields .ensures) (field-pairs ms (a .fields .now) (q .fields) (q .is)) (fitFile (length (a .out .now)) (q .fields)) (if1 .left)) (q .number) (c .if2 .taken))
 
 judge-book-fields-requires-2 : tie.Need-judge-book-fields-requires-2
 judge-book-fields-requires-2 c κs = search needs
@@ -87,10 +80,9 @@ same-length-6 c = search needs
 
 returns-3 : tie.Need-returns-3
 returns-3 c =
-    let args = c .before .before .before .before .before .before .before .before .before .before .before .before .before .before .before .before .before .before .before .before .before .args in
-    let judge-book-fields = c .before .before .before .before .before .before .before .before .before .before .before .before .before .before .before .before .judge-book-fields in
-    let p = c .before .before .before .before .before .before .before .before .before .before .before .before .p in
-    let list-count = c .before .before .before .before .before .before .before .before .before .before .list-count in
+    let args = c .before .before .before .before .before .before .before .before .before .before .before .before .before .before .before .before .before .before .before .before .args in
+    let judge-book-fields = c .before .before .before .before .before .before .before .before .before .before .before .before .before .before .before .judge-book-fields in
+    let p = c .before .before .before .before .before .before .before .before .before .before .before .p in
     let gather-fields = c .before .before .before .before .before .before .before .before .gather-fields in
     let if1 = c .before .before .before .before .before .if1 in
     let if2 = c .before .before .before .before .if2 in
@@ -100,7 +92,7 @@ returns-3 c =
     let ms = take (a .k) (a .counts) in
     let q = rw (p .given .1) at (j .ensures) in
     body-goes-on (λ o. uncrowdedBy ms (a .fields .now) (fitFile (length (a .out .now)) o)) (accepted-by (write-finds 4 (book ms) (a .fields .now)) (q .is))
-    (fitted-given fitFile-fits (a .out .now) (q .fields) (none-lent (a .out .now) (j .last .1 .1 .1 .0) (j .kept .1 .1 .1 .0)) (gathered-few ms (a .fields .now) (gather-fields .ensures) (ap (pairsFrom (a .fields .now) 0) (list-count .ensures .0) ∙ field-pairs ms (a .fields .now) (q .fields) (q .is)) (fitFile (length (a .out .now)) (q .fields)) (if1 .left)) (q .number) (if2 .left)
+    (fitted-given fitFile-fits (a .out .now) (q .fields) (none-lent (a .out .now) (j .last .1 .1 .1 .0) (j .kept .1 .1 .1 .0)) (gathered-few ms (a .fields .now) (gather-fields .ensures) (field-pairs ms (a .fields .now) (q .fields) (q .is)) (fitFile (length (a .out .now)) (q .fields)) (if1 .left)) (q .number) (if2 .left)
     (judges-fields-front (encode (book ms) (a .fields .now)) 4 (judge-book-fields2 .result) (q .fields) _ _ (judge-book-fields2 .ensures) (q .is)))
 
 same-length-7 : tie.Need-same-length-7
@@ -126,7 +118,6 @@ write-book-of-spec =
     part-judge-book-fields-end
     judge-book-fields-requires
     enum-known-p
-    list-count-requires
     gather-fields-requires
     same-length
     same-length-2

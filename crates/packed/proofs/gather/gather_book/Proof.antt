@@ -16,7 +16,7 @@ Inv-loop s k work₀ counts at₀ sofar₀ j₀ work at sofar j =
     Gathers [] sofar₀ work₀
     × Walked (bookPairs s 0 (take k counts)) sofar₀ work₀ (bookPairs s at (drop j (take k counts))) sofar work
     × (j ≤ k)
-    × (at ≤ (32 * listBits + 7) * j)
+    × (at ≤ (32 * listBits + 8) * j)
 
 abbrev μ-loop : tie.MeasureT-loop
 μ-loop s k work₀ counts at₀ sofar₀ j₀ work at sofar j = k - j

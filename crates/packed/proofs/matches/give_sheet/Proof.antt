@@ -1,8 +1,8 @@
 -- `packed::matches::give_sheet` meets its contract.
-use Prim.Native.Nat.{ℕ, _+_, _*_, _/_}
 use mathlib.Core.Path.{refl, ap, _∙_}
 use native.Mathlib.Omega.{arith}
 use borrow.Author.Needs.{needs}
+use Rattle.packed.specs.Contents.{sheetLength}
 use Rattle.packed.proofs.CallLaws.{fitFile-fits, fitted-tight, fitted-given}
 use Rattle.packed.proofs.MatchLaws.{listed-most, listed-marked, counts-few, sum-listed, sheet-written, bytes-number, bytes-front}
 use Rattle.packed.proofs.matches.give_sheet.Statement.{statement}
@@ -27,11 +27,11 @@ returns c =
     let size-of = c .before .size-of in
     let l = listing-of .ensures in
     λ o e. fitted-tight fitFile-fits (args .out .now) o refl refl
-    (size-of .ensures ∙ ap (λ (t : ℕ). (14 * args .m + 24 * t + 7) / 8) (sum-listed _ _ _ _ _ (l .0) (l .1) (pre .1)) ∙ bytes-number _ _ _ (pre .0) e)
+    (size-of .ensures ∙ ap (sheetLength (args .m)) (sum-listed _ _ _ _ _ (l .0) (l .1) (pre .1)) ∙ bytes-number _ _ _ (pre .0) e)
     (c .if1 .taken)
 
-write-lists-requires : tie.Need-write-lists-requires
-write-lists-requires c κs =
+write-listing-requires : tie.Need-write-listing-requires
+write-listing-requires c κs =
     let pre = c .before .before .before .before .before .before .before .pre in
     let listing-of = c .before .before .before .before .listing-of in
     let l = listing-of .ensures in
@@ -51,14 +51,14 @@ returns-2 c =
     let listing-of = c .before .before .before .before .before .before .before .before .before .before .before .listing-of in
     let size-of = c .before .before .before .before .before .before .before .before .before .size-of in
     let if1 = c .before .before .before .before .before .before .before .before .if1 in
-    let write-lists = c .before .before .before .before .before .before .write-lists in
+    let write-listing = c .before .before .before .before .before .before .write-listing in
     let write-padding = c .before .before .write-padding in
     let l = listing-of .ensures in
     let p = write-padding .ensures in
-    let x = sheet-written (pre .0) (l .0) (write-lists .ensures) (p .0) (p .1) (λ j. omega (arith, slice-known .given j)) (λ j. omega (arith, c .slice-known3 .given j)) in
+    let x = sheet-written (pre .0) (l .0) (write-listing .ensures) (p .0) (p .1) (λ j. omega (arith, slice-known .given j)) (λ j. omega (arith, c .slice-known3 .given j)) in
     λ o e. fitted-given fitFile-fits (args .out .now) o refl refl
-    (size-of .ensures ∙ ap (λ (t : ℕ). (14 * args .m + 24 * t + 7) / 8) (sum-listed _ _ _ _ _ (l .0) (l .1) (pre .1)) ∙ bytes-number _ _ _ (pre .0) e)
+    (size-of .ensures ∙ ap (sheetLength (args .m)) (sum-listed _ _ _ _ _ (l .0) (l .1) (pre .1)) ∙ bytes-number _ _ _ (pre .0) e)
     (if1 .left) (bytes-front _ _ _ (pre .0) e x)
 
 pub give-sheet-spec : {M : Type 1} → statement M
-give-sheet-spec = tie.close (tie.spec listing-of-requires size-of-requires returns write-lists-requires write-padding-requires same-length returns-2)
+give-sheet-spec = tie.close (tie.spec listing-of-requires size-of-requires returns write-listing-requires write-padding-requires same-length returns-2)

@@ -1,8 +1,8 @@
 -- `packed::matches::sheet_size` meets its contract.
-use Prim.Native.Nat.{ℕ, _+_, _*_, _/_}
 use mathlib.Core.Path.{ap, _∙_}
 use native.Mathlib.Omega.{arith}
 use borrow.Author.Needs.{needs}
+use Rattle.packed.specs.Contents.{sheetLength}
 use Rattle.packed.proofs.MatchLaws.{listed-most, counts-few, sum-listed}
 use Rattle.packed.proofs.matches.sheet_size.Statement.{statement}
 use Rattle.packed.proofs.matches.sheet_size.Tie as tie
@@ -24,7 +24,7 @@ returns c =
     let pre = c .before .before .before .before .pre in
     let listing-of = c .before .before .listing-of in
     let l = listing-of .ensures in
-    c .size-of .ensures ∙ ap (λ (t : ℕ). (14 * args .m + 24 * t + 7) / 8) (sum-listed _ _ _ _ _ (l .0) (l .1) (pre .0))
+    c .size-of .ensures ∙ ap (sheetLength (args .m)) (sum-listed _ _ _ _ _ (l .0) (l .1) (pre .0))
 
 pub sheet-size-spec : {M : Type 1} → statement M
 sheet-size-spec = tie.close (tie.spec listing-of-requires size-of-requires returns)

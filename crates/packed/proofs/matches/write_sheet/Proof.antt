@@ -8,8 +8,8 @@ use Rattle.packed.proofs.matches.write_sheet.Tie as tie
 listing-of-requires : tie.Need-listing-of-requires
 listing-of-requires c κs = search needs
 
-write-lists-requires : tie.Need-write-lists-requires
-write-lists-requires c κs =
+write-listing-requires : tie.Need-write-listing-requires
+write-listing-requires c κs =
     let pre = c .before .before .before .before .before .pre in
     let listing-of = c .before .before .listing-of in
     let p = pre in
@@ -27,13 +27,13 @@ returns c =
     let pre = c .before .before .before .before .before .before .before .before .before .before .before .before .pre in
     let slice-known = c .before .before .before .before .before .before .before .before .before .before .slice-known in
     let listing-of = c .before .before .before .before .before .before .before .before .before .listing-of in
-    let write-lists = c .before .before .before .before .before .before .write-lists in
+    let write-listing = c .before .before .before .before .before .before .write-listing in
     let write-padding = c .before .before .write-padding in
     let p = write-padding .ensures in
-    sheet-written (pre .0) (listing-of .ensures .0) (write-lists .ensures) (p .0) (p .1)
+    sheet-written (pre .0) (listing-of .ensures .0) (write-listing .ensures) (p .0) (p .1)
     (λ j. omega (arith, slice-known .given j)) (λ j. omega (arith, c .slice-known3 .given j))
 
 pub write-sheet-spec : {M : Type 1} → statement M
 write-sheet-spec =
     tie.close
-    (tie.spec listing-of-requires write-lists-requires write-padding-requires same-length returns)
+    (tie.spec listing-of-requires write-listing-requires write-padding-requires same-length returns)

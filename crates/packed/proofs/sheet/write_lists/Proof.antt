@@ -1,26 +1,26 @@
--- `packed::sheet::write_lists` meets its contract. The invariant: what is left are so many lists, after the counts seen, of at most 196622 bits each.
+-- `packed::sheet::write_lists` meets its contract. The invariant: what is left are so many lists, of at most 196622 bits each.
 use borrow.Author.Needs.{needs}
 use mathlib.Core.Path.{_≡_, refl}
 use native.Mathlib.Omega.{arith}
 use Prim.Native.Nat.{_+_, _*_, _≤_}
 use lib.ListN.{length}
 use lib.Dec.{lit≤}
-use Rattle.packed.specs.Formats.{lists, sheet}
+use Rattle.packed.specs.Formats.{lists}
 use Rattle.packed.specs.Writing.{Writing}
 use Rattle.packed.proofs.WritingLaws.{begins, left-to}
-use Rattle.packed.proofs.Sheets.{sheet-is, count-rejected, list-accepted, list-rejected, lists-accepted, lists-denied}
+use Rattle.packed.proofs.Sheets.{lists-end, count-rejected, count-denied, list-accepted, list-rejected}
 use Rattle.packed.proofs.sheet.write_lists.Statement.{statement}
 use Rattle.packed.proofs.sheet.write_lists.Tie as tie
 
 abbrev Inv-loop : tie.InvT-loop
-Inv-loop words first m out₀ i₀ at₀ none₀ some₀ left₀ out i at none some left =
-    (at + 196622 * left ≤ 196622 * m) × (length out ≡ length out₀) × Writing (sheet m) words first out₀ 0 (lists left none some) i out at
+Inv-loop words first m out₀ i₀ at₀ left₀ out i at left =
+    (at + 196622 * left ≤ 1 + 196622 * m) × (length out ≡ length out₀) × Writing (lists m) words first out₀ 1 (lists left) i out at
 
 abbrev μ-loop : tie.MeasureT-loop
-μ-loop words first m out₀ i₀ at₀ none₀ some₀ left₀ out i at none some left = left
+μ-loop words first m out₀ i₀ at₀ left₀ out i at left = left
 
 loop-holds : tie.Need-loop-holds Inv-loop μ-loop
-loop-holds c = (omega arith, refl, left-to (sheet-is _) (begins (omega arith)))
+loop-holds c = (omega arith, refl, begins (omega arith))
 
 write-field-requires : tie.Need-write-field-requires Inv-loop μ-loop
 write-field-requires c κs =
@@ -46,29 +46,41 @@ returns c =
     let f2 = c .before .f2 in
     let l = loop in
     let p = rw (f2 .given .1) at (write-field .ensures) in
-    count-rejected (l .left) (l .zero) (l .nonzero) (omega (arith, loop-test)) (l .inv .2) p
+    count-rejected (l .left) (omega (arith, loop-test)) (l .inv .2) p
+
+same-length-2 : tie.Need-same-length-2 Inv-loop μ-loop
+same-length-2 c = search needs
+
+returns-2 : tie.Need-returns-2 Inv-loop μ-loop
+returns-2 c =
+    let loop-test = c .before .before .before .before .before .before .before .before .loop-test in
+    let write-field = c .before .before .before .before .before .before .write-field in
+    let f = c .before .before .f in
+    let l = c .before .before .before .before .before .before .before .before .before .loop in
+    let p = rw (f .given .1) at (write-field .ensures) in
+    count-denied (l .left) (omega (arith, loop-test)) (l .inv .2) p (c .if1 .taken)
 
 add-write-pairs : tie.Need-add-write-pairs Inv-loop μ-loop
 add-write-pairs c =
-    let good = c .before .before .before .before .before .before .before .before .before .before .before .good in
-    let write-field = c .before .before .before .before .before .write-field in
-    let f = c .before .f in
+    let good = c .before .before .before .before .before .before .before .before .before .before .before .before .good in
+    let write-field = c .before .before .before .before .before .before .write-field in
+    let f = c .before .before .f in
     let p = rw (f .given .1) at (write-field .ensures) in
     omega (arith, p .there, good)
 
 add-write-pairs-2 : tie.Need-add-write-pairs-2 Inv-loop μ-loop
 add-write-pairs-2 c =
-    let pre = c .before .before .before .before .before .before .before .before .before .before .before .before .pre in
-    let loop = c .before .before .before .before .before .before .before .before .before .loop in
+    let pre = c .before .before .before .before .before .before .before .before .before .before .before .before .before .pre in
+    let loop = c .before .before .before .before .before .before .before .before .before .before .loop in
     let l = loop in
     omega (arith, l .inv .0, pre)
 
 write-pairs-requires : tie.Need-write-pairs-requires Inv-loop μ-loop
 write-pairs-requires c κs =
-    let pre = c .before .before .before .before .before .before .before .before .before .before .before .before .pre in
-    let loop = c .before .before .before .before .before .before .before .before .before .loop in
-    let write-field = c .before .before .before .before .before .before .write-field in
-    let f = c .before .before .f in
+    let pre = c .before .before .before .before .before .before .before .before .before .before .before .before .before .pre in
+    let loop = c .before .before .before .before .before .before .before .before .before .before .loop in
+    let write-field = c .before .before .before .before .before .before .before .write-field in
+    let f = c .before .before .before .f in
     let l = loop in
     let p = rw (f .given .1) at (write-field .ensures) in
     (omega (arith, p .there), omega (arith, p .most), omega arith, refl, omega (arith, l .inv .0, pre))
@@ -79,20 +91,21 @@ enum-known-p c = search needs
 enum-told : tie.Need-enum-told Inv-loop μ-loop
 enum-told c = search needs
 
-same-length-2 : tie.Need-same-length-2 Inv-loop μ-loop
-same-length-2 c = search needs
+same-length-3 : tie.Need-same-length-3 Inv-loop μ-loop
+same-length-3 c = search needs
 
-returns-2 : tie.Need-returns-2 Inv-loop μ-loop
-returns-2 c =
-    let loop = c .before .before .before .before .before .before .before .before .before .before .before .before .before .before .loop in
-    let loop-test = c .before .before .before .before .before .before .before .before .before .before .before .before .before .loop-test in
-    let write-field = c .before .before .before .before .before .before .before .before .before .before .before .write-field in
-    let f = c .before .before .before .before .before .before .before .f in
+returns-3 : tie.Need-returns-3 Inv-loop μ-loop
+returns-3 c =
+    let if1 = c .before .before .before .before .before .before .if1 in
+    let loop = c .before .before .before .before .before .before .before .before .before .before .before .before .before .before .before .loop in
+    let loop-test = c .before .before .before .before .before .before .before .before .before .before .before .before .before .before .loop-test in
+    let write-field = c .before .before .before .before .before .before .before .before .before .before .before .before .write-field in
+    let f = c .before .before .before .before .before .before .before .before .f in
     let write-pairs = c .before .before .before .before .write-pairs in
     let l = loop in
     let p = rw (f .given .1) at (write-field .ensures) in
     let e = c .enum-told .given .1 in
-    rw e (list-rejected (l .left) (l .zero) (l .nonzero) (omega (arith, loop-test)) (l .inv .2) p (rw e at (write-pairs .ensures)))
+    rw e (list-rejected (l .left) (omega (arith, loop-test)) (l .inv .2) p (if1 .left) (rw e at (write-pairs .ensures)))
 
 sub-left : tie.Need-sub-left Inv-loop μ-loop
 sub-left c = search needs
@@ -102,10 +115,11 @@ loop-less c = search needs
 
 loop-again : tie.Need-loop-again Inv-loop μ-loop
 loop-again c =
-    let loop = c .before .before .before .before .before .before .before .before .before .before .before .before .before .before .before .loop in
-    let loop-test = c .before .before .before .before .before .before .before .before .before .before .before .before .before .before .loop-test in
-    let write-field = c .before .before .before .before .before .before .before .before .before .before .before .before .write-field in
-    let f = c .before .before .before .before .before .before .before .before .f in
+    let if1 = c .before .before .before .before .before .before .before .if1 in
+    let loop = c .before .before .before .before .before .before .before .before .before .before .before .before .before .before .before .before .loop in
+    let loop-test = c .before .before .before .before .before .before .before .before .before .before .before .before .before .before .before .loop-test in
+    let write-field = c .before .before .before .before .before .before .before .before .before .before .before .before .before .write-field in
+    let f = c .before .before .before .before .before .before .before .before .before .f in
     let write-pairs = c .before .before .before .before .before .write-pairs in
     let at-p = c .before .p in
     let l = loop in
@@ -113,24 +127,16 @@ loop-again c =
     let q = rw (at-p .given .1) at (write-pairs .ensures) in (
       omega (arith, l .inv .0, p .most, q .1, loop-test),
       omega (arith, l .inv .1, write-field .kept, write-pairs .kept),
-      list-accepted (l .left) (l .zero) (l .nonzero) (omega (arith, loop-test)) (l .inv .2) p (q .0),
+      list-accepted (l .left) (omega (arith, loop-test)) (l .inv .2) p (if1 .left) (q .0),
     )
-
-same-length-3 : tie.Need-same-length-3 Inv-loop μ-loop
-same-length-3 c = search needs
-
-returns-3 : tie.Need-returns-3 Inv-loop μ-loop
-returns-3 c =
-    let l = c .before .before .loop in
-    lists-denied (l .left) (l .zero) (l .nonzero) (omega (arith, c .before .loop-test)) (l .inv .2) (c .if1 .taken)
 
 same-length-4 : tie.Need-same-length-4 Inv-loop μ-loop
 same-length-4 c = search needs
 
 returns-4 : tie.Need-returns-4 Inv-loop μ-loop
 returns-4 c =
-    let l = c .before .before .loop in
-    (lists-accepted (l .left) (l .zero) (l .nonzero) (omega (arith, c .before .loop-test)) (l .inv .2) (c .if1 .left), omega (arith, l .inv .0))
+    let l = c .before .loop in
+    (left-to (lists-end (l .left) (omega (arith, c .loop-test))) (l .inv .2), omega (arith, l .inv .0))
 
 pub write-lists-spec : {M : Type 1} → statement M
 write-lists-spec =
@@ -144,17 +150,17 @@ write-lists-spec =
     enum-known-f-2
     same-length
     returns
+    same-length-2
+    returns-2
     add-write-pairs
     add-write-pairs-2
     write-pairs-requires
     enum-known-p
     enum-told
-    same-length-2
-    returns-2
+    same-length-3
+    returns-3
     sub-left
     loop-less
     loop-again
-    same-length-3
-    returns-3
     same-length-4
     returns-4)

@@ -9,8 +9,8 @@ use borrow.Author.Needs.{needs}
 use Rattle.packed.proofs.sheet.write_sheet.Statement.{statement}
 use Rattle.packed.proofs.sheet.write_sheet.Tie as tie
 
-write-lists-requires : tie.Need-write-lists-requires
-write-lists-requires c κs = search needs
+write-listing-requires : tie.Need-write-listing-requires
+write-listing-requires c κs = search needs
 
 enum-known-p : tie.Need-enum-known-p
 enum-known-p c = search needs
@@ -25,16 +25,16 @@ returns : tie.Need-returns
 returns c =
     let args = c .before .before .before .before .before .before .before .before .args in
     let pre = c .before .before .before .before .before .before .before .before .pre in
-    let write-lists = c .before .before .before .before .write-lists in
+    let write-listing = c .before .before .before .before .write-listing in
     let e = c .enum-told .given .1 in
-    rw e (whole-rejected (sheet (args .m)) (pre .0) (rw e at (write-lists .ensures)))
+    rw e (whole-rejected (sheet (args .m)) (pre .0) (rw e at (write-listing .ensures)))
 
 write-padding-requires : tie.Need-write-padding-requires
 write-padding-requires c κs =
     let pre = c .before .before .before .before .before .before .before .before .before .before .pre in
-    let write-lists = c .before .before .before .before .before .before .write-lists in
+    let write-listing = c .before .before .before .before .before .before .write-listing in
     let p = c .before .before .p in
-    let q = rw (p .given .1) at (write-lists .ensures) in
+    let q = rw (p .given .1) at (write-listing .ensures) in
     omega (arith, q .1, pre .1)
 
 same-length-2 : tie.Need-same-length-2
@@ -44,10 +44,10 @@ returns-2 : tie.Need-returns-2
 returns-2 c =
     let args = c .before .before .before .before .before .before .before .before .before .before .before .before .before .args in
     let pre = c .before .before .before .before .before .before .before .before .before .before .before .before .before .pre in
-    let write-lists = c .before .before .before .before .before .before .before .before .before .write-lists in
+    let write-listing = c .before .before .before .before .before .before .before .before .before .write-listing in
     let at-p = c .before .before .before .before .before .p in
     let write-padding = c .before .before .write-padding in
-    let q = rw (at-p .given .1) at (write-lists .ensures) in
+    let q = rw (at-p .given .1) at (write-listing .ensures) in
     let p = write-padding .ensures in
     (same-to refl (sym (p .0)) (fills (p .1) (whole-accepted (sheet (args .m)) (pre .0) (q .0))), omega (arith, q .1, pre .1, p .0, gap-small (at-p .given .0 .0)))
 
@@ -55,7 +55,7 @@ pub write-sheet-spec : {M : Type 1} → statement M
 write-sheet-spec =
     tie.close
     (tie.spec
-    write-lists-requires
+    write-listing-requires
     enum-known-p
     enum-told
     same-length

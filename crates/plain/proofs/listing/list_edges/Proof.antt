@@ -1,5 +1,5 @@
 -- `plain::listing::list_edges` is safe and ends, and meets its contract.
-use Prim.Native.Nat.{_*_, _-_, _≤_}
+use Prim.Native.Nat.{_+_, _*_, _-_, _≤_}
 use mathlib.Core.Path.{_≡_}
 use lib.ListN.{length}
 use borrow.Author.Needs.{needs}
@@ -7,7 +7,7 @@ use Rattle.plain.proofs.listing.list_edges.Statement.{statement}
 use Rattle.plain.proofs.listing.list_edges.Tie as tie
 
 abbrev Inv-loop : tie.InvT-loop
-Inv-loop pattern codes m related out₀ nodes edges at₀ e₀ out at e = (length out ≡ length out₀) × (e ≤ edges) × (at ≤ 16385 * e)
+Inv-loop pattern codes m related out₀ nodes edges at₀ e₀ out at e = (length out ≡ length out₀) × (e ≤ edges) × (at ≤ 1 + 16385 * e)
 
 abbrev μ-loop : tie.MeasureT-loop
 μ-loop pattern codes m related out₀ nodes edges at₀ e₀ out at e = edges - e

@@ -6,7 +6,7 @@ use Rattle.replay.proofs.memory.words.Statement.{statement}
 use Rattle.replay.proofs.memory.words.Tie as tie
 
 returns : tie.Need-returns
-returns c = sym (length-replicate {A = ℕ} 524320 0)
+returns c = sym (length-replicate {A = ℕ} 524321 0)
 
 pub words-spec : {M : Type 1} → statement M
 words-spec = tie.close (tie.spec returns)
