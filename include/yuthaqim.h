@@ -20,9 +20,9 @@
  * before a call. Afterwards the first YUTHAQIM_WORK_WORDS of them are zero and those beyond are as they were; on
  * YUTHAQIM_DESK all of them are as they were.
  *
- * The stack, as measured on large files: answering 93,836 bytes, making a book 87,400, searching 86,616, by an index
- * 77,928, quoting 47,148, the cheapest set 43,276, showing 43,180, reading a book 4,792, writing one 4,552, reading and
- * writing a record, making and checking an index under 2,500, the others under 1,500. So 96 KB suffice.
+ * The stack, as measured on large files: answering 88,184 bytes, making a book 87,128, searching 86,344, sorting an old
+ * record 84,328, searching by an index 77,944, quoting 21,172, the cheapest set 17,300, showing 17,204, reading a book
+ * 4,792, writing one 4,616, the others under 1,500. So 96 KB suffice.
  *
  * Content is a file's fields in order, one word each, padding left out. That of a sheet is 0 alone where nothing was
  * found, else 1 and then the counts and pairs.
