@@ -20,12 +20,13 @@
  * before a call. Afterwards the first YUTHAQIM_WORK_WORDS of them are zero and those beyond are as they were; on
  * YUTHAQIM_DESK all of them are as they were.
  *
- * The stack, as measured on large files: answering 88,184 bytes, making a book 87,128, searching 86,344, sorting an old
- * record 84,328, searching by an index 77,944, quoting 21,172, the cheapest set 17,300, showing 17,204, reading a book
- * 4,792, writing one 4,616, the others under 1,500. So 96 KB suffice.
+ * The stack, as measured on large files: sorting an old record 117,096 bytes, answering 88,408, making a book 88,056,
+ * searching 86,680, searching by an index 78,280, quoting 22,436, the cheapest set 18,564, showing 18,468, reading a book
+ * 2,760, writing one 2,568, the others under 1,900. So 128 KB suffice.
  *
- * Content is a file's fields in order, one word each, padding left out. That of a sheet is 0 alone where nothing was
- * found, else 1 and then the counts and pairs.
+ * Content is a file's fields in order, one word each, padding left out. That of a pattern or a record is the number of
+ * items, the number of links, the kind of each item or in a record its kinds, and for each link its from, its to and its
+ * kind, which is 0 to 7. That of a sheet is 0 alone where nothing was found, else 1 and then the counts and pairs.
  */
 #ifndef YUTHAQIM_H
 #define YUTHAQIM_H
@@ -41,17 +42,18 @@ extern "C" {
 #define YUTHAQIM_WORK_WORDS 16384
 
 /* The most bytes of each file; an answer is a sheet. A sheet for nothing found is one byte, 0; else with m links and t
- * pairs it takes (1 + 14 m + 24 t) / 8 bytes, rounded up. */
-#define YUTHAQIM_PATTERN_BYTES 44
-#define YUTHAQIM_CATALOGUE_BYTES 705
-#define YUTHAQIM_RECORD_BYTES 40964
+ * pairs it takes (1 + 14 m + 24 t) / 8 bytes, rounded up. An old record is one that yuthaqim_sort_record reads. */
+#define YUTHAQIM_PATTERN_BYTES 56
+#define YUTHAQIM_CATALOGUE_BYTES 897
+#define YUTHAQIM_RECORD_BYTES 44036
+#define YUTHAQIM_OLD_RECORD_BYTES 40964
 #define YUTHAQIM_SHEET_BYTES 65536
 #define YUTHAQIM_BOOK_BYTES 65536
 
 /* The most words of its content: who lends a reader so many never meets YUTHAQIM_NO_FIT. */
-#define YUTHAQIM_PATTERN_WORDS 82
-#define YUTHAQIM_CATALOGUE_WORDS 1313
-#define YUTHAQIM_RECORD_WORDS 20482
+#define YUTHAQIM_PATTERN_WORDS 114
+#define YUTHAQIM_CATALOGUE_WORDS 1825
+#define YUTHAQIM_RECORD_WORDS 28674
 #define YUTHAQIM_SHEET_WORDS 43690
 #define YUTHAQIM_BOOK_WORDS 43701
 
@@ -63,11 +65,13 @@ extern "C" {
 enum {
     YUTHAQIM_LONG = 1,       /* long: a file is over its most bytes */
     YUTHAQIM_SHORT = 2,      /* short: its bits, or a writer's words, end before a field does */
-    YUTHAQIM_COUNT = 3,      /* count: a count lies outside its range; for a writer also a kind or a pair's number */
+    YUTHAQIM_COUNT = 3,      /* count: a count lies outside its range; for a writer also an item's or a link's kind, or a
+                              * pair's number */
     YUTHAQIM_STRAY = 4,      /* stray: a link's end is not an item of its file */
-    YUTHAQIM_TWICE = 5,      /* twice: a pattern link repeats an earlier one; so does a link of an old record, where
-                              * one is sorted */
-    YUTHAQIM_ORDER = 6,      /* order: a record's link or a sheet's pair doesn't exceed the one before, by from, then to */
+    YUTHAQIM_TWICE = 5,      /* twice: a pattern link repeats an earlier one, from, to and kind; so does a link of an old
+                              * record, from and to, where one is sorted */
+    YUTHAQIM_ORDER = 6,      /* order: a record's link doesn't exceed the one before, by from, then to, then kind, or a
+                              * sheet's pair by from, then to */
     YUTHAQIM_LOOSE = 7,      /* loose: a pattern item is at no link */
     YUTHAQIM_UNEVEN = 8,     /* uneven: a count is zero in a sheet that begins with a 1 */
     YUTHAQIM_TAIL = 9,       /* tail: a padding bit isn't zero, or bytes or words follow */
@@ -169,13 +173,15 @@ struct yuthaqim_reply yuthaqim_write_book(const uint8_t *catalogue, size_t catal
                                           size_t fields_length, uint8_t *out, size_t out_length, uint32_t *work,
                                           size_t work_length);
 
-/* Writes the record of a file that was stored before links had an order, with its links ascending by from, then to: the
- * same items, the same links and the same sheets. The file is read by the rules of then: its links in any order,
- * YUTHAQIM_TWICE for one that repeats an earlier one, and never YUTHAQIM_ORDER. */
+/* Writes the record of a file that was stored before links had kinds, or even an order: the same items, and the same
+ * links, ascending, each with kind 0. Patterns whose links all have kind 0 have the same sheets. The file is read by the
+ * rules of then: at most YUTHAQIM_OLD_RECORD_BYTES, a from and a to for each link, in any order, YUTHAQIM_TWICE for one
+ * that repeats an earlier one, and never YUTHAQIM_ORDER. */
 struct yuthaqim_reply yuthaqim_sort_record(const uint8_t *old, size_t old_length, uint8_t *out, size_t out_length,
                                            uint32_t *work, size_t work_length);
 
-/* Searches a record for a pattern: writes the pattern's sheet. */
+/* Searches a record for a pattern: writes the pattern's sheet. A link of the pattern is met by links of the record of its
+ * own kind alone; the sheet lists pairs, since the link of the pattern gives the kind. */
 struct yuthaqim_reply yuthaqim_search(const uint8_t *pattern, size_t pattern_length, const uint8_t *record,
                                       size_t record_length, uint8_t *out, size_t out_length, uint32_t *work,
                                       size_t work_length);
@@ -199,7 +205,8 @@ struct yuthaqim_reply yuthaqim_make_book(const uint8_t *catalogue, size_t catalo
                                          size_t record_length, uint8_t *out, size_t out_length, uint32_t *work,
                                          size_t work_length);
 
-/* Quotes a question with a catalogue. It has no output, and uncovered is one of its results: it never gives 11 or 12. */
+/* Quotes a question with a catalogue: a link of an extract matches links of the question of its own kind alone. It has no
+ * output, and uncovered is one of its results: it never gives 11 or 12. */
 struct yuthaqim_quote yuthaqim_quote(const uint8_t *question, size_t question_length, const uint8_t *catalogue,
                                      size_t catalogue_length, uint32_t *work, size_t work_length);
 
@@ -225,8 +232,8 @@ struct yuthaqim_reply yuthaqim_answer_from(const uint8_t *question, size_t quest
                                            size_t work_length);
 
 /* Shows why a question is uncovered: writes the question read as a record, and the same without its lowest unmatched
- * link, which is the lowest by its number in the question; the links of both records ascend. Every extract lists the same
- * on both, the question doesn't. */
+ * link, which is the lowest by its number in the question; a link between the same items of another kind stays. The links
+ * of both records ascend. Every extract lists the same on both, the question doesn't. */
 struct yuthaqim_showing yuthaqim_show_uncovered(const uint8_t *question, size_t question_length,
                                                 const uint8_t *catalogue, size_t catalogue_length, uint8_t *first,
                                                 size_t first_length, uint8_t *second, size_t second_length,

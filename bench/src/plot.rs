@@ -10,8 +10,8 @@ const CORNER: (f64, f64) = (62.0, 34.0);
 const DIAGRAM: (f64, f64) = (220.0, 206.0);
 const LEGEND: f64 = 84.0;
 
-const COLOURS: [&str; 9] =
-    ["#0072b2", "#e69f00", "#d55e00", "#009e73", "#666666", "#cc79a7", "#5e3c99", "#56b4e9", "#8c6d31"];
+const COLOURS: [&str; 10] =
+    ["#0072b2", "#e69f00", "#d55e00", "#009e73", "#666666", "#cc79a7", "#5e3c99", "#56b4e9", "#8c6d31", "#8b0000"];
 
 /// A diagram's scales.
 struct Scale {

@@ -2,6 +2,7 @@
 //! changed tells how deep it went. What the caller's own frame takes is counted too: some hundred bytes, for a quote the
 //! struct that it gives.
 
+use crate::baseline::Writer;
 use crate::calls::Files;
 use std::arch::asm;
 use std::hint::black_box;
@@ -39,6 +40,20 @@ fn depth(mut job: Job) -> usize {
     top - bottom - untouched
 }
 
+/// A record by its content as it was stored before links had kinds: those between the same items are one.
+fn old_record(content: &[u32]) -> Vec<u8> {
+    let (kinds, links) = content[2..].split_at(content[0] as usize);
+    let mut links: Vec<&[u32]> = links.chunks(3).collect();
+    links.dedup_by_key(|link| (link[0], link[1]));
+    let mut writer = Writer::default();
+    writer.field(13, content[0]);
+    writer.field(14, links.len() as u32);
+    kinds.iter().for_each(|&kinds| writer.field(32, kinds));
+    links.iter().flat_map(|link| &link[..2]).for_each(|&end| writer.field(12, end));
+    writer.padding();
+    writer.bytes()
+}
+
 /// The stack that each call takes of the files of a workload.
 fn depths(files: &Files) -> Vec<(&'static str, usize)> {
     let Files { record, index, question, catalogue, book, .. } = files;
@@ -58,6 +73,7 @@ fn depths(files: &Files) -> Vec<(&'static str, usize)> {
     let sheet_words = content(&|out, work| read_sheet(question, &sheet, out, work));
     let book_words = content(&|out, work| read_book(catalogue, book, out, work));
     let charges = vec![1; catalogue_words[0] as usize];
+    let old = old_record(&record_words);
     let mut words = vec![0; BOOK_WORDS];
     let mut bytes = vec![0; BOOK_BYTES];
     let mut more = vec![0; BOOK_BYTES];
@@ -83,7 +99,7 @@ fn depths(files: &Files) -> Vec<(&'static str, usize)> {
         "write a record": write_record(&record_words, &mut bytes, &mut work);
         "write a sheet": write_sheet(question, &sheet_words, &mut bytes, &mut work);
         "write a book": write_book(catalogue, &book_words, &mut bytes, &mut work);
-        "sort a record": sort_record(record, &mut bytes, &mut work);
+        "sort a record": sort_record(&old, &mut bytes, &mut work);
         "search": search(question, record, &mut bytes, &mut work);
         "make an index": make_index(record, &mut entries, &mut work);
         "check an index": check_index(record, index, &mut work);

@@ -101,10 +101,11 @@ fn on_books_that_belong_to_no_record() {
     }
 }
 
-fn some_links(rule: &mut Rule, number: usize, items: usize) -> Vec<(usize, usize)> {
+/// Links of two kinds.
+fn some_links(rule: &mut Rule, number: usize, items: usize) -> Vec<Link> {
     let mut links = Vec::new();
     for _ in 0..number {
-        let link = (rule.below(items), rule.below(items));
+        let link = (rule.below(items), rule.below(items), rule.below(2));
         if !links.contains(&link) {
             links.push(link);
         }
@@ -115,13 +116,13 @@ fn some_links(rule: &mut Rule, number: usize, items: usize) -> Vec<(usize, usize
 /// A pattern whose items are all at links.
 fn some_pattern(rule: &mut Rule) -> Pattern {
     let items = 1 + rule.below(4);
-    let mut links: Vec<_> = (0..items).map(|u| (u, (u + 1).min(items - 1))).collect();
+    let mut links: Vec<_> = (0..items).map(|u| (u, (u + 1).min(items - 1), rule.below(2))).collect();
     let more = rule.below(4);
     links.extend(some_links(rule, more, items));
     links.sort();
     links.dedup();
     if rule.below(2) == 0 && links.len() > 1 {
-        links.retain(|&link| link != (items - 1, items - 1));
+        links.retain(|&link| link != (items - 1, items - 1, 0));
     }
     ((0..items).map(|_| rule.below(3) as u32).collect(), links)
 }
@@ -133,7 +134,7 @@ fn part_of(rule: &mut Rule, (kinds, links): &Pattern) -> Pattern {
     let items: Vec<usize> = (0..kinds.len()).filter(|&u| links.iter().any(|link| link.0 == u || link.1 == u)).collect();
     let place = |u: usize| items.iter().position(|&item| item == u).unwrap();
     let kinds = items.iter().map(|&u| kinds[u]).collect();
-    (kinds, links.iter().map(|&(from, to)| (place(from), place(to))).collect())
+    (kinds, links.iter().map(|&(from, to, kind)| (place(from), place(to), kind)).collect())
 }
 
 /// A record whose first two links, if it has as many, changed places, or of which the first repeats the second.
@@ -143,8 +144,8 @@ fn disordered(record: &[u8], question: &[u8]) {
     if links > 1 {
         let first = 2 + items;
         let (mut turned, mut twice) = (fields.clone(), fields);
-        turned[first..first + 4].rotate_left(2);
-        twice.copy_within(first + 2..first + 4, first);
+        turned[first..first + 6].rotate_left(3);
+        twice.copy_within(first + 3..first + 6, first);
         for fields in [turned, twice] {
             let file = pack_record(&fields);
             same("read a record out of order", baseline::read_record(&file, ROOM), read_record(&file, ROOM, WORK_WORDS));

@@ -1,9 +1,10 @@
 //! The workloads: for each a record, a question and a catalogue of 15 or 16 extracts, at the full size of a record and at
 //! parts of it. They are drawn by a rule with a fixed seed. The numbers of a record's items are shuffled where an order of
-//! them would help.
+//! them would help. All links have kind 0, but for one workload.
 
 use crate::baseline::Writer;
 use std::collections::HashSet;
+use std::hash::Hash;
 
 /// The most items and links of a record.
 const ITEMS: usize = 4_096;
@@ -34,7 +35,7 @@ impl Workload {
 
 /// The workloads at a size: the full one divided by a power of two up to 8.
 pub fn all(part: usize) -> Vec<Workload> {
-    let makers = [layered, star, chain, cascade, hub, one_kind, nothing, mostly_nothing, everything];
+    let makers = [layered, star, chain, cascade, hub, one_kind, nothing, mostly_nothing, everything, link_kinds];
     makers.map(|make| make(ITEMS / part, LINKS / part)).into()
 }
 
@@ -67,8 +68,8 @@ impl Rule {
         order
     }
 
-    /// So many different links, each drawn by the rule.
-    fn links(&mut self, number: usize, draw: impl Fn(&mut Rule) -> (usize, usize)) -> Vec<(usize, usize)> {
+    /// So many different links or pairs, each drawn by the rule.
+    fn links<T: Copy + Eq + Hash>(&mut self, number: usize, draw: impl Fn(&mut Rule) -> T) -> Vec<T> {
         let mut links = Vec::new();
         let mut seen = HashSet::new();
         while links.len() < number {
@@ -83,32 +84,39 @@ impl Rule {
 
 // The files.
 
-/// The kind of each item, and the links.
-pub type Pattern = (Vec<u32>, Vec<(usize, usize)>);
+/// From, to and kind.
+pub type Link = (usize, usize, usize);
 
-fn pattern(kinds: &[u32], links: &[(usize, usize)]) -> Pattern {
-    (kinds.to_vec(), links.to_vec())
+/// Links of kind 0.
+fn plain(pairs: impl IntoIterator<Item = (usize, usize)>) -> Vec<Link> {
+    pairs.into_iter().map(|(from, to)| (from, to, 0)).collect()
+}
+
+/// The kind of each item, and the links.
+pub type Pattern = (Vec<u32>, Vec<Link>);
+
+fn pattern(kinds: &[u32], pairs: &[(usize, usize)]) -> Pattern {
+    (kinds.to_vec(), plain(pairs.iter().copied()))
 }
 
 /// Items linked one to the next.
 fn path(kinds: &[u32]) -> Pattern {
-    let links: Vec<_> = (1..kinds.len()).map(|u| (u - 1, u)).collect();
-    pattern(kinds, &links)
+    (kinds.to_vec(), plain((1..kinds.len()).map(|u| (u - 1, u))))
 }
 
 /// Items linked one to the next and the last to the first.
 fn ring(kinds: &[u32]) -> Pattern {
-    let links: Vec<_> = (0..kinds.len()).map(|u| (u, (u + 1) % kinds.len())).collect();
-    pattern(kinds, &links)
+    (kinds.to_vec(), plain((0..kinds.len()).map(|u| (u, (u + 1) % kinds.len()))))
 }
 
 fn put_pattern(writer: &mut Writer, (kinds, links): &Pattern) {
     writer.field(5, kinds.len() as u32);
     writer.field(6, links.len() as u32);
     kinds.iter().for_each(|&kind| writer.field(5, kind));
-    for &(from, to) in links {
+    for &(from, to, kind) in links {
         writer.field(4, from as u32);
         writer.field(4, to as u32);
+        writer.field(3, kind as u32);
     }
     writer.padding();
 }
@@ -128,16 +136,17 @@ pub fn catalogue_file(extracts: &[Pattern]) -> Vec<u8> {
 }
 
 /// The links ascending.
-pub fn record_file(kinds: &[u32], links: &[(usize, usize)]) -> Vec<u8> {
+pub fn record_file(kinds: &[u32], links: &[Link]) -> Vec<u8> {
     let mut links = links.to_vec();
     links.sort();
     let mut writer = Writer::default();
     writer.field(13, kinds.len() as u32);
     writer.field(14, links.len() as u32);
     kinds.iter().for_each(|&kinds| writer.field(32, kinds));
-    for (from, to) in links {
+    for (from, to, kind) in links {
         writer.field(12, from as u32);
         writer.field(12, to as u32);
+        writer.field(3, kind as u32);
     }
     writer.padding();
     writer.bytes()
@@ -146,7 +155,7 @@ pub fn record_file(kinds: &[u32], links: &[(usize, usize)]) -> Vec<u8> {
 fn workload(
     name: &'static str,
     about: &'static str,
-    (kinds, links): (Vec<u32>, Vec<(usize, usize)>),
+    (kinds, links): (Vec<u32>, Vec<Link>),
     question: Pattern,
     extracts: Vec<Pattern>,
 ) -> Workload {
@@ -200,7 +209,7 @@ fn layered(items: usize, links: usize) -> Workload {
     ];
     let about =
         "four layers, links to the next layer; question of 7 items and 8 links, 15 extracts that are parts of it";
-    workload("layered", about, (kinds, links), question, extracts)
+    workload("layered", about, (kinds, plain(links)), question, extracts)
 }
 
 /// One item in the middle, linked both ways with all others, which have one kind in common and one of 14 others.
@@ -209,7 +218,7 @@ fn star(items: usize, _: usize) -> Workload {
     let middle = rule.below(items);
     let kinds = (0..items).map(|v| if v == middle { 1 } else { 2 | 4 << rule.below(14) }).collect();
     let others = (0..items).filter(|&v| v != middle);
-    let links = others.flat_map(|v| [(middle, v), (v, middle)]).collect();
+    let links = plain(others.flat_map(|v| [(middle, v), (v, middle)]));
     let extracts = (1..16).map(|kind| ring(&[0, kind])).collect();
     let about = "one item linked both ways with all others; question of 2 items linked both ways, 15 extracts like it";
     workload("star", about, (kinds, links), ring(&[0, 1]), extracts)
@@ -225,7 +234,7 @@ fn chain(items: usize, _: usize) -> Workload {
         kinds[item] = 1 | 2 << (i % 8);
     }
     let steps = (0..items).flat_map(|i| [(i, i + 1), (i, i + 2)]);
-    let links = steps.filter(|step| step.1 < items).map(|(from, to)| (order[from], order[to])).collect();
+    let links = plain(steps.filter(|step| step.1 < items).map(|(from, to)| (order[from], order[to])));
     let mut extracts = vec![path(&[0, 0]), ring(&[0]), ring(&[0, 0])];
     extracts.extend((1..8).map(|kind| path(&[kind, kind + 1])));
     extracts.extend((1..6).map(|kind| path(&[kind, kind + 1, kind + 3])));
@@ -243,7 +252,7 @@ fn cascade(items: usize, _: usize) -> Workload {
     for (i, &item) in order.iter().enumerate() {
         kinds[item] = 1 | 2 << (i % 8);
     }
-    let links = (1..items).map(|i| (order[i - 1], order[i])).collect();
+    let links = plain((1..items).map(|i| (order[i - 1], order[i])));
     let zeros = [0; 16];
     let mut extracts = vec![path(&[0, 0]), ring(&zeros), ring(&zeros[..8])];
     extracts.extend((1..8).map(|kind| path(&[kind, kind + 1])));
@@ -262,8 +271,8 @@ fn hub(items: usize, _: usize) -> Workload {
     for (i, &item) in order.iter().enumerate() {
         kinds[item] = 1 | 2 << (i % 8);
     }
-    let mut links: Vec<_> = (1..items).map(|i| (order[0], order[i])).collect();
-    links.extend((2..items).map(|i| (order[i - 1], order[i])));
+    let spokes = (1..items).map(|i| (order[0], order[i]));
+    let links = plain(spokes.chain((2..items).map(|i| (order[i - 1], order[i]))));
     let mut extracts = vec![path(&[0, 0]), ring(&[0]), ring(&[0, 0])];
     extracts.extend((1..8).map(|kind| path(&[kind, kind + 1])));
     extracts.extend((1..6).map(|kind| path(&[kind, kind + 1, kind + 2])));
@@ -287,22 +296,22 @@ fn one_kind(items: usize, links: usize) -> Workload {
     }));
     let zeros = [0; 16];
     let steps = (0..16).flat_map(|u| [(u, (u + 1) % 16), (u, (u + 5) % 16)]);
-    let question = (zeros.to_vec(), steps.collect());
+    let question = (zeros.to_vec(), plain(steps));
     let mut extracts: Vec<Pattern> = (1..6).map(|number| ring(&zeros[..number])).collect();
     for number in 0..10 {
         // An item with a self link, and one or two that lead to it.
-        let mut links = vec![(0, 0)];
-        links.extend((0..1 + number % 2).map(|u| (u + 1, 0)));
-        extracts.push((zeros[..links.len()].to_vec(), links));
+        let mut pairs = vec![(0, 0)];
+        pairs.extend((0..1 + number % 2).map(|u| (u + 1, 0)));
+        extracts.push(pattern(&zeros[..pairs.len()], &pairs));
     }
     let about =
         "all items of one kind, a sixteenth of them in a ring with chords, the others in three layers; question \
                  of 16 items and 32 links, 15 extracts";
-    workload("one kind", about, (vec![1; items], all), question, extracts)
+    workload("one kind", about, (vec![1; items], plain(all)), question, extracts)
 }
 
 /// Eight kinds, and links from a kind to a greater one alone.
-fn upward(rule: &mut Rule, items: usize, links: usize) -> (Vec<u32>, Vec<(usize, usize)>) {
+fn upward(rule: &mut Rule, items: usize, links: usize) -> (Vec<u32>, Vec<Link>) {
     let kind: Vec<u32> = (0..items).map(|_| rule.below(8) as u32).collect();
     let mut all = Vec::new();
     let mut seen = HashSet::new();
@@ -313,7 +322,7 @@ fn upward(rule: &mut Rule, items: usize, links: usize) -> (Vec<u32>, Vec<(usize,
             all.push(link);
         }
     }
-    (kind.iter().map(|kind| 1 << kind).collect(), all)
+    (kind.iter().map(|kind| 1 << kind).collect(), plain(all))
 }
 
 /// Of such a record the patterns ask for the other direction.
@@ -321,7 +330,7 @@ fn nothing(items: usize, links: usize) -> Workload {
     let mut rule = Rule::new(5);
     let record = upward(&mut rule, items, links);
     let mut question = path(&[7, 6, 5, 4, 3, 2, 1, 0]);
-    question.1.extend((0..6).map(|u| (u, u + 2)));
+    question.1.extend(plain((0..6).map(|u| (u, u + 2))));
     let mut extracts: Vec<Pattern> = (0..7).map(|k| path(&[7 - k, 6 - k])).collect();
     extracts.extend((0..6).map(|k| path(&[7 - k, 5 - k])));
     extracts.extend((0..3).map(|k| path(&[7 - k, 6 - k, 5 - k, 4 - k])));
@@ -338,7 +347,7 @@ fn mostly_nothing(items: usize, links: usize) -> Workload {
     let mut extracts = vec![path(&[0, 1]), path(&[1, 2])];
     for number in 0..14 {
         let downward = (1..8).flat_map(|u| (1..=u).map(move |step| (u - step, u)));
-        extracts.push(((0..8).rev().collect(), downward.skip(number / 2).take(32).collect()));
+        extracts.push(((0..8).rev().collect(), plain(downward.skip(number / 2).take(32))));
     }
     let about = "links from lesser to greater kinds alone, as for nothing; question of 3 items and 2 links, 16 extracts, 14 of which ask \
                  for the other direction and find nothing";
@@ -355,13 +364,44 @@ fn everything(items: usize, _: usize) -> Workload {
         kinds[item] = 1 << (i / group);
     }
     let step = |i: usize, step: usize| (order[i], order[i / group * group + (i + step) % group]);
-    let links = (0..items).flat_map(|i| [step(i, 1), step(i, 7)]).collect();
-    let question = ((0..16).collect(), (0..16).map(|u| (u, u)).collect());
+    let links = plain((0..items).flat_map(|i| [step(i, 1), step(i, 7)]));
+    let question = ((0..16).collect(), plain((0..16).map(|u| (u, u))));
     let extracts = (0..16).map(|kind| ring(&[kind, kind])).collect();
     let about =
         "sixteen kinds, two links from each item to items of its kind; question of 16 items with self links, 16 \
                  extracts of two items linked both ways; every link of the record is listed";
     workload("everything", about, (kinds, links), question, extracts)
+}
+
+/// Four layers of items, links from each layer to the next, of one of three kinds each: what a pattern asks for differs in
+/// the kinds of its links.
+fn link_kinds(items: usize, links: usize) -> Workload {
+    let mut rule = Rule::new(12);
+    let layer = items / 4;
+    let order = rule.order(items);
+    let mut kinds = vec![0; items];
+    for (i, &item) in order.iter().enumerate() {
+        kinds[item] = 1 << (i / layer);
+    }
+    let links = rule.links(links, |rule| {
+        let from = rule.below(items - layer);
+        (order[from], order[(from / layer + 1) * layer + rule.below(layer)], rule.below(3))
+    });
+    let layers = [0, 1, 1, 2, 2, 3];
+    let asked = [(0, 1, 0), (0, 2, 1), (1, 3, 0), (2, 3, 2), (2, 4, 1), (3, 5, 0), (4, 5, 2)];
+    // Some links of the question that make a path.
+    let part = |numbers: &[usize]| {
+        let mut items = vec![asked[numbers[0]].0];
+        items.extend(numbers.iter().map(|&e| asked[e].1));
+        let links = numbers.iter().enumerate().map(|(u, &e)| (u, u + 1, asked[e].2)).collect();
+        (items.iter().map(|&u: &usize| layers[u]).collect(), links)
+    };
+    let mut extracts: Vec<Pattern> = (0..asked.len()).map(|e| part(&[e])).collect();
+    extracts.extend([[0, 2], [1, 3], [1, 4], [2, 5], [3, 5], [4, 6]].map(|pair| part(&pair)));
+    extracts.extend([[0, 2, 5], [1, 4, 6]].map(|three| part(&three)));
+    let about = "four layers, links to the next layer, of one of three kinds each; question of 6 items and 7 links of all three \
+                 kinds, 15 extracts that are parts of it";
+    workload("link kinds", about, (kinds, links), (layers.to_vec(), asked.to_vec()), extracts)
 }
 
 // Questions without a record, to find the cheapest set for.
@@ -381,9 +421,9 @@ pub fn priced(part: usize) -> [Priced; 2] {
     let extracts = 16 / part;
     let charges: Vec<u32> = (0..extracts).map(|_| rule.below(1_000) as u32).collect();
     let mut full = ring(&std::array::from_fn::<u32, 16, _>(|kind| kind as u32));
-    full.1.extend((0..16).map(|u| (u, (u + 2) % 16)));
+    full.1.extend(plain((0..16).map(|u| (u, (u + 2) % 16))));
     let apart = ring(&(0..extracts as u32).collect::<Vec<u32>>());
-    let single: Vec<Pattern> = apart.1.iter().map(|&(from, to)| path(&[from as u32, to as u32])).collect();
+    let single: Vec<Pattern> = apart.1.iter().map(|&(from, to, _)| path(&[from as u32, to as u32])).collect();
     let make = |name, question: &Pattern, catalogue: &[Pattern]| Priced {
         name,
         extracts,
@@ -408,9 +448,9 @@ pub struct Book {
 
 /// A pattern with so many links.
 fn any_pattern(links: usize) -> Pattern {
-    let links: Vec<_> = (0..links).map(|e| (e / 6, e % 6)).collect();
-    let items = 1 + links.iter().map(|&(from, to)| from.max(to)).max().unwrap();
-    (vec![0; items], links)
+    let pairs: Vec<_> = (0..links).map(|e| (e / 6, e % 6)).collect();
+    let items = 1 + pairs.iter().map(|&(from, to)| from.max(to)).max().unwrap();
+    pattern(&vec![0; items], &pairs)
 }
 
 /// So many sheets of so many lists, each of so many pairs in order.

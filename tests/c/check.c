@@ -6,23 +6,25 @@
 
 #define LENGTH(a) (sizeof(a) / sizeof((a)[0]))
 
-/* The question D, and its content: sections, slow runs, fast runs and readings are kinds 0 to 3. */
-static const uint8_t D[] = {0x20, 0x80, 0x08, 0x86, 0x02, 0x04, 0x26, 0x46};
-static const uint32_t D_FIELDS[] = {4, 4, 0, 1, 2, 3, 0, 1, 0, 2, 1, 3, 2, 3};
+/* The question D, and its content: sections, slow runs, fast runs and readings are kinds 0 to 3. All links of the worked
+ * cases have kind 0. */
+static const uint8_t D[] = {0x20, 0x80, 0x08, 0x86, 0x02, 0x00, 0x80, 0x98, 0x23, 0x00};
+static const uint32_t D_FIELDS[] = {4, 4, 0, 1, 2, 3, 0, 1, 0, 0, 2, 0, 1, 3, 0, 2, 3, 0};
 
 /* The catalogue C: section to slow; section to slow to reading; section to fast to reading. */
-static const uint8_t C[] = {0x18, 0x10, 0x20, 0x08, 0x08, 0x18, 0x40, 0x08, 0xc0,
-                            0x44, 0x80, 0x18, 0x40, 0x10, 0xc0, 0x44, 0x80};
-static const uint32_t C_FIELDS[] = {3, 2, 1, 0, 1, 0, 1, 3, 2, 0, 1, 3, 0, 1, 1, 2, 3, 2, 0, 2, 3, 0, 1, 1, 2};
+static const uint8_t C[] = {0x18, 0x10, 0x20, 0x08, 0x08, 0x18, 0x40, 0x08, 0xc0, 0x40, 0x90, 0x18, 0x40, 0x10, 0xc0,
+                            0x40, 0x90};
+static const uint32_t C_FIELDS[] = {3, 2, 1, 0, 1, 0, 1, 0, 3, 2, 0, 1, 3, 0, 1, 0, 1, 2, 0, 3, 2, 0, 2, 3, 0, 1, 0, 1,
+                                    2, 0};
 
 /* Extract 1 of C as a pattern, and as a catalogue of its own. */
-static const uint8_t SLOW[] = {0x18, 0x40, 0x08, 0xc0, 0x44, 0x80};
-static const uint8_t ONLY_SLOW[] = {0x08, 0x18, 0x40, 0x08, 0xc0, 0x44, 0x80};
+static const uint8_t SLOW[] = {0x18, 0x40, 0x08, 0xc0, 0x40, 0x90};
+static const uint8_t ONLY_SLOW[] = {0x08, 0x18, 0x40, 0x08, 0xc0, 0x40, 0x90};
 
 /* Case K6: kinds {0}, {1}, {3}, {1}; extract 1 lists (0,1) and (1,2). */
-static const uint32_t K6_FIELDS[] = {4, 3, 1, 2, 8, 2, 0, 1, 0, 3, 1, 2};
+static const uint32_t K6_FIELDS[] = {4, 3, 1, 2, 8, 2, 0, 1, 0, 0, 3, 0, 1, 2, 0};
 static const uint8_t K6[] = {0x00, 0x20, 0x00, 0x60, 0x00, 0x00, 0x00, 0x20, 0x00, 0x00, 0x00, 0x40, 0x00, 0x00, 0x01,
-                             0x00, 0x00, 0x00, 0x00, 0x40, 0x00, 0x00, 0x20, 0x00, 0x00, 0x60, 0x02, 0x00, 0x40};
+                             0x00, 0x00, 0x00, 0x00, 0x40, 0x00, 0x00, 0x20, 0x00, 0x00, 0x0c, 0x00, 0x08, 0x01, 0x00};
 static const uint8_t K6_SHEET[] = {0x80, 0x02, 0x00, 0x00, 0x02, 0x00, 0x08, 0x00, 0x80, 0x10};
 static const uint32_t K6_SHEET_FIELDS[] = {1, 1, 0, 1, 1, 1, 2};
 /* Extract 0 lists (0,1) and (0,3), extract 2 nothing. */
@@ -35,13 +37,13 @@ static const uint16_t K6_INDEX[] = {0, 2, 3, 3, 3};
 
 /* Case K9: a section, a run of kinds {1, 2}, a reading; D lists (0,1), (0,1), (1,2), (1,2). */
 static const uint8_t K9[] = {0x00, 0x18, 0x00, 0x40, 0x00, 0x00, 0x00, 0x20, 0x00, 0x00, 0x00, 0xc0, 0x00, 0x00, 0x01,
-                             0x00, 0x00, 0x00, 0x20, 0x02, 0x00, 0x40};
+                             0x00, 0x00, 0x00, 0x20, 0x00, 0x40, 0x08, 0x00};
 static const uint8_t K9_SHEET[] = {0x80, 0x02, 0x00, 0x00, 0x02, 0x00, 0x08, 0x00, 0x00, 0x08,
                                    0x00, 0x20, 0x02, 0x00, 0x40, 0x00, 0x80, 0x08, 0x01, 0x00};
 
 /* D read as a record, and without its link 1, which extract 1 alone leaves unmatched. */
-static const uint32_t SHOWN_FIELDS[] = {4, 4, 1, 2, 4, 8, 0, 1, 0, 2, 1, 3, 2, 3};
-static const uint32_t FEWER_FIELDS[] = {4, 3, 1, 2, 4, 8, 0, 1, 1, 3, 2, 3};
+static const uint32_t SHOWN_FIELDS[] = {4, 4, 1, 2, 4, 8, 0, 1, 0, 0, 2, 0, 1, 3, 0, 2, 3, 0};
+static const uint32_t FEWER_FIELDS[] = {4, 3, 1, 2, 4, 8, 0, 1, 0, 1, 3, 0, 2, 3, 0};
 
 static uint32_t work[YUTHAQIM_WORK_WORDS + 1];
 static uint8_t bytes[YUTHAQIM_BOOK_BYTES];
@@ -150,10 +152,18 @@ static void files(void) {
                  K6_BOOK, sizeof K6_BOOK);
 }
 
-/* K6 with its links turned, as it could be stored before they had an order, and with one of them twice. */
-static const uint8_t OLD_K6[] = {0x00, 0x20, 0x00, 0x60, 0x00, 0x00, 0x00, 0x20, 0x00, 0x00, 0x00, 0x40, 0x00, 0x00, 0x01,
-                                 0x00, 0x00, 0x00, 0x00, 0x40, 0x02, 0x00, 0x40, 0x00, 0x00, 0x60, 0x00, 0x00, 0x20};
-static const uint32_t TURNED_FIELDS[] = {4, 3, 1, 2, 8, 2, 1, 2, 0, 3, 0, 1};
+/* K6 as it could be stored before links had an order or kinds: its links turned, and in order. */
+static const uint8_t OLD_K6[] = {0x00, 0x20, 0x00, 0x60, 0x00, 0x00, 0x00, 0x20, 0x00, 0x00, 0x00, 0x40, 0x00, 0x00,
+                                 0x01, 0x00, 0x00, 0x00, 0x00, 0x40, 0x02, 0x00, 0x40, 0x00, 0x00, 0x60, 0x00, 0x00,
+                                 0x20};
+static const uint8_t OLD_IN_ORDER[] = {0x00, 0x20, 0x00, 0x60, 0x00, 0x00, 0x00, 0x20, 0x00, 0x00, 0x00, 0x40, 0x00,
+                                       0x00, 0x01, 0x00, 0x00, 0x00, 0x00, 0x40, 0x00, 0x00, 0x20, 0x00, 0x00, 0x60,
+                                       0x02, 0x00, 0x40};
+/* And in the new layout, with its links turned. */
+static const uint32_t TURNED_FIELDS[] = {4, 3, 1, 2, 8, 2, 1, 2, 0, 0, 3, 0, 0, 1, 0};
+static const uint8_t TURNED_K6[] = {0x00, 0x20, 0x00, 0x60, 0x00, 0x00, 0x00, 0x20, 0x00, 0x00, 0x00, 0x40, 0x00, 0x00,
+                                    0x01, 0x00, 0x00, 0x00, 0x00, 0x40, 0x02, 0x00, 0x40, 0x00, 0x00, 0x0c, 0x00, 0x00,
+                                    0x00, 0x80};
 
 static void sorting(void) {
     static uint8_t twice[sizeof OLD_K6];
@@ -163,8 +173,8 @@ static void sorting(void) {
     r = yuthaqim_sort_record(OLD_K6, sizeof OLD_K6, bytes, sizeof bytes, work, LENGTH(work));
     expect_bytes("sort_record: K6 with its links turned", r, K6, sizeof K6);
     mark();
-    r = yuthaqim_sort_record(K6, sizeof K6, bytes, sizeof K6, work, LENGTH(work));
-    expect_bytes("sort_record: K6 as it is", r, K6, sizeof K6);
+    r = yuthaqim_sort_record(OLD_IN_ORDER, sizeof OLD_IN_ORDER, bytes, sizeof K6, work, LENGTH(work));
+    expect_bytes("sort_record: K6 in order, without kinds", r, K6, sizeof K6);
     mark();
     r = yuthaqim_sort_record(OLD_K6, sizeof OLD_K6, bytes, sizeof K6 - 1, work, LENGTH(work));
     expect_refusal("sort_record: no room", r.number, r.value, YUTHAQIM_NO_FIT, sizeof K6);
@@ -174,7 +184,10 @@ static void sorting(void) {
     r = yuthaqim_sort_record(twice, sizeof twice, bytes, sizeof bytes, work, LENGTH(work));
     expect_refusal("sort_record: a link twice", r.number, r.value, YUTHAQIM_TWICE, YUTHAQIM_IN_RECORD);
     mark();
-    r = yuthaqim_read_record(OLD_K6, sizeof OLD_K6, words, LENGTH(words), work, LENGTH(work));
+    r = yuthaqim_sort_record(more, YUTHAQIM_OLD_RECORD_BYTES + 1, bytes, sizeof bytes, work, LENGTH(work));
+    expect_refusal("sort_record: too many bytes", r.number, r.value, YUTHAQIM_LONG, YUTHAQIM_IN_RECORD);
+    mark();
+    r = yuthaqim_read_record(TURNED_K6, sizeof TURNED_K6, words, LENGTH(words), work, LENGTH(work));
     expect_refusal("read_record: links out of order", r.number, r.value, YUTHAQIM_ORDER, YUTHAQIM_IN_RECORD);
     mark();
     r = yuthaqim_write_record(TURNED_FIELDS, LENGTH(TURNED_FIELDS), bytes, sizeof bytes, work, LENGTH(work));
@@ -323,9 +336,63 @@ static void quoting(void) {
                q.chosen == 0 && q.lowest == 0 && masks(&q) == 0);
 }
 
+/* Two links between the same items, of kinds 0 and 1, and an extract that has the second alone. */
+static void link_kinds(void) {
+    static const uint8_t both[] = {0x10, 0x40, 0x08, 0x08, 0x01, 0x20}, second[] = {0x10, 0x20, 0x08, 0x09};
+    static const uint8_t extract[] = {0x08, 0x10, 0x20, 0x08, 0x09};
+    static const uint32_t both_fields[] = {2, 2, 0, 1, 0, 1, 0, 0, 1, 1}, twice[] = {2, 2, 0, 1, 0, 1, 1, 0, 1, 1};
+    static const uint32_t too_wide[] = {2, 1, 0, 1, 0, 1, 8};
+    static const uint32_t record_fields[] = {3, 3, 1, 2, 2, 0, 1, 0, 0, 1, 1, 0, 2, 1};
+    static const uint32_t lower[] = {3, 3, 1, 2, 2, 0, 1, 1, 0, 1, 0, 0, 2, 1};
+    static const uint32_t fewer_fields[] = {2, 1, 1, 2, 0, 1, 1};
+    static const uint8_t both_sheet[] = {0x80, 0x02, 0x00, 0x00, 0x02, 0x00, 0x10, 0x00, 0x00, 0x08, 0x00, 0x00, 0x10};
+    static const uint8_t extract_sheet[] = {0x80, 0x04, 0x00, 0x00, 0x02, 0x00, 0x00, 0x04};
+    static uint8_t record[YUTHAQIM_RECORD_BYTES], shown[YUTHAQIM_RECORD_BYTES];
+    size_t length =
+        yuthaqim_write_record(record_fields, LENGTH(record_fields), record, sizeof record, work, LENGTH(work)).value;
+    struct yuthaqim_reply r;
+    struct yuthaqim_quote q;
+    struct yuthaqim_showing s;
+
+    mark();
+    expect_words("read_pattern: links that differ in their kind",
+                 yuthaqim_read_pattern(both, sizeof both, words, LENGTH(words), work, LENGTH(work)), both_fields,
+                 LENGTH(both_fields));
+    mark();
+    expect_bytes("search: each list by its link's kind",
+                 yuthaqim_search(both, sizeof both, record, length, bytes, sizeof bytes, work, LENGTH(work)),
+                 both_sheet, sizeof both_sheet);
+    mark();
+    expect_bytes("search: a link of kind 1 alone",
+                 yuthaqim_search(second, sizeof second, record, length, bytes, sizeof bytes, work, LENGTH(work)),
+                 extract_sheet, sizeof extract_sheet);
+    mark();
+    q = yuthaqim_quote(both, sizeof both, extract, sizeof extract, work, LENGTH(work));
+    expect("quote: the link of the extract's kind is matched", q.number, q.lowest,
+           q.number == 0 && q.covered == 0 && q.edges == 2 && q.lowest == 0 && maps(&q, 1, 0, 1) && masks(&q) == 1);
+    mark();
+    s = yuthaqim_show_uncovered(both, sizeof both, extract, sizeof extract, bytes, sizeof bytes, more, sizeof more, work,
+                                LENGTH(work));
+    memcpy(shown, more, sizeof shown);
+    mark();
+    expect_words("show_uncovered: the link of the other kind stays",
+                 yuthaqim_read_record(shown, s.second, words, LENGTH(words), work, LENGTH(work)), fewer_fields,
+                 LENGTH(fewer_fields));
+    mark();
+    r = yuthaqim_write_pattern(twice, LENGTH(twice), bytes, sizeof bytes, work, LENGTH(work));
+    expect_refusal("write_pattern: a link twice, with its kind", r.number, r.value, YUTHAQIM_TWICE,
+                   YUTHAQIM_IN_PATTERN);
+    mark();
+    r = yuthaqim_write_pattern(too_wide, LENGTH(too_wide), bytes, sizeof bytes, work, LENGTH(work));
+    expect_refusal("write_pattern: a link of kind 8", r.number, r.value, YUTHAQIM_COUNT, YUTHAQIM_IN_PATTERN);
+    mark();
+    r = yuthaqim_write_record(lower, LENGTH(lower), bytes, sizeof bytes, work, LENGTH(work));
+    expect_refusal("write_record: kinds out of order", r.number, r.value, YUTHAQIM_ORDER, YUTHAQIM_IN_RECORD);
+}
+
 /* Extracts 0 and 1 are D's first two links, extract 2 its last two, extract 3 D itself. */
-static const uint32_t HALVES_FIELDS[] = {4, 3, 2, 0, 1, 2, 0, 1, 0, 2, 3, 2, 0, 1, 2, 0, 1, 0, 2,
-                                         3, 2, 1, 2, 3, 0, 2, 1, 2, 4, 4, 0, 1, 2, 3, 0, 1, 0, 2, 1, 3, 2, 3};
+static const uint32_t HALVES_FIELDS[] = {4, 3, 2, 0, 1, 2, 0, 1, 0, 0, 2, 0, 3, 2, 0, 1, 2, 0, 1, 0, 0, 2, 0, 3, 2, 1,
+                                         2, 3, 0, 2, 0, 1, 2, 0, 4, 4, 0, 1, 2, 3, 0, 1, 0, 0, 2, 0, 1, 3, 0, 2, 3, 0};
 
 static void expect_cheapest(const char *what, struct yuthaqim_cheapest c, uint64_t sum, uint16_t set, uint16_t chosen) {
     expect(what, c.number, (size_t)c.sum,
@@ -420,7 +487,7 @@ static void showing(void) {
     s = yuthaqim_show_uncovered(D, sizeof D, ONLY_SLOW, sizeof ONLY_SLOW, bytes, sizeof bytes, more, sizeof more, work,
                                 LENGTH(work));
     expect("show_uncovered: D with extract 1 alone", s.number, s.first,
-           s.number == 0 && s.detail == 0 && s.first == 32 && s.second == 29 && is_cleared() &&
+           s.number == 0 && s.detail == 0 && s.first == 33 && s.second == 30 && is_cleared() &&
                are_marks(bytes, s.first, sizeof bytes) && are_marks(more, s.second, sizeof more));
     memcpy(second, more, s.second);
     memset(work, 0xa5, sizeof work);
@@ -435,8 +502,8 @@ static void showing(void) {
     s = yuthaqim_show_uncovered(D, sizeof D, C, sizeof C, bytes, sizeof bytes, more, sizeof more, work, LENGTH(work));
     expect_refusal("show_uncovered: D with C is covered", s.number, s.detail, YUTHAQIM_COVERED, 0);
     mark();
-    s = yuthaqim_show_uncovered(D, sizeof D, ONLY_SLOW, sizeof ONLY_SLOW, bytes, 32, more, 28, work, LENGTH(work));
-    expect_refusal("show_uncovered: no room for the second", s.number, s.detail, YUTHAQIM_NO_FIT, 29);
+    s = yuthaqim_show_uncovered(D, sizeof D, ONLY_SLOW, sizeof ONLY_SLOW, bytes, 33, more, 29, work, LENGTH(work));
+    expect_refusal("show_uncovered: no room for the second", s.number, s.detail, YUTHAQIM_NO_FIT, 30);
 }
 
 static void refusals(void) {
@@ -470,6 +537,7 @@ int main(void) {
     matching();
     indexing();
     quoting();
+    link_kinds();
     charging();
     answering();
     showing();

@@ -58,7 +58,7 @@ fn greatest_choice(question: &Pattern, mut candidates: Vec<Candidate>) -> Vec<Ca
     let items = candidates.iter().map(|&(pair, _)| ends(pair)).fold(0, |most, (v, w)| most.max(v + 1).max(w + 1));
     let mut leaving: [Links; 16] = [0; 16];
     let mut arriving: [Links; 16] = [0; 16];
-    for (e, &(u, next)) in question.links.iter().enumerate() {
+    for (e, &(u, next, _)) in question.links.iter().enumerate() {
         leaving[u] |= 1 << e;
         arriving[next] |= 1 << e;
     }

@@ -15,24 +15,44 @@ const BOOK: usize = 4;
 /// The most different pairs of a book.
 const BOOK_PAIRS: usize = 8_192;
 
+/// The kinds of links are below this.
+pub const LINK_KINDS: usize = 8;
+
 /// A question or an extract.
 pub struct Pattern {
     pub kinds: Vec<u32>,
-    pub links: Vec<(usize, usize)>,
+    /// From, to and kind of each link.
+    pub links: Vec<(usize, usize, usize)>,
 }
 
-/// A pair of a record's items, a link of it or a pair of a sheet, is one number: the ends by 12 bits each. So pairs
-/// stand in the order in which a sheet has them.
+/// A pair of a record's items, as a sheet lists it, is one number: the ends by 12 bits each. So pairs stand in the order
+/// in which a sheet has them.
 pub type Pair = u32;
 
 pub fn ends(pair: Pair) -> (usize, usize) {
     ((pair >> 12) as usize, (pair & 4_095) as usize)
 }
 
+/// A link of a record is one number too: its pair, and its kind by 3 bits. So links stand in the order in which a record
+/// has them.
+pub type Link = u32;
+
+pub fn link_of(from: usize, to: usize, kind: usize) -> Link {
+    (from << 15 | to << 3 | kind) as Link
+}
+
+pub fn pair_of(link: Link) -> Pair {
+    link >> 3
+}
+
+pub fn kind_of(link: Link) -> usize {
+    (link & 7) as usize
+}
+
 pub struct Record {
     pub kinds: Vec<u32>,
     /// Ascending.
-    pub links: Vec<Pair>,
+    pub links: Vec<Link>,
 }
 
 /// The pairs of each link of a pattern.
@@ -53,7 +73,7 @@ fn pattern(reader: &mut Reader) -> Result<Pattern, Refusal> {
     let mut links = Vec::with_capacity(number as usize);
     let mut at_links = 0u32;
     for _ in 0..number {
-        let link = (reader.field(4)? as usize, reader.field(4)? as usize);
+        let link = (reader.field(4)? as usize, reader.field(4)? as usize, reader.field(3)? as usize);
         if link.0 >= items || link.1 >= items {
             return reader.refuse(STRAY);
         }
@@ -105,10 +125,10 @@ pub fn parse_record(bytes: &[u8]) -> Result<Record, Refusal> {
     for _ in 0..items {
         kinds.push(reader.field(32)?);
     }
-    let mut links: Vec<Pair> = Vec::with_capacity(number as usize);
+    let mut links: Vec<Link> = Vec::with_capacity(number as usize);
     for _ in 0..number {
-        let link = reader.field(24)?;
-        if link >> 12 >= items || link & 4_095 >= items {
+        let link = reader.field(27)?;
+        if link >> 15 >= items || link >> 3 & 4_095 >= items {
             return reader.refuse(STRAY);
         }
         if links.last().is_some_and(|&before| link <= before) {
@@ -121,17 +141,13 @@ pub fn parse_record(bytes: &[u8]) -> Result<Record, Refusal> {
     Ok(Record { kinds, links })
 }
 
-fn push_pair(content: &mut Vec<u32>, pair: Pair) {
-    content.extend([pair >> 12, pair & 4_095]);
-}
-
 /// Reads a record: gives its content.
 pub fn read_record(bytes: &[u8], room: usize) -> Result<Vec<u32>, Refusal> {
     let Record { kinds, links } = parse_record(bytes)?;
-    let mut content = Vec::with_capacity(2 + kinds.len() + 2 * links.len());
+    let mut content = Vec::with_capacity(2 + kinds.len() + 3 * links.len());
     content.extend([kinds.len() as u32, links.len() as u32]);
     content.extend(kinds);
-    links.into_iter().for_each(|link| push_pair(&mut content, link));
+    links.into_iter().for_each(|link| content.extend([link >> 15, link >> 3 & 4_095, link & 7]));
     give(content, room)
 }
 
@@ -193,7 +209,7 @@ pub fn read_book(catalogue: &[u8], bytes: &[u8], room: usize) -> Result<Vec<u32>
         content.push(lists(sheet).into());
         for pairs in sheet.iter().filter(|pairs| !pairs.is_empty()) {
             content.push(pairs.len() as u32);
-            pairs.iter().for_each(|&pair| push_pair(&mut content, pair));
+            pairs.iter().for_each(|&pair| content.extend([pair >> 12, pair & 4_095]));
         }
     }
     give(content, room)

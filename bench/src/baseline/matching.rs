@@ -20,19 +20,20 @@ pub fn members(set: u32) -> impl Iterator<Item = usize> {
     })
 }
 
-/// A graph whose arriving links can be found: those at item w are `arriving[first[w]..first[w + 1]]`.
+/// A graph whose arriving links can be found: those at item w are `arriving[first[w]..first[w + 1]]`, each by the item
+/// that it leaves and, above 12 bits, its kind.
 pub struct Graph {
     pub kinds: Vec<u32>,
-    pub links: Vec<Pair>,
+    pub links: Vec<Link>,
     first: Vec<usize>,
     arriving: Vec<u16>,
 }
 
 impl Graph {
-    pub fn new(kinds: Vec<u32>, links: Vec<Pair>) -> Graph {
+    pub fn new(kinds: Vec<u32>, links: Vec<Link>) -> Graph {
         let mut first = vec![0; kinds.len() + 2];
         for &link in &links {
-            first[ends(link).1 + 2] += 1;
+            first[ends(pair_of(link)).1 + 2] += 1;
         }
         for w in 2..first.len() {
             first[w] += first[w - 1];
@@ -40,8 +41,8 @@ impl Graph {
         // The places of w's links begin at first[w + 1] and, once they are filled, end there.
         let mut arriving = vec![0; links.len()];
         for &link in &links {
-            let (v, w) = ends(link);
-            arriving[first[w + 1]] = v as u16;
+            let (v, w) = ends(pair_of(link));
+            arriving[first[w + 1]] = (kind_of(link) << 12 | v) as u16;
             first[w + 1] += 1;
         }
         Graph { kinds, links, first, arriving }
@@ -50,28 +51,44 @@ impl Graph {
 
 /// The greatest simulation: for each item of the graph the items of the pattern that it may stand for.
 fn simulate(pattern: &Pattern, graph: &Graph) -> Vec<Items> {
-    // To an item of the pattern from those that have a link to it, and from it to those it has links to.
-    let mut leading: [Items; 16] = [0; 16];
-    let mut led_to: [Items; 16] = [0; 16];
-    for &(u, next) in &pattern.links {
-        leading[next] |= 1 << u;
-        led_to[u] |= 1 << next;
+    // What a link of the pattern asks for is a goal: a link of its kind to the item at its end. By kind, the items of such
+    // goals; by kind and item, the goal's number. To a goal from the items that have a link to it, and from an item to its
+    // goals.
+    let mut ends_of_links: [Items; LINK_KINDS] = [0; LINK_KINDS];
+    let mut numbers = [[0u8; 16]; LINK_KINDS];
+    let mut leading: [Items; 32] = [0; 32];
+    let mut led_to: [Links; 16] = [0; 16];
+    let mut m = 0;
+    for &(u, next, kind) in &pattern.links {
+        if ends_of_links[kind] >> next & 1 == 0 {
+            ends_of_links[kind] |= 1 << next;
+            numbers[kind][next] = m as u8;
+            m += 1;
+        }
+        let goal = numbers[kind][next];
+        leading[goal as usize] |= 1 << u;
+        led_to[u] |= 1 << goal;
     }
-    let ends_of_links = led_to.iter().fold(0, |all, items| all | items);
     // All items of its kind, at first.
-    let of_kind = |kinds: &u32| {
+    let at_first = |kinds: &u32| {
         let fits = |(u, kind): (usize, &u32)| ((kinds >> kind & 1) << u) as Items;
         pattern.kinds.iter().enumerate().map(fits).sum()
     };
-    let mut held: Vec<Items> = graph.kinds.iter().map(of_kind).collect();
-    // At 16 · v + u, how many links lead from v to an item that holds u; and at v, which of them are not zero.
-    let mut counts = vec![0u16; 16 * held.len()];
-    let mut reached: Vec<Items> = vec![0; held.len()];
+    let mut held: Vec<Items> = graph.kinds.iter().map(at_first).collect();
+    // At m · v + goal, how many links of its kind lead from v to an item that holds its item; and at v, which of them are
+    // not zero.
+    let mut counts = vec![0u16; m * held.len()];
+    let mut reached: Vec<Links> = vec![0; held.len()];
     for &link in &graph.links {
-        let (v, w) = ends(link);
-        let items = held[w] & ends_of_links;
-        reached[v] |= items;
-        members(items.into()).for_each(|u| counts[16 * v + u] += 1);
+        let (v, w) = ends(pair_of(link));
+        let (kind, counts) = (kind_of(link), &mut counts[m * v..][..m]);
+        let mut goals = 0;
+        for u in members((held[w] & ends_of_links[kind]).into()) {
+            let goal = numbers[kind][u];
+            counts[goal as usize] += 1;
+            goals |= 1 << goal;
+        }
+        reached[v] |= goals;
     }
     // What was dropped and isn't taken off the counts yet.
     let mut dropped: Vec<(usize, Items)> = Vec::new();
@@ -84,13 +101,15 @@ fn simulate(pattern: &Pattern, graph: &Graph) -> Vec<Items> {
         }
     }
     while let Some((w, gone)) = dropped.pop() {
-        for &v in &graph.arriving[graph.first[w]..graph.first[w + 1]] {
-            let v = v as usize;
+        for &arriving in &graph.arriving[graph.first[w]..graph.first[w + 1]] {
+            let (v, kind) = ((arriving & 4_095) as usize, (arriving >> 12) as usize);
+            let counts = &mut counts[m * v..][..m];
             let mut lost = 0;
-            for u in members((gone & ends_of_links).into()) {
-                counts[16 * v + u] -= 1;
-                if counts[16 * v + u] == 0 {
-                    lost |= leading[u];
+            for u in members((gone & ends_of_links[kind]).into()) {
+                let goal = numbers[kind][u] as usize;
+                counts[goal] -= 1;
+                if counts[goal] == 0 {
+                    lost |= leading[goal];
                 }
             }
             lost &= held[v];
@@ -112,20 +131,23 @@ pub fn matches(pattern: &Pattern, graph: &Graph) -> Vec<Links> {
     }
     let mut leaving: [Links; 16] = [0; 16];
     let mut arriving: [Links; 16] = [0; 16];
-    for (e, &(u, next)) in pattern.links.iter().enumerate() {
+    let mut of_kind: [Links; LINK_KINDS] = [0; LINK_KINDS];
+    for (e, &(u, next, kind)) in pattern.links.iter().enumerate() {
         leaving[u] |= 1 << e;
         arriving[next] |= 1 << e;
+        of_kind[kind] |= 1 << e;
     }
     let any = |links: &[Links; 16], held: Items| members(held.into()).fold(0, |any, u| any | links[u]);
     let at_items: Vec<(Links, Links)> = held.iter().map(|&held| (any(&leaving, held), any(&arriving, held))).collect();
-    let of_link = |&link: &Pair| {
-        let (v, w) = ends(link);
-        at_items[v].0 & at_items[w].1
+    let of_link = |&link: &Link| {
+        let (v, w) = ends(pair_of(link));
+        at_items[v].0 & at_items[w].1 & of_kind[kind_of(link)]
     };
     graph.links.iter().map(of_link).collect()
 }
 
-/// The sheet of pairs in order, of which each is in the lists that its set names.
+/// The sheet of pairs in order, of which each is in the lists that its set names. A pair that stands there again, as links
+/// of several kinds do, is in other lists.
 pub fn sheet(number: usize, pairs: impl Iterator<Item = (Pair, Links)>) -> Sheet {
     let mut sheet = vec![Vec::new(); number];
     for (pair, set) in pairs {
@@ -141,7 +163,7 @@ fn graph(record: &[u8]) -> Result<Graph, Refusal> {
 
 fn write_matches(pattern: &Pattern, graph: &Graph, writer: &mut Writer) {
     let sets = matches(pattern, graph);
-    let pairs = graph.links.iter().copied().zip(sets);
+    let pairs = graph.links.iter().map(|&link| pair_of(link)).zip(sets);
     write_sheet(&sheet(pattern.links.len(), pairs), writer);
 }
 
@@ -166,7 +188,7 @@ pub fn make_book(catalogue: &[u8], record: &[u8], room: usize) -> Result<Vec<u8>
 /// For each item the number of links that begin at lower items, then the number of all.
 fn index_of(record: &Record) -> Vec<u16> {
     let mut index = vec![0; record.kinds.len() + 1];
-    record.links.iter().for_each(|&link| index[ends(link).0 + 1] += 1);
+    record.links.iter().for_each(|&link| index[ends(pair_of(link)).0 + 1] += 1);
     for v in 1..index.len() {
         index[v] += index[v - 1];
     }

@@ -43,7 +43,7 @@ fn choose(matched: &[Links]) -> u32 {
 /// The quote for a question: each extract is matched with the question read as a record.
 pub fn quote_of(question: &Pattern, catalogue: &[Pattern]) -> Quote {
     let kinds = question.kinds.iter().map(|kind| 1 << kind).collect();
-    let links = question.links.iter().map(|&(u, next)| (u << 12 | next) as Pair).collect();
+    let links = question.links.iter().map(|&(u, next, kind)| link_of(u, next, kind)).collect();
     let graph = Graph::new(kinds, links);
     let mut quote =
         Quote { covered: false, links: graph.links.len(), chosen: 0, lowest_unmatched: None, mapping: [0; 512] };

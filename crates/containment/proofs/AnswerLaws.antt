@@ -98,15 +98,15 @@ module _ (t : List ℕ) (set m k : ℕ) where
 
 -- a pattern that was accepted, by value
 abbrev pub query-by : (s : List ℕ) {q : Given} {n : ℕ} {w : List ℕ} → Held (λ ws. HoldsPattern ws q) (readPattern s) n w → Query q
-query-by s h = record { bytes = s; content = h .fields; is = read-says 44 1 pattern s (h .fields) (h .is) .0; holds = h .holds }
+query-by s h = record { bytes = s; content = h .fields; is = read-says 56 1 pattern s (h .fields) (h .is) .0; holds = h .holds }
 
 pub query-few : {q : Given} → Query q → q .edges ≤ 32
 query-few t = let h = few-edges t in omega (arith, t .holds .edges)
 
 -- the views of a catalogue that was accepted
 module _ (s : List ℕ) {n k : ℕ} {w counts : List ℕ} (h : Held (λ cs. HoldsViews cs k counts) (readCatalogue s) n w) where
-  pub views-read : (decode catalogue s ≡ ok (h .fields)) × (length s ≤ 705)
-  views-read = read-says 705 2 catalogue s (h .fields) (h .is)
+  pub views-read : (decode catalogue s ≡ ok (h .fields)) × (length s ≤ 897)
+  views-read = read-says 897 2 catalogue s (h .fields) (h .is)
 
   abbrev pub views-by : Views s k
   views-by = record { content = h .fields; is = views-read .0; number = h .holds .number }
@@ -136,7 +136,7 @@ module _ {s : List ℕ} {k : ℕ} (v : Views s k) where
     edges-many : length (patternOf (t .content) .edges) ≡ q .edges
     edges-many =
         ap (λ (P : Pattern). length (P .edges)) (pattern-is (plain t))
-        ∙ edgesIn-length (plain t .ends) (plain t .number) (plain t .edges .two-each)
+        ∙ edgesIn-length (plain t .es) (plain t .number) (plain t .edges .among .three-each)
         ∙ sym (edges-in (plain t))
         ∙ sym (t .holds .edges)
 

@@ -51,8 +51,12 @@ module _ {q : Given} {table : List ℕ} {set : ℕ} {s counts : List ℕ} {k d :
       record {
         long = omega (arith, j .edges .long, p .long);
         most = most;
-        small = λ i h. rw (same i (omega arith)) (p .small i h);
-        rises = λ a b h l. rw (same a (omega arith), same b (omega arith)) (p .rises a b h l);
+        rises = λ a b e h l _ _.
+            (let x = same a (omega arith) in
+            let y = same b (omega arith) in
+            let small = p .small b l in
+            let less = p .rises a b h l in
+            omega arith);
       }
 
   module _ (vs : List View) (g : Agrees q table set s counts k vs) where

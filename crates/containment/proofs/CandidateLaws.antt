@@ -1,65 +1,48 @@
 -- The candidates that the sheets of the views in a set give are those that a book's lists, by the query's table, have.
 use Prim.Native.Nat.{ℕ, zero, suc, _+_, _*_, _/_, _<_}
-use mathlib.Core.Path.{_≡_, refl, sym, ap, subst, _∙_}
-use mathlib.Core.Bool.{Bool, true, false, cond}
-use mathlib.Core.Logic.{_⊎_, inl, inr, ⊎-elim, _↔_}
+use mathlib.Core.Path.{_≡_, sym, ap, subst, _∙_}
+use mathlib.Core.Bool.{cond}
+use mathlib.Core.Logic.{⊎-elim, _↔_}
 use mathlib.Core.List.{List, [], _∷_}
 use lib.ListN.{length, take, drop, getD, List·getD-map}
 use lib.Dec.{T}
 use native.Mathlib.Omega.{arith}
-use Rattle.packed.specs.Format.{ok, pick, decode}
+use Rattle.packed.specs.Format.{ok, decode}
 use Rattle.packed.specs.Formats.{code, book}
-use Rattle.packed.specs.Contents.{viewsOf, edgeCounts, member, sheetsIn}
+use Rattle.packed.specs.Contents.{viewsOf, edgeCounts, sheetsIn}
 use Rattle.packed.specs.Walks.{fieldOr}
 use Rattle.packed.specs.BookSheets.{sheetAt}
 use Rattle.packed.proofs.Walks.{standing-most}
 use Rattle.packed.specs.declared.by_value.Pattern.{Pattern as Given}
-use Rattle.matching.specs.Lists.{In, here, there, gather}
-use Rattle.matching.specs.Simulation.{Pair, Edge, Pattern, bit, edgesIn, patternOf, asGraph, viewSheet}
-use Rattle.matching.specs.Join.{listsEdge, View, pairOf, under, candidates}
+use Rattle.matching.specs.Lists.{In, gather}
+use Rattle.matching.specs.Simulation.{Pair, Edge, noEdge, Pattern, bit, edgesIn, patternOf, asGraph, viewSheet}
+use Rattle.matching.specs.Join.{isMatch, View, pairOf, under, candidates}
 use Rattle.matching.specs.Sweeps.{Has, OneOf}
 use Rattle.matching.specs.Candidates.{SheetListingAt, BookListing}
 use Rattle.matching.specs.Joining.{Agrees}
 use Rattle.matching.specs.Steps.{givenEdge}
 use Rattle.matching.proofs.ListLaws.{cond-case, not-in-none, in-cast, in-at, append-in, in-append-left, in-append-right, gather-in, in-gather, each-in, in-each}
-use Rattle.matching.proofs.CodeLaws.{member-in}
-use Rattle.matching.proofs.JoinLaws.{lists-by}
+use Rattle.matching.proofs.JoinLaws.{match-say, match-by}
 use Rattle.matching.proofs.MatchSetLaws.{view-length}
 use Rattle.matching.proofs.PatternLaws.{edges-many, pattern-same}
 use Rattle.matching.proofs.ViewLaws.{all-ahead, in-follow}
 use Rattle.containment.specs.Quote.{noPattern, mapping}
 use Rattle.containment.specs.Answer.{viewsIn}
-use Rattle.containment.specs.Steps.{Query, Views, codeAt}
+use Rattle.containment.specs.Steps.{Query, Views}
 use Rattle.containment.proofs.SetBits.{bit-half}
+use Rattle.containment.proofs.MappingLaws.{rest-at, pick-say, pick-first, pick-rest}
 use Rattle.containment.proofs.QueryLaws.{plain, few-edges, query-number, query-edge}
 use Rattle.containment.proofs.NotingLaws.{views-many as contents-many}
 use Rattle.containment.proofs.AnswerLaws.{viewPatterns, views-few, views-many}
-use Rattle.containment.proofs.QuoteLaws.{test-is, mapping-exactly}
+use Rattle.containment.proofs.QuoteLaws.{mapping-exactly}
 use Rattle.containment.proofs.BookLaws.{count-is, sheet-long, list-same, list-there}
 
 -- ---- the views in a set, by their numbers
 abbrev pub viewAt : List Pattern → List (List (List ℕ)) → ℕ → View
 viewAt Ps sheets a = record { pattern = getD Ps a noPattern; sheet = getD sheets a [] }
 
-rest-at : {A : Type 0} (l : List A) (a : ℕ) (d : A) → getD (drop 1 l) a d ≡ getD l (suc a) d
-rest-at [] a d = refl
-rest-at (x ∷ l) a d = refl
-
 view-after : (P : Pattern) (Ps : List Pattern) (sheets : List (List (List ℕ))) (a : ℕ) → viewAt Ps (drop 1 sheets) a ≡ viewAt (P ∷ Ps) sheets (suc a)
 view-after P Ps sheets a = ap (λ (l : List (List ℕ)). record { pattern = getD Ps a noPattern; sheet = l }) (rest-at sheets a [])
-
-pick-say : (b : Bool) (x : View) (l : List View) {y : View} → In y (pick b (x ∷ l) l) → (T b × (y ≡ x)) ⊎ In y l
-pick-say true x l (here e) = inl (tt, e)
-pick-say true x l (there i) = inr i
-pick-say false x l i = inr i
-
-pick-first : (b : Bool) (x : View) (l : List View) → T b → In x (pick b (x ∷ l) l)
-pick-first true x l t = here refl
-pick-first false x l t = absurd t
-
-pick-rest : (b : Bool) (x : View) (l : List View) {y : View} → In y l → In y (pick b (x ∷ l) l)
-pick-rest true x l i = there i
-pick-rest false x l i = i
 
 pub views-say : (set : ℕ) (Ps : List Pattern) (sheets : List (List (List ℕ))) {v : View} → In v (viewsIn set Ps sheets)
     → OneOf (length Ps) (λ a. Has set a × (v ≡ viewAt Ps sheets a))
@@ -83,33 +66,35 @@ views-by set (P ∷ Ps) sheets (suc a) h b =
     pick-rest (bit set 0) _ _ (in-cast (view-after P Ps sheets a) (views-by (set / 2) Ps (drop 1 sheets) a (omega arith) (subst T (bit-half set a) b)))
 
 -- ---- what a sheet lists under the edges that match an edge, by their numbers
-lists-say : (e : Edge) (l : List ℕ) → T (listsEdge e l) → In (code (e .from) (e .to)) l
-unfolding listsEdge
-lists-say e l t = member-in l (test-is (member (code (e .from) (e .to)) l) .1 t)
-
 module _ (e : Edge) where
-  abbrev Under : List (List ℕ) → List (List ℕ) → ℕ → Type 0
-  Under ms ls c = OneOf (length ls) (λ f. In (code (e .from) (e .to)) (getD ms f []) × In c (getD ls f []))
+  abbrev Matching : List Edge → List (List ℕ) → ℕ → Type 0
+  Matching gs ms f = (getD gs f noEdge .kind ≡ e .kind) × In (code (e .from) (e .to)) (getD ms f [])
 
-  pub under-say : (ms ls : List (List ℕ)) {c : ℕ} → In c (under e ms ls) → Under ms ls c
+  abbrev Under : List Edge → List (List ℕ) → List (List ℕ) → ℕ → Type 0
+  Under gs ms ls c = OneOf (length ls) (λ f. Matching gs ms f × In c (getD ls f []))
+
+  pub under-say : (gs : List Edge) (ms ls : List (List ℕ)) {c : ℕ} → In c (under e gs ms ls) → Under gs ms ls c
   unfolding under
-  under-say [] ls i = absurd (not-in-none i)
-  under-say (m ∷ ms) [] i = absurd (not-in-none i)
-  under-say (m ∷ ms) (l ∷ ls) {c} i =
+  under-say [] ms ls i = absurd (not-in-none i)
+  under-say (g ∷ gs) [] ls i = absurd (not-in-none i)
+  under-say (g ∷ gs) (m ∷ ms) [] i = absurd (not-in-none i)
+  under-say (g ∷ gs) (m ∷ ms) (l ∷ ls) {c} i =
       ⊎-elim
-      (cond-case (λ k. In c k → Under (m ∷ ms) (l ∷ ls) c) (listsEdge e m) l []
-      (λ t j. record { at = 0; below = omega arith; holds = (lists-say e m t, j) })
+      (cond-case (λ k. In c k → Under (g ∷ gs) (m ∷ ms) (l ∷ ls) c) (isMatch e g m) l []
+      (λ t j. record { at = 0; below = omega arith; holds = (match-say e g m t, j) })
       (λ t j. absurd (not-in-none j)))
-      (λ j. let r = under-say ms ls {c = c} j in record { at = suc (r .at); below = omega (arith, r .below); holds = r .holds })
-      (append-in (cond (listsEdge e m) l []) i)
+      (λ j. let r = under-say gs ms ls {c = c} j in record { at = suc (r .at); below = omega (arith, r .below); holds = r .holds })
+      (append-in (cond (isMatch e g m) l []) i)
 
-  pub under-by : (ms ls : List (List ℕ)) (f : ℕ) {c : ℕ} → f < length ms → f < length ls → In (code (e .from) (e .to)) (getD ms f []) → In c (getD ls f []) → In c (under e ms ls)
+  pub under-by : (gs : List Edge) (ms ls : List (List ℕ)) (f : ℕ) {c : ℕ} → f < length gs → f < length ms → f < length ls → Matching gs ms f → In c (getD ls f [])
+      → In c (under e gs ms ls)
   unfolding under
-  under-by [] ls f h k i j = absurd (omega arith)
-  under-by (m ∷ ms) [] f h k i j = absurd (omega arith)
-  under-by (m ∷ ms) (l ∷ ls) zero {c} h k i j =
-      in-append-left (under e ms ls) (cond-case (λ x. In c x) (listsEdge e m) l [] (λ t. j) (λ n. absurd (n (lists-by e i))))
-  under-by (m ∷ ms) (l ∷ ls) (suc f) h k i j = in-append-right (cond (listsEdge e m) l []) (under-by ms ls f (omega arith) (omega arith) i j)
+  under-by [] ms ls f n h k i j = absurd (omega arith)
+  under-by (g ∷ gs) [] ls f n h k i j = absurd (omega arith)
+  under-by (g ∷ gs) (m ∷ ms) [] f n h k i j = absurd (omega arith)
+  under-by (g ∷ gs) (m ∷ ms) (l ∷ ls) zero {c} n h k i j =
+      in-append-left (under e gs ms ls) (cond-case (λ x. In c x) (isMatch e g m) l [] (λ t. j) (λ z. absurd (z (match-by e g (i .0) (i .1)))))
+  under-by (g ∷ gs) (m ∷ ms) (l ∷ ls) (suc f) n h k i j = in-append-right (cond (isMatch e g m) l []) (under-by gs ms ls f (omega arith) (omega arith) (omega arith) i j)
 
 -- ---- candidates by the numbers of a view in the set and of its edge
 module _ (Q : Pattern) (set : ℕ) (Ps : List Pattern) (sheets : List (List (List ℕ))) (e : Edge) where
@@ -120,6 +105,7 @@ module _ (Q : Pattern) (set : ℕ) (Ps : List Pattern) (sheets : List (List (Lis
     pub chosen : Has set view
     pub edge : ℕ
     pub below : edge < length (getD sheets view [])
+    pub kind : getD (getD Ps view noPattern .edges) edge noEdge .kind ≡ e .kind
     pub matches : In (code (e .from) (e .to)) (getD (viewSheet (getD Ps view noPattern) (asGraph Q)) edge [])
     pub lists : In c (getD (getD sheets view []) edge [])
 
@@ -127,7 +113,7 @@ module _ (Q : Pattern) (set : ℕ) (Ps : List Pattern) (sheets : List (List (Lis
   vs = viewsIn set Ps sheets
 
   abbrev of-view : View → List ℕ
-  of-view v = under e (viewSheet (v .pattern) (asGraph Q)) (v .sheet)
+  of-view v = under e (v .pattern .edges) (viewSheet (v .pattern) (asGraph Q)) (v .sheet)
 
   pub offered-say : {f : Pair} → In f (candidates Q vs e) → (c : ℕ) × (f ≡ pairOf c) × Offered c
   unfolding candidates
@@ -136,15 +122,16 @@ module _ (Q : Pattern) (set : ℕ) (Ps : List Pattern) (sheets : List (List (Lis
       let c : ℕ = r .0 in
       let g = gather-in of-view vs (r .1) in
       let o = views-say set Ps sheets (g .1) in
-      let u = under-say e (viewSheet (getD Ps (o .at) noPattern) (asGraph Q)) (getD sheets (o .at) []) {c = c} (subst (λ v. In c (of-view v)) (o .holds .1) (g .2)) in
-      (c, r .2, record { view = o .at; given = o .below; chosen = o .holds .0; edge = u .at; below = u .below; matches = u .holds .0; lists = u .holds .1 })
+      let P : Pattern = getD Ps (o .at) noPattern in
+      let u = under-say e (P .edges) (viewSheet P (asGraph Q)) (getD sheets (o .at) []) {c = c} (subst (λ v. In c (of-view v)) (o .holds .1) (g .2)) in
+      (c, r .2, record { view = o .at; given = o .below; chosen = o .holds .0; edge = u .at; below = u .below; kind = u .holds .0 .0; matches = u .holds .0 .1; lists = u .holds .1 })
 
   pub offered-by : {c : ℕ} (o : Offered c) → o .edge < length (getD Ps (o .view) noPattern .edges) → In (pairOf c) (candidates Q vs e)
   unfolding candidates
   offered-by {c} o h =
       let P : Pattern = getD Ps (o .view) noPattern in
       in-each pairOf (in-gather of-view (views-by set Ps sheets (o .view) (o .given) (o .chosen))
-      (under-by e (viewSheet P (asGraph Q)) (getD sheets (o .view) []) (o .edge) (omega (arith, view-length P (asGraph Q))) (o .below) (o .matches) (o .lists)))
+      (under-by e (P .edges) (viewSheet P (asGraph Q)) (getD sheets (o .view) []) (o .edge) h (omega (arith, view-length P (asGraph Q))) (o .below) (o .kind, o .matches) (o .lists)))
 
 -- ---- an accepted query, and a book that was accepted for the views of a catalogue
 module _ {q : Given} (t : Query q) {c : List ℕ} {k : ℕ} (v : Views c k) (counts s bs : List ℕ) (same : take k counts ≡ edgeCounts (v .content))
@@ -168,12 +155,10 @@ module _ {q : Given} (t : Query q) {c : List ℕ} {k : ℕ} (v : Views c k) (cou
 
   -- the table says which edges of a view match
   matches-exactly : (i a f : ℕ) → i < q .edges → a < k → f < getD counts a 0
-      → Has (getD table (16 * i + a) 0) f ↔ In (codeAt q i) (getD (viewSheet (getD Ps a noPattern) (asGraph Q)) f [])
+      → Has (getD table (16 * i + a) 0) f ↔ Matching (givenEdge q i) (getD Ps a noPattern .edges) (viewSheet (getD Ps a noPattern) (asGraph Q)) f
   matches-exactly i a f h l j =
       let m = mapping-exactly Q Ps (omega (arith, query-number t, t .holds .edges, few-edges t)) i a (omega (arith, query-number t)) (omega (arith, views-many v)) (omega (arith, views-few v)) f (omega (arith, view-edges a l)) in
-      let n = rw (← is, query-edge t i h) at m in
-      let b = test-is (bit (getD table (16 * i + a) 0) f) in
-      (λ x. n .0 (b .1 x), λ x. b .0 (n .1 x))
+      rw (← is, query-edge t i h) at m
 
   module _ (set : ℕ) where
     abbrev Listing : ℕ → ℕ → Type 0
@@ -187,6 +172,7 @@ module _ {q : Given} (t : Query q) {c : List ℕ} {k : ℕ} (v : Views c k) (cou
         let f : ℕ = u .at in
         let j = u .below in
         let n = standing-most (fieldOr s (sheetAt s 0 (take k counts) a) 1) (getD counts a 0) in
+        let m = matches-exactly i a f h l (omega arith) .0 (u .holds .1) in
         offered-by Q set Ps sheets (givenEdge q i)
         (record {
           view = a;
@@ -194,7 +180,8 @@ module _ {q : Given} (t : Query q) {c : List ℕ} {k : ℕ} (v : Views c k) (cou
           chosen = o .holds .0;
           edge = f;
           below = omega (arith, sheet-long v counts s bs same e a l);
-          matches = matches-exactly i a f h l (omega arith) .0 (u .holds .1);
+          kind = m .0;
+          matches = m .1;
           lists = rw (← list-same v counts s bs same e a f l j) (u .holds .0);
         })
         (omega (arith, view-edges a l))
@@ -207,7 +194,7 @@ module _ {q : Given} (t : Query q) {c : List ℕ} {k : ℕ} (v : Views c k) (cou
         let j : f < getD counts a 0 = omega (arith, o .below, sheet-long v counts s bs same e a l) in
         let b = list-there v counts s bs same e a f x l (o .lists) in
         let u : SheetListingAt s (sheetAt s 0 (take k counts) a) (getD counts a 0) table a (q .edges) x i =
-        record { edge = h; under = record { at = f; below = b; holds = (rw (list-same v counts s bs same e a f l b) (o .lists), matches-exactly i a f h l j .1 (o .matches)) } } in
+        record { edge = h; under = record { at = f; below = b; holds = (rw (list-same v counts s bs same e a f l b) (o .lists), matches-exactly i a f h l j .1 (o .kind, o .matches)) } } in
         record { at = a; below = l; holds = (o .chosen, u) }
 
     pub agrees-by : Agrees q table set s counts k (viewsIn set (viewPatterns (v .content)) (sheetsIn (edgeCounts (v .content)) bs))

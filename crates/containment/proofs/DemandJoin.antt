@@ -8,17 +8,16 @@ use native.Mathlib.Omega.{arith}
 use Rattle.packed.specs.Formats.{code}
 use Rattle.packed.specs.Contents.{edgeCounts, sheetsIn}
 use Rattle.matching.specs.Lists.{In}
-use Rattle.matching.specs.Simulation.{Pair, Edge, noEdge, Pattern, patternOf, asGraph, ascending, viewSheet}
+use Rattle.matching.specs.Simulation.{Pair, Edge, noEdge, Pattern, patternOf, ascending}
 use Rattle.matching.specs.Join.{View, pairOf, candidates, answerSets}
 use Rattle.matching.proofs.ByEdge.{answerTo}
 use Rattle.matching.proofs.ListLaws.{in-cast, getD-each}
 use Rattle.matching.proofs.CodeLaws.{code-same, ascending-say, ascending-by}
-use Rattle.matching.proofs.MatchSetLaws.{view-length}
 use Rattle.matching.proofs.JoinLaws.{Supported, JoinedPair, join-candidate, join-supported, join-most, complete-say, complete-by, answer-say, answer-by, answer-each, code-pair, pair-code}
 use Rattle.containment.specs.Quote.{noPattern}
 use Rattle.containment.specs.Answer.{viewsIn}
 use Rattle.containment.specs.Demands.{extracts, Candidate, SupportsItself, GreatestChoice, Joins}
-use Rattle.containment.proofs.DemandRules.{place-below}
+use Rattle.containment.proofs.DemandRules.{place-below, link-below}
 use Rattle.containment.proofs.CandidateLaws.{Offered, offered-say, offered-by}
 
 -- the second number of the pair of a code has 12 bits
@@ -37,7 +36,7 @@ module _ (Q : Pattern) (Ps : List Pattern) (sheets : List (List (List ℕ))) (se
       let o = r .2 in
       let q : code (f .0) (f .1) ≡ r .0 = ap (λ (g : Pair). code (g .0) (g .1)) (r .1) ∙ pair-code (r .0) in
       record {
-        by = record { extract = o .view; given = o .given; in-set = o .chosen; link = o .edge; lists = o .matches };
+        by = record { extract = o .view; given = o .given; in-set = o .chosen; link = o .edge; kind = o .kind; lists = o .matches };
         lists = in-cast (sym q) (o .lists);
         narrow = pair-narrow (r .0) (r .1);
       }
@@ -52,11 +51,11 @@ module _ (Q : Pattern) (Ps : List Pattern) (sheets : List (List (List ℕ))) (se
         chosen = m .in-set;
         edge = m .link;
         below = place-below (getD sheets (m .extract) []) (m .link) (k .lists);
+        kind = m .kind;
         matches = m .lists;
         lists = k .lists;
       } in
-      let l : m .link < length (P .edges) = omega (arith, place-below (viewSheet P (asGraph Q)) (m .link) (m .lists), view-length P (asGraph Q)) in
-      in-cast (code-pair (k .narrow)) (offered-by Q set Ps sheets e o l)
+      in-cast (code-pair (k .narrow)) (offered-by Q set Ps sheets e o (link-below Q P (m .link) (m .lists)))
 
   -- ---- the greatest choice
   abbrev Keeps : Edge → Pair → Type 0

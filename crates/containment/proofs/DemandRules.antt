@@ -11,7 +11,7 @@ use native.Mathlib.Omega.{arith}
 use Rattle.packed.specs.Format.{Format, Result, ok, bad, pick, decode, encode}
 use Rattle.packed.specs.Contents.{edgesOf, edgeCounts, sheetsIn}
 use Rattle.packed.specs.Plain.{Below, PatternFile, CatalogueFile, RecordFile, SheetFile, BookFile}
-use Rattle.packed.specs.Formats.{code, pattern, catalogue, record′, sheet, book}
+use Rattle.packed.specs.Formats.{pattern, catalogue, record′, sheet, book}
 use Rattle.packed.specs.Calls.{Outcome, give, refuse, withWorkspace, Verdict, accepted, rejected, inFile, writeFile, judged, readPattern, readCatalogue, readRecord, readBook, pairsOf, uncrowdedBy, fit, fitFile, patternRead, catalogueRead, recordRead, sheetRead, bookRead, patternWritten, catalogueWritten, recordWritten, sheetWritten, bookWritten}
 use Rattle.packed.proofs.OrderCases.{lt-or-ge}
 use Rattle.packed.proofs.CallLaws.{crowded, uncrowded-is}
@@ -20,12 +20,11 @@ use Rattle.packed.proofs.RoundTrip.{Bytes}
 use Rattle.packed.proofs.Accepted.{pattern-accepted, catalogue-accepted, record-accepted, sheet-accepted, book-accepted, written-accepted}
 use Rattle.matching.specs.Lists.{In}
 use Rattle.matching.specs.Simulation.{Edge, Pattern, patternOf, asGraph, viewSheet}
-use Rattle.matching.specs.Join.{listsEdge}
 use Rattle.matching.proofs.ByEdge.{matchedBy, matched}
 use Rattle.matching.specs.Search.{sheetBytes}
-use Rattle.matching.proofs.ListLaws.{not-in-none, in-at, some-in, in-some}
-use Rattle.matching.proofs.CodeLaws.{member-in}
-use Rattle.matching.proofs.JoinLaws.{lists-by}
+use Rattle.matching.proofs.ListLaws.{not-in-none}
+use Rattle.matching.proofs.MatchSetLaws.{view-length}
+use Rattle.matching.proofs.JoinLaws.{some-match-say, some-match-by}
 use Rattle.containment.specs.Choice.{everyView}
 use Rattle.containment.specs.Quote.{mapping}
 use Rattle.containment.specs.Answer.{answerBytes, Choose, answerIn, answerBy, usedFor}
@@ -33,7 +32,7 @@ use Rattle.containment.specs.Show.{recordBytes, fitBoth, showFor, showOu
 use Rattle.containment.specs.Demands.{Question, Catalogue, Record, Sheet, Uncrowded, Crowded, Book, extracts, extractOf, linkOf, Covers, Leaves, Covered, Uncovered, lackingIn, chosenOf, answerOf, firstOf, secondOf, Full, Over, OverFile, OverEither, Fitted, Reads, Writes, Matched, MatchedIn, LowestUnmatched}
 use Rattle.containment.proofs.SetBits.{test-cases, never}
 use Rattle.containment.proofs.ChoiceLaws.{MatchedBy, matched-say as matched-in-table, matched-by as matched-by-table, covers-exactly, chosen-covers, used-covered, used-uncovered, lowest-is, lowest-below}
-use Rattle.containment.proofs.QuoteLaws.{test-is, place-of, matched-exactly, ListedEdge, matched-say, matched-by, listed-whole}
+use Rattle.containment.proofs.QuoteLaws.{test-is, matched-exactly, ListedEdge, matched-say, matched-by, listed-whole}
 use Rattle.containment.proofs.CoveredBytes.{question-bounds, few-views, coveredIn, coveredBy, answer-covered, answer-uncovered}
 
 -- ---- answers are told apart
@@ -376,10 +375,10 @@ no-other f x =
 -- an edge of the query that is matched is so by a view that fits the query as a whole
 module _ (Q : Pattern) (Ps : List Pattern) (e : Edge) where
   pub listed-matched : ListedEdge Q Ps e → Matched Q Ps e
-  listed-matched o = record { extract = o .view; given = o .given; link = o .at; below = o .below; lists = o .lists; whole = listed-whole Q Ps e o }
+  listed-matched o = record { extract = o .view; given = o .given; link = o .at; below = o .below; kind = o .kind; lists = o .lists; whole = listed-whole Q Ps e o }
 
   pub matched-listed : Matched Q Ps e → ListedEdge Q Ps e
-  matched-listed o = record { view = o .extract; given = o .given; at = o .link; below = o .below; lists = o .lists }
+  matched-listed o = record { view = o .extract; given = o .given; at = o .link; below = o .below; kind = o .kind; lists = o .lists }
 
   pub matched-whole : T (matched Q Ps e) ↔ Matched Q Ps e
   matched-whole = (λ t. listed-matched (matched-say Q Ps e t), λ m. matched-by Q Ps e (matched-listed m))
@@ -391,18 +390,9 @@ place-below ls i {c} m =
     (λ (h : length ls ≤ i). absurd (not-in-none (subst (λ l. In c l) (List·getD-eq-default ls [] {n = i} h) m)))
     (lt-or-ge i (length ls))
 
--- an edge of the query that a view matches is listed under an edge of the view
-module _ (Q : Pattern) (e : Edge) (P : Pattern) where
-  link-of : T (matchedBy Q e P) → (f : ℕ) × In (code (e .from) (e .to)) (getD (viewSheet P (asGraph Q)) f [])
-  unfolding matchedBy listsEdge
-  link-of t =
-      let l = some-in (listsEdge e) (viewSheet P (asGraph Q)) t in
-      let o = place-of [] (l .1) in
-      (o .at, subst (λ m. In (code (e .from) (e .to)) m) (o .holds) (member-in (l .0) (test-is (listsEdge e (l .0)) .1 (l .2))))
-
-  by-link : (f : ℕ) → In (code (e .from) (e .to)) (getD (viewSheet P (asGraph Q)) f []) → T (matchedBy Q e P)
-  unfolding matchedBy
-  by-link f i = in-some (listsEdge e) (in-at (viewSheet P (asGraph Q)) f [] (place-below (viewSheet P (asGraph Q)) f i)) (lists-by e i)
+-- it is that of an edge of the view
+pub link-below : (Q P : Pattern) (f : ℕ) {c : ℕ} → In c (getD (viewSheet P (asGraph Q)) f []) → f < length (P .edges)
+link-below Q P f i = omega (arith, place-below (viewSheet P (asGraph Q)) f i, view-length P (asGraph Q))
 
 -- the extracts that answer a query: the chosen ones, or all
 module _ (qs cs : List ℕ) where
@@ -428,6 +418,7 @@ module _ (q c qs cs : List ℕ) (p : Question q qs) (d : Catalogue c cs) where
   -- the table says of a set which edges its views match
   module _ (set : ℕ) where
     matched-plain : (i : ℕ) → i < edgesOf qs → MatchedBy (table qs cs) set i (length (extracts cs)) ↔ MatchedIn (patternOf qs) (extracts cs) set (linkOf qs i)
+    unfolding matchedBy
     matched-plain i l =
         let Q = patternOf qs in
         let Ps = extracts cs in
@@ -436,11 +427,14 @@ module _ (q c qs cs : List ℕ) (p : Question q qs) (d : Catalogue c cs) where
         let h : i < length (Q .edges) = omega (arith, b .many) in (
           λ o.
               let k = o .below in
-              let r = link-of Q (linkOf qs i) (extractOf cs (o .at)) (matched-exactly Q Ps (b .few-edges) i (o .at) h k (omega arith) .0 (o .holds .1)) in
-              record { extract = o .at; given = k; in-set = test-is _ .0 (o .holds .0); link = r .0; lists = r .1 },
+              let P = extractOf cs (o .at) in
+              let r = some-match-say (linkOf qs i) (P .edges) (viewSheet P (asGraph Q)) (matched-exactly Q Ps (b .few-edges) i (o .at) h k (omega arith) .0 (o .holds .1)) in
+              record { extract = o .at; given = k; in-set = test-is _ .0 (o .holds .0); link = r .0; kind = r .2; lists = r .3 },
           λ m.
               let k = m .given in
-              let t = matched-exactly Q Ps (b .few-edges) i (m .extract) h k (omega arith) .1 (by-link Q (linkOf qs i) (extractOf cs (m .extract)) (m .link) (m .lists)) in
+              let P = extractOf cs (m .extract) in
+              let t = matched-exactly Q Ps (b .few-edges) i (m .extract) h k (omega arith) .1
+              (some-match-by (linkOf qs i) (P .edges) (viewSheet P (asGraph Q)) (m .link) (link-below Q P (m .link) (m .lists)) (m .kind) (m .lists)) in
               record { at = m .extract; below = k; holds = (test-is _ .1 (m .in-set), t) },
         )
 

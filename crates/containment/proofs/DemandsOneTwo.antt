@@ -2,7 +2,7 @@
 use Prim.Native.Nat.{ℕ, _+_, _*_, _<_, _≤_}
 use mathlib.Core.Path.{_≡_, refl, sym, ap, _∙_}
 use mathlib.Core.Bool.{Bool, true, false}
-use mathlib.Core.Logic.{_↔_, Iff·trans, Iff·symm}
+use mathlib.Core.Logic.{_↔_}
 use mathlib.Core.List.{List, [], _∷_, _++_}
 use lib.ListN.{length, getD}
 use lib.Dec.{T, eqb}
@@ -47,13 +47,13 @@ use Rattle.containment.proofs.DemandSheets.{pair-fields, searched-back,
 
 -- a file is read first, by its limit and its number
 pattern-first : (s : List ℕ) {k : List ℕ → Outcome} → ((ws : List ℕ) → Settles (k ws)) → Settles (judged (readPattern s) k)
-pattern-first s h = read-settles 44 1 pattern-faults s h
+pattern-first s h = read-settles 56 1 pattern-faults s h
 
 catalogue-first : (s : List ℕ) {k : List ℕ → Outcome} → ((ws : List ℕ) → Settles (k ws)) → Settles (judged (readCatalogue s) k)
-catalogue-first s h = read-settles 705 2 catalogue-faults s h
+catalogue-first s h = read-settles 897 2 catalogue-faults s h
 
 record-first : (s : List ℕ) {k : List ℕ → Outcome} → ((ws : List ℕ) → Settles (k ws)) → Settles (judged (readRecord s) k)
-record-first s h = read-settles 40964 3 record-faults s h
+record-first s h = read-settles 44036 3 record-faults s h
 
 -- whether the views in a set cover the query
 abbrev covers : ℕ → List ℕ → List Pattern → Bool
@@ -179,8 +179,8 @@ lists-exactly : (r rs : List ℕ) → Record r rs → (P : Pattern) (i : ℕ) �
 lists-exactly r rs e P i h f k =
     let d = record-is r rs e in
     let x = listed-exactly P (graphOf rs) (graph-narrow r rs d) i h f k in (
-      λ j. let m = related-matches P (graphOf rs) (x .0 j) in record { whole = m .whole; link = m .link; edge = m .edge; ends = m .ends; tail = m .tail; head = m .head },
-      λ m. x .1 (matches-related P (graphOf rs) (record { whole = m .whole; link = m .link; edge = m .edge; ends = m .ends; tail = m .tail; head = m .head })),
+      λ j. let m = related-matches P (graphOf rs) (x .0 j) in record { whole = m .whole; link = m .link; edge = m .edge; kind = m .kind; ends = m .ends; tail = m .tail; head = m .head },
+      λ m. x .1 (matches-related P (graphOf rs) (record { whole = m .whole; link = m .link; edge = m .edge; kind = m .kind; ends = m .ends; tail = m .tail; head = m .head })),
     )
 
 quote-exactly : (q c qs cs : List ℕ) → Question q qs → Catalogue c cs → Covered qs cs ↔ ((e : Edge) → In e (patternOf qs .edges) → Matched (patternOf qs) (extracts cs) e)
@@ -194,11 +194,12 @@ quote-exactly q c qs cs eq ec =
 
 -- the masks of a quote
 maps-exactly : (q c qs cs : List ℕ) → Question q qs → Catalogue c cs → (i a f : ℕ) → i < edgesOf qs → a < length (extracts cs) → f < length (extractOf cs a .edges)
-    → T (bit (getD (mapping (patternOf qs) (extracts cs)) (16 * i + a) 0) f) ↔ In (code (linkOf qs i .from) (linkOf qs i .to)) (getD (viewSheet (extractOf cs a) (asGraph (patternOf qs))) f [])
+    → T (bit (getD (mapping (patternOf qs) (extracts cs)) (16 * i + a) 0) f)
+    ↔ ((getD (extractOf cs a .edges) f noEdge .kind ≡ linkOf qs i .kind) × In (code (linkOf qs i .from) (linkOf qs i .to)) (getD (viewSheet (extractOf cs a) (asGraph (patternOf qs))) f []))
 maps-exactly q c qs cs eq ec i a f h l k =
     let b = question-bounds q qs eq in
     let n = few-views c cs ec in
-    Iff·trans (Iff·symm (test-is _)) (mapping-exactly (patternOf qs) (extracts cs) (b .few-edges) i a (omega (arith, b .many)) l (omega arith) f k)
+    mapping-exactly (patternOf qs) (extracts cs) (b .few-edges) i a (omega (arith, b .many)) l (omega arith) f k
 
 -- the values of a quote
 abbrev valuesBy : List ℕ → List ℕ → Bool → ℕ → QuoteValues

@@ -9,26 +9,27 @@ use lib.Seq.{sets, sets-eq, length-sets, take-at, take-suc, take-suc-set, take-a
 use native.Mathlib.Omega.{arith}
 use native.Mathlib.Numerals.{add-one}
 use borrow.Author.Tests.{eq-eqb, ne-eqb, lt-ltb, le-ltb}
-use Rattle.packed.specs.Contents.{ends, distinct, codes, sortedEnds}
+use Rattle.packed.specs.Contents.{distinct, eachEdge, ranks, fromRanks, sortedEdges}
+use Rattle.packed.specs.Formats.{rank}
 use Rattle.packed.specs.Order.{Sorted}
-use Rattle.packed.specs.Plain.{PlainEdges, PlainPattern, fromAt, toAt}
+use Rattle.packed.specs.Plain.{PlainEdges, PlainPattern, fromAt, toAt, kindAt}
 use Rattle.packed.specs.ByValue.{HoldsPattern}
 use Rattle.packed.specs.declared.by_value.Pattern.{Pattern as Given}
 use Rattle.packed.proofs.OrderCases.{lt-or-ge, eq-or-ne}
 use Rattle.packed.proofs.DistinctAbsorb.{sorted-front}
-use Rattle.packed.proofs.GraphLaws.{codes-length, codes-at, ends-length}
-use Rattle.packed.proofs.SortedEdges.{codes-differ}
-use Rattle.matching.specs.Simulation.{Edge, noEdge}
+use Rattle.packed.proofs.EdgePlaces.{each-length, each-at, each-more}
+use Rattle.packed.proofs.SortedEdges.{ranks-differ, ranks-length}
+use Rattle.matching.specs.Simulation.{Edge, between, noEdge}
 use Rattle.matching.specs.Steps.{givenEdge as givenAt}
 use Rattle.matching.proofs.UpToLaws.{getD-upTo}
 use Rattle.matching.proofs.PatternLaws.{nodes-in, edges-in, edges-are, labels-same, edges-same}
 use Rattle.matching.proofs.EdgeLaws.{edgeAt}
-use Rattle.containment.specs.Steps.{powers, endsBut, CodesFront, labelFields, fieldsBut, Front, Extends, HoldsFields, shownFields}
+use Rattle.containment.specs.Steps.{powers, edgesBut, RanksFront, labelFields, fieldsBut, Front, Extends, HoldsFields, shownFields}
 use Rattle.containment.specs.declared.query.Fields.{Fields}
 use Rattle.containment.proofs.QueryGraph.{graph-fields, fewer-plain, fewer-fields, edge-at}
 
 -- ---- words at the front of a table
-front-one : {words fs : List ℕ} {n : ℕ} (v : ℕ) → n < 82 → Front words n fs → Front (set words n v) (n + 1) (fs ++ (v ∷ []))
+front-one : {words fs : List ℕ} {n : ℕ} (v : ℕ) → n < 114 → Front words n fs → Front (set words n v) (n + 1) (fs ++ (v ∷ []))
 front-one {words} {fs} {n} v h f =
     record {
       long = length-set words n v ∙ f .long;
@@ -39,11 +40,11 @@ front-one {words} {fs} {n} v h f =
 front-cast : {words fs gs : List ℕ} {n k : ℕ} → n ≡ k → fs ≡ gs → Front words n fs → Front words k gs
 front-cast {words} {gs = gs} {n} p q f = subst (λ j. Front words j gs) p (subst (Front words n) q f)
 
-pub front-two : {words : List ℕ} {n : ℕ} (a b : ℕ) → n ≤ 80 → Extends n 2 (a ∷ b ∷ []) words (set (set words n a) (n + 1) b)
+pub front-two : {words : List ℕ} {n : ℕ} (a b : ℕ) → n ≤ 112 → Extends n 2 (a ∷ b ∷ []) words (set (set words n a) (n + 1) b)
 front-two {n = n} a b h fs f =
     front-cast (omega arith) (append-assoc fs (a ∷ []) (b ∷ [])) (front-one b (omega arith) (front-one a (omega arith) f))
 
-pub front-none : {words : List ℕ} → words ≡ replicate 82 0 → Front words 0 []
+pub front-none : {words : List ℕ} → words ≡ replicate 114 0 → Front words 0 []
 front-none e = record { long = ap length e; number = refl; is = refl }
 
 -- ---- the labels
@@ -59,23 +60,17 @@ pub labels-start : {words : List ℕ} (ls : List ℕ) → Extends 2 0 (powers (t
 unfolding powers
 labels-start ls fs f = front-cast (omega arith) (sym (append-nil fs)) f
 
-pub labels-more : {words₀ words : List ℕ} (ls : List ℕ) {u v : ℕ} → u < length ls → u < 80 → v ≡ 2 ^ getD ls u 0
+pub labels-more : {words₀ words : List ℕ} (ls : List ℕ) {u v : ℕ} → u < length ls → u < 112 → v ≡ 2 ^ getD ls u 0
     → Extends 2 u (powers (take u ls)) words₀ words → Extends 2 (u + 1) (powers (take (u + 1) ls)) words₀ (set words (2 + u) v)
 labels-more ls {u} {v} h k e x fs f =
     front-cast (omega arith)
     (append-assoc fs (powers (take u ls)) (v ∷ []) ∙ ap (λ (l : List ℕ). fs ++ l) (ap (λ (y : ℕ). powers (take u ls) ++ (y ∷ [])) e ∙ sym (powers-more ls u h)))
     (front-one v (omega arith) (x fs f))
 
--- ---- the ends of the edges
-codes-snoc : (k : ℕ) (es : List ℕ) (a b : ℕ) → length es ≡ 2 * k → codes (es ++ (a ∷ b ∷ [])) ≡ codes es ++ ((a * 4096 + b) ∷ [])
-unfolding codes
-codes-snoc k [] a b n = refl
-codes-snoc k (x ∷ []) a b n = absurd (omega arith)
-codes-snoc zero (x ∷ y ∷ es) a b n = absurd (omega arith)
-codes-snoc (suc k) (x ∷ y ∷ es) a b n = ap (λ (l : List ℕ). (x * 4096 + y) ∷ l) (codes-snoc k es a b (omega arith))
+-- ---- the fields of the edges
 
 -- so many words more, all at once
-pub front-sets : {words : List ℕ} {n : ℕ} (fs es : List ℕ) → n + length es ≤ 82 → Front words n fs → Front (sets words n es) (n + length es) (fs ++ es)
+pub front-sets : {words : List ℕ} {n : ℕ} (fs es : List ℕ) → n + length es ≤ 114 → Front words n fs → Front (sets words n es) (n + length es) (fs ++ es)
 front-sets {words} {n} fs es h f =
     let t : length (take n words) ≡ n = length-take-le n words (omega (arith, f .long)) in
     record {
@@ -87,41 +82,60 @@ front-sets {words} {n} fs es h f =
           ∙ ap (λ (l : List ℕ). l ++ es) (f .is);
     }
 
-module _ (from to : List ℕ) (skip : ℕ) where
-  but-none : (e : ℕ) → e ≡ skip → endsBut from to skip (e + 1) ≡ endsBut from to skip e
-  unfolding endsBut
-  but-none e q = rw (add-one, eq-eqb e skip q) (append-nil (endsBut from to skip e))
+take-three : (l : List ℕ) (i : ℕ) → 3 * i + 2 < length l → take (3 * suc i) l ≡ take (3 * i) l ++ (fromAt l i ∷ toAt l i ∷ kindAt l i ∷ [])
+take-three l i h =
+    let z : 3 * suc i ≡ suc (3 * i + 2) = omega arith in
+    let y : 3 * i + 2 ≡ suc (3 * i + 1) = omega arith in
+    let x : 3 * i + 1 ≡ suc (3 * i) = omega arith in
+    let a : take (3 * i + 1) l ≡ take (3 * i) l ++ (fromAt l i ∷ []) = ap (λ (n : ℕ). take n l) x ∙ take-suc l (3 * i) 0 (omega arith) in
+    let b : take (3 * i + 2) l ≡ take (3 * i + 1) l ++ (toAt l i ∷ []) = ap (λ (n : ℕ). take n l) y ∙ take-suc l (3 * i + 1) 0 (omega arith) in
+    ap (λ (n : ℕ). take n l) z
+    ∙ take-suc l (3 * i + 2) 0 h
+    ∙ ap (λ (m : List ℕ). m ++ (kindAt l i ∷ [])) (b ∙ ap (λ (m : List ℕ). m ++ (toAt l i ∷ [])) a)
+    ∙ append-assoc (take (3 * i) l ++ (fromAt l i ∷ [])) (toAt l i ∷ []) (kindAt l i ∷ [])
+    ∙ append-assoc (take (3 * i) l) (fromAt l i ∷ []) (toAt l i ∷ kindAt l i ∷ [])
 
-  but-one : (e : ℕ) → (e ≡ skip → ⊥) → endsBut from to skip (e + 1) ≡ endsBut from to skip e ++ (getD from e 0 ∷ getD to e 0 ∷ [])
-  unfolding endsBut
+module _ (from to kind : List ℕ) (skip : ℕ) where
+  abbrev but : ℕ → List ℕ
+  but e = edgesBut from to kind skip e
+
+  abbrev rankOf : ℕ → ℕ
+  rankOf e = rank (getD from e 0) (getD to e 0) (getD kind e 0)
+
+  but-none : (e : ℕ) → e ≡ skip → but (e + 1) ≡ but e
+  unfolding edgesBut
+  but-none e q = rw (add-one, eq-eqb e skip q) (append-nil (but e))
+
+  but-one : (e : ℕ) → (e ≡ skip → ⊥) → but (e + 1) ≡ but e ++ (getD from e 0 ∷ getD to e 0 ∷ getD kind e 0 ∷ [])
+  unfolding edgesBut
   but-one e q = rw (add-one, ne-eqb e skip q)
 
-  but-even : (e : ℕ) → (k : ℕ) × (length (endsBut from to skip e) ≡ 2 * k) × (k ≤ e)
-  unfolding endsBut
-  but-even zero = (0, refl, omega arith)
-  but-even (suc e) =
-      let r = but-even e in
+  but-threes : (e : ℕ) → (k : ℕ) × (length (but e) ≡ 3 * k) × (k ≤ e)
+  unfolding edgesBut
+  but-threes zero = (0, refl, omega arith)
+  but-threes (suc e) =
+      let r = but-threes e in
       ⊎-elim
       (λ (q : e ≡ skip). (r .0, ap length (rw (add-one e) at (but-none e q)) ∙ r .1, omega (arith, r .2)))
-      (λ (q : e ≡ skip → ⊥). (suc (r .0), ap length (rw (add-one e) at (but-one e q)) ∙ length-append (endsBut from to skip e) (getD from e 0 ∷ getD to e 0 ∷ []) ∙ omega (arith, r .1), omega (arith, r .2)))
+      (λ (q : e ≡ skip → ⊥). (suc (r .0), ap length (rw (add-one e) at (but-one e q)) ∙ length-append (but e) (getD from e 0 ∷ getD to e 0 ∷ getD kind e 0 ∷ []) ∙ omega (arith, r .1), omega (arith, r .2)))
       (eq-or-ne e skip)
 
-  -- the codes of the first e edges, as they are loaded
-  pub codes-none : (w : List ℕ) → length w ≡ 16384 → CodesFront (codes (endsBut from to skip 0)) 0 w
-  unfolding endsBut codes
-  codes-none w l = record { long = l; few = omega arith; is = refl; small = λ j h. absurd (omega arith) }
+  -- the ranks of the first e edges, as they are loaded
+  pub ranks-none : (w : List ℕ) → length w ≡ 16384 → RanksFront (ranks (but 0)) 0 w
+  unfolding edgesBut eachEdge
+  ranks-none w l = record { long = l; few = omega arith; is = refl; small = λ j h. absurd (omega arith) }
 
-  module _ {e k : ℕ} {w : List ℕ} (x : CodesFront (codes (endsBut from to skip e)) k w) where
-    pub codes-skip : e ≡ skip → CodesFront (codes (endsBut from to skip (e + 1))) k w
-    codes-skip q = rw (but-none e q) x
+  module _ {e k : ℕ} {w : List ℕ} (x : RanksFront (ranks (but e)) k w) where
+    pub ranks-skip : e ≡ skip → RanksFront (ranks (but (e + 1))) k w
+    ranks-skip q = rw (but-none e q) x
 
-    pub codes-one : (e ≡ skip → ⊥) → k < 32 → getD from e 0 < 4096 → getD to e 0 < 4096
-        → CodesFront (codes (endsBut from to skip (e + 1))) (k + 1) (set w k (getD from e 0 * 4096 + getD to e 0))
-    codes-one q h f g =
-        let c : ℕ = getD from e 0 * 4096 + getD to e 0 in
-        let b = but-even e in
-        let z : codes (endsBut from to skip (e + 1)) ≡ codes (endsBut from to skip e) ++ (c ∷ []) =
-        ap codes (but-one e q) ∙ codes-snoc (b .0) (endsBut from to skip e) (getD from e 0) (getD to e 0) (b .1) in
+    pub ranks-one : (e ≡ skip → ⊥) → k < 32 → getD from e 0 < 4096 → getD to e 0 < 4096 → getD kind e 0 < 8
+        → RanksFront (ranks (but (e + 1))) (k + 1) (set w k (rankOf e))
+    ranks-one q h f g d =
+        let c : ℕ = rankOf e in
+        let b = but-threes e in
+        let z : ranks (but (e + 1)) ≡ ranks (but e) ++ (c ∷ []) =
+        ap ranks (but-one e q) ∙ each-more rank (b .0) (but e) (getD from e 0) (getD to e 0) (getD kind e 0) (b .1) in
         record {
           long = length-set w k c ∙ x .long;
           few = omega arith;
@@ -130,94 +144,85 @@ module _ (from to : List ℕ) (skip : ℕ) where
               (λ (p : j < k). rw (getD-set-other w k j c 0 (λ (y : j ≡ k). omega arith)) (x .small j p))
               (λ (p : k ≤ j).
               let y : j ≡ k = omega arith in
-              rw (y, getD-set-same w k c 0 (omega (arith, x .long))) (let z : c < 16777216 = omega arith in z))
+              rw (y, getD-set-same w k c 0 (omega (arith, x .long))) (let z : c < 134217728 = omega arith in z))
               (lt-or-ge j k);
         }
 
-  -- ---- from the ends in order
-  module _ (ends : List ℕ) (k : ℕ) (two : length ends ≡ 2 * k) (firsts : (e : ℕ) → e < k → getD from e 0 ≡ fromAt ends e)
-      (seconds : (e : ℕ) → e < k → getD to e 0 ≡ toAt ends e) where
-    take-two : (l : List ℕ) (i : ℕ) → 2 * i + 1 < length l → take (2 * suc i) l ≡ take (2 * i) l ++ (getD l (2 * i) 0 ∷ getD l (2 * i + 1) 0 ∷ [])
-    take-two l i h =
-        let z : 2 * suc i ≡ suc (2 * i + 1) = omega arith in
-        let y : take (2 * i + 1) l ≡ take (2 * i) l ++ (getD l (2 * i) 0 ∷ []) = rw (add-one (2 * i)) (take-suc l (2 * i) 0 (omega arith)) in
-        rw z (take-suc l (2 * i + 1) 0 h
-        ∙ ap (λ (m : List ℕ). m ++ (getD l (2 * i + 1) 0 ∷ [])) y
-        ∙ append-assoc (take (2 * i) l) (getD l (2 * i) 0 ∷ []) (getD l (2 * i + 1) 0 ∷ []))
+  -- ---- from the fields in order
+  module _ (es : List ℕ) (k : ℕ) (three : length es ≡ 3 * k) (same : (e : ℕ) → e < k → between (getD from e 0) (getD to e 0) (getD kind e 0) ≡ edgeAt es e) where
+    but-suc : (e : ℕ) → e < k → (e ≡ skip → ⊥) → but (suc e) ≡ but e ++ (fromAt es e ∷ toAt es e ∷ kindAt es e ∷ [])
+    but-suc e h q = rw (add-one e) at (but-one e q ∙ ap (λ (f : Edge). but e ++ (f .from ∷ f .to ∷ f .kind ∷ [])) (same e h))
 
-    but-suc : (e : ℕ) → e < k → (e ≡ skip → ⊥) → endsBut from to skip (suc e) ≡ endsBut from to skip e ++ (fromAt ends e ∷ toAt ends e ∷ [])
-    but-suc e h q = rw (add-one e) at (but-one e q ∙ ap₂ (λ (x y : ℕ). endsBut from to skip e ++ (x ∷ y ∷ [])) (firsts e h) (seconds e h))
-
-    before : (e : ℕ) → e ≤ k → e ≤ skip → endsBut from to skip e ≡ take (2 * e) ends
-    unfolding endsBut
+    before : (e : ℕ) → e ≤ k → e ≤ skip → but e ≡ take (3 * e) es
+    unfolding edgesBut
     before zero h l = refl
     before (suc e) h l =
         but-suc e (omega arith) (λ (z : e ≡ skip). omega arith)
-        ∙ ap (λ (m : List ℕ). m ++ (fromAt ends e ∷ toAt ends e ∷ [])) (before e (omega arith) (omega arith))
-        ∙ sym (take-two ends e (omega arith))
+        ∙ ap (λ (m : List ℕ). m ++ (fromAt es e ∷ toAt es e ∷ kindAt es e ∷ [])) (before e (omega arith) (omega arith))
+        ∙ sym (take-three es e (omega arith))
 
     abbrev later : List ℕ
-    later = drop (2 * skip + 2) ends
+    later = drop (3 * skip + 3) es
 
-    after : (j e : ℕ) → e ≡ skip + j → e < k → endsBut from to skip (suc e) ≡ take (2 * skip) ends ++ take (2 * j) later
+    later-at : (i j : ℕ) → 3 * skip + 3 + i ≡ j → getD later i 0 ≡ getD es j 0
+    later-at i j q = getD-drop (3 * skip + 3) es i 0 ∙ ap (λ (n : ℕ). getD es n 0) q
+
+    after : (j e : ℕ) → e ≡ skip + j → e < k → but (suc e) ≡ take (3 * skip) es ++ take (3 * j) later
     after zero e q h =
         let z : e ≡ skip = omega arith in
-        rw (add-one e) at (but-none e z) ∙ before e (omega arith) (omega arith) ∙ ap (λ (i : ℕ). take (2 * i) ends) z ∙ sym (append-nil (take (2 * skip) ends))
+        rw (add-one e) at (but-none e z) ∙ before e (omega arith) (omega arith) ∙ ap (λ (i : ℕ). take (3 * i) es) z ∙ sym (append-nil (take (3 * skip) es))
     after (suc j) e q h =
         let z : e ≡ suc (skip + j) = omega arith in
-        let y : 2 * skip + 2 + 2 * j ≡ 2 * e = omega arith in
-        let x : 2 * skip + 2 + (2 * j + 1) ≡ 2 * e + 1 = omega arith in
-        let a : getD later (2 * j) 0 ≡ fromAt ends e = getD-drop (2 * skip + 2) ends (2 * j) 0 ∙ ap (λ (i : ℕ). getD ends i 0) y in
-        let b : getD later (2 * j + 1) 0 ≡ toAt ends e = getD-drop (2 * skip + 2) ends (2 * j + 1) 0 ∙ ap (λ (i : ℕ). getD ends i 0) x in
+        let a = later-at (3 * j) (3 * e) (omega arith) in
+        let b = later-at (3 * j + 1) (3 * e + 1) (omega arith) in
+        let c = later-at (3 * j + 2) (3 * e + 2) (omega arith) in
+        let g : edgeAt later j ≡ edgeAt es e = λ i. between (a i) (b i) (c i) in
         but-suc e h (λ (w : e ≡ skip). omega arith)
-        ∙ ap (λ (m : List ℕ). m ++ (fromAt ends e ∷ toAt ends e ∷ [])) (ap (endsBut from to skip) z ∙ after j (skip + j) refl (omega arith))
-        ∙ append-assoc (take (2 * skip) ends) (take (2 * j) later) (fromAt ends e ∷ toAt ends e ∷ [])
-        ∙ ap (λ (m : List ℕ). take (2 * skip) ends ++ m)
-        (ap₂ (λ (u v : ℕ). take (2 * j) later ++ (u ∷ v ∷ [])) (sym a) (sym b)
-        ∙ sym (take-two later j (omega (arith, length-drop (2 * skip + 2) ends))))
+        ∙ ap (λ (m : List ℕ). m ++ (fromAt es e ∷ toAt es e ∷ kindAt es e ∷ [])) (ap but z ∙ after j (skip + j) refl (omega arith))
+        ∙ append-assoc (take (3 * skip) es) (take (3 * j) later) (fromAt es e ∷ toAt es e ∷ kindAt es e ∷ [])
+        ∙ ap (λ (m : List ℕ). take (3 * skip) es ++ m)
+        (ap (λ (f : Edge). take (3 * j) later ++ (f .from ∷ f .to ∷ f .kind ∷ [])) (sym g)
+        ∙ sym (take-three later j (omega (arith, length-drop (3 * skip + 3) es))))
 
-    pub ends-whole : k ≤ skip → endsBut from to skip k ≡ ends
-    ends-whole h = before k (omega arith) h ∙ take-all (2 * k) ends (omega arith)
+    pub but-whole : k ≤ skip → but k ≡ es
+    but-whole h = before k (omega arith) h ∙ take-all (3 * k) es (omega arith)
 
-    pub ends-fewer : skip < k → endsBut from to skip k ≡ take (2 * skip) ends ++ drop (2 * skip + 2) ends
-    ends-fewer h =
+    pub but-fewer : skip < k → but k ≡ take (3 * skip) es ++ drop (3 * skip + 3) es
+    but-fewer h =
         let z : k ≡ suc (k - 1) = omega arith in
-        ap (endsBut from to skip) z
+        ap but z
         ∙ after (k - 1 - skip) (k - 1) (omega arith) (omega arith)
-        ∙ ap (λ (m : List ℕ). take (2 * skip) ends ++ m) (take-all (2 * (k - 1 - skip)) later (omega (arith, length-drop (2 * skip + 2) ends)))
+        ∙ ap (λ (m : List ℕ). take (3 * skip) es ++ m) (take-all (3 * (k - 1 - skip)) later (omega (arith, length-drop (3 * skip + 3) es)))
 
 -- ---- the whole content
 module _ {ws : List ℕ} {bs : List Bool} (q : PlainPattern ws bs) {p : Given} (h : HoldsPattern ws p) where
-  pub edge-is : (e : ℕ) → e < q .number → givenAt p e ≡ edgeAt (q .ends) e
+  three : length (q .es) ≡ 3 * q .number
+  three = q .edges .among .three-each
+
+  pub edge-is : (e : ℕ) → e < q .number → givenAt p e ≡ edgeAt (q .es) e
   edge-is e l =
       sym (getD-upTo (givenAt p) (p .edges) e noEdge (omega (arith, edges-are q h)))
       ∙ ap (λ (es : List Edge). getD es e noEdge) (edges-same q h)
-      ∙ edge-at (q .ends) (q .number) e (q .edges .two-each) l
+      ∙ edge-at (q .es) (q .number) e three l
 
-  abbrev endsKept : ℕ → List ℕ
-  endsKept skip = endsBut (p .from) (p .to) skip (q .number)
+  abbrev kept : ℕ → List ℕ
+  kept skip = edgesBut (p .from) (p .to) (p .kind) skip (q .number)
 
-  firsts : (e : ℕ) → e < q .number → getD (p .from) e 0 ≡ fromAt (q .ends) e
-  firsts e k = ap (λ (f : Edge). f .from) (edge-is e k)
+  kept-fewer : (skip : ℕ) → skip < q .number → kept skip ≡ take (3 * skip) (q .es) ++ drop (3 * skip + 3) (q .es)
+  kept-fewer skip l = but-fewer (p .from) (p .to) (p .kind) skip (q .es) (q .number) three edge-is l
 
-  seconds : (e : ℕ) → e < q .number → getD (p .to) e 0 ≡ toAt (q .ends) e
-  seconds e k = ap (λ (f : Edge). f .to) (edge-is e k)
-
-  kept-fewer : (skip : ℕ) → skip < q .number → endsKept skip ≡ take (2 * skip) (q .ends) ++ drop (2 * skip + 2) (q .ends)
-  kept-fewer skip l = ends-fewer (p .from) (p .to) skip (q .ends) (q .number) (q .edges .two-each) firsts seconds l
-
-  kept-whole : (skip : ℕ) → q .number ≤ skip → endsKept skip ≡ q .ends
-  kept-whole skip l = ends-whole (p .from) (p .to) skip (q .ends) (q .number) (q .edges .two-each) firsts seconds l
+  kept-whole : (skip : ℕ) → q .number ≤ skip → kept skip ≡ q .es
+  kept-whole skip l = but-whole (p .from) (p .to) (p .kind) skip (q .es) (q .number) three edge-is l
 
   -- they are edges, each once
-  pub kept-plain : (skip : ℕ) → (k : ℕ) × PlainEdges (q .nodes) k (endsKept skip) × (k ≤ q .number)
+  kept-plain : (skip : ℕ) → (k : ℕ) × PlainEdges 8 (q .nodes) k (kept skip) × (k ≤ q .number)
   kept-plain skip =
       ⊎-elim
       (λ (l : skip < q .number). (q .number - 1, rw (kept-fewer skip l) (fewer-plain q skip l), omega arith))
       (λ (l : q .number ≤ skip). (q .number, rw (kept-whole skip l) (q .edges), omega arith))
       (lt-or-ge skip (q .number))
 
-  but-are : (skip : ℕ) → fieldsBut p skip ≡ q .nodes ∷ length (endsKept skip) / 2 ∷ (powers (q .labels) ++ sortedEnds (endsKept skip))
+  but-are : (skip : ℕ) → fieldsBut p skip ≡ q .nodes ∷ length (kept skip) / 3 ∷ (powers (q .labels) ++ sortedEdges (kept skip))
   unfolding fieldsBut labelFields
   but-are skip = rw (labels-same q h, edges-are q h, h .nodes, nodes-in q)
 
@@ -228,57 +233,58 @@ module _ {ws : List ℕ} {bs : List Bool} (q : PlainPattern ws bs) {p : Given} (
       ∙ ⊎-elim
       (λ (l : skip < q .number).
       let t = lt-ltb skip (q .number) l in
-      let n = fewer-plain q skip l .two-each in
-      let z : length (take (2 * skip) (q .ends) ++ drop (2 * skip + 2) (q .ends)) / 2 ≡ q .number - 1 = omega arith in
-      rw (edges-in q, t) (ap (λ (m : List ℕ). q .nodes ∷ length m / 2 ∷ (powers (q .labels) ++ sortedEnds m)) (kept-fewer skip l)
-      ∙ ap (λ (k : ℕ). q .nodes ∷ k ∷ (powers (q .labels) ++ sortedEnds (take (2 * skip) (q .ends) ++ drop (2 * skip + 2) (q .ends)))) z
+      let n = fewer-plain q skip l .among .three-each in
+      let z : length (take (3 * skip) (q .es) ++ drop (3 * skip + 3) (q .es)) / 3 ≡ q .number - 1 = omega arith in
+      rw (edges-in q, t) (ap (λ (m : List ℕ). q .nodes ∷ length m / 3 ∷ (powers (q .labels) ++ sortedEdges m)) (kept-fewer skip l)
+      ∙ ap (λ (k : ℕ). q .nodes ∷ k ∷ (powers (q .labels) ++ sortedEdges (take (3 * skip) (q .es) ++ drop (3 * skip + 3) (q .es)))) z
       ∙ sym (fewer-fields q skip l)))
       (λ (l : q .number ≤ skip).
       let t = le-ltb skip (q .number) l in
-      let z : length (q .ends) / 2 ≡ q .number = omega (arith, q .edges .two-each) in
-      rw (edges-in q, t) (ap (λ (m : List ℕ). q .nodes ∷ length m / 2 ∷ (powers (q .labels) ++ sortedEnds m)) (kept-whole skip l)
-      ∙ ap (λ (k : ℕ). q .nodes ∷ k ∷ (powers (q .labels) ++ sortedEnds (q .ends))) z
+      let z : length (q .es) / 3 ≡ q .number = omega (arith, three) in
+      rw (edges-in q, t) (ap (λ (m : List ℕ). q .nodes ∷ length m / 3 ∷ (powers (q .labels) ++ sortedEdges m)) (kept-whole skip l)
+      ∙ ap (λ (k : ℕ). q .nodes ∷ k ∷ (powers (q .labels) ++ sortedEdges (q .es))) z
       ∙ sym (graph-fields q)))
       (lt-or-ge skip (q .number))
 
-  -- the codes in the workspace, sorted, and their ends after the labels
-  module _ (skip k : ℕ) {w : List ℕ} (loaded : CodesFront (codes (endsBut (p .from) (p .to) skip (p .edges))) k w) where
-    c : CodesFront (codes (endsKept skip)) k w
-    c = subst (λ (m : ℕ). CodesFront (codes (endsBut (p .from) (p .to) skip m)) k w) (edges-are q h) loaded
+  -- the ranks in the workspace, sorted, and the fields of their edges after the labels
+  module _ (skip k : ℕ) {w : List ℕ} (loaded : RanksFront (ranks (edgesBut (p .from) (p .to) (p .kind) skip (p .edges))) k w) where
+    c : RanksFront (ranks (kept skip)) k w
+    c = subst (λ (m : ℕ). RanksFront (ranks (edgesBut (p .from) (p .to) (p .kind) skip m)) k w) (edges-are q h) loaded
 
-    kept-number : k ≡ length (endsKept skip) / 2
+    kept-number : k ≡ length (kept skip) / 3
     kept-number =
         let r = kept-plain skip in
-        let n = r .1 .two-each in
-        let m = codes-length (r .0) (endsKept skip) n in
+        let n = r .1 .among .three-each in
+        let m = each-length rank (r .0) (kept skip) n in
         let t = length-take-le k w (omega (arith, c .long, c .few)) in
         let l = ap length (c .is) in
         omega arith
 
-    pub kept-sorted : {w′ : List ℕ} → Sorted k w w′ → take k w′ ≡ distinct (codes (endsKept skip))
+    pub kept-sorted : {w′ : List ℕ} → Sorted k w w′ → take k w′ ≡ distinct (ranks (kept skip))
     kept-sorted {w′} s =
         let r = kept-plain skip in
-        let m = codes-length (r .0) (endsKept skip) (r .1 .two-each) in
+        let m = each-length rank (r .0) (kept skip) (r .1 .among .three-each) in
         let t = length-take-le k w (omega (arith, c .long, c .few)) in
         let l = ap length (c .is) in
-        let at : (i : ℕ) → i < k → getD w i 0 ≡ getD (codes (endsKept skip)) i 0 = λ i g. sym (getD-take k w i 0 g) ∙ ap (λ (x : List ℕ). getD x i 0) (c .is) in
+        let at : (i : ℕ) → i < k → getD w i 0 ≡ getD (ranks (kept skip)) i 0 = λ i g. sym (getD-take k w i 0 g) ∙ ap (λ (x : List ℕ). getD x i 0) (c .is) in
         sorted-front k w w′ (omega (arith, c .long, c .few))
         (λ i j g f e.
-        codes-differ (omega (arith, q .most-nodes)) (r .1) i j g (omega arith)
-        (sym (codes-at (endsKept skip) i (omega arith)) ∙ sym (at i (omega arith)) ∙ e ∙ at j f ∙ codes-at (endsKept skip) j (omega arith))) s
+        ranks-differ (omega arith) (omega (arith, q .most-nodes)) (r .1) i j g (omega arith)
+        (sym (each-at rank (kept skip) i (omega arith)) ∙ sym (at i (omega arith)) ∙ e ∙ at j f ∙ each-at rank (kept skip) j (omega arith))) s
         ∙ ap distinct (c .is)
 
-    pub kept-fields : {w′ : List ℕ} {f : Fields} {words : List ℕ} → Sorted k w w′ → Front words (2 + p .nodes) (labelFields p k) → f .words ≡ sets words (2 + p .nodes) (ends (take k w′))
-        → f .number ≡ 2 + p .nodes + 2 * k → HoldsFields (fieldsBut p skip) f
-    unfolding fieldsBut sortedEnds
+    pub kept-fields : {w′ : List ℕ} {f : Fields} {words : List ℕ} → Sorted k w w′ → Front words (2 + p .nodes) (labelFields p k) → f .words ≡ sets words (2 + p .nodes) (fromRanks (take k w′))
+        → f .number ≡ 2 + p .nodes + 3 * k → HoldsFields (fieldsBut p skip) f
+    unfolding fieldsBut sortedEdges
     kept-fields {w′} {f} {words} s front put number =
-        let es : List ℕ = ends (take k w′) in
-        let n : length es ≡ 2 * k = ends-length (take k w′) ∙ ap (λ (i : ℕ). 2 * i) (length-take-le k w′ (omega (arith, s .long, c .long, c .few))) in
+        let es : List ℕ = fromRanks (take k w′) in
+        let n : length es ≡ 3 * k = ranks-length (take k w′) ∙ ap (λ (i : ℕ). 3 * i) (length-take-le k w′ (omega (arith, s .long, c .long, c .few))) in
         let few = c .few in
         let b : p .nodes ≤ 16 = omega (arith, h .nodes, nodes-in q, q .most-nodes) in
         let z : 2 + p .nodes + length es ≡ f .number = omega arith in
         let fs : labelFields p k ++ es ≡ fieldsBut p skip =
-        ap₂ (λ (i : ℕ) (l : List ℕ). labelFields p i ++ ends l) kept-number (kept-sorted s) ∙ ap (λ (m : ℕ). labelFields p (length (endsBut (p .from) (p .to) skip m) / 2) ++ ends (distinct (codes (endsBut (p .from) (p .to) skip m)))) (sym (edges-are q h)) in
+        ap₂ (λ (i : ℕ) (l : List ℕ). labelFields p i ++ fromRanks l) kept-number (kept-sorted s)
+        ∙ ap (λ (m : ℕ). let t : List ℕ = edgesBut (p .from) (p .to) (p .kind) skip m in labelFields p (length t / 3) ++ fromRanks (distinct (ranks t))) (sym (edges-are q h)) in
         record {
           front = rw put (front-cast z fs (front-sets (labelFields p k) es (omega arith) front));
           most = omega arith;

@@ -17,22 +17,22 @@ use Rattle.containment.specs.Steps.{Query, Graphed, shownFields}
 use Rattle.containment.proofs.QueryLaws.{few-edges, shown-whole, shown-made}
 
 module _ {p : Given} (t : Query p) {r : ℕ} {out out′ : List ℕ} (g : Graphed (t .content) 32 r out out′) where
-  pub graphed-size : r ≤ 164
+  pub graphed-size : r ≤ 176
   graphed-size = omega (arith, g .number, shown-made t 32 .size)
 
-  graphed-bytes : length out ≡ 164 → take (r - 0) (drop 0 out′) ≡ recordBytes (shownFields (t .content) 32)
+  graphed-bytes : length out ≡ 176 → take (r - 0) (drop 0 out′) ≡ recordBytes (shownFields (t .content) 32)
   graphed-bytes l =
       let b : List ℕ = recordBytes (shownFields (t .content) 32) in
       ap (λ (n : ℕ). take n out′) (sub-zero r)
       ∙ ap (take r) (g .front ∙ sets-front out b (omega (arith, g .number, graphed-size)))
       ∙ take-at b (drop (length b) out) r (sym (g .number))
 
-  pub graphed-reads : length out ≡ 164 → decode record′ (take (r - 0) (drop 0 out′)) ≡ ok (graphFields (t .content))
+  pub graphed-reads : length out ≡ 176 → decode record′ (take (r - 0) (drop 0 out′)) ≡ ok (graphFields (t .content))
   graphed-reads l = ap (decode record′) (graphed-bytes l) ∙ shown-made t 32 .back ∙ ap ok (shown-whole t 32 (few-edges t))
 
   -- so it is not refused
-  pub graphed-taken : {A : Type 0} {n d : ℕ} → length out ≡ 164 → readRecord (take (r - 0) (drop 0 out′)) ≡ rejected n d → A
+  pub graphed-taken : {A : Type 0} {n d : ℕ} → length out ≡ 176 → readRecord (take (r - 0) (drop 0 out′)) ≡ rejected n d → A
   graphed-taken l e =
       let b : List ℕ = take (r - 0) (drop 0 out′) in
-      let h : length b ≤ 40964 = simp length-take (omega (arith, graphed-size)) in
-      absurd (let q = accepted-by (read-finds 40964 3 record′ b h) (graphed-reads l) in let z : _≡_ {A = ℕ} 0 1 = cc in omega arith)
+      let h : length b ≤ 44036 = simp length-take (omega (arith, graphed-size)) in
+      absurd (let q = accepted-by (read-finds 44036 3 record′ b h) (graphed-reads l) in let z : _≡_ {A = ℕ} 0 1 = cc in omega arith)

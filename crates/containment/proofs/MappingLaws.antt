@@ -2,27 +2,33 @@
 use Prim.Native.Nat.{ℕ, zero, suc, _+_, _*_, _/_, _%_, _^_, _<_, _≤_}
 use mathlib.Core.Path.{_≡_, refl, sym, ap, subst, _∙_}
 use mathlib.Core.Bool.{Bool, true, false}
-use mathlib.Core.Logic.{⊎-elim}
+use mathlib.Core.Logic.{_⊎_, inl, inr, ⊎-elim}
 use mathlib.Core.List.{List, [], _∷_, _++_}
-use lib.ListN.{length, drop, getD, set, replicate, length-append, length-set, length-replicate, getD-replicate, List·getD-append, List·getD-eq-default}
-use lib.Seq.{getD-set-same, getD-set-other, getD-take, getD-drop, getD-at, length-take-le, ext-getD}
-use lib.Dec.{ltb, eqb}
+use lib.ListN.{length, take, drop, getD, set, replicate, length-append, length-set, length-map, length-replicate, getD-replicate, List·getD-append, List·getD-map, List·getD-eq-default}
+use lib.Seq.{getD-set-same, getD-set-other, getD-take, getD-drop, getD-at, drop-cons, length-take-le, ext-getD}
+use lib.Dec.{T, ltb, eqb}
 use native.Mathlib.Omega.{arith}
 use native.Mathlib.Nat.{div-one, div-eq-of-lt}
 use lib.Pow.{shr-shr}
-use borrow.Author.Tests.{lt-ltb, le-ltb, eq-eqb, ne-eqb}
+use borrow.Author.Tests.{lt-ltb, le-ltb}
 use Rattle.packed.specs.Format.{pick}
 use Rattle.packed.specs.Formats.{code}
-use Rattle.packed.specs.Contents.{member}
-use Rattle.packed.specs.Matches.{marks, marked, markedFrom, anyEmpty, emptied, allOrNone, codesOf, masksOf, matchesOf, Marked, Listed}
+use Rattle.packed.specs.Matches.{marks, marked, markedFrom, anyEmpty, emptied, allOrNone, pairIn, codesOf, masksOf, matchesOf, Marked, Listed}
+use Rattle.packed.specs.declared.by_value.Pattern.{Pattern as Given}
 use Rattle.packed.proofs.OrderCases.{lt-or-ge, trichotomy}
 use Rattle.packed.proofs.RoundTrip.{and-no}
-use Rattle.matching.specs.Simulation.{Edge, noEdge, Pattern}
-use Rattle.matching.specs.Sweeps.{OneOf, Has}
+use Rattle.matching.specs.Lists.{In, here, there}
+use Rattle.matching.specs.Simulation.{Edge, noEdge, Pattern, bit}
+use Rattle.matching.specs.Join.{isMatch}
+use Rattle.matching.specs.Steps.{givenEdge, patternIn, Fair}
+use Rattle.matching.specs.Sweeps.{OneOf}
+use Rattle.matching.specs.Matched.{Rises}
+use Rattle.matching.proofs.ListLaws.{same-test, not-in-none, in-cases, in-cast}
 use Rattle.matching.proofs.UpToLaws.{length-upTo, getD-upTo}
 use Rattle.matching.proofs.MaskBits.{few-lt, has-say}
+use Rattle.matching.proofs.JoinLaws.{match-say, match-by}
 use Rattle.containment.specs.Quote.{one, maskIn, matchMask, noPattern, maskAt, mapping}
-use Rattle.containment.specs.Steps.{PlaceOf, Within, Column, MaskOf}
+use Rattle.containment.specs.Steps.{PlaceOf, Within, Column, MaskOf, wordAt}
 use Rattle.containment.proofs.SetBits.{test-cases, bit-by, bit-lt}
 
 -- ---- a column of the table
@@ -55,7 +61,7 @@ module _ {a : ℕ} {g : ℕ → ℕ → Type 0} {t : List ℕ} where
 pub column-map : {a n : ℕ} {t t′ : List ℕ} {g h : ℕ → ℕ → Type 0} → ((e x : ℕ) → e < n → g e x → h e x) → Column a n g t t′ → Column a n h t t′
 column-map f c = record { long = c .long; each = λ e l. f e _ l (c .each e l); rest = c .rest }
 
--- ---- the mask of a code
+-- ---- the mask of a word
 module _ {w : List ℕ} {m c : ℕ} (o : OneOf m (λ i. getD w i 0 ≡ c)) {r : ℕ} (p : PlaceOf w m c r) where
   pub place-below : r < m
   place-below =
@@ -64,9 +70,13 @@ module _ {w : List ℕ} {m c : ℕ} (o : OneOf m (λ i. getD w i 0 ≡ c)) {r : 
       ⊎-elim (λ (h : r < m). h) (λ (h : m ≤ r). absurd (p .lower (o .at) (omega arith) (o .holds))) (lt-or-ge r m)
 
   pub mask-found : {x : ℕ} → x ≡ getD w (8192 + r) 0 → x < 2 ^ 32 → MaskOf w m c x
-  mask-found e s = record { at = r; below = place-below; code = p .here place-below; is = e; small = s }
+  mask-found e s = record { at = r; below = place-below; word = p .here place-below; is = e; small = s }
 
 -- ---- lists and masks
+marks-bit : (f x : ℕ) → marks f x ≡ bit x f
+unfolding marks bit
+marks-bit f x = refl
+
 one-marks : (f x : ℕ) → one (marks f x) ≡ x / 2 ^ f % 2
 unfolding marks
 one-marks f x = by-test (x / 2 ^ f % 2) (omega arith)
@@ -76,96 +86,184 @@ one-marks f x = by-test (x / 2 ^ f % 2) (omega arith)
     by-test (suc zero) h = refl
     by-test (suc (suc d)) h = absurd (omega arith)
 
--- a code before a list, if b
-pick-other : (b : Bool) (p c : ℕ) (l : List ℕ) → (p ≡ c → ⊥) → member c (pick b (p ∷ l) l) ≡ member c l
-unfolding member
-pick-other true p c l n = rw (ne-eqb p c n)
-pick-other false p c l n = refl
+pub rest-at : {A : Type 0} (l : List A) (a : ℕ) (d : A) → getD (drop 1 l) a d ≡ getD l (suc a) d
+rest-at [] a d = refl
+rest-at (x ∷ l) a d = refl
 
-pick-own : (b : Bool) (p c : ℕ) (l : List ℕ) → p ≡ c → member c l ≡ false → member c (pick b (p ∷ l) l) ≡ b
-unfolding member
-pick-own true p c l e n = rw (eq-eqb p c e)
-pick-own false p c l e n = n
+-- one more in front, if b
+module _ {A : Type 0} (b : Bool) (x : A) (l : List A) where
+  pub pick-say : {y : A} → In y (pick b (x ∷ l) l) → (T b × (y ≡ x)) ⊎ In y l
+  pick-say {y} = by b
+    where
+      by : (c : Bool) → In y (pick c (x ∷ l) l) → (T c × (y ≡ x)) ⊎ In y l
+      by true i = ⊎-elim (λ e. inl (tt, e)) inr (in-cases i)
+      by false i = inr i
 
--- a code that does not stand among those listed
-member-none : (f c : ℕ) (ps qs : List ℕ) → ((j : ℕ) → j < length ps → getD ps j 0 ≡ c → ⊥) → member c (marked f ps qs) ≡ false
-unfolding marked
-member-none f c [] qs h = unfold member in refl
-member-none f c (p ∷ ps) qs h =
-    pick-other (marks f (getD qs 0 0)) p c (marked f ps (drop 1 qs)) (h 0 (omega arith)) ∙ member-none f c ps (drop 1 qs) (λ j l. h (suc j) (omega arith))
+  pub pick-first : T b → In x (pick b (x ∷ l) l)
+  pick-first = by b
+    where
+      by : (c : Bool) → T c → In x (pick c (x ∷ l) l)
+      by true t = here refl
+      by false t = absurd t
 
--- a code that stands there once is listed as its mask says
-member-marked : (f c : ℕ) (ps qs : List ℕ) (i : ℕ) → i < length ps → getD ps i 0 ≡ c → ((j : ℕ) → j < length ps → getD ps j 0 ≡ c → j ≡ i)
-    → member c (marked f ps qs) ≡ marks f (getD qs i 0)
-unfolding marked
-member-marked f c [] qs i l e u = absurd (omega arith)
-member-marked f c (p ∷ ps) qs zero l e u =
-    pick-own (marks f (getD qs 0 0)) p c (marked f ps (drop 1 qs)) e
-    (member-none f c ps (drop 1 qs) (λ j k z. (let y = u (suc j) (omega arith) z in omega arith)))
-member-marked f c (p ∷ ps) qs (suc i) l e u =
-    pick-other (marks f (getD qs 0 0)) p c (marked f ps (drop 1 qs)) (λ z. (let y = u 0 (omega arith) z in omega arith))
-    ∙ member-marked f c ps (drop 1 qs) i (omega arith) e (λ j k z. (let y = u (suc j) (omega arith) z in omega arith))
-    ∙ ap (marks f) (getD-drop 1 qs i 0 ∙ ap (λ (j : ℕ). getD qs j 0) (let y : 1 + i ≡ suc i = omega arith in y))
+  pub pick-rest : {y : A} → In y l → In y (pick b (x ∷ l) l)
+  pick-rest {y} i = by b
+    where
+      by : (c : Bool) → In y (pick c (x ∷ l) l)
+      by true = there i
+      by false = i
 
--- the lists that have a code, as a mask, are its mask
-module _ (c : ℕ) (ps qs : List ℕ) (i : ℕ) (l : i < length ps) (e : getD ps i 0 ≡ c) (u : (j : ℕ) → j < length ps → getD ps j 0 ≡ c → j ≡ i) where
-  abbrev x : ℕ
-  x = getD qs i 0
+-- a code is listed under the edge f exactly if it stands with a mask that names f
+module _ (f : ℕ) where
+  marked-say : (ps qs : List ℕ) {c : ℕ} → In c (marked f ps qs) → OneOf (length ps) (λ i. T (marks f (getD qs i 0)) × (c ≡ getD ps i 0))
+  unfolding marked
+  marked-say [] qs i = absurd (not-in-none i)
+  marked-say (p ∷ ps) qs {c} i =
+      ⊎-elim
+      (λ x. record { at = 0; below = omega arith; holds = x })
+      (λ j. let r = marked-say ps (drop 1 qs) {c = c} j in record {
+        at = suc (r .at);
+        below = omega (arith, r .below);
+        holds = (subst (λ (x : ℕ). T (marks f x)) (rest-at qs (r .at) 0) (r .holds .0), r .holds .1);
+      })
+      (pick-say (marks f (getD qs 0 0)) p (marked f ps (drop 1 qs)) i)
 
-  mask-from : (f k : ℕ) → x < 2 ^ (f + k) → maskIn c (markedFrom f k ps qs) ≡ x / 2 ^ f
-  unfolding maskIn markedFrom
-  mask-from f zero h = sym (div-eq-of-lt (let z : f + 0 ≡ f = omega arith in rw z at h))
-  mask-from f (suc k) h =
-      let z : f + suc k ≡ suc f + k = omega arith in
-      let i : maskIn c (markedFrom (suc f) k ps qs) ≡ x / 2 ^ suc f = mask-from (suc f) k (rw z at h) in
-      let j : one (member c (marked f ps qs)) ≡ x / 2 ^ f % 2 = ap one (member-marked f c ps qs _ l e u) ∙ one-marks f x in
-      let d : x / 2 ^ suc f ≡ x / 2 ^ f / 2 = ap (λ (n : ℕ). x / 2 ^ n) (omega arith) ∙ sym (shr-shr x f 1) in
+  marked-by : (ps qs : List ℕ) (i : ℕ) → i < length ps → T (marks f (getD qs i 0)) → In (getD ps i 0) (marked f ps qs)
+  unfolding marked
+  marked-by [] qs i h t = absurd (omega arith)
+  marked-by (p ∷ ps) qs zero h t = pick-first (marks f (getD qs 0 0)) p (marked f ps (drop 1 qs)) t
+  marked-by (p ∷ ps) qs (suc i) h t =
+      pick-rest (marks f (getD qs 0 0)) p (marked f ps (drop 1 qs))
+      (marked-by ps (drop 1 qs) i (omega arith) (subst (λ (x : ℕ). T (marks f x)) (sym (rest-at qs i 0)) t))
+
+-- ---- the edges that match, as a mask
+module _ (e : Edge) where
+  mask-none : (gs : List Edge) → maskIn e gs [] ≡ 0
+  unfolding maskIn
+  mask-none [] = refl
+  mask-none (g ∷ gs) = refl
+
+  emptied-none : (gs : List Edge) (ls : List (List ℕ)) → maskIn e gs (emptied ls) ≡ 0
+  unfolding maskIn emptied
+  emptied-none [] ls = refl
+  emptied-none (g ∷ gs) [] = refl
+  emptied-none (g ∷ gs) (l ∷ ls) =
+      let i = emptied-none gs ls in
+      let j : one (isMatch e g []) ≡ 0 = ap one (same-test (isMatch e g []) false (λ t. not-in-none (match-say e g [] t .1)) (λ t. absurd t)) in
       omega arith
 
-emptied-none : (c : ℕ) (ls : List (List ℕ)) → maskIn c (emptied ls) ≡ 0
-unfolding maskIn emptied member
-emptied-none c [] = refl
-emptied-none c (l ∷ ls) = let i = emptied-none c ls in omega arith
+  -- it is the mask x, if x names exactly those that match
+  module _ (x : ℕ) (gs : List Edge) (ps qs : List ℕ) (is : (f : ℕ) → f < length gs → isMatch e (getD gs f noEdge) (marked f ps qs) ≡ marks f x) where
+    mask-from : (f k : ℕ) → length gs ≡ f + k → x < 2 ^ (f + k) → maskIn e (drop f gs) (markedFrom f k ps qs) ≡ x / 2 ^ f
+    unfolding maskIn markedFrom
+    mask-from f zero n h = mask-none (drop f gs) ∙ sym (div-eq-of-lt (let z : f + 0 ≡ f = omega arith in rw z at h))
+    mask-from f (suc k) n h =
+        let z : f + suc k ≡ suc f + k = omega arith in
+        let i : maskIn e (drop (suc f) gs) (markedFrom (suc f) k ps qs) ≡ x / 2 ^ suc f = mask-from (suc f) k (n ∙ z) (rw z at h) in
+        let j : one (isMatch e (getD gs f noEdge) (marked f ps qs)) ≡ x / 2 ^ f % 2 = ap one (is f (omega arith)) ∙ one-marks f x in
+        let d : x / 2 ^ suc f ≡ x / 2 ^ f / 2 = ap (λ (n : ℕ). x / 2 ^ n) (omega arith) ∙ sym (shr-shr x f 1) in
+        let y : one (isMatch e (getD gs f noEdge) (marked f ps qs)) + 2 * maskIn e (drop (suc f) gs) (markedFrom (suc f) k ps qs) ≡ x / 2 ^ f = omega arith in
+        ap (λ (l : List Edge). maskIn e l (markedFrom f (suc k) ps qs)) (drop-cons gs f noEdge (omega arith)) ∙ y
 
 -- ---- what a view lists
-module _ {m k : ℕ} {w : List ℕ} {r : ℕ} (g : Listed m k w r) where
+module _ (p : Given) {m : ℕ} {w : List ℕ} {r : ℕ} (g : Listed m (p .edges) w r) where
   abbrev lists : List (List ℕ)
-  lists = markedFrom 0 k (codesOf m w) (masksOf m w)
+  lists = markedFrom 0 (p .edges) (codesOf m w) (masksOf m w)
 
-  pub unlisted : (r ≡ m → ⊥) → (c : ℕ) → maskIn c (matchesOf m k w) ≡ 0
+  abbrev edges : List Edge
+  edges = patternIn p .edges
+
+  pub unlisted : (r ≡ m → ⊥) → (e : Edge) → maskIn e (patternIn p .edges) (matchesOf m (p .edges) w) ≡ 0
   unfolding matchesOf allOrNone
-  unlisted n c =
-      ⊎-elim (λ y. rw y (emptied-none c lists)) (λ z. absurd (n (rw z at (g .is)))) (test-cases (anyEmpty lists))
+  unlisted n e =
+      ⊎-elim (λ y. rw y (emptied-none e edges lists)) (λ z. absurd (n (rw z at (g .is)))) (test-cases (anyEmpty lists))
 
-  whole-listed : r ≡ m → 0 < m → matchesOf m k w ≡ lists
+  whole-listed : r ≡ m → 0 < m → matchesOf m (p .edges) w ≡ lists
   unfolding matchesOf allOrNone
   whole-listed e h =
       ⊎-elim (λ y. absurd (let z = rw y at (g .is) in omega arith)) (λ z. rw z) (test-cases (anyEmpty lists))
 
-  module _ (mk : Marked m w) (within : Within k m w) where
+  module _ {q : Given} (fair : Fair q) (view : Fair p) (mk : Marked m w) (rises : Rises m w) (within : Within p m w) where
     abbrev codes : List ℕ
     codes = codesOf m w
 
-    codes-long : length codes ≡ m
-    codes-long = length-take-le m w (omega (arith, mk .most, mk .long))
+    abbrev masks : List ℕ
+    masks = masksOf m w
 
+    codes-long : length codes ≡ m
+    codes-long = length-map (take m w) pairIn ∙ length-take-le m w (omega (arith, mk .most, mk .long))
+
+    code-at : (i : ℕ) → i < m → getD codes i 0 ≡ pairIn (getD w i 0)
+    code-at i h = List·getD-map pairIn (take m w) i 0 ∙ ap pairIn (getD-take m w i 0 h)
+
+    mask-at : (i : ℕ) → i < m → getD masks i 0 ≡ getD w (8192 + i) 0
+    mask-at i h = getD-take m (drop 8192 w) i 0 h ∙ getD-drop 8192 w i 0
+
+    -- each edge stands there once
     alone : (i j : ℕ) → i < m → j < m → getD w j 0 ≡ getD w i 0 → j ≡ i
     alone i j h l e =
-        trichotomy j i (λ p. absurd (let z = mk .rises j i p h in omega arith)) (λ q. q) (λ p. absurd (let z = mk .rises i j p l in omega arith))
+        trichotomy j i (λ p. absurd (let z = rises j i p h in omega arith)) (λ q. q) (λ p. absurd (let z = rises i j p l in omega arith))
 
-    pub listed-mask : r ≡ m → 0 < m → {c x : ℕ} → MaskOf w m c x → x ≡ maskIn c (matchesOf m k w)
+    edges-long : length edges ≡ p .edges
+    unfolding patternIn
+    edges-long = length-upTo (givenEdge p) (p .edges)
+
+    edge-kind : (f : ℕ) → f < p .edges → getD edges f noEdge .kind ≡ getD (p .kind) f 0
+    unfolding patternIn
+    edge-kind f h = ap (λ (g : Edge). g .kind) (getD-upTo (givenEdge p) (p .edges) f noEdge h)
+
+    -- an edge that is held for f has the kind of f
+    held-kind : (i f : ℕ) → i < m → f < 32 → T (marks f (getD masks i 0)) → (f < p .edges) × (getD (p .kind) f 0 ≡ getD w i 0 / 2 ^ 24)
     unfolding Within
-    listed-mask e h {c} {x} o =
-        let i : ℕ = o .at in
-        let b = o .below in
-        let y : getD (masksOf m w) i 0 ≡ x = getD-take m (drop 8192 w) i 0 b ∙ getD-drop 8192 w i 0 ∙ sym (o .is) in
-        let s : x < 2 ^ k = few-lt k x (λ f t. within i f b (bit-lt x f 32 (bit-by x f (has-say x f t)) (o .small)) (subst (λ (z : ℕ). Has z f) (o .is) t)) in
-        let q : maskIn c lists ≡ getD (masksOf m w) i 0 / 2 ^ 0 =
-        mask-from c codes (masksOf m w) i (omega (arith, codes-long)) (getD-take m w i 0 b ∙ o .code)
-        (λ j l z. alone i j b (omega (arith, codes-long)) (sym (getD-take m w j 0 (omega (arith, codes-long))) ∙ z ∙ sym (o .code)))
-        0 k (let z : 0 + k ≡ k = omega arith in rw (z, y) s) in
-        let d : x / 2 ^ 0 ≡ x = div-one x in
-        sym (ap (maskIn c) (whole-listed e h) ∙ q ∙ ap (λ (z : ℕ). z / 2 ^ 0) y ∙ d)
+    held-kind i f h l t = within i f h l (subst T (marks-bit f (getD w (8192 + i) 0)) (subst (λ (x : ℕ). T (marks f x)) (mask-at i h) t))
+
+    -- the mask of the word of an edge of the query
+    module _ (e : ℕ) (below : e < q .edges) {x : ℕ} (o : MaskOf w m (wordAt q e) x) where
+      abbrev asked : Edge
+      asked = givenEdge q e
+
+      abbrev place : ℕ
+      place = o .at
+
+      word-pair : pairIn (getD w place 0) ≡ code (getD (q .from) e 0) (getD (q .to) e 0)
+      word-pair = omega (arith, o .word, fair .nodes, fair .from e below, fair .to e below)
+
+      word-kind : getD w place 0 / 2 ^ 24 ≡ getD (q .kind) e 0
+      word-kind = omega (arith, o .word, fair .nodes, fair .from e below, fair .to e below)
+
+      mask-is : getD masks place 0 ≡ x
+      mask-is = mask-at place (o .below) ∙ sym (o .is)
+
+      -- it names exactly the edges of the view that match
+      match-test : (f : ℕ) → f < length edges → isMatch asked (getD edges f noEdge) (marked f codes masks) ≡ marks f x
+      match-test f h =
+          let l : f < p .edges = omega (arith, edges-long) in
+          let k : f < 32 = omega (arith, view .edges) in
+          same-test _ _
+          (λ t.
+          let s = match-say asked (getD edges f noEdge) (marked f codes masks) t in
+          let c = marked-say f codes masks (s .1) in
+          let j : c .at < m = omega (arith, c .below, codes-long) in
+          let d = held-kind (c .at) f j k (c .holds .0) .1 in
+          let a : pairIn (getD w (c .at) 0) ≡ pairIn (getD w place 0) = sym (c .holds .1 ∙ code-at (c .at) j) ∙ sym word-pair in
+          let b : getD w (c .at) 0 / 2 ^ 24 ≡ getD w place 0 / 2 ^ 24 = sym d ∙ sym (edge-kind f l) ∙ s .0 ∙ sym word-kind in
+          subst (λ (y : ℕ). T (marks f y)) (ap (λ (n : ℕ). getD masks n 0) (alone place (c .at) (o .below) j (omega (arith, a, b))) ∙ mask-is) (c .holds .0))
+          (λ t.
+          let y : T (marks f (getD masks place 0)) = subst (λ (z : ℕ). T (marks f z)) (sym mask-is) t in
+          match-by asked (getD edges f noEdge) (edge-kind f l ∙ held-kind place f (o .below) k y .1 ∙ word-kind)
+          (in-cast (code-at place (o .below) ∙ word-pair) (marked-by f codes masks place (omega (arith, o .below, codes-long)) y)))
+
+      -- and no others
+      mask-small : x < 2 ^ p .edges
+      mask-small =
+          few-lt (p .edges) x
+          (λ f t. held-kind place f (o .below) (bit-lt x f 32 (bit-by x f (has-say x f t)) (o .small)) (subst T (sym (ap (marks f) mask-is ∙ marks-bit f x)) t) .0)
+
+      pub listed-mask : r ≡ m → 0 < m → x ≡ maskIn (givenEdge q e) (patternIn p .edges) (matchesOf m (p .edges) w)
+      listed-mask z h =
+          let n : 0 + p .edges ≡ p .edges = omega arith in
+          let d : x / 2 ^ 0 ≡ x = div-one x in
+          sym (ap (maskIn asked edges) (whole-listed z h) ∙ mask-from asked x edges codes masks match-test 0 (p .edges) (edges-long ∙ sym n) (rw n mask-small) ∙ d)
 
 -- ---- the whole table
 module _ (Q : Pattern) where

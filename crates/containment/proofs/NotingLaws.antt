@@ -1,39 +1,35 @@
 -- The views of a catalogue noted one by one in the table of a quote.
-use Prim.Native.Nat.{ℕ, suc, _+_, _*_, _<_, _≤_}
+use Prim.Native.Nat.{ℕ, suc, _+_, _*_, _/_, _^_, _<_, _≤_}
 use mathlib.Core.Path.{_≡_, refl, sym, ap, ap₂, subst, _∙_}
 use mathlib.Core.List.{List, [], _∷_, _++_, map}
 use lib.ListN.{length, take, drop, getD, replicate, length-map}
-use lib.Seq.{take-suc, take-all, drop-cons, drop-at, getD-take, length-take-le}
+use lib.Seq.{take-suc, take-all, drop-cons, getD-take, length-take-le}
 use native.Mathlib.Omega.{arith}
 use native.Mathlib.Numerals.{add-one}
 use Rattle.packed.specs.Format.{ok, decode}
-use Rattle.packed.specs.Formats.{record′, code}
-use Rattle.packed.specs.Contents.{nodesOf, edgesOf, viewsOf, distinct, codes, sortedEnds}
+use Rattle.packed.specs.Formats.{record′}
+use Rattle.packed.specs.Contents.{nodesOf, edgesOf, viewsOf, edgeWord, edgeWords}
 use Rattle.packed.specs.LoadedGraph.{Holds}
 use Rattle.packed.specs.Matches.{matchesOf}
 use Rattle.packed.specs.declared.by_value.Pattern.{Pattern as Given}
-use Rattle.packed.proofs.DistinctLaws.{member-distinct}
-use Rattle.packed.proofs.SortedEdges.{codes-ends}
 use Rattle.packed.proofs.AcceptedBounds.{catalogue-views}
 use Rattle.matching.specs.Lists.{In, here, there}
 use Rattle.matching.specs.Simulation.{Edge, noEdge, Pattern, patternOf, graphOf, asGraph, matchSets, viewSheet}
-use Rattle.matching.specs.Steps.{graphIn, Edges}
+use Rattle.matching.specs.Steps.{givenEdge, patternIn, graphIn, Edges}
 use Rattle.matching.specs.Sweeps.{OneOf}
 use Rattle.matching.specs.Matched.{EdgesMatched, ViewAt}
 use Rattle.matching.specs.declared.views.View.{View}
-use Rattle.matching.proofs.ListLaws.{in-each}
-use Rattle.matching.proofs.CodeLaws.{in-member, member-in}
-use Rattle.matching.proofs.EdgeLaws.{edgeAt, at-edgesIn, codes-each}
-use Rattle.matching.proofs.PatternLaws.{edges-in, edges-are, pattern-same}
+use Rattle.matching.proofs.ListLaws.{in-at, in-each}
+use Rattle.matching.proofs.EdgeLaws.{made-each}
+use Rattle.matching.proofs.PatternLaws.{edges-in, pattern-same}
 use Rattle.matching.proofs.SortedGraphs.{alike-sets}
 use Rattle.matching.proofs.MatchSetLaws.{view-sheet}
 use Rattle.matching.proofs.RecordLaws.{sets-same, graph-again}
 use Rattle.matching.proofs.ViewLaws.{Ahead, Advanced, advance, all-ahead}
 use Rattle.containment.specs.Quote.{maskIn, matchMask, mapping}
 use Rattle.containment.specs.Show.{graphFields}
-use Rattle.containment.specs.Steps.{Query, Views, Present, Column, codeAt, powers}
-use Rattle.containment.proofs.QueryGraph.{graph-fields, graph-means, powers-length}
-use Rattle.containment.proofs.FieldLaws.{edge-is}
+use Rattle.containment.specs.Steps.{Query, Views, Present, Within, Column, wordAt}
+use Rattle.containment.proofs.QueryGraph.{graph-fields, graph-means}
 use Rattle.containment.proofs.QueryLaws.{plain, some-edges, few-edges, query-number, query-edge}
 use Rattle.containment.proofs.MappingLaws.{column-map, mapping-none, mapping-more, mapping-length, column-clear}
 
@@ -80,6 +76,11 @@ map-snoc : (us : List (List ℕ)) (x : List ℕ) → map patternOf us ++ (patter
 map-snoc [] x = refl
 map-snoc (u ∷ us) x = ap (λ (m : List Pattern). patternOf u ∷ m) (map-snoc us x)
 
+-- what the edges of a record are held for
+pub within-by : {p : Given} {s : List ℕ} {n m : ℕ} {w w′ : List ℕ} → EdgesMatched p s n m w w′ → m ≤ 8192 → Within p m w′
+unfolding Within
+within-by d b i e h l t = let r = d .only i e h l t in (r .0, r .1 ∙ ap (λ (x : ℕ). x / 2 ^ 24) (sym (d .edges .same i (omega arith))))
+
 -- ---- the query's record in the workspace
 in-place : {x : ℕ} {l : List ℕ} → In x l → OneOf (length l) (λ i. getD l i 0 ≡ x)
 in-place (here e) = record { at = 0; below = omega arith; holds = sym e }
@@ -106,30 +107,15 @@ module _ {q : Given} {s : List ℕ} {n m : ℕ} {w : List ℕ} (t : Query q) (h 
       sets-same h P ∙ ap (λ (ws : List ℕ). matchSets P (graphOf ws)) fields-same
       ∙ alike-sets P (graphOf (graphFields (t .content))) (asGraph (patternOf (t .content))) (graph-means (plain t))
 
-  -- its edges ascend
-  ends-same : drop (2 + nodesOf (h .fields)) (h .fields) ≡ sortedEnds (plain t .ends)
-  ends-same =
-      let p = plain t in
-      let es : List ℕ = sortedEnds (p .ends) in
-      let z : 2 + p .nodes ≡ suc (suc (p .nodes)) = omega arith in
-      ap (λ (l : List ℕ). drop (2 + nodesOf l) l) (fields-same ∙ graph-fields p)
-      ∙ ap (λ (k : ℕ). drop k (p .nodes ∷ p .number ∷ (powers (p .labels) ++ es))) z
-      ∙ drop-at (powers (p .labels)) es (p .nodes) (powers-length (p .labels) ∙ p .label-each)
-
   -- each edge of the query stands there
-  code-in : (e : ℕ) → e < q .edges → In (codeAt q e) (codes (plain t .ends))
-  code-in e l =
-      let p = plain t in
-      let j : e < p .number = omega (arith, edges-are p (t .holds)) in
-      subst (λ (x : ℕ). In x (codes (p .ends))) (ap (λ (f : Edge). code (f .from) (f .to)) (sym (edge-is p (t .holds) e j)))
-      (subst (In (code (edgeAt (p .ends) e .from) (edgeAt (p .ends) e .to))) (sym (codes-each (p .ends)))
-      (in-each (λ f. code (f .from) (f .to)) (at-edgesIn (p .ends) (p .number) (p .edges .two-each) e j)))
-
-  front-in : (e : ℕ) → e < q .edges → In (codeAt q e) (take m w)
-  unfolding sortedEnds
+  front-in : (e : ℕ) → e < q .edges → In (wordAt q e) (take m w)
+  unfolding graphOf asGraph
   front-in e l =
-      subst (In (codeAt q e)) (sym (h .front ∙ ap codes ends-same ∙ codes-ends (distinct (codes (plain t .ends)))))
-      (member-in _ (member-distinct (codeAt q e) (codes (plain t .ends)) ∙ in-member (code-in e l)))
+      let gs : List ℕ = graphFields (t .content) in
+      let Q : Pattern = patternOf (t .content) in
+      let i : In (givenEdge q e) (Q .edges) = subst (λ (f : Edge). In f (Q .edges)) (query-edge t e l) (in-at (Q .edges) e noEdge (omega (arith, query-number t))) in
+      subst (In (wordAt q e)) (sym (h .front ∙ ap (λ (ws : List ℕ). edgeWords (drop (2 + nodesOf ws) ws)) fields-same ∙ made-each edgeWord (drop (2 + nodesOf gs) gs)))
+      (in-each (λ f. edgeWord (f .from) (f .to) (f .kind)) (graph-means (plain t) .1 .more (givenEdge q e) i))
 
   pub query-present : {w′ : List ℕ} → Edges w w′ → Present q m w′
   unfolding Present
@@ -142,7 +128,7 @@ module _ {q : Given} {s : List ℕ} {n m : ℕ} {w : List ℕ} (t : Query q) (h 
   -- ---- the next view's column
   module _ {c : List ℕ} {k a byte : ℕ} {table table′ : List ℕ} (o : Noted q c k a byte table) (l : a < k) (v : Views c k) (r : View) (view : ViewAt c byte r)
       {w₁ w₂ : List ℕ} (g : Edges w w₁) (d : EdgesMatched (r .pattern) s n m w₁ w₂)
-      (col : Column a (q .edges) (λ e x. x ≡ maskIn (codeAt q e) (matchesOf m (r .pattern .edges) w₂)) table table′) where
+      (col : Column a (q .edges) (λ e x. x ≡ maskIn (givenEdge q e) (patternIn (r .pattern) .edges) (matchesOf m (r .pattern .edges) w₂)) table table′) where
     abbrev Q : Pattern
     Q = patternOf (t .content)
 
@@ -155,18 +141,23 @@ module _ {q : Given} {s : List ℕ} {n m : ℕ} {w : List ℕ} (t : Query q) (h 
     abbrev Ps : List Pattern
     Ps = map patternOf (take a vs)
 
+    view-same : patternIn (r .pattern) ≡ patternOf here′
+    view-same = let adv = noted-next o l {r = r} view v in pattern-same (adv .plain) (adv .holds)
+
     sets-view : matchesOf m (r .pattern .edges) w₂ ≡ viewSheet (patternOf here′) (asGraph Q)
     sets-view =
-        let adv = noted-next o l {r = r} view v in
         let b = number-few in
         d .sets
-        ∙ ap₂ matchSets (pattern-same (adv .plain) (adv .holds)) (graph-again g s n (omega arith))
+        ∙ ap₂ matchSets view-same (graph-again g s n (omega arith))
         ∙ sets-query (patternOf here′)
         ∙ sym (view-sheet (patternOf here′) (asGraph Q))
 
-    mask-view : (e : ℕ) → e < q .edges → maskIn (codeAt q e) (matchesOf m (r .pattern .edges) w₂) ≡ matchMask Q (getD (Q .edges) e noEdge) (patternOf here′)
+    mask-view : (e : ℕ) → e < q .edges
+        → maskIn (givenEdge q e) (patternIn (r .pattern) .edges) (matchesOf m (r .pattern .edges) w₂) ≡ matchMask Q (getD (Q .edges) e noEdge) (patternOf here′)
     unfolding matchMask
-    mask-view e j = ap₂ (λ (f : Edge) (ls : List (List ℕ)). maskIn (code (f .from) (f .to)) ls) (sym (query-edge t e j)) sets-view
+    mask-view e j =
+        ap (λ (f : Edge). maskIn f (patternIn (r .pattern) .edges) (matchesOf m (r .pattern .edges) w₂)) (sym (query-edge t e j))
+        ∙ ap₂ (λ (P : Pattern) (ls : List (List ℕ)). maskIn (getD (Q .edges) e noEdge) (P .edges) ls) view-same sets-view
 
     column-view : Column (length Ps) (length (Q .edges)) (λ e x. x ≡ matchMask Q (getD (Q .edges) e noEdge) (patternOf here′)) table table′
     column-view =
@@ -185,7 +176,7 @@ module _ {q : Given} {s : List ℕ} {n m : ℕ} {w : List ℕ} (t : Query q) (h 
 pub noted-more : {q : Given} {s : List ℕ} {n m : ℕ} {w : List ℕ} → Holds s n m w → ((t : Query q) → decode record′ s ≡ ok (graphFields (t .content)))
     → {c : List ℕ} {k a byte : ℕ} {table table′ : List ℕ} → Noted q c k a byte table → a < k → (r : View) → ViewAt c byte r
     → {w₁ w₂ : List ℕ} → Edges w w₁ → EdgesMatched (r .pattern) s n m w₁ w₂
-    → Column a (q .edges) (λ e x. x ≡ maskIn (codeAt q e) (matchesOf m (r .pattern .edges) w₂)) table table′ → Noted q c k (a + 1) (r .next) table′
+    → Column a (q .edges) (λ e x. x ≡ maskIn (givenEdge q e) (patternIn (r .pattern) .edges) (matchesOf m (r .pattern .edges) w₂)) table table′ → Noted q c k (a + 1) (r .next) table′
 noted-more h reads {c} {a = a} o l r view g d col =
     record {
       ahead = λ v. subst (λ (i : ℕ). Ahead c (r .next) (drop i (viewsOf (v .content)))) (sym (add-one a)) (noted-next o l {r = r} view v .ahead);

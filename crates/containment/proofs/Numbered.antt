@@ -10,7 +10,7 @@ use borrow.Author.Tests.{leb-true}
 use Rattle.packed.specs.Bits.{bitsOf, num, bits, zeros, gap}
 use Rattle.packed.specs.Format.{Format, done, ask, test, pad, then, times, whole, Got, got, fault, pick, push, within, scan, lay, Result, ok, bad, ended, inBytes, decode, encode}
 use Rattle.packed.specs.OldRecord.{oldRecord}
-use Rattle.packed.specs.Formats.{code, edges, label, joined, pattern, catalogue, labels, record′, pairs, lists, standing, sheet, book}
+use Rattle.packed.specs.Formats.{code, rank, edges, label, joined, pattern, catalogue, labels, rising, record′, pairs, lists, standing, sheet, book}
 use Rattle.packed.specs.Refusals.{numberOf}
 use Rattle.packed.specs.declared.reply.Refusal.{Refusal}
 use Rattle.packed.specs.declared.reply.Refusal.the-variants.{TooLong, Truncated, OutOfRange, NoSuchNode, DuplicateEdge, NotAscending, IsolatedNode, ZeroCount, Trailing, TooManyPairs, NotContained, NoRoom, Contained, SmallWorkspace, WrongCharges, WrongIndex}
@@ -130,45 +130,52 @@ encode-results h ws = in-bytes (ended-results (lay-passes (whole-faults h) 0 ws)
 three : Numbered 3
 three = numbered 3 refl refl
 
-edges-faults : (w nodes : ℕ) (last : List ℕ → Format) → ((ends : List ℕ) → Faults (last ends)) → (more : ℕ) (ends : List ℕ) → Faults (edges w nodes last more ends)
+edges-faults : (w wide nodes : ℕ) (last : List ℕ → Format) → ((es : List ℕ) → Faults (last es)) → (more : ℕ) (es : List ℕ) → Faults (edges w wide nodes last more es)
 unfolding edges
-edges-faults w nodes last h zero es = h es
-edges-faults w nodes last h (suc more) es =
-    asks (numbered 4 refl refl) (λ from. asks (numbered 4 refl refl) (λ to.
-    tests (numbered 5 refl refl) (edges-faults w nodes last h more (es ++ (from ∷ to ∷ [])))))
+edges-faults w wide nodes last h zero es = h es
+edges-faults w wide nodes last h (suc more) es =
+    asks (numbered 4 refl refl) (λ from. asks (numbered 4 refl refl) (λ to. asks three (λ kind.
+    tests (numbered 5 refl refl) (edges-faults w wide nodes last h more (es ++ (from ∷ to ∷ kind ∷ []))))))
 
 pub pattern-faults : Faults pattern
 unfolding pattern label joined
 pattern-faults =
     asks three (λ nodes. asks three (λ number.
-    then-faults (times-faults nodes (asks three (λ v. ends))) (edges-faults 4 nodes (joined nodes) (λ es. tests (numbered 7 refl refl) ends) number [])))
+    then-faults (times-faults nodes (asks three (λ v. ends))) (edges-faults 4 3 nodes (joined nodes) (λ es. tests (numbered 7 refl refl) ends) number [])))
 
 pub catalogue-faults : Faults catalogue
 unfolding catalogue
 catalogue-faults = asks three (λ number. pads (times-faults number (whole-faults pattern-faults)))
 
-pairs-faults : (bound : ℕ) {e : ℕ} → Numbered e → (k least : ℕ) → Faults (pairs bound e k least)
-unfolding pairs
-pairs-faults bound h zero least = ends
-pairs-faults bound h (suc k) least = asks h (λ a. asks h (λ b. tests (numbered 6 refl refl) (pairs-faults bound h k (suc (code a b)))))
+rising-faults : (nodes n least : ℕ) → Faults (rising nodes n least)
+unfolding rising
+rising-faults nodes zero least = ends
+rising-faults nodes (suc n) least =
+    asks (numbered 4 refl refl) (λ a. asks (numbered 4 refl refl) (λ b. asks three (λ k.
+    tests (numbered 6 refl refl) (rising-faults nodes n (suc (rank a b k))))))
 
 pub record-faults : Faults record′
 unfolding record′ labels
 record-faults =
     asks three (λ nodes. asks three (λ number.
-    then-faults (times-faults nodes (asks three (λ v. ends))) (pairs-faults nodes (numbered 4 refl refl) number 0)))
+    then-faults (times-faults nodes (asks three (λ v. ends))) (rising-faults nodes number 0)))
 
 -- a record as it was stored before
 pub old-faults : Faults oldRecord
 unfolding oldRecord labels
 old-faults =
     asks three (λ nodes. asks three (λ number.
-    then-faults (times-faults nodes (asks three (λ v. ends))) (edges-faults 12 nodes (λ es. done) (λ es. ends) number [])))
+    then-faults (times-faults nodes (asks three (λ v. ends))) (edges-faults 12 0 nodes (λ es. done) (λ es. ends) number [])))
+
+pairs-faults : (k least : ℕ) → Faults (pairs 4096 3 k least)
+unfolding pairs
+pairs-faults zero least = ends
+pairs-faults (suc k) least = asks three (λ a. asks three (λ b. tests (numbered 6 refl refl) (pairs-faults k (suc (code a b)))))
 
 lists-faults : (m : ℕ) → Faults (lists m)
 unfolding lists
 lists-faults zero = ends
-lists-faults (suc m) = asks three (λ n. tests (numbered 8 refl refl) (then-faults (pairs-faults 4096 three n 0) (lists-faults m)))
+lists-faults (suc m) = asks three (λ n. tests (numbered 8 refl refl) (then-faults (pairs-faults n 0) (lists-faults m)))
 
 pub sheet-faults : (m : ℕ) → Faults (sheet m)
 unfolding sheet

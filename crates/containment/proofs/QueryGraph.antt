@@ -12,11 +12,11 @@ use native.Mathlib.Omega.{arith}
 use Rattle.packed.specs.Bits.{bitsOf, gap}
 use Rattle.packed.specs.Format.{ok, whole, lay, got, bytesOf, decode, encode}
 use Rattle.packed.specs.Formats.{record′}
-use Rattle.packed.specs.Contents.{nodesOf, sortedEnds}
-use Rattle.packed.specs.Plain.{Below, fieldBits, fromAt, toAt, PlainEdges, PlainPairs, PlainPattern, PlainRecord}
+use Rattle.packed.specs.Contents.{nodesOf, sortedEdges}
+use Rattle.packed.specs.Plain.{Below, fieldBits, edgeBits, fromAt, toAt, kindAt, Same, PlainEdges, PlainRising, PlainPattern, PlainRecord}
 use Rattle.packed.proofs.OrderCases.{lt-or-ge, trichotomy}
 use Rattle.packed.proofs.BitsLaws.{gap-small, length-bitsOf}
-use Rattle.packed.proofs.GraphLaws.{fields-length}
+use Rattle.packed.proofs.GraphLaws.{fields-length, edges-length}
 use Rattle.packed.proofs.Files.{length-bytesOf}
 use Rattle.packed.proofs.RoundTrip.{Bytes}
 use Rattle.packed.proofs.AcceptedLaws.{accepts-whole}
@@ -49,23 +49,23 @@ bytes-are : (fs bytes : List ℕ) → encode record′ fs ≡ ok bytes → recor
 unfolding recordBytes
 bytes-are fs bytes e = ap bytesIn e
 
-module _ (nodes number : ℕ) (labels ends : List ℕ) (few : nodes ≤ 4096) (few-edges : number ≤ 8192) (each : length labels ≡ nodes) (are : Below (2 ^ 32) labels)
-    (edges : PlainPairs nodes number ends) where
+module _ (nodes number : ℕ) (labels es : List ℕ) (few : nodes ≤ 4096) (few-edges : number ≤ 8192) (each : length labels ≡ nodes) (are : Below (2 ^ 32) labels)
+    (edges : PlainRising 8 nodes number es) where
   abbrev all : List ℕ
-  all = nodes ∷ number ∷ (labels ++ ends)
+  all = nodes ∷ number ∷ (labels ++ es)
 
   abbrev body : List Bool
-  body = bitsOf 13 nodes ++ (bitsOf 14 number ++ (fieldBits 32 labels ++ fieldBits 12 ends))
+  body = bitsOf 13 nodes ++ (bitsOf 14 number ++ (fieldBits 32 labels ++ edgeBits 12 3 es))
 
   abbrev laid : List Bool
   laid = body ++ replicate (gap (length body)) false
 
-  body-length : length body ≡ 27 + 32 * nodes + 24 * number
+  body-length : length body ≡ 27 + 32 * nodes + 27 * number
   body-length =
-      let a = length-append (bitsOf 13 nodes) (bitsOf 14 number ++ (fieldBits 32 labels ++ fieldBits 12 ends)) in
-      let b = length-append (bitsOf 14 number) (fieldBits 32 labels ++ fieldBits 12 ends) in
-      let c = length-append (fieldBits 32 labels) (fieldBits 12 ends) in
-      omega (arith, length-bitsOf 13 nodes, length-bitsOf 14 number, fields-length 32 labels, fields-length 12 ends, edges .two-each)
+      let a = length-append (bitsOf 13 nodes) (bitsOf 14 number ++ (fieldBits 32 labels ++ edgeBits 12 3 es)) in
+      let b = length-append (bitsOf 14 number) (fieldBits 32 labels ++ edgeBits 12 3 es) in
+      let c = length-append (fieldBits 32 labels) (edgeBits 12 3 es) in
+      omega (arith, length-bitsOf 13 nodes, length-bitsOf 14 number, fields-length 32 labels, edges-length 12 3 27 refl number es (edges .among .three-each))
 
   plain : PlainRecord all body
   plain =
@@ -73,7 +73,7 @@ module _ (nodes number : ℕ) (labels ends : List ℕ) (few : nodes ≤ 4096) (f
         nodes = nodes;
         number = number;
         labels = labels;
-        ends = ends;
+        es = es;
         content = refl;
         layout = refl;
         most-nodes = omega arith;
@@ -92,7 +92,7 @@ module _ (nodes number : ℕ) (labels ends : List ℕ) (few : nodes ≤ 4096) (f
   unfolding encode
   encoded = rw laid-by
 
-  pub record-made : Made ((34 + 32 * nodes + 24 * number) / 8) all
+  pub record-made : Made ((34 + 32 * nodes + 27 * number) / 8) all
   record-made =
       let e = encoded in
       let q : recordBytes all ≡ bytesOf (length laid / 8) laid = bytes-are all (bytesOf (length laid / 8) laid) e in
@@ -109,53 +109,66 @@ pub made-within : {a b : ℕ} {fs : List ℕ} → a ≤ b → Made a fs → Made
 made-within h m = record { is = m .is; back = m .back; small = m .small; size = omega (arith, m .size) }
 
 -- ---- edges without one
-module _ (ends : List ℕ) (nodes number e : ℕ) (p : PlainEdges nodes number ends) (h : e < number) where
+module _ (es : List ℕ) (nodes number e : ℕ) (p : PlainEdges 8 nodes number es) (h : e < number) where
   abbrev fewer : List ℕ
-  fewer = take (2 * e) ends ++ drop (2 * e + 2) ends
+  fewer = take (3 * e) es ++ drop (3 * e + 3) es
 
-  front-long : length (take (2 * e) ends) ≡ 2 * e
-  front-long = length-take-le (2 * e) ends (omega (arith, p .two-each))
+  long : length es ≡ 3 * number
+  long = p .among .three-each
 
-  low : (j : ℕ) → j < 2 * e → getD fewer j 0 ≡ getD ends j 0
-  low j l = List·getD-append (take (2 * e) ends) (drop (2 * e + 2) ends) 0 j (omega (arith, front-long)) ∙ getD-take (2 * e) ends j 0 l
+  front-long : length (take (3 * e) es) ≡ 3 * e
+  front-long = length-take-le (3 * e) es (omega (arith, long))
 
-  high : (j k : ℕ) → 2 * e ≤ j → k ≡ j + 2 → getD fewer j 0 ≡ getD ends k 0
+  low : (j : ℕ) → j < 3 * e → getD fewer j 0 ≡ getD es j 0
+  low j l = List·getD-append (take (3 * e) es) (drop (3 * e + 3) es) 0 j (omega (arith, front-long)) ∙ getD-take (3 * e) es j 0 l
+
+  high : (j k : ℕ) → 3 * e ≤ j → k ≡ j + 3 → getD fewer j 0 ≡ getD es k 0
   high j k l q =
-      let i : ℕ = j - 2 * e in
-      let z : j ≡ length (take (2 * e) ends) + i = omega (arith, front-long) in
-      let y : 2 * e + 2 + i ≡ k = omega arith in
+      let i : ℕ = j - 3 * e in
+      let z : j ≡ length (take (3 * e) es) + i = omega (arith, front-long) in
+      let y : 3 * e + 3 + i ≡ k = omega arith in
       ap (λ (x : ℕ). getD fewer x 0) z
-      ∙ getD-append-add (take (2 * e) ends) (drop (2 * e + 2) ends) i 0
-      ∙ getD-drop (2 * e + 2) ends i 0
-      ∙ ap (λ (x : ℕ). getD ends x 0) y
+      ∙ getD-append-add (take (3 * e) es) (drop (3 * e + 3) es) i 0
+      ∙ getD-drop (3 * e + 3) es i 0
+      ∙ ap (λ (x : ℕ). getD es x 0) y
 
-  fewer-long : length fewer ≡ 2 * (number - 1)
-  fewer-long = length-append (take (2 * e) ends) (drop (2 * e + 2) ends) ∙ omega (arith, front-long, length-drop (2 * e + 2) ends, p .two-each)
+  fewer-long : length fewer ≡ 3 * (number - 1)
+  fewer-long = length-append (take (3 * e) es) (drop (3 * e + 3) es) ∙ omega (arith, front-long, length-drop (3 * e + 3) es, long)
 
   -- where an edge stood
   record Stood (i at : ℕ) : Type 0 where
-    from : fromAt fewer i ≡ fromAt ends at
-    to : toAt fewer i ≡ toAt ends at
+    from : fromAt fewer i ≡ fromAt es at
+    to : toAt fewer i ≡ toAt es at
+    kind : kindAt fewer i ≡ kindAt es at
 
   stood-low : (i : ℕ) → i < e → Stood i i
-  stood-low i l = record { from = low (2 * i) (omega arith); to = low (2 * i + 1) (omega arith) }
+  stood-low i l = record { from = low (3 * i) (omega arith); to = low (3 * i + 1) (omega arith); kind = low (3 * i + 2) (omega arith) }
 
   stood-high : (i : ℕ) → e ≤ i → Stood i (i + 1)
   stood-high i l =
-      record { from = high (2 * i) (2 * (i + 1)) (omega arith) (omega arith); to = high (2 * i + 1) (2 * (i + 1) + 1) (omega arith) (omega arith) }
+      record {
+        from = high (3 * i) (3 * (i + 1)) (omega arith) (omega arith);
+        to = high (3 * i + 1) (3 * (i + 1) + 1) (omega arith) (omega arith);
+        kind = high (3 * i + 2) (3 * (i + 1) + 2) (omega arith) (omega arith);
+      }
+
+  stood : (i : ℕ) → i < number - 1 → (at : ℕ) × (at < number) × Stood i at
+  stood i l = ⊎-elim (λ (k : i < e). (i, omega arith, stood-low i k)) (λ (k : e ≤ i). (i + 1, omega arith, stood-high i k)) (lt-or-ge i e)
 
   -- in the order in which they stood
-  differs : {i j a b : ℕ} → Stood i a → Stood j b → a < b → b < number → fromAt fewer i ≡ fromAt fewer j → toAt fewer i ≡ toAt fewer j → ⊥
-  differs {a = a} {b} s t l m x y = p .differ a b l m (sym (s .from) ∙ x ∙ t .from) (sym (s .to) ∙ y ∙ t .to)
+  differs : {i j a b : ℕ} → Stood i a → Stood j b → a < b → b < number → Same fewer i j → ⊥
+  differs {a = a} {b} s t l m x =
+      p .differ a b l m (sym (s .from) ∙ x .0 ∙ t .from, sym (s .to) ∙ x .1 ∙ t .to, sym (s .kind) ∙ x .2 ∙ t .kind)
 
-  pub fewer-edges : PlainEdges nodes (number - 1) fewer
+  pub fewer-edges : PlainEdges 8 nodes (number - 1) fewer
   fewer-edges =
       record {
-        two-each = fewer-long;
-        are-nodes = λ j l.
-            ⊎-elim (λ (k : j < 2 * e). rw (low j k) (p .are-nodes j (omega (arith, p .two-each))))
-            (λ (k : 2 * e ≤ j). rw (high j (j + 2) k refl) (p .are-nodes (j + 2) (omega (arith, p .two-each, fewer-long))))
-            (lt-or-ge j (2 * e));
+        among = record {
+          three-each = fewer-long;
+          from-node = λ i l. let s = stood i l in subst (λ (v : ℕ). v < nodes) (sym (s .2 .from)) (p .among .from-node (s .0) (s .1));
+          to-node = λ i l. let s = stood i l in subst (λ (v : ℕ). v < nodes) (sym (s .2 .to)) (p .among .to-node (s .0) (s .1));
+          is-kind = λ i l. let s = stood i l in subst (λ (v : ℕ). v < 8) (sym (s .2 .kind)) (p .among .is-kind (s .0) (s .1));
+        };
         differ = λ i j l m.
             ⊎-elim
             (λ (k : j < e). differs (stood-low i (omega arith)) (stood-low j k) (omega arith) (omega arith))
@@ -167,16 +180,17 @@ module _ (ends : List ℕ) (nodes number e : ℕ) (p : PlainEdges nodes number e
       }
 
 -- ---- the same as lists of edges
-edgesIn-fewer : (e : ℕ) (ends : List ℕ) (k : ℕ) → length ends ≡ 2 * k → e < k
-    → edgesIn (take (2 * e) ends ++ drop (2 * e + 2) ends) ≡ take e (edgesIn ends) ++ drop (suc e) (edgesIn ends)
+edgesIn-fewer : (e : ℕ) (es : List ℕ) (k : ℕ) → length es ≡ 3 * k → e < k
+    → edgesIn (take (3 * e) es ++ drop (3 * e + 3) es) ≡ take e (edgesIn es) ++ drop (suc e) (edgesIn es)
 unfolding edgesIn
 edgesIn-fewer e [] k n h = absurd (omega arith)
 edgesIn-fewer e (a ∷ []) k n h = absurd (omega arith)
-edgesIn-fewer zero (a ∷ b ∷ ends) k n h = refl
-edgesIn-fewer (suc e) (a ∷ b ∷ ends) k n h =
-    let x : 2 * suc e ≡ suc (suc (2 * e)) = omega arith in
-    let y : 2 * suc e + 2 ≡ suc (suc (2 * e + 2)) = omega arith in
-    rw (y, x) (ap (λ (l : List Edge). between a b ∷ l) (edgesIn-fewer e ends (k - 1) (omega arith) (omega arith)))
+edgesIn-fewer e (a ∷ b ∷ []) k n h = absurd (omega arith)
+edgesIn-fewer zero (a ∷ b ∷ c ∷ es) k n h = refl
+edgesIn-fewer (suc e) (a ∷ b ∷ c ∷ es) k n h =
+    let x : 3 * suc e ≡ suc (suc (suc (3 * e))) = omega arith in
+    let y : 3 * suc e + 3 ≡ suc (suc (suc (3 * e + 3))) = omega arith in
+    rw (y, x) (ap (λ (l : List Edge). between a b c ∷ l) (edgesIn-fewer e es (k - 1) (omega arith) (omega arith)))
 
 -- a test that only the place e fails keeps the others
 put-yes : {A : Type 0} (b : Bool) (x : A) (l : List A) → b ≡ true → put b x l ≡ x ∷ l
@@ -208,24 +222,25 @@ test-no : (b : Bool) → (T b → ⊥) → not b ≡ true
 test-no true h = absurd (h tt)
 test-no false h = refl
 
-pub edge-at : (ends : List ℕ) (k i : ℕ) → length ends ≡ 2 * k → i < k → getD (edgesIn ends) i noEdge ≡ edgeAt ends i
-edge-at ends k i n h = ap (λ (l : List Edge). getD l i noEdge) (edgesIn-upTo ends k n) ∙ getD-upTo (edgeAt ends) k i noEdge h
+pub edge-at : (es : List ℕ) (k i : ℕ) → length es ≡ 3 * k → i < k → getD (edgesIn es) i noEdge ≡ edgeAt es i
+edge-at es k i n h = ap (λ (l : List Edge). getD l i noEdge) (edgesIn-upTo es k n) ∙ getD-upTo (edgeAt es) k i noEdge h
 
 -- taking the edge e away leaves the others, since no edge stands twice
-keep-others : (ends : List ℕ) (nodes number e : ℕ) → PlainEdges nodes number ends → e < number
-    → keep (λ f. not (sameEdge (edgeAt ends e) f)) (edgesIn ends) ≡ edgesIn (take (2 * e) ends ++ drop (2 * e + 2) ends)
-keep-others ends nodes number e p h =
-    let n = edgesIn-length ends number (p .two-each) in
-    let at : (i : ℕ) → i < number → getD (edgesIn ends) i noEdge ≡ edgeAt ends i = λ i l. edge-at ends number i (p .two-each) l in
-    let other : (i : ℕ) → i < number → (i ≡ e → ⊥) → T (sameEdge (edgeAt ends e) (edgeAt ends i)) → ⊥ =
+keep-others : (es : List ℕ) (nodes number e : ℕ) → PlainEdges 8 nodes number es → e < number
+    → keep (λ f. not (sameEdge (edgeAt es e) f)) (edgesIn es) ≡ edgesIn (take (3 * e) es ++ drop (3 * e + 3) es)
+keep-others es nodes number e p h =
+    let three = p .among .three-each in
+    let n = edgesIn-length es number three in
+    let at : (i : ℕ) → i < number → getD (edgesIn es) i noEdge ≡ edgeAt es i = λ i l. edge-at es number i three l in
+    let same : (i j : ℕ) → edgeAt es i ≡ edgeAt es j → Same es i j = λ i j q. (ap (λ (f : Edge). f .from) q, ap (λ (f : Edge). f .to) q, ap (λ (f : Edge). f .kind) q) in
+    let other : (i : ℕ) → i < number → (i ≡ e → ⊥) → T (sameEdge (edgeAt es e) (edgeAt es i)) → ⊥ =
     λ i l z s.
-    (let q = same-edge (edgeAt ends e) (edgeAt ends i) s in
-    trichotomy i e (λ k. p .differ i e k h (sym (ap (λ (f : Edge). f .from) q)) (sym (ap (λ (f : Edge). f .to) q))) z
-    (λ k. p .differ e i k l (ap (λ (f : Edge). f .from) q) (ap (λ (f : Edge). f .to) q))) in
-    keep-but (λ f. not (sameEdge (edgeAt ends e) f)) noEdge (edgesIn ends) e (omega arith)
-    (ap (λ (f : Edge). not (sameEdge (edgeAt ends e) f)) (at e h) ∙ test-yes (sameEdge (edgeAt ends e) (edgeAt ends e)) (same-edge-refl (edgeAt ends e)))
-    (λ i l z. let k : i < number = omega arith in ap (λ (f : Edge). not (sameEdge (edgeAt ends e) f)) (at i k) ∙ test-no (sameEdge (edgeAt ends e) (edgeAt ends i)) (other i k z))
-    ∙ sym (edgesIn-fewer e ends number (p .two-each) h)
+    (let q = same-edge (edgeAt es e) (edgeAt es i) s in
+    trichotomy i e (λ k. p .differ i e k h (same i e (sym q))) z (λ k. p .differ e i k l (same e i q))) in
+    keep-but (λ f. not (sameEdge (edgeAt es e) f)) noEdge (edgesIn es) e (omega arith)
+    (ap (λ (f : Edge). not (sameEdge (edgeAt es e) f)) (at e h) ∙ test-yes (sameEdge (edgeAt es e) (edgeAt es e)) (same-edge-refl (edgeAt es e)))
+    (λ i l z. let k : i < number = omega arith in ap (λ (f : Edge). not (sameEdge (edgeAt es e) f)) (at i k) ∙ test-no (sameEdge (edgeAt es e) (edgeAt es i)) (other i k z))
+    ∙ sym (edgesIn-fewer e es number three h)
 
 -- ---- the content of an accepted query
 abbrev pub graph : List ℕ → List Edge → Graph
@@ -252,94 +267,94 @@ powers-below ls h i l =
     rw q (pow-lt {j = 32} b)
 
 -- a record's content by its parts
-pub graph-is : (nodes number : ℕ) (labels ends : List ℕ) → length labels ≡ nodes → graphOf (nodes ∷ number ∷ (labels ++ ends)) ≡ graph labels (edgesIn ends)
+pub graph-is : (nodes number : ℕ) (labels es : List ℕ) → length labels ≡ nodes → graphOf (nodes ∷ number ∷ (labels ++ es)) ≡ graph labels (edgesIn es)
 unfolding graphOf
-graph-is nodes number labels ends e =
+graph-is nodes number labels es e =
     let z : 2 + nodes ≡ suc (suc nodes) = omega arith in
-    ap₂ (λ (l m : List ℕ). graph l (edgesIn m)) (take-at labels ends nodes e)
-    (ap (λ (k : ℕ). drop k (nodes ∷ number ∷ (labels ++ ends))) z ∙ drop-at labels ends nodes e)
+    ap₂ (λ (l m : List ℕ). graph l (edgesIn m)) (take-at labels es nodes e)
+    (ap (λ (k : ℕ). drop k (nodes ∷ number ∷ (labels ++ es))) z ∙ drop-at labels es nodes e)
 
 module _ {ws : List ℕ} {bs : List Bool} (q : PlainPattern ws bs) where
   abbrev content : List ℕ
-  content = q .nodes ∷ q .number ∷ (q .labels ++ q .ends)
+  content = q .nodes ∷ q .number ∷ (q .labels ++ q .es)
 
   pub labels-of : take (nodesOf ws) (drop 2 ws) ≡ q .labels
-  labels-of = ap (λ (l : List ℕ). take (getD l 0 0) (drop 2 l)) (q .content) ∙ take-at (q .labels) (q .ends) (q .nodes) (q .label-each)
+  labels-of = ap (λ (l : List ℕ). take (getD l 0 0) (drop 2 l)) (q .content) ∙ take-at (q .labels) (q .es) (q .nodes) (q .label-each)
 
-  pub ends-of : drop (2 + nodesOf ws) ws ≡ q .ends
-  ends-of =
+  pub es-of : drop (2 + nodesOf ws) ws ≡ q .es
+  es-of =
       let z : 2 + q .nodes ≡ suc (suc (q .nodes)) = omega arith in
       ap (λ (l : List ℕ). drop (2 + getD l 0 0) l) (q .content)
       ∙ ap (λ (k : ℕ). drop k content) z
-      ∙ drop-at (q .labels) (q .ends) (q .nodes) (q .label-each)
+      ∙ drop-at (q .labels) (q .es) (q .nodes) (q .label-each)
 
   abbrev parts : ℕ → List ℕ → List ℕ
-  parts number ends = q .nodes ∷ number ∷ (powers (q .labels) ++ ends)
+  parts number es = q .nodes ∷ number ∷ (powers (q .labels) ++ es)
 
   -- the query as a record with these edges
-  as-parts : (number : ℕ) (es : List ℕ) → length es ≡ 2 * number → asRecord ws es ≡ parts number (sortedEnds es)
+  as-parts : (number : ℕ) (es : List ℕ) → length es ≡ 3 * number → asRecord ws es ≡ parts number (sortedEdges es)
   unfolding asRecord powers
-  as-parts number es n = let z : length es / 2 ≡ number = omega arith in rw (labels-of, nodes-in q, z)
+  as-parts number es n = let z : length es / 3 ≡ number = omega arith in rw (labels-of, nodes-in q, z)
 
-  pub graph-fields : graphFields ws ≡ parts (q .number) (sortedEnds (q .ends))
+  pub graph-fields : graphFields ws ≡ parts (q .number) (sortedEdges (q .es))
   unfolding graphFields
-  graph-fields = ap (asRecord ws) ends-of ∙ as-parts (q .number) (q .ends) (q .edges .two-each)
+  graph-fields = ap (asRecord ws) es-of ∙ as-parts (q .number) (q .es) (q .edges .among .three-each)
 
-  abbrev fewerEnds : ℕ → List ℕ
-  fewerEnds e = take (2 * e) (q .ends) ++ drop (2 * e + 2) (q .ends)
+  abbrev fewerEdges : ℕ → List ℕ
+  fewerEdges e = take (3 * e) (q .es) ++ drop (3 * e + 3) (q .es)
 
   few-nodes : q .nodes ≤ 4096
   few-nodes = omega (arith, q .most-nodes)
 
   module _ (e : ℕ) (h : e < q .number) where
-    pub fewer-plain : PlainEdges (q .nodes) (q .number - 1) (fewerEnds e)
-    fewer-plain = fewer-edges (q .ends) (q .nodes) (q .number) e (q .edges) h
+    pub fewer-plain : PlainEdges 8 (q .nodes) (q .number - 1) (fewerEdges e)
+    fewer-plain = fewer-edges (q .es) (q .nodes) (q .number) e (q .edges) h
 
-    pub fewer-fields : fewerFields ws e ≡ parts (q .number - 1) (sortedEnds (fewerEnds e))
+    pub fewer-fields : fewerFields ws e ≡ parts (q .number - 1) (sortedEdges (fewerEdges e))
     unfolding fewerFields
     fewer-fields =
-        let z : 2 + nodesOf ws + 2 * e + 2 ≡ 2 + nodesOf ws + (2 * e + 2) = omega arith in
-        let d : drop (2 + nodesOf ws + 2 * e + 2) ws ≡ drop (2 * e + 2) (q .ends) =
-        ap (λ (k : ℕ). drop k ws) z ∙ sym (drop-drop (2 * e + 2) (2 + nodesOf ws) ws) ∙ ap (drop (2 * e + 2)) ends-of in
-        ap₂ (λ (x y : List ℕ). asRecord ws (take (2 * e) x ++ y)) ends-of d ∙ as-parts (q .number - 1) (fewerEnds e) (fewer-plain .two-each)
+        let z : 2 + nodesOf ws + 3 * e + 3 ≡ 2 + nodesOf ws + (3 * e + 3) = omega arith in
+        let d : drop (2 + nodesOf ws + 3 * e + 3) ws ≡ drop (3 * e + 3) (q .es) =
+        ap (λ (k : ℕ). drop k ws) z ∙ sym (drop-drop (3 * e + 3) (2 + nodesOf ws) ws) ∙ ap (drop (3 * e + 3)) es-of in
+        ap₂ (λ (x y : List ℕ). asRecord ws (take (3 * e) x ++ y)) es-of d ∙ as-parts (q .number - 1) (fewerEdges e) (fewer-plain .among .three-each)
 
-  pub graph-made : Made 164 (graphFields ws)
+  pub graph-made : Made 176 (graphFields ws)
   graph-made =
-      subst (Made 164) (sym graph-fields)
-      (made-within (omega (arith, q .most-nodes, q .most-edges)) (record-made (q .nodes) (q .number) (powers (q .labels)) (sortedEnds (q .ends)) few-nodes (omega (arith, q .most-edges)) (powers-length (q .labels) ∙ q .label-each)
-      (powers-below (q .labels) (q .are-labels)) (sorted-plain few-nodes (q .edges))))
+      subst (Made 176) (sym graph-fields)
+      (made-within (omega (arith, q .most-nodes, q .most-edges)) (record-made (q .nodes) (q .number) (powers (q .labels)) (sortedEdges (q .es)) few-nodes (omega (arith, q .most-edges)) (powers-length (q .labels) ∙ q .label-each)
+      (powers-below (q .labels) (q .are-labels)) (sorted-plain (omega arith) few-nodes (q .edges))))
 
-  pub fewer-made : (e : ℕ) → e < q .number → Made 164 (fewerFields ws e)
+  pub fewer-made : (e : ℕ) → e < q .number → Made 176 (fewerFields ws e)
   fewer-made e h =
-      subst (Made 164) (sym (fewer-fields e h))
-      (made-within (omega (arith, q .most-nodes, q .most-edges)) (record-made (q .nodes) (q .number - 1) (powers (q .labels)) (sortedEnds (fewerEnds e)) few-nodes (omega (arith, q .most-edges)) (powers-length (q .labels) ∙ q .label-each)
-      (powers-below (q .labels) (q .are-labels)) (sorted-plain few-nodes (fewer-plain e h))))
+      subst (Made 176) (sym (fewer-fields e h))
+      (made-within (omega (arith, q .most-nodes, q .most-edges)) (record-made (q .nodes) (q .number - 1) (powers (q .labels)) (sortedEdges (fewerEdges e)) few-nodes (omega (arith, q .most-edges)) (powers-length (q .labels) ∙ q .label-each)
+      (powers-below (q .labels) (q .are-labels)) (sorted-plain (omega arith) few-nodes (fewer-plain e h))))
 
-  as-graph : asGraph (patternOf ws) ≡ graph (powers (q .labels)) (edgesIn (q .ends))
+  as-graph : asGraph (patternOf ws) ≡ graph (powers (q .labels)) (edgesIn (q .es))
   unfolding asGraph
-  as-graph = rw (pattern-is q) (ap (λ (l : List ℕ). graph l (edgesIn (q .ends))) (sym (powers-each (q .labels))))
+  as-graph = rw (pattern-is q) (ap (λ (l : List ℕ). graph l (edgesIn (q .es))) (sym (powers-each (q .labels))))
 
-  first-is : graphOf (graphFields ws) ≡ graph (powers (q .labels)) (edgesIn (sortedEnds (q .ends)))
+  first-is : graphOf (graphFields ws) ≡ graph (powers (q .labels)) (edgesIn (sortedEdges (q .es)))
   first-is =
       ap graphOf graph-fields
-      ∙ graph-is (q .nodes) (q .number) (powers (q .labels)) (sortedEnds (q .ends)) (powers-length (q .labels) ∙ q .label-each)
+      ∙ graph-is (q .nodes) (q .number) (powers (q .labels)) (sortedEdges (q .es)) (powers-length (q .labels) ∙ q .label-each)
 
-  narrow : NarrowEdges (edgesIn (q .ends))
-  narrow = ends-narrow (q .ends) (q .nodes) (q .number) few-nodes (q .edges)
+  narrow : NarrowEdges (edgesIn (q .es))
+  narrow = ends-narrow (q .es) (q .nodes) 8 (q .number) few-nodes (omega arith) (q .edges .among)
 
   -- the content means the query as a graph, its edges in another order
   pub graph-means : Alike (graphOf (graphFields ws)) (asGraph (patternOf ws))
   graph-means =
       rw (first-is, as-graph) (
-        record { same-labels = refl; more = λ f i. sorted-in (q .ends) narrow f .0 i },
-        record { same-labels = refl; more = λ f i. sorted-in (q .ends) narrow f .1 i },
+        record { same-labels = refl; more = λ f i. sorted-in (q .es) narrow f .0 i },
+        record { same-labels = refl; more = λ f i. sorted-in (q .es) narrow f .1 i },
       )
 
   -- and the other the same without the edge
-  pub fewer-means : (e : ℕ) → e < q .number → graphOf (fewerFields ws e) ≡ without (edgeAt (q .ends) e) (graphOf (graphFields ws))
+  pub fewer-means : (e : ℕ) → e < q .number → graphOf (fewerFields ws e) ≡ without (edgeAt (q .es) e) (graphOf (graphFields ws))
   unfolding without
   fewer-means e h =
       ap graphOf (fewer-fields e h)
-      ∙ graph-is (q .nodes) (q .number - 1) (powers (q .labels)) (sortedEnds (fewerEnds e)) (powers-length (q .labels) ∙ q .label-each)
-      ∙ ap (graph (powers (q .labels))) (sorted-but (edgeAt (q .ends) e) (q .ends) (fewerEnds e) narrow (sym (keep-others (q .ends) (q .nodes) (q .number) e (q .edges) h)))
-      ∙ ap (λ (G : Graph). graph (G .labels) (keep (λ f. not (sameEdge (edgeAt (q .ends) e) f)) (G .edges))) (sym first-is)
+      ∙ graph-is (q .nodes) (q .number - 1) (powers (q .labels)) (sortedEdges (fewerEdges e)) (powers-length (q .labels) ∙ q .label-each)
+      ∙ ap (graph (powers (q .labels))) (sorted-but (edgeAt (q .es) e) (q .es) (fewerEdges e) narrow (sym (keep-others (q .es) (q .nodes) (q .number) e (q .edges) h)))
+      ∙ ap (λ (G : Graph). graph (G .labels) (keep (λ f. not (sameEdge (edgeAt (q .es) e) f)) (G .edges))) (sym first-is)

@@ -57,7 +57,7 @@ module _ {p : Given} (t : Query p) where
   unfolding shownFields
   shown-whole skip l = rw (le-ltb skip (edgesOf (t .content)) l)
 
-  pub shown-made : (skip : ℕ) → Made 164 (shownFields (t .content) skip)
+  pub shown-made : (skip : ℕ) → Made 176 (shownFields (t .content) skip)
   unfolding shownFields
   shown-made skip =
       ⊎-elim

@@ -12,15 +12,14 @@ use native.Mathlib.Nat.{div-one}
 use native.Mathlib.Omega.{arith}
 use Rattle.packed.specs.Format.{pick}
 use Rattle.packed.specs.Formats.{code}
-use Rattle.packed.specs.Contents.{member}
-use Rattle.matching.specs.Lists.{_or_, In, here, there, some}
+use Rattle.matching.specs.Lists.{_or_, In, here, there}
 use Rattle.matching.specs.Simulation.{Edge, noEdge, Pattern, bit, asGraph, viewSheet}
-use Rattle.matching.specs.Join.{listsEdge}
-use Rattle.matching.proofs.ByEdge.{matchedBy, matched, covered}
+use Rattle.matching.specs.Join.{isMatch}
+use Rattle.matching.proofs.ByEdge.{someMatch, matchedBy, matched, covered}
 use Rattle.matching.specs.Sweeps.{OneOf}
 use Rattle.matching.proofs.ListLaws.{not-in-none, in-cases, in-at, every-in, in-every, some-in, in-some}
 use Rattle.matching.proofs.UpToLaws.{getD-upTo}
-use Rattle.matching.proofs.CodeLaws.{in-member, member-in}
+use Rattle.matching.proofs.JoinLaws.{match-say, match-by, some-match-say, some-match-by}
 use Rattle.matching.proofs.MatchLaws.{Sim, Total}
 use Rattle.matching.proofs.MatchSetLaws.{view-sheet, view-length}
 use Rattle.matching.proofs.Listed.{listed-related, related-matches}
@@ -86,7 +85,7 @@ chosen-whole set (P ∷ Ps) h =
 pub chosen-every : (Ps : List Pattern) → length Ps ≤ 16 → chosenFrom everyView Ps ≡ Ps
 chosen-every Ps few = chosen-whole everyView Ps (λ a l. bit-every a (omega arith))
 
--- ---- the mask of a code in lists
+-- ---- the edges that match, as a mask
 
 -- a mask whose lowest bit is b
 low : (b : Bool) (x : ℕ) → (one b + 2 * x) / 2 ^ 0 % 2 ≡ one b
@@ -112,31 +111,37 @@ later-bit b x f =
     ap (λ (y : ℕ). eqb (y % 2) 1)
     (ap (λ (k : ℕ). (one b + 2 * x) / 2 ^ k) z ∙ sym (shr-shr (one b + 2 * x) 1 f) ∙ ap (λ (y : ℕ). y / 2 ^ f) (half b x))
 
-module _ (c : ℕ) where
-  mask-at : (ls : List (List ℕ)) (f : ℕ) → f < length ls → bit (maskIn c ls) f ≡ member c (getD ls f [])
-  unfolding maskIn
-  mask-at [] f h = absurd (omega arith)
-  mask-at (l ∷ ls) zero h = first-bit (member c l) (maskIn c ls)
-  mask-at (l ∷ ls) (suc f) h = later-bit (member c l) (maskIn c ls) f ∙ mask-at ls f (omega arith)
-
-  -- the mask names exactly the lists that have the code
-  pub mask-exactly : (ls : List (List ℕ)) (f : ℕ) → f < length ls → (bit (maskIn c ls) f ≡ true) ↔ (member c (getD ls f []) ≡ true)
-  mask-exactly ls f h = let e = mask-at ls f h in (λ p. sym e ∙ p, λ p. e ∙ p)
-
--- ---- the table
 module _ (e : Edge) where
-  -- the mask of an edge is not 0 exactly if some list has the edge
+  mask-at : (gs : List Edge) (ls : List (List ℕ)) (f : ℕ) → f < length gs → f < length ls → bit (maskIn e gs ls) f ≡ isMatch e (getD gs f noEdge) (getD ls f [])
+  unfolding maskIn
+  mask-at [] ls f h k = absurd (omega arith)
+  mask-at (g ∷ gs) [] f h k = absurd (omega arith)
+  mask-at (g ∷ gs) (l ∷ ls) zero h k = first-bit (isMatch e g l) (maskIn e gs ls)
+  mask-at (g ∷ gs) (l ∷ ls) (suc f) h k = later-bit (isMatch e g l) (maskIn e gs ls) f ∙ mask-at gs ls f (omega arith) (omega arith)
+
+  -- the mask names exactly the edges of its kind whose lists have it
+  pub mask-exactly : (gs : List Edge) (ls : List (List ℕ)) (f : ℕ) → f < length gs → f < length ls
+      → T (bit (maskIn e gs ls) f) ↔ ((getD gs f noEdge .kind ≡ e .kind) × In (code (e .from) (e .to)) (getD ls f []))
+  mask-exactly gs ls f h k =
+      let q = mask-at gs ls f h k in (
+        λ t. match-say e (getD gs f noEdge) (getD ls f []) (subst T q t),
+        λ r. subst T (sym q) (match-by e (getD gs f noEdge) (r .0) (r .1)),
+      )
+
+  -- it is not 0 exactly if some edge matches
   mask-step : (b : Bool) (x : ℕ) (rest : Bool) → not (eqb x 0) ≡ rest → not (eqb (one b + 2 * x) 0) ≡ (b or rest)
   unfolding _or_
   mask-step true x rest h = ap not (ne-eqb (1 + 2 * x) 0 (λ (z : 1 + 2 * x ≡ 0). omega arith))
   mask-step false zero rest h = h
   mask-step false (suc x) rest h = ap not (ne-eqb (0 + 2 * suc x) 0 (λ (z : 0 + 2 * suc x ≡ 0). omega arith) ∙ sym (ne-eqb (suc x) 0 (λ (z : suc x ≡ 0). omega arith))) ∙ h
 
-  mask-some : (ls : List (List ℕ)) → not (eqb (maskIn (code (e .from) (e .to)) ls) 0) ≡ some (listsEdge e) ls
-  unfolding maskIn some listsEdge
-  mask-some [] = refl
-  mask-some (l ∷ ls) = mask-step (member (code (e .from) (e .to)) l) (maskIn (code (e .from) (e .to)) ls) (some (listsEdge e) ls) (mask-some ls)
+  mask-some : (gs : List Edge) (ls : List (List ℕ)) → not (eqb (maskIn e gs ls) 0) ≡ someMatch e gs ls
+  unfolding maskIn someMatch
+  mask-some [] ls = refl
+  mask-some (g ∷ gs) [] = refl
+  mask-some (g ∷ gs) (l ∷ ls) = mask-step (isMatch e g l) (maskIn e gs ls) (someMatch e gs ls) (mask-some gs ls)
 
+-- ---- the table
 module _ (Q : Pattern) (Ps : List Pattern) (few-edges : length (Q .edges) ≤ 32) where
   abbrev edge : ℕ → Edge
   edge i = getD (Q .edges) i noEdge
@@ -150,22 +155,21 @@ module _ (Q : Pattern) (Ps : List Pattern) (few-edges : length (Q .edges) ≤ 32
 
   -- what stands in the table for the edge i and the view a
   mapping-at : (i a : ℕ) → i < length (Q .edges) → a < length Ps → a < 16
-      → getD (mapping Q Ps) (16 * i + a) 0 ≡ maskIn (code (edge i .from) (edge i .to)) (viewSheet (view a) (asGraph Q))
+      → getD (mapping Q Ps) (16 * i + a) 0 ≡ maskIn (edge i) (view a .edges) (viewSheet (view a) (asGraph Q))
   unfolding mapping matchMask
   mapping-at i a h l few = getD-upTo (maskAt Q Ps) 512 (16 * i + a) 0 (omega arith) ∙ mask-is (16 * i + a) i a (omega arith) (omega arith) h l
 
-  -- the edges of a view that match the edge i, exactly: those whose match sets, on the query read as a graph, have it
+  -- the edges of a view that match the edge i, exactly: those of its kind whose match sets, on the query read as a graph, have it
   pub mapping-exactly : (i a : ℕ) → i < length (Q .edges) → a < length Ps → a < 16 → (f : ℕ) → f < length (getD Ps a noPattern .edges)
-      → (bit (getD (mapping Q Ps) (16 * i + a) 0) f ≡ true)
-      ↔ In (code (getD (Q .edges) i noEdge .from) (getD (Q .edges) i noEdge .to)) (getD (viewSheet (getD Ps a noPattern) (asGraph Q)) f [])
+      → T (bit (getD (mapping Q Ps) (16 * i + a) 0) f)
+      ↔ ((getD (getD Ps a noPattern .edges) f noEdge .kind ≡ getD (Q .edges) i noEdge .kind)
+      × In (code (getD (Q .edges) i noEdge .from) (getD (Q .edges) i noEdge .to)) (getD (viewSheet (getD Ps a noPattern) (asGraph Q)) f []))
   mapping-exactly i a h l few f k =
-      let e = mapping-at i a h l few in
-      let m = mask-exactly (code (edge i .from) (edge i .to)) (viewSheet (view a) (asGraph Q)) f (omega (arith, view-length (view a) (asGraph Q))) in
-      (λ p. member-in _ (m .0 (rw e at p)), λ p. rw e (m .1 (in-member p)))
+      rw (mapping-at i a h l few) (mask-exactly (edge i) (view a .edges) (viewSheet (view a) (asGraph Q)) f k (omega (arith, view-length (view a) (asGraph Q))))
 
   matches-is : (i a : ℕ) → i < length (Q .edges) → a < length Ps → a < 16 → matches (mapping Q Ps) i a ≡ matchedBy Q (edge i) (view a)
   unfolding matches matchedBy
-  matches-is i a h l few = ap (λ (x : ℕ). not (eqb x 0)) (mapping-at i a h l few) ∙ mask-some (edge i) (viewSheet (view a) (asGraph Q))
+  matches-is i a h l few = ap (λ (x : ℕ). not (eqb x 0)) (mapping-at i a h l few) ∙ mask-some (edge i) (view a .edges) (viewSheet (view a) (asGraph Q))
 
   -- the table says exactly which views match an edge
   pub matched-exactly : (i a : ℕ) → i < length (Q .edges) → a < length Ps → a < 16
@@ -214,35 +218,26 @@ pub quote-covered-exactly : (Q : Pattern) (Ps : List Pattern) → length Ps ≤ 
     → (coversIn (mapping Q Ps) everyView (length Ps) (length (Q .edges)) ≡ true) ↔ T (covered Q Ps)
 quote-covered-exactly Q Ps few few-edges = rw (chosen-every Ps few) at (set-covers-exactly Q Ps everyView few few-edges)
 
--- a view of the list has an edge whose match set, on the query read as a graph, has the edge e
+-- a view of the list has an edge of the kind of e whose match set, on the query read as a graph, has e
 pub record ListedEdge (Q : Pattern) (Ps : List Pattern) (e : Edge) : Type 0 where
   pub view : Pattern
   pub given : In view Ps
   pub at : ℕ
   pub below : at < length (view .edges)
+  pub kind : getD (view .edges) at noEdge .kind ≡ e .kind
   pub lists : In (code (e .from) (e .to)) (getD (viewSheet view (asGraph Q)) at [])
 
 module _ (Q : Pattern) (Ps : List Pattern) where
   pub matched-say : (e : Edge) → T (matched Q Ps e) → ListedEdge Q Ps e
-  unfolding matched matchedBy listsEdge
+  unfolding matched matchedBy
   matched-say e t =
       let p = some-in (matchedBy Q e) Ps t in
-      let l = some-in (listsEdge e) (viewSheet (p .0) (asGraph Q)) (p .2) in
-      let o = place-of [] (l .1) in
-      record {
-        view = p .0;
-        given = p .1;
-        at = o .at;
-        below = omega (arith, o .below, view-length (p .0) (asGraph Q));
-        lists = subst (λ m. In (code (e .from) (e .to)) m) (o .holds) (member-in (l .0) (test-is (listsEdge e (l .0)) .1 (l .2)));
-      }
+      let r = some-match-say e (p .0 .edges) (viewSheet (p .0) (asGraph Q)) (p .2) in
+      record { view = p .0; given = p .1; at = r .0; below = r .1; kind = r .2; lists = r .3 }
 
   pub matched-by : (e : Edge) → ListedEdge Q Ps e → T (matched Q Ps e)
-  unfolding matched matchedBy listsEdge
-  matched-by e o =
-      let ms : List (List ℕ) = viewSheet (o .view) (asGraph Q) in
-      let h : o .at < length ms = omega (arith, o .below, view-length (o .view) (asGraph Q)) in
-      in-some (matchedBy Q e) (o .given) (in-some (listsEdge e) (in-at ms (o .at) [] h) (test-is (listsEdge e (getD ms (o .at) [])) .0 (in-member (o .lists))))
+  unfolding matched matchedBy
+  matched-by e o = in-some (matchedBy Q e) (o .given) (some-match-by e (o .view .edges) (viewSheet (o .view) (asGraph Q)) (o .at) (o .below) (o .kind) (o .lists))
 
   pub covered-says : T (covered Q Ps) ↔ ((e : Edge) → In e (Q .edges) → ListedEdge Q Ps e)
   unfolding covered
@@ -257,7 +252,7 @@ module _ (Q : Pattern) (Ps : List Pattern) where
       let r = listed-related (o .view) (asGraph Q) (o .at) (o .below) (code (e .from) (e .to)) (subst (λ ls. In (code (e .from) (e .to)) (getD ls (o .at) [])) (view-sheet (o .view) (asGraph Q)) (o .lists)) in
       related-matches (o .view) (asGraph Q) (r .2) .whole
 
--- covered exactly if each edge of the query is in the match set of some edge of some view
+-- covered exactly if each edge of the query is in the match set of some edge, of its kind, of some view
 pub quote-says-covered : (Q : Pattern) (Ps : List Pattern) → length Ps ≤ 16 → length (Q .edges) ≤ 32
     → (coversIn (mapping Q Ps) everyView (length Ps) (length (Q .edges)) ≡ true) ↔ ((e : Edge) → In e (Q .edges) → ListedEdge Q Ps e)
 quote-says-covered Q Ps few few-edges = Iff·trans (quote-covered-exactly Q Ps few few-edges) (covered-says Q Ps)

@@ -68,7 +68,7 @@ not-without : (e : Edge) (G : Graph) → In e (without e G .edges) → ⊥
 unfolding without
 not-without e G i = T-not (sameEdge e e) (keep-in (λ f. not (sameEdge e f)) (G .edges) i .1) (same-edge-refl e)
 
-made-read : {most : ℕ} {fs : List ℕ} → most ≤ 40964 → Made most fs → readRecord (recordBytes fs) ≡ accepted fs
+made-read : {most : ℕ} {fs : List ℕ} → most ≤ 44036 → Made most fs → readRecord (recordBytes fs) ≡ accepted fs
 made-read {fs = fs} h m = record-read (recordBytes fs) fs .1 (omega (arith, m .size), record-accepted (recordBytes fs) fs .0 (m .back))
 
 module _ {qs : List ℕ} {bs : List Bool} (q : PlainPattern qs bs) where
@@ -78,8 +78,8 @@ module _ {qs : List ℕ} {bs : List Bool} (q : PlainPattern qs bs) where
   few-nodes : length (patternOf qs .labels) ≤ 4096
   few-nodes = omega (arith, ap (λ (P : Pattern). length (P .labels)) (pattern-is q), q .label-each, q .most-nodes)
 
-  edge-is : (e : ℕ) → e < q .number → queryEdge qs e ≡ edgeAt (q .ends) e
-  edge-is e h = ap (λ (P : Pattern). getD (P .edges) e noEdge) (pattern-is q) ∙ edge-at (q .ends) (q .number) e (q .edges .two-each) h
+  edge-is : (e : ℕ) → e < q .number → queryEdge qs e ≡ edgeAt (q .es) e
+  edge-is e h = ap (λ (P : Pattern). getD (P .edges) e noEdge) (pattern-is q) ∙ edge-at (q .es) (q .number) e (q .edges .among .three-each) h
 
   -- the match sets of a pattern in a record that was made
   made-sheet : {most : ℕ} {fs : List ℕ} → Made most fs → SheetFields (matchSets (patternOf qs) (graphOf fs))

@@ -7,7 +7,7 @@ use lib.ListN.{take, drop, getD}
 use lib.Seq.{take-at, drop-at}
 use native.Mathlib.Omega.{arith}
 use Rattle.packed.specs.Formats.{record′}
-use Rattle.packed.specs.Contents.{sortedEnds}
+use Rattle.packed.specs.Contents.{sortedEdges}
 use Rattle.packed.specs.Plain.{PlainEdges, PlainGraph}
 use Rattle.packed.specs.OldRecord.{oldRecord, sortedFields, recordSorted}
 use Rattle.packed.specs.Calls.{accepted, readRecord, recordWritten, fit}
@@ -22,50 +22,50 @@ use Rattle.containment.specs.Demands.{OldFile, Sorting}
 use Rattle.containment.proofs.QueryGraph.{Made, record-made, made-within, graph, graph-is}
 
 -- the content of an old record by its parts
-module _ {ws : List ℕ} {bs : List Bool} (p : PlainGraph PlainEdges ws bs) where
+module _ {ws : List ℕ} {bs : List Bool} (p : PlainGraph 0 (PlainEdges 1) ws bs) where
   abbrev parts : List ℕ → List ℕ
-  parts ends = p .nodes ∷ p .number ∷ (p .labels ++ ends)
+  parts es = p .nodes ∷ p .number ∷ (p .labels ++ es)
 
   abbrev sorted : List ℕ
-  sorted = sortedEnds (p .ends)
+  sorted = sortedEdges (p .es)
 
   sorted-parts : sortedFields ws ≡ parts sorted
   unfolding sortedFields
   sorted-parts =
       let z : 2 + p .nodes ≡ suc (suc (p .nodes)) = omega arith in
-      ap (λ (l : List ℕ). take (2 + getD l 0 0) l ++ sortedEnds (drop (2 + getD l 0 0) l)) (p .content)
-      ∙ ap (λ (k : ℕ). take k (parts (p .ends)) ++ sortedEnds (drop k (parts (p .ends)))) z
-      ∙ ap₂ (λ (x y : List ℕ). (p .nodes ∷ p .number ∷ x) ++ sortedEnds y) (take-at (p .labels) (p .ends) (p .nodes) (p .labels-each)) (drop-at (p .labels) (p .ends) (p .nodes) (p .labels-each))
+      ap (λ (l : List ℕ). take (2 + getD l 0 0) l ++ sortedEdges (drop (2 + getD l 0 0) l)) (p .content)
+      ∙ ap (λ (k : ℕ). take k (parts (p .es)) ++ sortedEdges (drop k (parts (p .es)))) z
+      ∙ ap₂ (λ (x y : List ℕ). (p .nodes ∷ p .number ∷ x) ++ sortedEdges y) (take-at (p .labels) (p .es) (p .nodes) (p .labels-each)) (drop-at (p .labels) (p .es) (p .nodes) (p .labels-each))
 
-  sorted-made : Made 40964 (sortedFields ws)
+  sorted-made : Made 44036 (sortedFields ws)
   sorted-made =
-      subst (Made 40964) (sym sorted-parts)
+      subst (Made 44036) (sym sorted-parts)
       (made-within (omega (arith, p .most-nodes, p .most-edges))
-      (record-made (p .nodes) (p .number) (p .labels) sorted (p .most-nodes) (p .most-edges) (p .labels-each) (p .are-labels) (sorted-plain (p .most-nodes) (p .edges))))
+      (record-made (p .nodes) (p .number) (p .labels) sorted (p .most-nodes) (p .most-edges) (p .labels-each) (p .are-labels) (sorted-plain (omega arith) (p .most-nodes) (p .edges))))
 
-  graph-old : graphOf ws ≡ graph (p .labels) (edgesIn (p .ends))
-  graph-old = ap graphOf (p .content) ∙ graph-is (p .nodes) (p .number) (p .labels) (p .ends) (p .labels-each)
+  graph-old : graphOf ws ≡ graph (p .labels) (edgesIn (p .es))
+  graph-old = ap graphOf (p .content) ∙ graph-is (p .nodes) (p .number) (p .labels) (p .es) (p .labels-each)
 
   graph-sorted : graphOf (sortedFields ws) ≡ graph (p .labels) (edgesIn sorted)
   graph-sorted = ap graphOf sorted-parts ∙ graph-is (p .nodes) (p .number) (p .labels) sorted (p .labels-each)
 
   sorted-alike : Alike (graphOf (sortedFields ws)) (graphOf ws)
   sorted-alike =
-      let n = ends-narrow (p .ends) (p .nodes) (p .number) (p .most-nodes) (p .edges) in
+      let n = ends-narrow (p .es) (p .nodes) 1 (p .number) (p .most-nodes) (omega arith) (p .edges .among) in
       rw (graph-sorted, graph-old) (
-        record { same-labels = refl; more = λ f i. sorted-in (p .ends) n f .0 i },
-        record { same-labels = refl; more = λ f i. sorted-in (p .ends) n f .1 i },
+        record { same-labels = refl; more = λ f i. sorted-in (p .es) n f .0 i },
+        record { same-labels = refl; more = λ f i. sorted-in (p .es) n f .1 i },
       )
 
 module _ (s ws : List ℕ) (old : OldFile s ws) where
   body : List Bool
   body = old-accepted s ws .0 (read-says 40964 3 oldRecord s ws old .0) .body
 
-  plain : PlainGraph PlainEdges ws body
+  plain : PlainGraph 0 (PlainEdges 1) ws body
   unfolding body
   plain = old-accepted s ws .0 (read-says 40964 3 oldRecord s ws old .0) .laid
 
-  made : Made 40964 (sortedFields ws)
+  made : Made 44036 (sortedFields ws)
   made = sorted-made plain
 
   alike : Alike (graphOf (sortedFields ws)) (graphOf ws)

@@ -295,11 +295,13 @@ pub record Demand1 : Type 0 where
 -- matched by a link of some extract that fits the question as a whole. Files read are written back as the same bytes; files written are read
 -- back as the same content."
 
--- a pair is listed under an edge: every node of P has a partner, and the pair has the two ends of an edge of G, which are partners of the edge's ends
+-- a pair is listed under an edge: every node of P has a partner, and the pair has the two ends of an edge of G of the same kind, which are partners of the
+-- edge's ends
 pub record Matching (P : Pattern) (G : Graph) (e : Edge) (f : Pair) : Type 0 where
   pub whole : (u : ℕ) → u < length (P .labels) → (v : ℕ) × In (u, v) (sim P G)
   pub link : Edge
   pub edge : In link (G .edges)
+  pub kind : link .kind ≡ e .kind
   pub ends : f ≡ asPair link
   pub tail : In (e .from, f .0) (sim P G)
   pub head : In (e .to, f .1) (sim P G)
@@ -310,21 +312,23 @@ pub record SameLinks (rs rs′ : List ℕ) : Type 0 where
   pub there : (f : Edge) → In f (graphOf rs .edges) → In f (graphOf rs′ .edges)
   pub back : (f : Edge) → In f (graphOf rs′ .edges) → In f (graphOf rs .edges)
 
--- the link e of the question Q stands in the list of a link of an extract that fits Q, read as a record, as a whole
+-- the link e of the question Q stands in the list of a link of its kind of an extract that fits Q, read as a record, as a whole
 pub record Matched (Q : Pattern) (Ps : List Pattern) (e : Edge) : Type 0 where
   pub extract : Pattern
   pub given : In extract Ps
   pub link : ℕ
   pub below : link < length (extract .edges)
+  pub kind : getD (extract .edges) link noEdge .kind ≡ e .kind
   pub lists : In (code (e .from) (e .to)) (getD (viewSheet extract (asGraph Q)) link [])
   pub whole : (u : ℕ) → u < length (extract .labels) → (v : ℕ) × In (u, v) (sim extract (asGraph Q))
 
--- "question link e is matched by an extract link if that link's list contains e": here by a link of one of the extracts in a set
+-- "question link e is matched by an extract link if that link's list contains e", and "only of its own kind": here by a link of one of the extracts in a set
 pub record MatchedIn (Q : Pattern) (Ps : List Pattern) (set : ℕ) (e : Edge) : Type 0 where
   pub extract : ℕ
   pub given : extract < length Ps
   pub in-set : T (bit set extract)
   pub link : ℕ
+  pub kind : getD (getD Ps extract noPattern .edges) link noEdge .kind ≡ e .kind
   pub lists : In (code (e .from) (e .to)) (getD (viewSheet (getD Ps extract noPattern) (asGraph Q)) link [])
 
 -- what was read is written back as the same bytes s; what was written is read back as the same content ws
@@ -386,9 +390,10 @@ pub record Demand2 : Type 1 where
       → quoteOutcome q c ≡ give (flat (record { covered = 1; mapping = mapping (patternOf qs) (extracts cs); edges = edgesOf qs; chosen = chosenOf qs cs; lowest = 0 })) []
   pub values-uncovered : (q c qs cs : List ℕ) → Question q qs → Catalogue c cs → Uncovered qs cs
       → quoteOutcome q c ≡ give (flat (record { covered = 0; mapping = mapping (patternOf qs) (extracts cs); edges = edgesOf qs; chosen = 0; lowest = lacking qs cs })) []
-  -- "for each question link, the extract links that match it": bit f in the mask of link i and extract a says that link f of a lists i
+  -- "for each question link, the extract links that match it": bit f in the mask of link i and extract a says that link f of a has the kind of i and lists i
   pub maps : (q c qs cs : List ℕ) → Question q qs → Catalogue c cs → (i a f : ℕ) → i < edgesOf qs → a < length (extracts cs) → f < length (extractOf cs a .edges)
-      → T (bit (getD (mapping (patternOf qs) (extracts cs)) (16 * i + a) 0) f) ↔ In (code (linkOf qs i .from) (linkOf qs i .to)) (getD (viewSheet (extractOf cs a) (asGraph (patternOf qs))) f [])
+      → T (bit (getD (mapping (patternOf qs) (extracts cs)) (16 * i + a) 0) f)
+      ↔ ((getD (extractOf cs a .edges) f noEdge .kind ≡ linkOf qs i .kind) × In (code (linkOf qs i .from) (linkOf qs i .to)) (getD (viewSheet (extractOf cs a) (asGraph (patternOf qs))) f []))
   -- the chosen set covers the question, and "drop an extract if those still kept cover the question without it" has left none to drop
   pub choice-covers : (qs cs : List ℕ) → Covered qs cs → Covers (chosenOf qs cs) qs cs
   pub choice-needs : (qs cs : List ℕ) (a : ℕ) → T (bit (chosenOf qs cs) a) → Covers (chosenOf qs cs - 2 ^ a) qs cs → ⊥

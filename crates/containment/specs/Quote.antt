@@ -6,25 +6,26 @@ use lib.ListN.{length, getD, replicate}
 use lib.Dec.{ltb}
 pub use Rattle.packed.specs.Bits.{one}
 use Rattle.packed.specs.Format.{pick}
-use Rattle.packed.specs.Formats.{code}
-use Rattle.packed.specs.Contents.{viewsOf, member}
+use Rattle.packed.specs.Contents.{viewsOf}
 use Rattle.packed.specs.Refusals.{Told, told, numberOf, detailOf}
 use Rattle.packed.specs.Calls.{Outcome, give, judged, readPattern, readCatalogue}
 use Rattle.matching.specs.Simulation.{Edge, noEdge, Pattern, patternOf, asGraph, viewSheet}
 use Rattle.matching.specs.Lists.{upTo}
+use Rattle.matching.specs.Join.{isMatch}
 use Rattle.containment.specs.Choice.{everyView, coversIn, lowestUnmatched, chosen}
 use Rattle.containment.specs.declared.quote_type.Coverage.{Coverage}
 use Rattle.containment.specs.declared.quote_type.Coverage.the-variants as coverage-is
 use Rattle.containment.specs.declared.quote_type.Quote.{Quote}
 
--- the lists that have the code c, as a mask
-unfoldable pub maskIn : ℕ → List (List ℕ) → ℕ
-maskIn c [] = 0
-maskIn c (l ∷ ls) = one (member c l) + 2 * maskIn c ls
+-- those of the edges gs of a view, each with its list, that match the edge e, as a mask
+unfoldable pub maskIn : Edge → List Edge → List (List ℕ) → ℕ
+maskIn e [] ls = 0
+maskIn e (g ∷ gs) [] = 0
+maskIn e (g ∷ gs) (l ∷ ls) = one (isMatch e g l) + 2 * maskIn e gs ls
 
--- the edges of the view P that match the edge e of the query Q: those whose lists, on Q read as a graph, have e
+-- the edges of the view P that match the edge e of the query Q: those of its kind whose lists, on Q read as a graph, have e
 unfoldable pub matchMask : Pattern → Edge → Pattern → ℕ
-matchMask Q e P = maskIn (code (e .from) (e .to)) (viewSheet P (asGraph Q))
+matchMask Q e P = maskIn e (P .edges) (viewSheet P (asGraph Q))
 
 abbrev pub noPattern : Pattern
 noPattern = record { labels = []; edges = [] }

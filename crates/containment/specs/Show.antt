@@ -5,7 +5,7 @@ use lib.ListN.{length, take, drop}
 use lib.Dec.{ltb}
 use Rattle.packed.specs.Format.{pick, encode}
 use Rattle.packed.specs.Formats.{record′}
-use Rattle.packed.specs.Contents.{nodesOf, edgesOf, viewsOf, sortedEnds}
+use Rattle.packed.specs.Contents.{nodesOf, edgesOf, viewsOf, sortedEdges}
 use Rattle.packed.specs.Calls.{Outcome, give, refuse, judged, readPattern, readCatalogue}
 use Rattle.packed.specs.Refusals.{Told, told, numberOf, detailOf}
 use Rattle.matching.specs.Search.{bytesIn}
@@ -15,9 +15,9 @@ use Rattle.containment.specs.Quote.{mapping}
 use Rattle.containment.specs.declared.showing.Shown.{Shown}
 use Rattle.containment.specs.declared.showing.Shown.the-variants as shown-is
 
--- the query with content ws read as a record with these edges, by their ends: each node has its own label alone, and the edges ascend
+-- the query with content ws read as a record with these edges, by their fields: each node has its own label alone, and the edges ascend
 unfoldable pub asRecord : List ℕ → List ℕ → List ℕ
-asRecord ws es = nodesOf ws ∷ length es / 2 ∷ (map (λ k. 2 ^ k) (take (nodesOf ws) (drop 2 ws)) ++ sortedEnds es)
+asRecord ws es = nodesOf ws ∷ length es / 3 ∷ (map (λ k. 2 ^ k) (take (nodesOf ws) (drop 2 ws)) ++ sortedEdges es)
 
 -- the content of the query read as a record
 unfoldable pub graphFields : List ℕ → List ℕ
@@ -25,7 +25,7 @@ graphFields ws = asRecord ws (drop (2 + nodesOf ws) ws)
 
 -- the same without the edge e
 unfoldable pub fewerFields : List ℕ → ℕ → List ℕ
-fewerFields ws e = asRecord ws (take (2 * e) (drop (2 + nodesOf ws) ws) ++ drop (2 + nodesOf ws + 2 * e + 2) ws)
+fewerFields ws e = asRecord ws (take (3 * e) (drop (2 + nodesOf ws) ws) ++ drop (2 + nodesOf ws + 3 * e + 3) ws)
 
 -- a record with this content, in bytes
 unfoldable pub recordBytes : List ℕ → List ℕ

@@ -7,8 +7,8 @@ use lib.ListN.{length, getD, take}
 use lib.Seq.{sets}
 use lib.Dec.{eqb, ltb}
 use Rattle.packed.specs.Format.{ok, pick, decode}
-use Rattle.packed.specs.Formats.{pattern, catalogue, code}
-use Rattle.packed.specs.Contents.{edgesOf, edgeCounts, sortedEnds}
+use Rattle.packed.specs.Formats.{pattern, catalogue}
+use Rattle.packed.specs.Contents.{edgesOf, edgeCounts, edgeWord, sortedEdges}
 use Rattle.packed.specs.ByValue.{HoldsPattern, Small}
 use Rattle.packed.specs.Calls.{Outcome, toldOf, outputsOf}
 use Rattle.packed.specs.Refusals.{Told}
@@ -57,21 +57,21 @@ shownFields ws skip = pick (ltb skip (edgesOf ws)) (fewerFields ws skip) (graphF
 unfoldable pub powers : List ℕ → List ℕ
 powers ls = map (λ k. 2 ^ k) ls
 
--- the ends of the first e edges without the edge skip
-unfoldable pub endsBut : List ℕ → List ℕ → ℕ → ℕ → List ℕ
-endsBut from to skip zero = []
-endsBut from to skip (suc e) = endsBut from to skip e ++ pick (eqb e skip) [] (getD from e 0 ∷ getD to e 0 ∷ [])
+-- the fields of the first e edges without the edge skip
+unfoldable pub edgesBut : List ℕ → List ℕ → List ℕ → ℕ → ℕ → List ℕ
+edgesBut from to kind skip zero = []
+edgesBut from to kind skip (suc e) = edgesBut from to kind skip e ++ pick (eqb e skip) [] (getD from e 0 ∷ getD to e 0 ∷ getD kind e 0 ∷ [])
 
--- the first n words of the workspace are these codes, of 24 bits each
-pub record CodesFront (cs : List ℕ) (n : ℕ) (w : List ℕ) : Type 0 where
+-- the first n words of the workspace are these ranks
+pub record RanksFront (rs : List ℕ) (n : ℕ) (w : List ℕ) : Type 0 where
   pub long : length w ≡ 16384
   pub few : n ≤ 32
-  pub is : take n w ≡ cs
-  pub small : (j : ℕ) → j < n → getD w j 0 < 2 ^ 24
+  pub is : take n w ≡ rs
+  pub small : (j : ℕ) → j < n → getD w j 0 < 2 ^ 27
 
 -- the first n words are these
 pub record Front (words : List ℕ) (n : ℕ) (fs : List ℕ) : Type 0 where
-  pub long : length words ≡ 82
+  pub long : length words ≡ 114
   pub number : n ≡ length fs
   pub is : take n words ≡ fs
 
@@ -83,11 +83,11 @@ unfoldable pub labelFields : Given → ℕ → List ℕ
 labelFields p left = (p .nodes ∷ left ∷ []) ++ powers (take (p .nodes) (p .labels))
 
 unfoldable pub fieldsBut : Given → ℕ → List ℕ
-fieldsBut p skip = let es = endsBut (p .from) (p .to) skip (p .edges) in labelFields p (length es / 2) ++ sortedEnds es
+fieldsBut p skip = let es = edgesBut (p .from) (p .to) (p .kind) skip (p .edges) in labelFields p (length es / 3) ++ sortedEdges es
 
 pub record HoldsFields (fs : List ℕ) (f : Fields) : Type 0 where
   pub front : Front (f .words) (f .number) fs
-  pub most : f .number ≤ 82
+  pub most : f .number ≤ 114
 
 -- the bytes of the query read as a record, without the edge skip, stand at the front of out as far as it goes
 pub record Graphed (content : List ℕ) (skip r : ℕ) (out out′ : List ℕ) : Type 0 where
@@ -102,17 +102,17 @@ pub record PlaceOf (w : List ℕ) (m x r : ℕ) : Type 0 where
   pub here : r < m → getD w r 0 ≡ x
   pub lower : (i : ℕ) → i < r → getD w i 0 ≡ x → ⊥
 
--- the code of an edge of the query
-abbrev pub codeAt : Given → ℕ → ℕ
-codeAt q e = code (getD (q .from) e 0) (getD (q .to) e 0)
+-- the word of an edge of the query
+abbrev pub wordAt : Given → ℕ → ℕ
+wordAt q e = edgeWord (getD (q .from) e 0) (getD (q .to) e 0) (getD (q .kind) e 0)
 
 -- the edges of the query stand in the workspace
 unfoldable pub Present : Given → ℕ → List ℕ → Type 0
-Present q m w = (e : ℕ) → e < q .edges → OneOf m (λ i. getD w i 0 ≡ codeAt q e)
+Present q m w = (e : ℕ) → e < q .edges → OneOf m (λ i. getD w i 0 ≡ wordAt q e)
 
--- the masks name edges below k alone
-unfoldable pub Within : ℕ → ℕ → List ℕ → Type 0
-Within k m w = (i e : ℕ) → i < m → e < 32 → Has (getD w (8192 + i) 0) e → e < k
+-- the masks name edges of the view p alone, each of the kind of the word
+unfoldable pub Within : Given → ℕ → List ℕ → Type 0
+Within p m w = (i e : ℕ) → i < m → e < 32 → Has (getD w (8192 + i) 0) e → (e < p .edges) × (getD (p .kind) e 0 ≡ getD w i 0 / 2 ^ 24)
 
 -- only the first n of column a may differ, in a table with 16 columns
 pub record Column (a n : ℕ) (g : ℕ → ℕ → Type 0) (t t′ : List ℕ) : Type 0 where
@@ -120,10 +120,10 @@ pub record Column (a n : ℕ) (g : ℕ → ℕ → Type 0) (t t′ : List ℕ) :
   pub each : (e : ℕ) → e < n → g e (getD t′ (16 * e + a) 0)
   pub rest : (k : ℕ) → ((k % 16 ≡ a) × (k / 16 < n) → ⊥) → getD t′ k 0 ≡ getD t k 0
 
--- x is the mask of the code c in the workspace
+-- x is the mask of the word c in the workspace
 pub record MaskOf (w : List ℕ) (m c x : ℕ) : Type 0 where
   pub at : ℕ
   pub below : at < m
-  pub code : getD w at 0 ≡ c
+  pub word : getD w at 0 ≡ c
   pub is : x ≡ getD w (8192 + at) 0
   pub small : x < 2 ^ 32

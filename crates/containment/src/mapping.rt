@@ -9,10 +9,11 @@ ghost use Rattle.packed.specs.Contents.{viewsOf};
 ghost use Rattle.packed.specs.LoadedGraph.{Holds};
 ghost use Rattle.packed.specs.Matches.{Marked, matchesOf};
 ghost use Rattle.matching.specs.Simulation.{patternOf};
-ghost use Rattle.matching.specs.Steps.{Fair};
+ghost use Rattle.matching.specs.Matched.{Rises};
+ghost use Rattle.matching.specs.Steps.{Fair, givenEdge, patternIn};
 ghost use Rattle.containment.specs.Quote.{maskIn, mapping};
 ghost use Rattle.containment.specs.Show.{graphFields};
-ghost use Rattle.containment.specs.Steps.{Query, Views, PlaceOf, Present, Within, Column, MaskOf, codeAt};
+ghost use Rattle.containment.specs.Steps.{Query, Views, PlaceOf, Present, Within, Column, MaskOf, wordAt};
 use crate::query;
 use matching::matched;
 use matching::views;
@@ -28,14 +29,14 @@ pub fn no_mapping() -> [u32; 512]
     [0u32; 512]
 }
 
-// The place of a code among the first m words, or m.
-fn place_of(work: &[u32], m: usize, code: u32) -> usize
+// The place of a word among the first m, or m.
+fn place_of(work: &[u32], m: usize, word: u32) -> usize
     requires { ⌜ m ≤ length (now work) ⌝ }
-    ensures { λ r. ⌜ PlaceOf (now (work .entry)) m code r ⌝ }
+    ensures { λ r. ⌜ PlaceOf (now (work .entry)) m word r ⌝ }
 {
     let mut i: usize = 0;
     while i < m {
-        if work[i] == code {
+        if work[i] == word {
             return i;
         }
         i += 1;
@@ -46,12 +47,13 @@ fn place_of(work: &[u32], m: usize, code: u32) -> usize
 // The masks of one view, in column a of the table: of each edge of the query, the mask of that edge in the workspace.
 fn note_masks(table: &mut [u32; 512], a: usize, q: Pattern, m: usize, work: &[u32])
     requires { ⌜ Fair q × (a < 16) × (m ≤ 8192) × (length (now table) ≡ 512) × (length (now work) ≡ 16384) × Present q m (now work) ⌝ }
-    ensures { λ r. ⌜ Column a (q .edges) (λ e x. MaskOf (now (work .entry)) m (codeAt q e) x) (now (table .entry)) (now (table .exit)) ⌝ }
+    ensures { λ r. ⌜ Column a (q .edges) (λ e x. MaskOf (now (work .entry)) m (wordAt q e) x) (now (table .entry)) (now (table .exit)) ⌝ }
 {
     let n = q.edges;
     let mut e: usize = 0;
     while e < n {
-        let i = place_of(work, m, q.from[e] * limits::NODES + q.to[e]);
+        let word = q.kind[e] * limits::PAIRS + (q.from[e] * limits::NODES + q.to[e]);
+        let i = place_of(work, m, word);
         let mask = limits::HELD + i;
         let at = 16 * e + a;
         table[at] = work[mask];
@@ -59,12 +61,13 @@ fn note_masks(table: &mut [u32; 512], a: usize, q: Pattern, m: usize, work: &[u3
     }
 }
 
-// The same, from the lists that the view with so many edges has: none, where one of them would be empty.
-fn note_view(table: &mut [u32; 512], a: usize, q: Pattern, m: usize, edges: usize, work: &[u32])
-    requires { ⌜ Fair q × (a < 16) × (0 < m) × (edges ≤ 32) × (length (now table) ≡ 512) × (length (now work) ≡ 16384) × Marked m (now work) × Present q m (now work) × Within edges m (now work) × ((e : ℕ) → getD (now table) (16 * e + a) 0 ≡ 0) ⌝ }
-    ensures { λ r. ⌜ Column a (q .edges) (λ e x. x ≡ maskIn (codeAt q e) (matchesOf m edges (now (work .entry)))) (now (table .entry)) (now (table .exit)) ⌝ }
+// The same, from the lists that the view p has: none, where one of them would be empty. What each edge is held for says which edges match it, not
+// the lists, which say nothing of kinds.
+fn note_view(table: &mut [u32; 512], a: usize, q: Pattern, m: usize, p: Pattern, work: &[u32])
+    requires { ⌜ Fair q × Fair p × (a < 16) × (0 < m) × (length (now table) ≡ 512) × (length (now work) ≡ 16384) × Marked m (now work) × Rises m (now work) × Present q m (now work) × Within p m (now work) × ((e : ℕ) → getD (now table) (16 * e + a) 0 ≡ 0) ⌝ }
+    ensures { λ r. ⌜ Column a (q .edges) (λ e x. x ≡ maskIn (givenEdge q e) (patternIn p .edges) (matchesOf m (p .edges) (now (work .entry)))) (now (table .entry)) (now (table .exit)) ⌝ }
 {
-    if matches::listed(work, m, edges as u32) != m {
+    if matches::listed(work, m, p.edges as u32) != m {
         return;
     }
     note_masks(table, a, q, m, work);
@@ -100,17 +103,17 @@ fn note_views(
         let v = views::view_at(catalogue, byte);
         let p = v.pattern;
         matched::match_edges(s, n, m, p, work, &mut leave, &mut arrive, &mut held);
-        note_view(&mut mapping, a, q, m, p.edges, work);
+        note_view(&mut mapping, a, q, m, p, work);
         byte = v.next;
         a += 1;
     }
     mapping
 }
 
-fn no_bytes() -> [u8; 164]
-    ensures { λ r. ⌜ r ≡ replicate 164 0 ⌝ }
+fn no_bytes() -> [u8; 176]
+    ensures { λ r. ⌜ r ≡ replicate 176 0 ⌝ }
 {
-    [0u8; 164]
+    [0u8; 176]
 }
 
 // The table of the query and the k views of a catalogue.

@@ -3,9 +3,9 @@ ghost use mathlib.Core.Path.{_≡_};
 ghost use mathlib.Core.List.{[], _∷_};
 ghost use Prim.Native.Nat.{_+_, _^_, _≤_, _<_};
 ghost use lib.ListN.{length, replicate, take};
-ghost use Rattle.packed.specs.Contents.{codes};
+ghost use Rattle.packed.specs.Contents.{ranks};
 ghost use Rattle.matching.specs.Steps.{Fair};
-ghost use Rattle.containment.specs.Steps.{Query, powers, endsBut, CodesFront, labelFields, fieldsBut, Front, Extends, HoldsFields, Graphed};
+ghost use Rattle.containment.specs.Steps.{Query, powers, edgesBut, RanksFront, labelFields, fieldsBut, Front, Extends, HoldsFields, Graphed};
 use packed::by_value::Pattern;
 use packed::limits;
 use packed::record;
@@ -14,19 +14,19 @@ use packed::sort;
 
 // The content of a record, at the front of a table.
 pub struct Fields {
-    pub words: [u32; 82],
+    pub words: [u32; 114],
     pub number: usize,
 }
 
-fn no_words() -> [u32; 82]
-    ensures { λ r. ⌜ r ≡ replicate 82 0 ⌝ }
+fn no_words() -> [u32; 114]
+    ensures { λ r. ⌜ r ≡ replicate 114 0 ⌝ }
 {
-    [0u32; 82]
+    [0u32; 114]
 }
 
 // The words with two more, after the first n.
-fn with_two(before: [u32; 82], n: usize, a: u32, b: u32) -> [u32; 82]
-    requires { ⌜ n ≤ 80 ⌝ }
+fn with_two(before: [u32; 114], n: usize, a: u32, b: u32) -> [u32; 114]
+    requires { ⌜ n ≤ 112 ⌝ }
     ensures { λ r. ⌜ Extends n 2 (a ∷ b ∷ []) before r ⌝ }
 {
     let mut words = before;
@@ -45,7 +45,7 @@ fn only(label: u32) -> u32
 }
 
 // The words with the labels, after the first two: each node has its own label alone.
-fn with_labels(before: [u32; 82], p: Pattern) -> [u32; 82]
+fn with_labels(before: [u32; 114], p: Pattern) -> [u32; 114]
     requires { ⌜ Fair p ⌝ }
     ensures { λ r. ⌜ Extends 2 (p .nodes) (powers (take (p .nodes) (p .labels))) before r ⌝ }
 {
@@ -60,17 +60,17 @@ fn with_labels(before: [u32; 82], p: Pattern) -> [u32; 82]
     words
 }
 
-// The codes of the edges, without the edge skip, if there is one, go to the front of the workspace; the result is how many there are.
-fn load_codes(p: Pattern, skip: usize, work: &mut [u32]) -> usize
+// The ranks of the edges, without the edge skip, if there is one, go to the front of the workspace; the result is how many there are.
+fn load_ranks(p: Pattern, skip: usize, work: &mut [u32]) -> usize
     requires { ⌜ Fair p × (length (now work) ≡ 16384) ⌝ }
-    ensures { λ r. ⌜ CodesFront (codes (endsBut (p .from) (p .to) skip (p .edges))) r (now (work .exit)) ⌝ }
+    ensures { λ r. ⌜ RanksFront (ranks (edgesBut (p .from) (p .to) (p .kind) skip (p .edges))) r (now (work .exit)) ⌝ }
 {
     let m = p.edges;
     let mut k: usize = 0;
     let mut e: usize = 0;
     while e < m {
         if e != skip {
-            work[k] = p.from[e] * limits::NODES + p.to[e];
+            work[k] = (p.from[e] * limits::NODES + p.to[e]) * limits::KINDS + p.kind[e];
             k += 1;
         }
         e += 1;
@@ -79,7 +79,7 @@ fn load_codes(p: Pattern, skip: usize, work: &mut [u32]) -> usize
 }
 
 // The two counts and the labels.
-fn label_fields(p: Pattern, edges: usize) -> [u32; 82]
+fn label_fields(p: Pattern, edges: usize) -> [u32; 114]
     requires { ⌜ Fair p × (edges ≤ 32) ⌝ }
     ensures { λ r. ⌜ Front r (2 + p .nodes) (labelFields p edges) ⌝ }
 {
@@ -92,14 +92,14 @@ fn graph_fields(p: Pattern, skip: usize, work: &mut [u32]) -> Fields
     requires { ⌜ Query p × (length (now work) ≡ 16384) ⌝ }
     ensures { λ r. ⌜ HoldsFields (fieldsBut p skip) r ⌝ }
 {
-    let k = load_codes(p, skip, work);
+    let k = load_ranks(p, skip, work);
     sort::sort(work, k);
     let mut words = label_fields(p, k);
     let at = 2 + p.nodes;
-    record::store_ends(work, k, &mut words, at);
+    record::store_ranked(work, k, &mut words, at);
     Fields {
         words,
-        number: at + 2 * k,
+        number: at + 3 * k,
     }
 }
 

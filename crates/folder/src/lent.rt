@@ -3,16 +3,16 @@ ghost use mathlib.Core.Path.{_≡_};
 ghost use Prim.Native.Nat.{_≤_};
 ghost use lib.ListN.{length};
 
-pub fn question_bytes() -> [u8; 45]
-    ensures { λ r. ⌜ 45 ≡ length r ⌝ }
+pub fn question_bytes() -> [u8; 57]
+    ensures { λ r. ⌜ 57 ≡ length r ⌝ }
 {
-    [0; 45]
+    [0; 57]
 }
 
-pub fn catalogue_bytes() -> [u8; 706]
-    ensures { λ r. ⌜ 706 ≡ length r ⌝ }
+pub fn catalogue_bytes() -> [u8; 898]
+    ensures { λ r. ⌜ 898 ≡ length r ⌝ }
 {
-    [0; 706]
+    [0; 898]
 }
 
 // One charge more than a catalogue may have extracts.
@@ -22,7 +22,14 @@ pub fn charge_words() -> [u32; 17]
     [0; 17]
 }
 
-pub fn record_bytes() -> [u8; 40965]
+pub fn record_bytes() -> [u8; 44037]
+    ensures { λ r. ⌜ 44037 ≡ length r ⌝ }
+{
+    [0; 44037]
+}
+
+// A record as it was stored before its links had kinds.
+pub fn old_record_bytes() -> [u8; 40965]
     ensures { λ r. ⌜ 40965 ≡ length r ⌝ }
 {
     [0; 40965]
@@ -56,13 +63,13 @@ pub fn output_bytes() -> [u8; 65536]
 }
 
 // A question as a record: 16 items and 32 links.
-pub fn shown_bytes() -> [u8; 164]
-    ensures { λ r. ⌜ 164 ≡ length r ⌝ }
+pub fn shown_bytes() -> [u8; 176]
+    ensures { λ r. ⌜ 176 ≡ length r ⌝ }
 {
-    [0; 164]
+    [0; 176]
 }
 
-// The content of any file: a field has 12 bits or more in all that a file has many of.
+// The content of any file: the longest, that of a book, has 43,701 words.
 pub fn content_words() -> [u32; 65536]
     ensures { λ r. ⌜ 65536 ≡ length r ⌝ }
 {

@@ -98,14 +98,14 @@ module _ (P : Pattern) (G : Graph) (ok : T (sound P)) where
   all-or-none = (λ f. total-by P (sim P G) (partner f), λ t e i. some-edge e i (total-say P (sim P G) t (e .from) (s .ends e i .0)))
     where
       partner : ((e : Edge) → In e (P .edges) → (f : Pair) × In f (row G (sim P G) e)) → Total P (Sim P G)
-      partner h u l = let c = s .touched u l in let r = h (c .0) (c .1) in let k = row-in P G (r .1) in which (c .0) (k .0) (k .3) (k .4) (c .2)
+      partner h u l = let c = s .touched u l in let r = h (c .0) (c .1) in let k = row-in P G (r .1) in which (c .0) (k .0) (k .4) (k .5) (c .2)
         where
           which : (e f : Edge) → Sim P G (e .from) (f .from) → Sim P G (e .to) (f .to) → (e .from ≡ u) ⊎ (e .to ≡ u) → (v : ℕ) × Sim P G u v
           which e f a b (inl q) = (f .from, subst (λ w. Sim P G w (f .from)) q a)
           which e f a b (inr q) = (f .to, subst (λ w. Sim P G w (f .to)) q b)
 
       some-edge : (e : Edge) → In e (P .edges) → (v : ℕ) × Sim P G (e .from) v → (f : Pair) × In f (row G (sim P G) e)
-      some-edge e i (v, a) = let n = sim-is P G .follow (e .from) v a e i refl in (asPair (n .0), in-row P G e (n .0) (n .1) (subst (λ z. Sim P G (e .from) z) (sym (n .2)) a) (n .3))
+      some-edge e i (v, a) = let n = sim-is P G .follow (e .from) v a e i refl in (asPair (n .0), in-row P G e (n .0) (n .1) (n .3) (subst (λ z. Sim P G (e .from) z) (sym (n .2)) a) (n .4))
 
   -- the match sets by the rows, found without asking whether every node has a partner
   pub sets-all-or-none : matchSets P G ≡ allOrNone (each (λ e. ascending (row G (sim P G) e)) (P .edges))

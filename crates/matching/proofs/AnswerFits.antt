@@ -35,31 +35,31 @@ use Rattle.matching.proofs.OwnIndex.{own-accepted, index-long, firsts-f
 use Rattle.matching.proofs.BookBytes.{map-same}
 
 -- the answer of a search, once the record was accepted and its edges stand in the workspace
-pub search-found : {s : List ℕ} {n m : ℕ} {w : List ℕ} (P : Pattern) (room : ℕ) → length s ≤ 40964 → Holds s n m w
+pub search-found : {s : List ℕ} {n m : ℕ} {w : List ℕ} (P : Pattern) (room : ℕ) → length s ≤ 44036 → Holds s n m w
     → searchFor P s room ≡ fitFile room (sheetBytes (matchSets P (graphIn s n m w)))
 search-found {s} P room l h =
-    judged-accepted (λ rs. fitFile room (sheetBytes (matchSets P (graphOf rs)))) (accepted-by (read-finds 40964 3 record′ s l) (h .is))
+    judged-accepted (λ rs. fitFile room (sheetBytes (matchSets P (graphOf rs)))) (accepted-by (read-finds 44036 3 record′ s l) (h .is))
     ∙ ap (λ (ls : List (List ℕ)). fitFile room (sheetBytes ls)) (sym (sets-same h P))
 
 -- the same of the book that is made
-pub book-found : {s : List ℕ} {n m : ℕ} {w : List ℕ} (cs : List ℕ) (room : ℕ) → length s ≤ 40964 → Holds s n m w → bookFor cs s room ≡ fitFile room (bookIn cs s n m w)
+pub book-found : {s : List ℕ} {n m : ℕ} {w : List ℕ} (cs : List ℕ) (room : ℕ) → length s ≤ 44036 → Holds s n m w → bookFor cs s room ≡ fitFile room (bookIn cs s n m w)
 unfolding viewSheets
 book-found {s} {n} {m} {w} cs room l h =
-    judged-accepted (λ rs. fitFile room (bookBytes (viewSheets cs (graphOf rs)))) (accepted-by (read-finds 40964 3 record′ s l) (h .is))
+    judged-accepted (λ rs. fitFile room (bookBytes (viewSheets cs (graphOf rs)))) (accepted-by (read-finds 44036 3 record′ s l) (h .is))
     ∙ ap (λ (x : List (List (List ℕ))). fitFile room (bookBytes x))
     (map-same (λ v. viewSheet (patternOf v) (graphOf (h .fields))) (λ v. viewSheet (patternOf v) (graphIn s n m w)) (viewsOf cs) (λ v i. view-same (patternOf v) (graphOf (h .fields)) (graphIn s n m w) (sym (sets-same h (patternOf v)))))
 
 -- ---- the same of the calls with an index
-module _ {s : List ℕ} {n m : ℕ} {w : List ℕ} (l : length s ≤ 40964) (h : Holds s n m w) where
+module _ {s : List ℕ} {n m : ℕ} {w : List ℕ} (l : length s ≤ 44036) (h : Holds s n m w) where
   pub made-found : (room : ℕ) → makeIndexOutcome s room ≡ fit room (indexFor n (edgesAt m w))
   unfolding makeIndexOutcome
   made-found room =
-      judged-accepted (λ rs. fit room (indexOf (graphOf rs))) (accepted-by (read-finds 40964 3 record′ s l) (h .is)) ∙ ap (fit room) (sym (index-same h))
+      judged-accepted (λ rs. fit room (indexOf (graphOf rs))) (accepted-by (read-finds 44036 3 record′ s l) (h .is)) ∙ ap (fit room) (sym (index-same h))
 
   -- 16 is by the edges in the workspace
   own-found : (index : List ℕ) (f : List ℕ → Outcome) → judged (readRecord s) (λ rs. ownIndex (indexOf (graphOf rs)) index (f rs)) ≡ ownIndex (indexFor n (edgesAt m w)) index (f (h .fields))
   own-found index f =
-      judged-accepted (λ rs. ownIndex (indexOf (graphOf rs)) index (f rs)) (accepted-by (read-finds 40964 3 record′ s l) (h .is))
+      judged-accepted (λ rs. ownIndex (indexOf (graphOf rs)) index (f rs)) (accepted-by (read-finds 44036 3 record′ s l) (h .is))
       ∙ ap (λ (own : List ℕ). ownIndex own index (f (h .fields))) (sym (index-same h))
 
   module _ {index : List ℕ} (e : index ≡ indexFor n (edgesAt m w)) where
@@ -120,7 +120,7 @@ no-output {a} s = record { result = s .result; outputs = none a; workspace = s .
 -- ---- a pattern that was accepted, by value
 module _ (s : List ℕ) {p : Given} {n : ℕ} {w : List ℕ} (q : Held (λ ws. HoldsPattern ws p) (readPattern s) n w) where
   reads : decode pattern s ≡ ok (q .fields)
-  reads = read-says 44 1 pattern s (q .fields) (q .is) .0
+  reads = read-says 56 1 pattern s (q .fields) (q .is) .0
 
   plain : PlainPattern (q .fields) (pattern-accepted s (q .fields) .0 reads .body)
   plain = pattern-accepted s (q .fields) .0 reads .laid

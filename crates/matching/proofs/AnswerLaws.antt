@@ -13,7 +13,7 @@ use Rattle.packed.specs.Matches.{allOrNone}
 use Rattle.packed.proofs.DistinctLaws.{distinct-own}
 use Rattle.matching.specs.Lists.{In, here, there, gather, each}
 use Rattle.matching.specs.Simulation.{Pair, Edge, Pattern, asGraph, ascending, viewSheet}
-use Rattle.matching.specs.Join.{listsEdge, View, pairOf, under, candidates, join, complete, keptFor, answerSets}
+use Rattle.matching.specs.Join.{isMatch, View, pairOf, under, candidates, join, complete, keptFor, answerSets}
 use Rattle.matching.proofs.ByEdge.{answerTo}
 use Rattle.matching.proofs.ListLaws.{cond-case, not-in-none, append-in, gather-in, each-in}
 use Rattle.matching.proofs.CodeLaws.{ascending-say, ascending-increasing, distinct-fewer}
@@ -29,14 +29,16 @@ pub record AnswerStands (vs : List View) (c : ℕ) : Type 0 where
   pub of-view : In list (view .sheet)
   pub here : In c list
 
-under-from : (e : Edge) (ms ls : List (List ℕ)) {c : ℕ} → In c (under e ms ls) → (l : List ℕ) × In l ls × In c l
+under-from : (e : Edge) (gs : List Edge) (ms ls : List (List ℕ)) {c : ℕ} → In c (under e gs ms ls) → (l : List ℕ) × In l ls × In c l
 unfolding under
-under-from e [] ls i = absurd (not-in-none i)
-under-from e (m ∷ ms) [] i = absurd (not-in-none i)
-under-from e (m ∷ ms) (l ∷ ls) {c} i = ⊎-elim first (λ j. let r = under-from e ms ls {c = c} j in (r .0, there (r .1), r .2)) (append-in (cond (listsEdge e m) l []) i)
+under-from e [] ms ls i = absurd (not-in-none i)
+under-from e (g ∷ gs) [] ls i = absurd (not-in-none i)
+under-from e (g ∷ gs) (m ∷ ms) [] i = absurd (not-in-none i)
+under-from e (g ∷ gs) (m ∷ ms) (l ∷ ls) {c} i =
+    ⊎-elim first (λ j. let r = under-from e gs ms ls {c = c} j in (r .0, there (r .1), r .2)) (append-in (cond (isMatch e g m) l []) i)
   where
-    first : In c (cond (listsEdge e m) l []) → (k : List ℕ) × In k (l ∷ ls) × In c k
-    first = cond-case (λ k. In c k → (h : List ℕ) × In h (l ∷ ls) × In c h) (listsEdge e m) l [] (λ t j. (l, here refl, j)) (λ t j. absurd (not-in-none j))
+    first : In c (cond (isMatch e g m) l []) → (k : List ℕ) × In k (l ∷ ls) × In c k
+    first = cond-case (λ k. In c k → (h : List ℕ) × In h (l ∷ ls) × In c h) (isMatch e g m) l [] (λ t j. (l, here refl, j)) (λ t j. absurd (not-in-none j))
 
 module _ (Q : Pattern) (vs : List View) where
   -- the answer by the pairs kept, found without asking whether every edge keeps some
@@ -52,10 +54,10 @@ module _ (Q : Pattern) (vs : List View) where
   unfolding candidates
   candidate-stands e {f} i = of-code (each-in pairOf _ i)
     where
-      of-view : (c : ℕ) (v : View) → In v vs → In c (under e (viewSheet (v .pattern) (asGraph Q)) (v .sheet)) → AnswerStands vs c
-      of-view c v i j = let r = under-from e (viewSheet (v .pattern) (asGraph Q)) (v .sheet) j in record { view = v; given = i; list = r .0; of-view = r .1; here = r .2 }
+      of-view : (c : ℕ) (v : View) → In v vs → In c (under e (v .pattern .edges) (viewSheet (v .pattern) (asGraph Q)) (v .sheet)) → AnswerStands vs c
+      of-view c v i j = let r = under-from e (v .pattern .edges) (viewSheet (v .pattern) (asGraph Q)) (v .sheet) j in record { view = v; given = i; list = r .0; of-view = r .1; here = r .2 }
 
-      of-code : (c : ℕ) × In c (gather (λ v. under e (viewSheet (v .pattern) (asGraph Q)) (v .sheet)) vs) × (f ≡ pairOf c) → AnswerStands vs (code (f .0) (f .1))
+      of-code : (c : ℕ) × In c (gather (λ v. under e (v .pattern .edges) (viewSheet (v .pattern) (asGraph Q)) (v .sheet)) vs) × (f ≡ pairOf c) → AnswerStands vs (code (f .0) (f .1))
       of-code (c, j, q) =
           let r = gather-in _ vs j in
           subst (λ g. AnswerStands vs (code (g .0) (g .1))) (sym q) (subst (AnswerStands vs) (sym (pair-code c)) (of-view c (r .0) (r .1) (r .2)))

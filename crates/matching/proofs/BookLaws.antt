@@ -114,7 +114,7 @@ sheeted-none p s n m w r e =
     let z : pairCount ls ≡ 0 = length-one (length ls) (pairCount ls) e in
     record {
       edges = record { long = refl; same = λ i h. refl };
-      marked = record { long = omega (arith, r .long); most = omega arith; small = λ i h. absurd (omega arith); rises = λ i j a b. absurd (omega arith) };
+      marked = record { long = omega (arith, r .long); most = omega arith; rises = λ i j e a b. absurd (omega arith) };
       sets = none-matches (p .edges) w ∙ ap (λ (k : ℕ). replicate k []) (sym l) ∙ sym (none-total ls z);
     }
 

@@ -1,17 +1,24 @@
 -- Match sets, coverage and answers edge by edge, as the laws take them.
-use mathlib.Core.Bool.{Bool, cond}
-use mathlib.Core.List.{List, []}
-use Rattle.matching.specs.Lists.{every, some}
+use mathlib.Core.Bool.{Bool, false, cond}
+use mathlib.Core.List.{List, [], _∷_}
+use Prim.Native.Nat.{ℕ}
+use Rattle.matching.specs.Lists.{_or_, every, some}
 use Rattle.matching.specs.Simulation.{Pair, Edge, Pattern, Graph, asGraph, sim, total, row, viewSheet}
-use Rattle.matching.specs.Join.{View, listsEdge, join, complete, keptFor}
+use Rattle.matching.specs.Join.{View, isMatch, join, complete, keptFor}
 
 -- the edges of G that are listed under the edge e of P: none where some node of P has no partner
 unfoldable pub rowOf : Pattern → Graph → Edge → List Pair
 rowOf P G e = cond (total P (sim P G)) (row G (sim P G) e) []
 
--- the edge e of the query Q is matched by an edge of the view P: that edge's list, on Q read as a graph, has e
+-- one of the edges gs, each with its list, matches e
+unfoldable pub someMatch : Edge → List Edge → List (List ℕ) → Bool
+someMatch e [] ls = false
+someMatch e (g ∷ gs) [] = false
+someMatch e (g ∷ gs) (l ∷ ls) = isMatch e g l or someMatch e gs ls
+
+-- the edge e of the query Q is matched by an edge of the view P, by its list on Q read as a graph
 unfoldable pub matchedBy : Pattern → Edge → Pattern → Bool
-matchedBy Q e P = some (listsEdge e) (viewSheet P (asGraph Q))
+matchedBy Q e P = someMatch e (P .edges) (viewSheet P (asGraph Q))
 
 unfoldable pub matched : Pattern → List Pattern → Edge → Bool
 matched Q Ps e = some (matchedBy Q e) Ps

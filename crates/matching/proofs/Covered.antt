@@ -6,36 +6,35 @@ use Prim.Native.Nat.{ℕ, _≤_, _<_}
 use native.Mathlib.Omega.{arith}
 use lib.ListN.{length, getD}
 use lib.Dec.{T}
-use Rattle.matching.specs.Lists.{In, some, each}
+use Rattle.matching.specs.Lists.{In, each}
 use Rattle.matching.specs.Simulation.{Pair, Edge, asPair, bit, Pattern, Graph, asGraph, ascending, matchSets, viewSheet, IsSim, sound}
-use Rattle.matching.proofs.ByEdge.{rowOf, matchedBy, matched, covered, viewOf, answerTo}
-use Rattle.matching.specs.Join.{listsEdge, View, join, complete, answerSets}
+use Rattle.matching.proofs.ByEdge.{rowOf, someMatch, matchedBy, matched, covered, viewOf, answerTo}
+use Rattle.matching.specs.Join.{View, join, complete, answerSets}
 use Rattle.matching.proofs.ListLaws.{every-in, some-in, each-same}
 use Rattle.matching.proofs.SimLaws.{FitsInto, fits-say, fits-by, sim-is, sim-most}
 use Rattle.matching.proofs.MatchLaws.{Sim, Total, Matches, matches-edge, row-say, row-by, own-label, matches-through, SoundPattern, sound-say}
 use Rattle.matching.proofs.CodeLaws.{ascending-same}
-use Rattle.matching.proofs.MatchSetLaws.{Narrow, matches-narrow, sets-each, view-sheet, sets-in}
-use Rattle.matching.proofs.JoinLaws.{JoinedPair, join-candidate, join-supported, join-most, complete-say, complete-by, answer-say, answer-by, answer-each, lists-say, Found, candidates-say, candidates-by}
+use Rattle.matching.proofs.MatchSetLaws.{Narrow, matches-narrow, sets-each, view-each}
+use Rattle.matching.proofs.JoinLaws.{JoinedPair, join-candidate, join-supported, join-most, complete-say, complete-by, answer-say, answer-by, answer-each, listed-pair, match-say, some-match-each, Found, candidates-say, candidates-by}
 
 -- the codes of a query's edges tell them apart
 pub narrow-query : (Q : Pattern) → SoundPattern Q → length (Q .labels) ≤ 4096 → Narrow (asGraph Q)
 unfolding asGraph
 narrow-query Q ok h f i = let r = ok .ends f i in (omega arith, omega arith)
 
--- the view, and its edge, that an edge of the query matches
+-- the view, and its edge of the same kind, that an edge of the query matches
 pub matched-say : (Q : Pattern) (Ps : List Pattern) → Narrow (asGraph Q) → (e : Edge) → e .to < 4096 → T (matched Q Ps e)
-    → (P : Pattern) × In P Ps × (g : Edge) × In g (P .edges) × Matches P (asGraph Q) g (asPair e)
+    → (P : Pattern) × In P Ps × (g : Edge) × In g (P .edges) × (g .kind ≡ e .kind) × Matches P (asGraph Q) g (asPair e)
 unfolding matched matchedBy
 matched-say Q Ps n e h t = of-view (some-in _ Ps t)
   where
-    of-view : (P : Pattern) × In P Ps × T (some (listsEdge e) (viewSheet P (asGraph Q))) → (P : Pattern) × In P Ps × (g : Edge) × In g (P .edges) × Matches P (asGraph Q) g (asPair e)
-    of-view (P, p, s) = of-list (some-in _ (viewSheet P (asGraph Q)) s)
-      where
-        of-edge : (l : List ℕ) → T (listsEdge e l) → (g : Edge) × In g (P .edges) × (l ≡ ascending (rowOf P (asGraph Q) g)) → (P : Pattern) × In P Ps × (g : Edge) × In g (P .edges) × Matches P (asGraph Q) g (asPair e)
-        of-edge l k (g, j, q) = (P, p, g, j, row-say P (asGraph Q) (lists-say (rowOf P (asGraph Q) g) h (λ f m. matches-narrow n (row-say P (asGraph Q) m) .1) (subst (λ z. T (listsEdge e z)) q k)))
-
-        of-list : (l : List ℕ) × In l (viewSheet P (asGraph Q)) × T (listsEdge e l) → (P : Pattern) × In P Ps × (g : Edge) × In g (P .edges) × Matches P (asGraph Q) g (asPair e)
-        of-list (l, i, k) = of-edge l k (sets-in P (asGraph Q) (subst (λ ls. In l ls) (view-sheet P (asGraph Q)) i))
+    of-view : (P : Pattern) × In P Ps × T (someMatch e (P .edges) (viewSheet P (asGraph Q)))
+        → (P : Pattern) × In P Ps × (g : Edge) × In g (P .edges) × (g .kind ≡ e .kind) × Matches P (asGraph Q) g (asPair e)
+    of-view (P, p, s) =
+        let list : Edge → List ℕ = λ g. ascending (rowOf P (asGraph Q) g) in
+        let r = some-in _ (P .edges) (subst T (ap (someMatch e (P .edges)) (view-each P (asGraph Q)) ∙ some-match-each e list (P .edges)) s) in
+        let m = match-say e (r .0) (list (r .0)) (r .2) in
+        (P, p, r .0, r .1, m .0, row-say P (asGraph Q) (listed-pair {f = asPair e} (rowOf P (asGraph Q) (r .0)) h (λ f k. matches-narrow n (row-say P (asGraph Q) k) .1) (m .1)))
 
 module _ (Q : Pattern) (Ps : List Pattern) (G : Graph) (ok : SoundPattern Q) (nq : Narrow (asGraph Q)) (ng : Narrow G) where
   -- the views, with their sheets
@@ -70,13 +69,14 @@ module _ (Q : Pattern) (Ps : List Pattern) (G : Graph) (ok : SoundPattern Q) (nq
       subst₂ (FitsInto Q G) p q (fits-of (c .1 .view) (c .1 .of-query .head) (c .1 .of-graph .head) (ok .ends e (c .0) .1))
 
   -- one more kept pair, and its head
-  ends-next : (v : ℕ) (g : Edge) → (h : Pair) × JoinedPair Q views g h × (h .0 ≡ v) → (f : Edge) × In f (G .edges) × (f .from ≡ v) × KeptEnds (g .to) (f .to)
+  ends-next : (v : ℕ) (g : Edge) → (h : Pair) × JoinedPair Q views g h × (h .0 ≡ v) → (f : Edge) × In f (G .edges) × (f .from ≡ v) × (f .kind ≡ g .kind) × KeptEnds (g .to) (f .to)
   unfolding KeptEnds
   ends-next v g (h, k, q) =
-      let m = join-found k .1 .of-graph in
-      (m .link, m .edge, sym (ap (λ (p : Pair). p .0) (m .ends)) ∙ q, (g, h, k, inr (refl, ap (λ (p : Pair). p .1) (m .ends))))
+      let c = join-found k .1 in
+      let m = c .of-graph in
+      (m .link, m .edge, sym (ap (λ (p : Pair). p .0) (m .ends)) ∙ q, m .kind ∙ c .kind, (g, h, k, inr (refl, ap (λ (p : Pair). p .1) (m .ends))))
 
-  ends-follow : (u v : ℕ) → KeptEnds u v → (g : Edge) → In g (Q .edges) → g .from ≡ u → (f : Edge) × In f (G .edges) × (f .from ≡ v) × KeptEnds (g .to) (f .to)
+  ends-follow : (u v : ℕ) → KeptEnds u v → (g : Edge) → In g (Q .edges) → g .from ≡ u → (f : Edge) × In f (G .edges) × (f .from ≡ v) × (f .kind ≡ g .kind) × KeptEnds (g .to) (f .to)
   unfolding KeptEnds
   ends-follow u v (e, f, i, inl (p, q)) g j t = let r = join-supported Q views i .tail g j (t ∙ sym p) in ends-next v g (r .0, r .1, r .2 ∙ q)
   ends-follow u v (e, f, i, inr (p, q)) g j t = let r = join-supported Q views i .head g j (t ∙ sym p) in ends-next v g (r .0, r .1, r .2 ∙ q)
@@ -102,8 +102,9 @@ module _ (Q : Pattern) (Ps : List Pattern) (G : Graph) (ok : SoundPattern Q) (nq
   -- what is kept matches the query's edge
   pub joined-matches : T (complete Q (join Q views)) → {e : Edge} {f : Pair} → JoinedPair Q views e f → Matches Q G e f
   joined-matches t i =
-      let m = join-found i .1 .of-graph in
-      record { whole = complete-total t; link = m .link; edge = m .edge; ends = m .ends; tail = joined-tail i; head = joined-head i }
+      let c = join-found i .1 in
+      let m = c .of-graph in
+      record { whole = complete-total t; link = m .link; edge = m .edge; kind = m .kind ∙ c .kind; ends = m .ends; tail = joined-tail i; head = joined-head i }
 
   -- ---- what matches the query's edge is kept, where the views cover the query
   module _ (cover : T (covered Q Ps)) where
@@ -111,14 +112,14 @@ module _ (Q : Pattern) (Ps : List Pattern) (G : Graph) (ok : SoundPattern Q) (nq
     matches-next : Total Q (Sim Q G) → {u v : ℕ} → Sim Q G u v → (g : Edge) → In g (Q .edges) → g .from ≡ u → (h : Pair) × Matches Q G g h × (h .0 ≡ v)
     matches-next a {u} {v} s g j p =
         let n = sim-is Q G .follow u v s g j p in
-        (asPair (n .0), matches-edge Q G g (n .0) a (n .1) (subst₂ (Sim Q G) (sym p) (sym (n .2)) s) (n .3), n .2)
+        (asPair (n .0), matches-edge Q G g (n .0) a (n .1) (n .3) (subst₂ (Sim Q G) (sym p) (sym (n .2)) s) (n .4), n .2)
 
     matches-found : (e : Edge) (f : Pair) → In e (Q .edges) → Matches Q G e f → Found Q Ps G e f
     unfolding covered
     matches-found e f i m = from (matched-say Q Ps nq e (narrow-edge i) (every-in _ cover i))
       where
-        from : (P : Pattern) × In P Ps × (g : Edge) × In g (P .edges) × Matches P (asGraph Q) g (asPair e) → Found Q Ps G e f
-        from (P, p, g, j, k) = record { view = P; given = p; at = g; at-edge = j; of-query = k; of-graph = matches-through P Q G g e f k m }
+        from : (P : Pattern) × In P Ps × (g : Edge) × In g (P .edges) × (g .kind ≡ e .kind) × Matches P (asGraph Q) g (asPair e) → Found Q Ps G e f
+        from (P, p, g, j, s, k) = record { view = P; given = p; at = g; at-edge = j; kind = s; of-query = k; of-graph = matches-through P Q G g e f s k m }
 
     Asked : Edge → Pair → Type 0
     Asked e f = In e (Q .edges) × Matches Q G e f

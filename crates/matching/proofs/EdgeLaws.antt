@@ -1,13 +1,12 @@
--- Edges by their ends, one after the other: each by its place, and their codes.
+-- Edges by their fields, one after the other: each by its place, and what is made of each.
 use Prim.Native.Nat.{ℕ, zero, suc, _*_, _<_}
 use mathlib.Core.Path.{_≡_, refl, sym, ap, subst, _∙_}
 use mathlib.Core.List.{List, [], _∷_}
 use lib.ListN.{length}
 use native.Mathlib.Omega.{arith}
-use Rattle.packed.specs.Formats.{code}
-use Rattle.packed.specs.Contents.{codes}
-use Rattle.packed.specs.Plain.{fromAt, toAt}
-use Rattle.packed.proofs.AcceptedEdges.{from-cons, to-cons}
+use Rattle.packed.specs.Contents.{eachEdge}
+use Rattle.packed.specs.Plain.{fromAt, toAt, kindAt}
+use Rattle.packed.proofs.EdgePlaces.{from-cons, to-cons, kind-cons}
 use Rattle.matching.specs.Lists.{In, each, upTo}
 use Rattle.matching.specs.Simulation.{Edge, between, edgesIn}
 use Rattle.matching.specs.Sweeps.{OneOf}
@@ -15,29 +14,33 @@ use Rattle.matching.proofs.UpToLaws.{in-upTo, upTo-in, upTo-same, lengt
 
 -- the edge number i
 abbrev pub edgeAt : List ℕ → ℕ → Edge
-edgeAt ends i = between (fromAt ends i) (toAt ends i)
+edgeAt es i = between (fromAt es i) (toAt es i) (kindAt es i)
 
-pub edgesIn-upTo : (ends : List ℕ) (k : ℕ) → length ends ≡ 2 * k → edgesIn ends ≡ upTo (edgeAt ends) k
+pub edgesIn-upTo : (es : List ℕ) (m : ℕ) → length es ≡ 3 * m → edgesIn es ≡ upTo (edgeAt es) m
 unfolding edgesIn upTo
 edgesIn-upTo [] zero h = refl
-edgesIn-upTo [] (suc k) h = absurd (omega arith)
-edgesIn-upTo (a ∷ []) k h = absurd (omega arith)
-edgesIn-upTo (a ∷ b ∷ ends) zero h = absurd (omega arith)
-edgesIn-upTo (a ∷ b ∷ ends) (suc k) h =
-    ap (λ (l : List Edge). between a b ∷ l)
-    (edgesIn-upTo ends k (omega arith) ∙ upTo-same (edgeAt ends) (λ j. edgeAt (a ∷ b ∷ ends) (suc j)) k (λ i l. λ z. between (sym (from-cons a b ends i) z) (sym (to-cons a b ends i) z)))
+edgesIn-upTo [] (suc m) h = absurd (omega arith)
+edgesIn-upTo (a ∷ []) m h = absurd (omega arith)
+edgesIn-upTo (a ∷ b ∷ []) m h = absurd (omega arith)
+edgesIn-upTo (a ∷ b ∷ k ∷ es) zero h = absurd (omega arith)
+edgesIn-upTo (a ∷ b ∷ k ∷ es) (suc m) h =
+    ap (λ (l : List Edge). between a b k ∷ l)
+    (edgesIn-upTo es m (omega arith)
+    ∙ upTo-same (edgeAt es) (λ j. edgeAt (a ∷ b ∷ k ∷ es) (suc j)) m (λ i l. λ z. between (sym (from-cons a b k es i) z) (sym (to-cons a b k es i) z) (sym (kind-cons a b k es i) z)))
 
-pub edgesIn-length : (ends : List ℕ) (k : ℕ) → length ends ≡ 2 * k → length (edgesIn ends) ≡ k
-edgesIn-length ends k h = ap length (edgesIn-upTo ends k h) ∙ length-upTo (edgeAt ends) k
+pub edgesIn-length : (es : List ℕ) (m : ℕ) → length es ≡ 3 * m → length (edgesIn es) ≡ m
+edgesIn-length es m h = ap length (edgesIn-upTo es m h) ∙ length-upTo (edgeAt es) m
 
-pub edgesIn-at : (ends : List ℕ) (k : ℕ) → length ends ≡ 2 * k → {f : Edge} → In f (edgesIn ends) → OneOf k (λ i. f ≡ edgeAt ends i)
-edgesIn-at ends k h {f} j = upTo-in (edgeAt ends) k (subst (λ l. In f l) (edgesIn-upTo ends k h) j)
+pub edgesIn-at : (es : List ℕ) (m : ℕ) → length es ≡ 3 * m → {f : Edge} → In f (edgesIn es) → OneOf m (λ i. f ≡ edgeAt es i)
+edgesIn-at es m h {f} j = upTo-in (edgeAt es) m (subst (λ l. In f l) (edgesIn-upTo es m h) j)
 
-pub at-edgesIn : (ends : List ℕ) (k : ℕ) → length ends ≡ 2 * k → (i : ℕ) → i < k → In (edgeAt ends i) (edgesIn ends)
-at-edgesIn ends k h i l = subst (λ t. In (edgeAt ends i) t) (sym (edgesIn-upTo ends k h)) (in-upTo (edgeAt ends) k i l)
+pub at-edgesIn : (es : List ℕ) (m : ℕ) → length es ≡ 3 * m → (i : ℕ) → i < m → In (edgeAt es i) (edgesIn es)
+at-edgesIn es m h i l = subst (λ t. In (edgeAt es i) t) (sym (edgesIn-upTo es m h)) (in-upTo (edgeAt es) m i l)
 
-pub codes-each : (ends : List ℕ) → codes ends ≡ each (λ f. code (f .from) (f .to)) (edgesIn ends)
-unfolding codes edgesIn each
-codes-each [] = refl
-codes-each (a ∷ []) = refl
-codes-each (a ∷ b ∷ ends) = ap (λ (l : List ℕ). code a b ∷ l) (codes-each ends)
+-- what is made of the edges with these fields is made of each edge
+pub made-each : (g : ℕ → ℕ → ℕ → ℕ) (es : List ℕ) → eachEdge g es ≡ each (λ f. g (f .from) (f .to) (f .kind)) (edgesIn es)
+unfolding eachEdge edgesIn each
+made-each g [] = refl
+made-each g (a ∷ []) = refl
+made-each g (a ∷ b ∷ []) = refl
+made-each g (a ∷ b ∷ k ∷ es) = ap (λ (l : List ℕ). g a b k ∷ l) (made-each g es)

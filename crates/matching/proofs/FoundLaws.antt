@@ -2,7 +2,7 @@
 use mathlib.Core.Path.{_≡_, refl, ap, ap₂, _∙_, sym, subst}
 use mathlib.Core.Logic.{⊎-elim}
 use mathlib.Core.List.{List}
-use Prim.Native.Nat.{ℕ, _≤_, _<_, _+_, _*_, _/_, _%_}
+use Prim.Native.Nat.{ℕ, _≤_, _<_, _+_, _*_, _/_, _%_, _^_}
 use native.Mathlib.Omega.{arith}
 use lib.ListN.{length, getD, length-take}
 use lib.Seq.{getD-take}
@@ -13,16 +13,17 @@ use Rattle.packed.proofs.OrderCases.{lt-or-ge}
 use Rattle.matching.specs.Lists.{In}
 use Rattle.matching.specs.Simulation.{Pattern, Graph, bit, fits, sim}
 use Rattle.matching.specs.Steps.{givenEdge, edgeOfWord, patternIn, graphIn, Fair, Ready}
-use Rattle.matching.specs.Matched.{Rises}
+use Rattle.matching.specs.Matched.{Rises, Proper, EdgesMatched}
 use Rattle.matching.specs.Sweeps.{Has, Mask}
 use Rattle.matching.specs.Sweeping.{Tabled}
 use Rattle.matching.specs.Choices.{Prepared, Fixed}
-use Rattle.matching.specs.Starting.{NodeRoom, AllHeld, LinksSpread}
+use Rattle.matching.specs.Starting.{NodeRoom, OfKind, KindsHeld, LinksSpread}
 use Rattle.matching.proofs.UpToLaws.{length-upTo, getD-upTo, in-upTo, upTo-in}
 use Rattle.matching.proofs.SimLaws.{fits-say, fits-by}
 use Rattle.matching.proofs.MaskBits.{none-has, part-le}
 use Rattle.matching.proofs.SearchingLaws.{EdgeNumbered, Begun, held-say, held-by}
-use Rattle.matching.proofs.MatchedLaws.{ListsCodes}
+use Rattle.matching.proofs.RankLaws.{rank-from}
+use Rattle.matching.proofs.MatchedLaws.{ListsCodes, matches}
 
 -- the edges of the pattern and of the graph, by their numbers
 links-numbered : (p : Given) → EdgeNumbered (patternIn p .edges) (p .edges) (givenEdge p)
@@ -74,7 +75,7 @@ module _ {p : Given} {s : List ℕ} {n m : ℕ} {w : List ℕ} (fair : Fair p) (
       (lv, subst T (label-test u v lu lv) (f .label))
 
   module _ {all : ℕ} {leave₀ arrive₀ out₀ w₁ leave arrive out : List ℕ} (A : Mask (λ k. k < p .edges) all) (R : NodeRoom n leave₀ arrive₀ out₀)
-      (H : AllHeld m all w w₁) (S : LinksSpread p s n leave₀ arrive₀ out₀ leave arrive out) where
+      (H : KindsHeld (p .kind) (p .edges) m w w₁) (S : LinksSpread p s n leave₀ arrive₀ out₀ leave arrive out) where
     code : (i : ℕ) → i < m → getD w₁ i 0 ≡ getD w i 0
     code i l = H .around .low i (let z = ready .edges in omega arith)
 
@@ -99,13 +100,13 @@ module _ {p : Given} {s : List ℕ} {n m : ℕ} {w : List ℕ} (fair : Fair p) (
     arrive-some v e h =
         ⊎-elim (λ (l : v < n). let q = S .arrive-each v l .why e h in (l, q .0, q .1)) (λ (l : n ≤ v). absurd (none-has e (subst (λ (x : ℕ). Has x e) (arrive-beyond v l) h))) (lt-or-ge v n)
 
-    begun : Begun P G (p .from) (p .to) (p .edges) n m w₁ leave arrive
+    begun : Begun P G (p .from) (p .to) (p .kind) (p .edges) n m w₁ leave arrive
     begun =
         record {
           links = links-numbered p;
           pairs = pairs-numbered s n m w w₁ code;
           nodes = nodes-long;
-          held = λ i e l le. subst (λ (x : ℕ). Has x e) (sym (H .each i l)) (A .hit e le);
+          held = λ i l. subst (λ (x : ℕ). Mask (OfKind (p .kind) (p .edges) (x / 2 ^ 24)) (getD w₁ (8192 + i) 0)) (sym (code i l)) (H .each i l);
           leave-by = leave-by;
           leave-say = λ v e le h. (let q = leave-some v e h in fit-by _ v (fair .from e le) (q .0) (q .2));
           arrive-by = arrive-by;
@@ -123,10 +124,14 @@ module _ {p : Given} {s : List ℕ} {n m : ℕ} {w : List ℕ} (fair : Fair p) (
               record {
                 most = ready .edges;
                 long = H .around .long ∙ ready .long;
-                from = λ i l. (let z = ready .from i l in let y = ap (λ (x : ℕ). x / 4096) (code i l) in omega arith);
+                from = λ i l. (let z = ready .from i l in let y = ap (λ (x : ℕ). x / 4096 % 4096) (code i l) in omega arith);
                 to = λ i l. (let z = ready .to i l in let y = ap (λ (x : ℕ). x % 4096) (code i l) in omega arith);
               };
-          order = λ i j l h. (let z = rises i j l h in let y = code i (omega arith) in let u = code j h in omega arith);
+          order = λ i j l h.
+              (let z = rank-from (getD w i 0) (getD w j 0) (ready .kind j h) (rises i j l h) in
+              let y = ap (λ (x : ℕ). x / 4096 % 4096) (code i (omega arith)) in
+              let u = ap (λ (x : ℕ). x / 4096 % 4096) (code j h) in
+              omega arith);
           nodes = omega arith;
           leave-long = a ∙ R .leave-long ∙ sym c;
           arrive-long = b ∙ R .arrive-long ∙ sym c;
@@ -138,26 +143,25 @@ module _ {p : Given} {s : List ℕ} {n m : ℕ} {w : List ℕ} (fair : Fair p) (
       apart : (e : ℕ) → Has all e → Has 0 e → ⊥
       apart e y h = none-has e h
 
-      pub found : ListsCodes p s n m w w₂
+      found : ListsCodes p s n m w w₂
       found =
           record {
             edges = record { long = F .falls .long ∙ H .around .long; same = λ k l. F .falls .low k l ∙ H .around .low k l };
             say = λ i e l le h.
-                (let r = held-say P G (p .from) (p .to) (p .edges) n m w₁ leave arrive begun T₁ T₂ (A .hit) started F refl i e l le h in (
-                  subst (λ (x : ℕ). In (getD (p .from) e 0, x / 4096) (sim P G)) (code i l) (r .0),
+                (let r = held-say P G (p .from) (p .to) (p .kind) (p .edges) n m w₁ leave arrive begun T₁ T₂ (A .hit) started F refl i e l le h in (
+                  subst (λ (x : ℕ). In (getD (p .from) e 0, x / 4096 % 4096) (sim P G)) (code i l) (r .0),
                   subst (λ (x : ℕ). In (getD (p .to) e 0, x % 4096) (sim P G)) (code i l) (r .1),
                 ));
-            by = λ i e l le a b.
-                held-by P G (p .from) (p .to) (p .edges) n m w₁ leave arrive begun T₁ T₂ (A .hit) started F i e l le
-                (subst (λ (x : ℕ). In (getD (p .from) e 0, x / 4096) (sim P G)) (sym (code i l)) a)
+            by = λ i e l q a b.
+                held-by P G (p .from) (p .to) (p .kind) (p .edges) n m w₁ leave arrive begun T₁ T₂ (A .hit) started F i e l
+                (q .0, q .1 ∙ sym (ap (λ (x : ℕ). x / 2 ^ 24) (code i l)))
+                (subst (λ (x : ℕ). In (getD (p .from) e 0, x / 4096 % 4096) (sim P G)) (sym (code i l)) a)
                 (subst (λ (x : ℕ). In (getD (p .to) e 0, x % 4096) (sim P G)) (sym (code i l)) b);
-            only = λ i e l le h.
-                (let b = ⊎-elim (λ f. absurd (none-has e f)) (λ b. b) (F .rests refl .within i e l h) in
-                leave-some _ e (F .sound (p .from) (p .to) (p .edges) T₁ T₂ apart .leave-part _ e (b .0)) .1);
+            only = λ i e l h. H .each i l .why e (F .falls .part i e l h);
           }
 
       -- the lent arrays may be lent again
-      pub room-again : NodeRoom n leave′ arrive′ out′
+      room-again : NodeRoom n leave′ arrive′ out′
       room-again =
           let f = F .sound (p .from) (p .to) (p .edges) T₁ T₂ apart in
           let a = F .leave-long ∙ S .leaves .long ∙ R .leave-long in
@@ -170,3 +174,6 @@ module _ {p : Given} {s : List ℕ} {n m : ℕ} {w : List ℕ} (fair : Fair p) (
             leave-clear = λ v l. (let q : getD leave′ v 0 ≤ 0 = part-le _ 0 (λ e h. subst (λ (x : ℕ). Has x e) (leave-beyond v l) (f .leave-part v e h)) in omega arith);
             arrive-clear = λ v l. (let q : getD arrive′ v 0 ≤ 0 = part-le _ 0 (λ e h. subst (λ (x : ℕ). Has x e) (arrive-beyond v l) (f .arrive-part v e h)) in omega arith);
           }
+
+      pub all-found : Proper p → EdgesMatched p s n m w w₂ × NodeRoom n leave′ arrive′ out′
+      all-found proper = (matches ready found proper rises, room-again)

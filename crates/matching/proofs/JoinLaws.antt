@@ -3,15 +3,17 @@ use mathlib.Core.Path.{_≡_, refl, sym, ap, subst, _∙_}
 use mathlib.Core.Logic.{⊎-elim}
 use mathlib.Core.Bool.{Bool, true, false, cond}
 use mathlib.Core.List.{List, [], _∷_}
-use Prim.Native.Nat.{ℕ, _<_}
+use Prim.Native.Nat.{ℕ, zero, suc, _<_, zero-le, suc-le-suc}
+use native.Mathlib.Nat.{le-of-suc-le-suc, not-suc-le-zero}
 use native.Mathlib.Omega.{arith}
-use lib.Dec.{T, eqb, eqb→eq, eqb-refl}
+use lib.ListN.{length, getD}
+use lib.Dec.{T, eqb, eqb→eq}
 use Rattle.packed.specs.Formats.{code}
-use Rattle.matching.specs.Lists.{_and_, In, here, there, some, gather, each}
-use Rattle.matching.specs.Simulation.{Pair, Edge, sameEdge, asPair, Pattern, Graph, asGraph, ascending, viewSheet}
-use Rattle.matching.proofs.ByEdge.{rowOf, viewOf, answerTo}
-use Rattle.matching.specs.Join.{listsEdge, View, pairOf, under, candidates, Kept, supported, Offer, choice, join, complete, keptFor, answerSets}
-use Rattle.matching.proofs.ListLaws.{and-left, and-right, both, use-if, make-if, cond-case, not-in-none, in-cast, every-in, in-every, some-in, in-some, keep-in, in-keep, append-in, in-append-left, in-append-right, gather-in, in-gather, each-in, in-each}
+use Rattle.matching.specs.Lists.{_and_, _or_, In, here, there, some, gather, each}
+use Rattle.matching.specs.Simulation.{Pair, Edge, sameEdge, asPair, noEdge, Pattern, Graph, asGraph, ascending, viewSheet}
+use Rattle.matching.proofs.ByEdge.{rowOf, someMatch, viewOf, answerTo}
+use Rattle.matching.specs.Join.{isMatch, View, pairOf, under, candidates, Kept, supported, Offer, choice, join, complete, keptFor, answerSets}
+use Rattle.matching.proofs.ListLaws.{and-left, and-right, both, or-left, or-right, or-cases, use-if, make-if, equal-test, cond-case, not-in-none, in-cast, every-in, in-every, some-in, in-some, keep-in, in-keep, append-in, in-append-left, in-append-right, gather-in, in-gather, each-in, in-each}
 use Rattle.matching.proofs.GreatestLaws.{greatest-part, greatest-ok, greatest-all}
 use Rattle.matching.proofs.SimLaws.{same-edge, same-edge-refl}
 use Rattle.matching.proofs.MatchLaws.{Matches, row-say, row-by}
@@ -31,13 +33,13 @@ module _ (Q : Pattern) (l : List Kept) where
       (r .0 .1, subst (λ z. In (z, r .0 .1) l) (same-edge (r .0 .0) g (and-left _ _ (r .2))) (r .1), eqb→eq _ v (and-right _ _ (r .2)))
 
   begins-by : (g : Edge) (v : ℕ) → (h : Pair) × In (g, h) l × (h .0 ≡ v) → T (some (λ j. sameEdge (j .0) g and eqb (j .1 .0) v) l)
-  begins-by g v (h, i, q) = in-some _ i (both _ _ (same-edge-refl g) (subst (λ z. T (eqb (h .0) z)) q (eqb-refl (h .0))))
+  begins-by g v (h, i, q) = in-some _ i (both _ _ (same-edge-refl g) (equal-test (h .0) q))
 
   pub supported-say : {e : Edge} {f : Pair} → T (supported Q l (e, f)) → Supported Q (λ g h. In (g, h) l) e f
   unfolding supported
   supported-say {e} {f} t = record {
-    tail = λ g i q. begins-say g (f .0) (use-if _ _ (and-left _ _ (every-in _ t i)) (subst (λ z. T (eqb (g .from) z)) q (eqb-refl (g .from))));
-    head = λ g i q. begins-say g (f .1) (use-if _ _ (and-right _ _ (every-in _ t i)) (subst (λ z. T (eqb (g .from) z)) q (eqb-refl (g .from))));
+    tail = λ g i q. begins-say g (f .0) (use-if _ _ (and-left _ _ (every-in _ t i)) (equal-test (g .from) q));
+    head = λ g i q. begins-say g (f .1) (use-if _ _ (and-right _ _ (every-in _ t i)) (equal-test (g .from) q));
   }
 
   pub supported-by : {e : Edge} {f : Pair} → Supported Q (λ g h. In (g, h) l) e f → T (supported Q l (e, f))
@@ -147,52 +149,85 @@ pub pair-code : (c : ℕ) → code (pairOf c .0) (pairOf c .1) ≡ c
 unfolding pairOf
 pair-code c = omega arith
 
--- a list of codes has e
-pub lists-say : {e : Edge} (l : List Pair) → e .to < 4096 → ((f : Pair) → In f l → f .1 < 4096) → T (listsEdge e (ascending l)) → In (asPair e) l
-unfolding listsEdge
-lists-say {e} l h n t = let r = ascending-say l (member-in _ (true-by _ t)) in in-cast (sym (code-same h (n (r .0) (r .1)) (r .2))) (r .1)
+-- a list of codes has the pair
+pub listed-pair : {f : Pair} (l : List Pair) → f .1 < 4096 → ((g : Pair) → In g l → g .1 < 4096) → In (code (f .0) (f .1)) (ascending l) → In f l
+listed-pair l h n i = let r = ascending-say l i in in-cast (sym (code-same h (n (r .0) (r .1)) (r .2))) (r .1)
+
+-- what it is for an edge of a view to match
+pub match-say : (e g : Edge) (l : List ℕ) → T (isMatch e g l) → (g .kind ≡ e .kind) × In (code (e .from) (e .to)) l
+unfolding isMatch
+match-say e g l t = (eqb→eq (g .kind) (e .kind) (and-left _ _ t), member-in l (true-by _ (and-right _ _ t)))
   where
     true-by : (b : Bool) → T b → b ≡ true
     true-by true t = refl
     true-by false t = absurd t
 
-pub lists-by : (e : Edge) {l : List ℕ} → In (code (e .from) (e .to)) l → T (listsEdge e l)
-unfolding listsEdge
-lists-by e i = subst T (sym (in-member i)) tt
+pub match-by : (e g : Edge) {l : List ℕ} → g .kind ≡ e .kind → In (code (e .from) (e .to)) l → T (isMatch e g l)
+unfolding isMatch
+match-by e g k i = both _ _ (equal-test (g .kind) k) (subst T (sym (in-member i)) tt)
+
+-- one that matches, by its number
+module _ (e : Edge) where
+  pub some-match-say : (gs : List Edge) (ls : List (List ℕ)) → T (someMatch e gs ls)
+      → (f : ℕ) × (f < length gs) × (getD gs f noEdge .kind ≡ e .kind) × In (code (e .from) (e .to)) (getD ls f [])
+  unfolding someMatch
+  some-match-say [] ls t = absurd t
+  some-match-say (g ∷ gs) [] t = absurd t
+  some-match-say (g ∷ gs) (l ∷ ls) t =
+      ⊎-elim
+      (λ m. let r = match-say e g l m in (0, suc-le-suc zero-le, r .0, r .1))
+      (λ m. let r = some-match-say gs ls m in (suc (r .0), suc-le-suc (r .1), r .2, r .3))
+      (or-cases _ _ t)
+
+  pub some-match-by : (gs : List Edge) (ls : List (List ℕ)) (f : ℕ) → f < length gs → getD gs f noEdge .kind ≡ e .kind → In (code (e .from) (e .to)) (getD ls f [])
+      → T (someMatch e gs ls)
+  unfolding someMatch
+  some-match-by [] ls f h k i = absurd (not-suc-le-zero h)
+  some-match-by (g ∷ gs) [] f h k i = absurd (not-in-none i)
+  some-match-by (g ∷ gs) (l ∷ ls) zero h k i = or-left _ _ (match-by e g k i)
+  some-match-by (g ∷ gs) (l ∷ ls) (suc f) h k i = or-right (isMatch e g l) _ (some-match-by gs ls f (le-of-suc-le-suc h) k i)
+
+  -- where each has its own list
+  pub some-match-each : (a : Edge → List ℕ) (l : List Edge) → someMatch e l (each a l) ≡ some (λ g. isMatch e g (a g)) l
+  unfolding someMatch each some
+  some-match-each a [] = refl
+  some-match-each a (g ∷ l) = ap (λ b. isMatch e g (a g) or b) (some-match-each a l)
 
 module _ (e : Edge) (a b : Edge → List ℕ) where
-  pub under-in : (l : List Edge) {c : ℕ} → In c (under e (each a l) (each b l)) → (g : Edge) × In g l × T (listsEdge e (a g)) × In c (b g)
+  pub under-in : (l : List Edge) {c : ℕ} → In c (under e l (each a l) (each b l)) → (g : Edge) × In g l × T (isMatch e g (a g)) × In c (b g)
   unfolding under each
   under-in [] i = absurd (not-in-none i)
-  under-in (g ∷ l) {c} i = ⊎-elim first (λ j. let r = under-in l {c = c} j in (r .0, there (r .1), r .2, r .3)) (append-in (cond (listsEdge e (a g)) (b g) []) i)
+  under-in (g ∷ l) {c} i = ⊎-elim first (λ j. let r = under-in l {c = c} j in (r .0, there (r .1), r .2, r .3)) (append-in (cond (isMatch e g (a g)) (b g) []) i)
     where
-      first : In c (cond (listsEdge e (a g)) (b g) []) → (h : Edge) × In h (g ∷ l) × T (listsEdge e (a h)) × In c (b h)
+      first : In c (cond (isMatch e g (a g)) (b g) []) → (h : Edge) × In h (g ∷ l) × T (isMatch e h (a h)) × In c (b h)
       first =
-          cond-case (λ k. In c k → (h : Edge) × In h (g ∷ l) × T (listsEdge e (a h)) × In c (b h)) (listsEdge e (a g)) (b g) []
+          cond-case (λ k. In c k → (h : Edge) × In h (g ∷ l) × T (isMatch e h (a h)) × In c (b h)) (isMatch e g (a g)) (b g) []
           (λ t j. (g, here refl, t, j))
           (λ t j. absurd (not-in-none j))
 
-  pub in-under : {l : List Edge} {c : ℕ} {g : Edge} → In g l → T (listsEdge e (a g)) → In c (b g) → In c (under e (each a l) (each b l))
+  pub in-under : {l : List Edge} {c : ℕ} {g : Edge} → In g l → T (isMatch e g (a g)) → In c (b g) → In c (under e l (each a l) (each b l))
   unfolding under each
   in-under {c = c} (here {x = h} {l = l} q) t j =
-      in-append-left _ (cond-case (λ k. In c k) (listsEdge e (a h)) (b h) [] (λ s. subst (λ z. In c (b z)) q j) (λ s. absurd (s (subst (λ z. T (listsEdge e (a z))) q t))))
-  in-under (there {x = h} n) t j = in-append-right (cond (listsEdge e (a h)) (b h) []) (in-under n t j)
+      in-append-left _ (cond-case (λ k. In c k) (isMatch e h (a h)) (b h) [] (λ s. subst (λ z. In c (b z)) q j) (λ s. absurd (s (subst (λ z. T (isMatch e z (a z))) q t))))
+  in-under (there {x = h} n) t j = in-append-right (cond (isMatch e h (a h)) (b h) []) (in-under n t j)
 
--- a view and its edge that both e, of the query, and f, of the graph, match
+-- a view and its edge, of the kind of e, that both e, of the query, and f, of the graph, match
 pub record Found (Q : Pattern) (Ps : List Pattern) (G : Graph) (e : Edge) (f : Pair) : Type 0 where
   pub view : Pattern
   pub given : In view Ps
   pub at : Edge
   pub at-edge : In at (view .edges)
+  pub kind : at .kind ≡ e .kind
   pub of-query : Matches view (asGraph Q) at (asPair e)
   pub of-graph : Matches view G at f
 
 module _ (Q : Pattern) (Ps : List Pattern) (G : Graph) (nq : Narrow (asGraph Q)) (ng : Narrow G) where
   -- both lists of an edge g of a view P, read
-  found-at : (P : Pattern) (g e : Edge) (f : Pair) → In P Ps → In g (P .edges) → e .to < 4096 → T (listsEdge e (ascending (rowOf P (asGraph Q) g))) → In f (rowOf P G g) → Found Q Ps G e f
+  found-at : (P : Pattern) (g e : Edge) (f : Pair) → In P Ps → In g (P .edges) → e .to < 4096 → T (isMatch e g (ascending (rowOf P (asGraph Q) g))) → In f (rowOf P G g) → Found Q Ps G e f
   found-at P g e f p i h t m =
-      let q = lists-say (rowOf P (asGraph Q) g) h (λ k n. matches-narrow nq (row-say P (asGraph Q) n) .1) t in
-      record { view = P; given = p; at = g; at-edge = i; of-query = row-say P (asGraph Q) q; of-graph = row-say P G m }
+      let s = match-say e g _ t in
+      let q = listed-pair {f = asPair e} (rowOf P (asGraph Q) g) h (λ k n. matches-narrow nq (row-say P (asGraph Q) n) .1) (s .1) in
+      record { view = P; given = p; at = g; at-edge = i; kind = s .0; of-query = row-say P (asGraph Q) q; of-graph = row-say P G m }
 
   pair-in : (P : Pattern) (g : Edge) (c : ℕ) → In c (ascending (rowOf P G g)) → In (pairOf c) (rowOf P G g)
   pair-in P g c i = from (ascending-say (rowOf P G g) i)
@@ -200,26 +235,26 @@ module _ (Q : Pattern) (Ps : List Pattern) (G : Graph) (nq : Narrow (asGraph Q))
       from : (f : Pair) × In f (rowOf P G g) × (c ≡ code (f .0) (f .1)) → In (pairOf c) (rowOf P G g)
       from (f, j, q) = in-cast (sym (ap pairOf q ∙ code-pair (matches-narrow ng (row-say P G j) .1))) j
 
-  found-under : (P : Pattern) (e : Edge) (c : ℕ) → In P Ps → e .to < 4096 → In c (under e (viewSheet P (asGraph Q)) (viewSheet P G)) → Found Q Ps G e (pairOf c)
+  found-under : (P : Pattern) (e : Edge) (c : ℕ) → In P Ps → e .to < 4096 → In c (under e (P .edges) (viewSheet P (asGraph Q)) (viewSheet P G)) → Found Q Ps G e (pairOf c)
   found-under P e c p h i = from (under-in e (λ g. ascending (rowOf P (asGraph Q) g)) (λ g. ascending (rowOf P G g)) (P .edges) (rw (view-each P (asGraph Q), view-each P G) at i))
     where
-      from : (g : Edge) × In g (P .edges) × T (listsEdge e (ascending (rowOf P (asGraph Q) g))) × In c (ascending (rowOf P G g)) → Found Q Ps G e (pairOf c)
+      from : (g : Edge) × In g (P .edges) × T (isMatch e g (ascending (rowOf P (asGraph Q) g))) × In c (ascending (rowOf P G g)) → Found Q Ps G e (pairOf c)
       from (g, j, t, k) = found-at P g e (pairOf c) p j h t (pair-in P g c k)
 
   pub candidates-say : {e : Edge} {f : Pair} → e .to < 4096 → In f (candidates Q (each (viewOf G) Ps) e) → Found Q Ps G e f
   unfolding candidates viewOf
   candidates-say {e} {f} h i = code-of (each-in pairOf _ i)
     where
-      view-of : (c : ℕ) (v : View) → In c (under e (viewSheet (v .pattern) (asGraph Q)) (v .sheet)) → (P : Pattern) × In P Ps × (v ≡ viewOf G P) → Found Q Ps G e (pairOf c)
-      view-of c v j (P, p, q) = found-under P e c p h (subst (λ w. In c (under e (viewSheet (w .pattern) (asGraph Q)) (w .sheet))) q j)
+      view-of : (c : ℕ) (v : View) → In c (under e (v .pattern .edges) (viewSheet (v .pattern) (asGraph Q)) (v .sheet)) → (P : Pattern) × In P Ps × (v ≡ viewOf G P) → Found Q Ps G e (pairOf c)
+      view-of c v j (P, p, q) = found-under P e c p h (subst (λ w. In c (under e (w .pattern .edges) (viewSheet (w .pattern) (asGraph Q)) (w .sheet))) q j)
 
-      code-of : (c : ℕ) × In c (gather (λ v. under e (viewSheet (v .pattern) (asGraph Q)) (v .sheet)) (each (viewOf G) Ps)) × (f ≡ pairOf c) → Found Q Ps G e f
+      code-of : (c : ℕ) × In c (gather (λ v. under e (v .pattern .edges) (viewSheet (v .pattern) (asGraph Q)) (v .sheet)) (each (viewOf G) Ps)) × (f ≡ pairOf c) → Found Q Ps G e f
       code-of (c, j, q) = let r = gather-in _ (each (viewOf G) Ps) j in subst (Found Q Ps G e) (sym q) (view-of c (r .0) (r .2) (each-in (viewOf G) Ps (r .1)))
 
   pub candidates-by : {e : Edge} {f : Pair} → Found Q Ps G e f → In f (candidates Q (each (viewOf G) Ps) e)
   unfolding candidates viewOf
   candidates-by {e} {f} c =
       let P = c .view in
-      let k : In (code (f .0) (f .1)) (under e (each (λ g. ascending (rowOf P (asGraph Q) g)) (P .edges)) (each (λ g. ascending (rowOf P G g)) (P .edges))) =
-      in-under e _ _ (c .at-edge) (lists-by e (ascending-by (row-by P (asGraph Q) (c .of-query)))) (ascending-by (row-by P G (c .of-graph))) in
+      let k : In (code (f .0) (f .1)) (under e (P .edges) (each (λ g. ascending (rowOf P (asGraph Q) g)) (P .edges)) (each (λ g. ascending (rowOf P G g)) (P .edges))) =
+      in-under e _ _ (c .at-edge) (match-by e (c .at) (c .kind) (ascending-by (row-by P (asGraph Q) (c .of-query)))) (ascending-by (row-by P G (c .of-graph))) in
       in-cast (code-pair (matches-narrow ng (c .of-graph) .1)) (in-each pairOf (in-gather _ (in-each (viewOf G) (c .given)) (rw (view-each P (asGraph Q), view-each P G) k)))

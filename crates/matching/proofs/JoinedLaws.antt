@@ -4,13 +4,13 @@ use mathlib.Core.Path.{_≡_, sym, ap, subst, _∙_}
 use mathlib.Core.Logic.{inr, ⊎-elim}
 use mathlib.Core.Bool.{Bool}
 use mathlib.Core.List.{List}
-use lib.ListN.{take, drop, getD}
+use lib.ListN.{getD}
 use native.Mathlib.Omega.{arith}
 use Rattle.packed.proofs.OrderCases.{lt-or-ge}
 use Rattle.packed.specs.Formats.{code}
 use Rattle.packed.specs.Contents.{distinct}
 use Rattle.packed.specs.BookSheets.{listAt}
-use Rattle.packed.specs.Matches.{marked, matchesOf}
+use Rattle.packed.specs.Matches.{marked, pairIn, codesOf, masksOf, matchesOf}
 use Rattle.packed.specs.Matches.{Marked as MarkedPairs}
 use Rattle.packed.specs.declared.by_value.Pattern.{Pattern as Given}
 use Rattle.matching.specs.Lists.{In, each, keep, upTo}
@@ -59,6 +59,10 @@ module _ (q : Given) (t : List ℕ) (set : ℕ) {s counts : List ℕ} {k d steps
         same = λ i l. ran .edges .same i l ∙ twice i l;
       }
 
+  -- a word is the code of its pair
+  low : (i : ℕ) → i < d → pairIn (getD w₃ i 0) ≡ getD w₃ i 0
+  low i l = let z = edges .same i (short i l) in let s = book .pool .small i l in omega arith
+
   pairs-marked : MarkedPairs d w₃
   pairs-marked =
       let p = book .pool in
@@ -67,8 +71,13 @@ module _ (q : Given) (t : List ℕ) (set : ℕ) {s counts : List ℕ} {k d steps
       record {
         long = omega arith;
         most = p .most;
-        small = λ i l. rw (edges .same i (short i l)) (p .small i l);
-        rises = λ i j l h. rw (edges .same i (short i (omega arith)), edges .same j (short j h)) (p .rises i j l h);
+        rises = λ i j e l h a b.
+            (let x = low i (omega arith) in
+            let y = low j h in
+            let u = edges .same i (short i (omega arith)) in
+            let v = edges .same j (short j h) in
+            let r = p .rises i j l h in
+            omega arith);
       }
 
   -- ---- what is held before the steps
@@ -147,11 +156,11 @@ module _ (q : Given) (t : List ℕ) (set : ℕ) {s counts : List ℕ} {k d steps
         by n le {f} x = state-old (bit settled) Q (candidates Q vs) (subst (λ (l : List Kept). In (givenEdge q n, f) l) (sym whole) (kept-in J x))
 
     -- ---- the lists
-    row : (n : ℕ) → n < q .edges → distinct (marked n (take d w₃) (take d (drop 8192 w₃))) ≡ ascending (keptFor J (givenEdge q n))
+    row : (n : ℕ) → n < q .edges → distinct (marked n (codesOf d w₃) (masksOf d w₃)) ≡ ascending (keptFor J (givenEdge q n))
     row n l =
         row-marked pairs-marked n (λ i. i) pair test
         (λ i m. same-test _ _ (λ h. in-has (unfold pair in last .listed i n m l h)) (λ h. last .held i n m l (unfold pair in has-in (pair i) h)))
-        (λ i m. sym (unfold pair in pair-code (getD w₃ i 0)))
+        (λ i m. low i m ∙ sym (unfold pair in pair-code (getD w₃ i 0)))
         ∙ ascending-same (each pair (keep test (upTo (λ i. i) d))) (keptFor J (givenEdge q n))
         (λ f j. let r = each-in pair _ j in in-cast (sym (r .2)) (has-in (pair (r .0)) (keep-in test (upTo (λ i. i) d) (r .1) .1)))
         (λ f j.

@@ -2,7 +2,7 @@
 use mathlib.Core.Path.{_≡_, ap, _∙_, sym, subst}
 use mathlib.Core.Logic.{⊎-elim}
 use mathlib.Core.List.{List}
-use Prim.Native.Nat.{ℕ, _≤_, _<_, _+_, _-_}
+use Prim.Native.Nat.{ℕ, _≤_, _<_, _+_, _-_, _/_}
 use native.Mathlib.Omega.{arith}
 use lib.ListN.{length, getD, replicate, length-replicate, getD-replicate, List·getD-eq-default}
 use Rattle.packed.proofs.OrderCases.{lt-or-ge}
@@ -32,7 +32,7 @@ module _ {n d x : ℕ} {w leave arrive out : List ℕ} (p : Pool d w) (few : n �
   every-prepared =
       record {
         ends = E;
-        order = λ i j a b. (let r = p .rises i j a b in omega arith);
+        order = λ i j a b. (let r = p .rises i j a b in let s = p .small j b in omega arith);
         nodes = (let z = every-long O in omega arith);
         leave-long = every-long L ∙ sym (every-long O);
         arrive-long = every-long A ∙ sym (every-long O);
@@ -58,13 +58,13 @@ pub no-ends : {d : ℕ} {w : List ℕ} → Pool d w → d ≡ 0 → Ends 0 d w
 no-ends p z = record { most = p .most; long = p .long; from = λ i l. absurd (omega arith); to = λ i l. absurd (omega arith) }
 
 -- no pair begins beyond the last one
-pub all-ends : {d r : ℕ} {w : List ℕ} → Pool d w → (f t : ℕ) → f ≡ fromOf w (d - 1) → ((i : ℕ) → i < d → toOf w i ≤ t) → f ≤ r → t ≤ r → Ends (r + 1) d w
+pub all-ends : {d r : ℕ} {w : List ℕ} → Pool d w → (f t : ℕ) → f ≡ getD w (d - 1) 0 / 4096 → ((i : ℕ) → i < d → toOf w i ≤ t) → f ≤ r → t ≤ r → Ends (r + 1) d w
 all-ends {d} {r} {w} p f t e h a b =
     record {
       most = p .most;
       long = p .long;
       from = λ i l. ⊎-elim
-          (λ (z : i < d - 1). let y = p .rises i (d - 1) z (omega arith) in omega arith)
+          (λ (z : i < d - 1). let y = p .rises i (d - 1) z (omega arith) in let s = p .small (d - 1) (omega arith) in omega arith)
           (λ (z : d - 1 ≤ i). let y : i ≡ d - 1 = omega arith in let c = ap (fromOf w) y in omega arith)
           (lt-or-ge i (d - 1));
       to = λ i l. (let y = h i l in omega arith);

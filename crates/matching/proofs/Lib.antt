@@ -17,6 +17,7 @@ pub mod Listed
 pub mod AllOrNone
 pub mod EdgeLaws
 pub mod SortedGraphs
+pub mod RankLaws
 pub mod MatchedLaws
 -- files by value: patterns, views, records
 pub mod PatternLaws

@@ -6,8 +6,8 @@ use mathlib.Core.List.{List, [], _∷_, _++_}
 use Prim.Native.Nat.{ℕ, zero, suc, _≤_, _<_}
 use native.Mathlib.Nat.{eq-or-lt-of-le, le-of-suc-le-suc, not-suc-le-zero}
 use native.Mathlib.Omega.{arith}
-use lib.ListN.{length, getD}
-use lib.Dec.{T}
+use lib.ListN.{length, getD, drop}
+use lib.Dec.{T, eqb, eqb-refl}
 use Rattle.matching.specs.Lists.{_and_, _or_, _implies_, In, here, there, every, some, put, keep, gather, each, below}
 
 pub and-left : (a b : Bool) → T (a and b) → T a
@@ -53,6 +53,9 @@ make-if false b f = tt
 pub decide : (b : Bool) → T b ⊎ (T b → ⊥)
 decide true = inl tt
 decide false = inr (λ x. x)
+
+pub equal-test : (a : ℕ) {b : ℕ} → a ≡ b → T (eqb a b)
+equal-test a q = subst (λ z. T (eqb a z)) q (eqb-refl a)
 
 -- two tests that imply each other are equal
 pub same-test : (a b : Bool) → (T a → T b) → (T b → T a) → a ≡ b
@@ -255,6 +258,12 @@ module _ {A B : Type 0} where
   unfolding each
   each-same f g [] h = refl
   each-same f g (x ∷ l) h = λ i. h x (here refl) i ∷ each-same f g l (λ y j. h y (there j)) i
+
+  -- and the other way
+  pub each-agree : (f g : A → B) {l : List A} → each f l ≡ each g l → {x : A} → In x l → f x ≡ g x
+  unfolding each
+  each-agree f g q (here {x = y} e) = ap f e ∙ ap (λ m. getD m 0 (f y)) q ∙ sym (ap g e)
+  each-agree f g q (there i) = each-agree f g (ap (drop 1) q) i
 
   pub length-each : (f : A → B) (l : List A) → length (each f l) ≡ length l
   unfolding each

@@ -12,26 +12,28 @@ use Rattle.matching.proofs.MatchLaws.{Sim, Total, Matches, row-say, row
 use Rattle.matching.proofs.CodeLaws.{code-same, ascending-say, ascending-by}
 use Rattle.matching.proofs.MatchSetLaws.{Narrow, matches-narrow, set-at}
 
--- some simulation of P in G gives every node of P a partner and relates the ends of e to f, the ends of an edge of G
+-- some simulation of P in G gives every node of P a partner and relates the ends of e to f, the ends of an edge of G of the kind of e
 pub record Related (P : Pattern) (G : Graph) (e : Edge) (f : Pair) : Type 1 where
   pub by : ℕ → ℕ → Type 0
   pub simulates : IsSim P G by
   pub whole : Total P by
   pub link : Edge
   pub edge : In link (G .edges)
+  pub kind : link .kind ≡ e .kind
   pub ends : f ≡ asPair link
   pub tail : by (e .from) (f .0)
   pub head : by (e .to) (f .1)
 
 module _ (P : Pattern) (G : Graph) where
   pub matches-related : {e : Edge} {f : Pair} → Matches P G e f → Related P G e f
-  matches-related m = record { by = Sim P G; simulates = sim-is P G; whole = m .whole; link = m .link; edge = m .edge; ends = m .ends; tail = m .tail; head = m .head }
+  matches-related m = record { by = Sim P G; simulates = sim-is P G; whole = m .whole; link = m .link; edge = m .edge; kind = m .kind; ends = m .ends; tail = m .tail; head = m .head }
 
   pub related-matches : {e : Edge} {f : Pair} → Related P G e f → Matches P G e f
   related-matches {e} {f} r = record {
     whole = λ u h. let p = r .whole u h in (p .0, sim-most P G (r .by) (r .simulates) u (p .0) (p .1));
     link = r .link;
     edge = r .edge;
+    kind = r .kind;
     ends = r .ends;
     tail = sim-most P G (r .by) (r .simulates) (e .from) (f .0) (r .tail);
     head = sim-most P G (r .by) (r .simulates) (e .to) (f .1) (r .head);
@@ -44,7 +46,7 @@ module _ (P : Pattern) (G : Graph) where
   pub related-listed : (i : ℕ) → i < length (P .edges) → (f : Pair) → Related P G (getD (P .edges) i noEdge) f → In (code (f .0) (f .1)) (getD (matchSets P G) i [])
   related-listed i h f r = subst (λ l. In (code (f .0) (f .1)) l) (sym (set-at P G i h)) (ascending-by (row-by P G (related-matches r)))
 
-  -- a pair of numbers, the second below 4096, is listed for an edge exactly if it has the ends of an edge of G that is so related
+  -- a pair of numbers, the second below 4096, is listed for an edge exactly if it has the ends of an edge of G of its kind that is so related
   pub listed-exactly : Narrow G → (i : ℕ) → i < length (P .edges) → (f : Pair) → f .1 < 4096 → In (code (f .0) (f .1)) (getD (matchSets P G) i []) ↔ Related P G (getD (P .edges) i noEdge) f
   listed-exactly n i h f k = (says, related-listed i h f)
     where

@@ -1,5 +1,5 @@
 -- What it is for an edge of a graph to match an edge of a pattern; fewer edges, fewer matches; composition; what `sound` says.
-use mathlib.Core.Path.{_≡_, refl, sym, subst}
+use mathlib.Core.Path.{_≡_, refl, sym, subst, _∙_}
 use mathlib.Core.Logic.{_⊎_, inl, inr}
 use mathlib.Core.List.{List, []}
 use Prim.Native.Nat.{ℕ, _^_, _<_}
@@ -9,7 +9,7 @@ use lib.Dec.{T, eqb, eqb→eq, eqb-refl, ltb→lt, lt→ltb}
 use Rattle.matching.specs.Lists.{_or_, In, below}
 use Rattle.matching.specs.Simulation.{Pair, Edge, asPair, bit, Pattern, Graph, asGraph, sim, total, row, IsSim, sound}
 use Rattle.matching.proofs.ByEdge.{rowOf}
-use Rattle.matching.proofs.ListLaws.{and-left, and-right, both, or-left, or-right, or-cases, cond-case, not-in-none, in-cast, every-in, in-every, some-in, in-some, keep-in, in-keep, each-in, in-each, length-each, getD-each, below-in, in-below}
+use Rattle.matching.proofs.ListLaws.{and-left, and-right, both, or-left, or-right, or-cases, equal-test, cond-case, not-in-none, in-cast, every-in, in-every, some-in, in-some, keep-in, in-keep, each-in, in-each, length-each, getD-each, below-in, in-below}
 use Rattle.matching.proofs.Masks.{bit-one}
 use Rattle.matching.proofs.SimLaws.{has-in, in-has, FitsInto, fits-say, fits-by, sim-is, sim-most}
 
@@ -31,37 +31,39 @@ module _ (P : Pattern) (s : List Pair) where
   unfolding total
   total-by f = in-every _ _ λ u i. in-some _ (f u (below-in _ i) .1) (eqb-refl u)
 
--- the pair f matches the edge e of P: it has the ends of an edge of G, and the greatest simulation gives every node of P a partner, and relates the
+-- the pair f matches the edge e of P: it has the ends of an edge of G of the kind of e, and the greatest simulation gives every node of P a partner, and relates the
 -- ends of e to those of f
 pub record Matches (P : Pattern) (G : Graph) (e : Edge) (f : Pair) : Type 0 where
   pub whole : Total P (Sim P G)
   pub link : Edge
   pub edge : In link (G .edges)
+  pub kind : link .kind ≡ e .kind
   pub ends : f ≡ asPair link
   pub tail : Sim P G (e .from) (f .0)
   pub head : Sim P G (e .to) (f .1)
 
 module _ (P : Pattern) (G : Graph) where
-  pub row-in : {e : Edge} {f : Pair} → In f (row G (sim P G) e) → (h : Edge) × In h (G .edges) × (f ≡ asPair h) × Sim P G (e .from) (h .from) × Sim P G (e .to) (h .to)
+  pub row-in : {e : Edge} {f : Pair} → In f (row G (sim P G) e) → (h : Edge) × In h (G .edges) × (f ≡ asPair h) × (h .kind ≡ e .kind) × Sim P G (e .from) (h .from) × Sim P G (e .to) (h .to)
   unfolding row
-  row-in i =
+  row-in {e} i =
       let r = each-in asPair _ i in
       let k = keep-in _ (G .edges) (r .1) in
-      (r .0, k .0, r .2, has-in _ (and-left _ _ (k .1)), has-in _ (and-right _ _ (k .1)))
+      let b = and-right _ _ (k .1) in
+      (r .0, k .0, r .2, eqb→eq (r .0 .kind) (e .kind) (and-left _ _ (k .1)), has-in _ (and-left _ _ b), has-in _ (and-right _ _ b))
 
-  pub in-row : (e h : Edge) → In h (G .edges) → Sim P G (e .from) (h .from) → Sim P G (e .to) (h .to) → In (asPair h) (row G (sim P G) e)
+  pub in-row : (e h : Edge) → In h (G .edges) → h .kind ≡ e .kind → Sim P G (e .from) (h .from) → Sim P G (e .to) (h .to) → In (asPair h) (row G (sim P G) e)
   unfolding row
-  in-row e h i a b = in-each asPair (in-keep _ i (both _ _ (in-has a) (in-has b)))
+  in-row e h i k a b = in-each asPair (in-keep _ i (both _ _ (equal-test (h .kind) k) (both _ _ (in-has a) (in-has b))))
 
   -- an edge of G, by its ends
-  pub matches-edge : (e h : Edge) → Total P (Sim P G) → In h (G .edges) → Sim P G (e .from) (h .from) → Sim P G (e .to) (h .to) → Matches P G e (asPair h)
-  matches-edge e h t i a b = record { whole = t; link = h; edge = i; ends = refl; tail = a; head = b }
+  pub matches-edge : (e h : Edge) → Total P (Sim P G) → In h (G .edges) → h .kind ≡ e .kind → Sim P G (e .from) (h .from) → Sim P G (e .to) (h .to) → Matches P G e (asPair h)
+  matches-edge e h t i k a b = record { whole = t; link = h; edge = i; kind = k; ends = refl; tail = a; head = b }
 
   pub row-say : {e : Edge} {f : Pair} → In f (rowOf P G e) → Matches P G e f
   unfolding rowOf
   row-say {e} {f} =
       cond-case (λ l. In f l → Matches P G e f) (total P (sim P G)) (row G (sim P G) e) []
-      (λ t i. let k = row-in i in subst (Matches P G e) (sym (k .2)) (matches-edge e (k .0) (total-say P (sim P G) t) (k .1) (k .3) (k .4)))
+      (λ t i. let k = row-in i in subst (Matches P G e) (sym (k .2)) (matches-edge e (k .0) (total-say P (sim P G) t) (k .1) (k .3) (k .4) (k .5)))
       (λ t i. absurd (not-in-none i))
 
   pub row-by : {e : Edge} {f : Pair} → Matches P G e f → In f (rowOf P G e)
@@ -69,7 +71,7 @@ module _ (P : Pattern) (G : Graph) where
   row-by {e} {f} h =
       cond-case (λ l. In f l) (total P (sim P G)) (row G (sim P G) e) []
       (λ t. in-cast (sym (h .ends))
-      (in-row e (h .link) (h .edge) (subst (λ z. Sim P G (e .from) (z .0)) (h .ends) (h .tail)) (subst (λ z. Sim P G (e .to) (z .1)) (h .ends) (h .head))))
+      (in-row e (h .link) (h .edge) (h .kind) (subst (λ z. Sim P G (e .from) (z .0)) (h .ends) (h .tail)) (subst (λ z. Sim P G (e .to) (z .1)) (h .ends) (h .head))))
       (λ t. absurd (t (total-by P (sim P G) (h .whole))))
 
 -- G is a subgraph of H: the same nodes, perhaps fewer edges
@@ -84,7 +86,7 @@ subgraph-sim P G H R m s = record {
     right = subst (λ l. v < length l) (m .same-labels) (f .right);
     label = subst (λ l. T (bit (getD l v 0) (getD (P .labels) u 0))) (m .same-labels) (f .label);
   });
-  follow = λ u v r e i q. let n = s .follow u v r e i q in (n .0, m .more (n .0) (n .1), n .2, n .3);
+  follow = λ u v r e i q. let n = s .follow u v r e i q in (n .0, m .more (n .0) (n .1), n .2, n .3, n .4);
 }
 
 pub subgraph-fewer : (P : Pattern) (G H : Graph) → Subgraph G H → (u v : ℕ) → Sim P G u v → Sim P H u v
@@ -112,7 +114,7 @@ compose P Q G R S r s = record {
   follow = λ w v p x i q.
       let a = r .follow w (p .0) (p .1) x i q in
       let b = s .follow (p .0) v (p .2) (a .0) (a .1) (a .2) in
-      (b .0, b .1, b .2, (a .0 .to, a .3, b .3));
+      (b .0, b .1, b .2, b .3 ∙ a .3, (a .0 .to, a .4, b .4));
 }
 
 -- the greatest simulation of P in Q, followed by that of Q in G, lies in that of P in G
@@ -120,16 +122,17 @@ pub sim-through : (P Q : Pattern) (G : Graph) (w u v : ℕ) → Sim P (asGraph Q
 sim-through P Q G w u v i j =
     sim-most P G (λ a c. (b : ℕ) × Sim P (asGraph Q) a b × Sim Q G b c) (compose P Q G (Sim P (asGraph Q)) (Sim Q G) (sim-is P (asGraph Q)) (sim-is Q G)) w v (u, i, j)
 
--- an edge that matches an edge that matches an edge
-pub matches-through : (P Q : Pattern) (G : Graph) (g e : Edge) (f : Pair) → Matches P (asGraph Q) g (asPair e) → Matches Q G e f → Matches P G g f
+-- an edge that matches an edge that matches an edge of its kind
+pub matches-through : (P Q : Pattern) (G : Graph) (g e : Edge) (f : Pair) → g .kind ≡ e .kind → Matches P (asGraph Q) g (asPair e) → Matches Q G e f → Matches P G g f
 unfolding asGraph
-matches-through P Q G g e f a b = record {
+matches-through P Q G g e f k a b = record {
   whole = λ w l.
       let p = a .whole w l in
       let q = b .whole (p .0) (omega (arith, fits-say P (asGraph Q) (sim-is P (asGraph Q) .fit w (p .0) (p .1)) .right, length-each (λ k. 2 ^ k) (Q .labels))) in
       (q .0, sim-through P Q G w (p .0) (q .0) (p .1) (q .1));
   link = b .link;
   edge = b .edge;
+  kind = b .kind ∙ sym k;
   ends = b .ends;
   tail = sim-through P Q G (g .from) (e .from) (f .0) (a .tail) (b .tail);
   head = sim-through P Q G (g .to) (e .to) (f .1) (a .head) (b .head);
@@ -161,5 +164,5 @@ sound-by P s =
     (in-every _ (below (length (P .labels))) λ u i. let r = s .touched u (below-in _ i) in in-some _ (r .1) (which (r .0) u (r .2)))
   where
     which : (e : Edge) (u : ℕ) → (e .from ≡ u) ⊎ (e .to ≡ u) → T (eqb (e .from) u or eqb (e .to) u)
-    which e u (inl q) = or-left _ _ (subst (λ z. T (eqb (e .from) z)) q (eqb-refl (e .from)))
-    which e u (inr q) = or-right (eqb (e .from) u) _ (subst (λ z. T (eqb (e .to) z)) q (eqb-refl (e .to)))
+    which e u (inl q) = or-left _ _ (equal-test (e .from) q)
+    which e u (inr q) = or-right (eqb (e .from) u) _ (equal-test (e .to) q)

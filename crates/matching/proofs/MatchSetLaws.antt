@@ -5,6 +5,7 @@ use mathlib.Core.List.{List, []}
 use Prim.Native.Nat.{ℕ, _^_, _≤_, _<_}
 use native.Mathlib.Omega.{arith}
 use lib.ListN.{length, getD}
+use lib.Dec.{eqb}
 use Rattle.packed.specs.Formats.{code}
 use Rattle.packed.specs.Distinct.{Increasing}
 use Rattle.packed.specs.Contents.{distinct}
@@ -50,15 +51,12 @@ module _ (P : Pattern) (G : Graph) where
   pub sets-in : {l : List ℕ} → In l (matchSets P G) → (e : Edge) × In e (P .edges) × (l ≡ ascending (rowOf P G e))
   sets-in {l} i = each-in _ (P .edges) (subst (λ ls. In l ls) sets-each i)
 
-  pub in-sets : {e : Edge} → In e (P .edges) → In (ascending (rowOf P G e)) (matchSets P G)
-  in-sets {e} i = subst (λ ls. In (ascending (rowOf P G e)) ls) (sym sets-each) (in-each (λ g. ascending (rowOf P G g)) i)
-
   pub row-length : (e : Edge) → length (rowOf P G e) ≤ length (G .edges)
   unfolding rowOf row
   row-length e = cond-case (λ l. length l ≤ length (G .edges)) (total P (sim P G)) (row G (sim P G) e) [] (λ t. omega (arith, length-each asPair (keep both-ends (G .edges)), keep-length both-ends (G .edges))) (λ t. omega arith)
     where
       both-ends : Edge → Bool
-      both-ends f = has (e .from, f .from) (sim P G) and has (e .to, f .to) (sim P G)
+      both-ends f = eqb (f .kind) (e .kind) and (has (e .from, f .from) (sim P G) and has (e .to, f .to) (sim P G))
 
 pub view-same : (P : Pattern) (G H : Graph) → matchSets P G ≡ matchSets P H → viewSheet P G ≡ viewSheet P H
 view-same P G H q = view-sheet P G ∙ q ∙ sym (view-sheet P H)
@@ -69,6 +67,7 @@ subgraph-matches P G H w {e} {f} m = record {
   whole = λ u l. let p = m .whole u l in (p .0, subgraph-fewer P G H w u (p .0) (p .1));
   link = m .link;
   edge = w .more (m .link) (m .edge);
+  kind = m .kind;
   ends = m .ends;
   tail = subgraph-fewer P G H w (e .from) (f .0) (m .tail);
   head = subgraph-fewer P G H w (e .to) (f .1) (m .head);

@@ -1,17 +1,17 @@
 -- From the masks of the edges, which the steps of matching leave, to the match sets.
 use Prim.Native.Nat.{ℕ, zero, suc, _+_, _/_, _%_, _<_}
-use mathlib.Core.Path.{_≡_, refl, sym, ap, ap₂, _∙_}
+use mathlib.Core.Path.{_≡_, refl, sym, ap, ap₂, subst, _∙_}
 use mathlib.Core.Bool.{Bool, true, false}
 use mathlib.Core.List.{List, [], _∷_}
-use lib.ListN.{length, take, drop, getD, length-drop}
+use lib.ListN.{length, take, drop, getD, length-drop, length-map, List·getD-map}
 use lib.Seq.{getD-take, getD-drop, length-take-le}
-use lib.Dec.{T}
+use lib.Dec.{T, eqb, eqb→eq, eqb-refl}
 use native.Mathlib.Omega.{arith}
 use Rattle.packed.specs.Format.{pick}
 use Rattle.packed.specs.Formats.{code}
 use Rattle.packed.specs.Distinct.{BelowHead, Increasing}
 use Rattle.packed.specs.Contents.{distinct}
-use Rattle.packed.specs.Matches.{marks, marked, markedFrom, allOrNone, matchesOf}
+use Rattle.packed.specs.Matches.{marks, marked, markedFrom, allOrNone, pairIn, codesOf, masksOf, matchesOf}
 use Rattle.packed.specs.Matches.{Marked as MarkedPairs}
 use Rattle.packed.specs.declared.by_value.Pattern.{Pattern as Given}
 use Rattle.packed.proofs.DistinctLaws.{distinct-own}
@@ -20,10 +20,13 @@ use Rattle.packed.proofs.MatchLaws.{fit-lists}
 use Rattle.matching.specs.Lists.{_and_, In, each, keep, put, upTo}
 use Rattle.matching.specs.Simulation.{Pair, Edge, asPair, Pattern, Graph, bit, has, sim, row, ascending, matchSets}
 use Rattle.matching.specs.Steps.{givenEdge, edgeOfWord, patternIn, graphIn, Ready, Edges}
+use Rattle.matching.specs.Sweeping.{kindOf}
+use Rattle.matching.specs.Starting.{OfKind}
 use Rattle.matching.specs.Matched.{Proper, Rises, EdgesMatched}
 use Rattle.matching.proofs.ListLaws.{and-left, and-right, both, same-test}
 use Rattle.matching.proofs.SimLaws.{has-in, in-has}
 use Rattle.matching.proofs.AllOrNone.{sets-all-or-none}
+use Rattle.matching.proofs.RankLaws.{pair-code, rank-less}
 
 -- ---- lists that masks mark
 below-rising : {c : ℕ} {cs : List ℕ} → Rising (suc c) cs → BelowHead c cs
@@ -80,18 +83,18 @@ marks-bit e q = refl
 -- the lists of n pairs by their masks, each by what passes a test, and all or none of them
 module _ {n : ℕ} {w : List ℕ} (k : MarkedPairs n w) where
   abbrev codes : List ℕ
-  codes = take n w
+  codes = codesOf n w
 
   abbrev masks : List ℕ
-  masks = take n (drop 8192 w)
+  masks = masksOf n w
 
   pub row-marked : {A : Type 0} (e : ℕ) (h : ℕ → A) (pair : A → Pair) (t : A → Bool) → ((i : ℕ) → i < n → bit (getD w (8192 + i) 0) e ≡ t (h i))
-      → ((i : ℕ) → i < n → getD w i 0 ≡ code (pair (h i) .0) (pair (h i) .1)) → distinct (marked e codes masks) ≡ ascending (each pair (keep t (upTo h n)))
+      → ((i : ℕ) → i < n → pairIn (getD w i 0) ≡ code (pair (h i) .0) (pair (h i) .1)) → distinct (marked e codes masks) ≡ ascending (each pair (keep t (upTo h n)))
   unfolding ascending
   row-marked e h pair t m c =
       let b = k .most in
       let o = k .long in
-      let x : length codes ≡ n = length-take-le n w (omega arith) in
+      let x : length codes ≡ n = length-map (take n w) pairIn ∙ length-take-le n w (omega arith) in
       let y : length masks ≡ n = length-take-le n (drop 8192 w) (omega (arith, length-drop 8192 w)) in
       ap distinct (marked-kept pair t e codes masks h (x ∙ sym y)
       (λ i l.
@@ -99,7 +102,7 @@ module _ {n : ℕ} {w : List ℕ} (k : MarkedPairs n w) where
       marks-bit e (getD masks i 0) ∙ ap (λ (z : ℕ). bit z e) (getD-take n (drop 8192 w) i 0 j ∙ getD-drop 8192 w i 0) ∙ m i j)
       (λ i l.
       let j : i < n = omega arith in
-      getD-take n w i 0 j ∙ c i j)
+      List·getD-map pairIn (take n w) i 0 ∙ ap pairIn (getD-take n w i 0 j) ∙ c i j)
       ∙ ap (λ (z : ℕ). coded (each pair (keep t (upTo h z)))) x)
 
   pub sets-marked : {A : Type 0} (m : ℕ) (g : ℕ → A) (f : A → List Pair) → ((e : ℕ) → e < m → distinct (marked e codes masks) ≡ ascending (f (g e)))
@@ -112,14 +115,14 @@ module _ {n : ℕ} {w : List ℕ} (k : MarkedPairs n w) where
 pub edges-twice : {w w₁ w₂ : List ℕ} → Edges w w₁ → Edges w₁ w₂ → Edges w w₂
 edges-twice a b = record { long = b .long ∙ a .long; same = λ k l. b .same k l ∙ a .same k l }
 
--- each edge is held for the edges of the pattern whose ends have its own as partners
+-- each edge is held for the edges of the pattern of its kind whose ends have its own as partners
 pub record ListsCodes (p : Given) (s : List ℕ) (n m : ℕ) (w w′ : List ℕ) : Type 0 where
   pub edges : Edges w w′
   pub say : (i e : ℕ) → i < m → e < p .edges → T (bit (getD w′ (8192 + i) 0) e)
-      → In (getD (p .from) e 0, getD w i 0 / 4096) (sim (patternIn p) (graphIn s n m w)) × In (getD (p .to) e 0, getD w i 0 % 4096) (sim (patternIn p) (graphIn s n m w))
-  pub by : (i e : ℕ) → i < m → e < p .edges → In (getD (p .from) e 0, getD w i 0 / 4096) (sim (patternIn p) (graphIn s n m w))
+      → In (getD (p .from) e 0, getD w i 0 / 4096 % 4096) (sim (patternIn p) (graphIn s n m w)) × In (getD (p .to) e 0, getD w i 0 % 4096) (sim (patternIn p) (graphIn s n m w))
+  pub by : (i e : ℕ) → i < m → OfKind (p .kind) (p .edges) (kindOf w i) e → In (getD (p .from) e 0, getD w i 0 / 4096 % 4096) (sim (patternIn p) (graphIn s n m w))
       → In (getD (p .to) e 0, getD w i 0 % 4096) (sim (patternIn p) (graphIn s n m w)) → T (bit (getD w′ (8192 + i) 0) e)
-  pub only : (i e : ℕ) → i < m → e < 32 → T (bit (getD w′ (8192 + i) 0) e) → e < p .edges
+  pub only : (i e : ℕ) → i < m → T (bit (getD w′ (8192 + i) 0) e) → OfKind (p .kind) (p .edges) (kindOf w i) e
 
 -- ---- the match sets
 module _ {p : Given} {s : List ℕ} {n m : ℕ} {w w₂ : List ℕ} (ready : Ready s n m w) (k : ListsCodes p s n m w w₂) where
@@ -133,15 +136,24 @@ module _ {p : Given} {s : List ℕ} {n m : ℕ} {w w₂ : List ℕ} (ready : Rea
   edge i = edgeOfWord (getD w i 0)
 
   abbrev passes : ℕ → Edge → Bool
-  passes e f = has (givenEdge p e .from, f .from) (sim P G) and has (givenEdge p e .to, f .to) (sim P G)
+  passes e f = eqb (f .kind) (givenEdge p e .kind) and (has (givenEdge p e .from, f .from) (sim P G) and has (givenEdge p e .to, f .to) (sim P G))
 
   long : length w₂ ≡ 16384
   long = k .edges .long ∙ ready .long
 
-  -- the mask of an edge names an edge of the pattern exactly if the ends of both are partners
+  -- the mask of an edge names an edge of the pattern exactly if both have one kind and their ends are partners
   test : (e i : ℕ) → e < p .edges → i < m → bit (getD w₂ (8192 + i) 0) e ≡ passes e (edge i)
   test e i l h =
-      same-test _ _ (λ z. let r = k .say i e h l z in both _ _ (in-has (r .0)) (in-has (r .1))) (λ z. k .by i e h l (has-in _ (and-left _ _ z)) (has-in _ (and-right _ _ z)))
+      same-test _ _
+      (λ z.
+      let r = k .say i e h l z in
+      both _ _ (subst (λ (x : ℕ). T (eqb (kindOf w i) x)) (sym (k .only i e h z .1)) (eqb-refl (kindOf w i))) (both _ _ (in-has (r .0)) (in-has (r .1))))
+      (λ z.
+      let r = and-right _ _ z in
+      k .by i e h (l, sym (eqb→eq (kindOf w i) (getD (p .kind) e 0) (and-left _ _ z))) (has-in _ (and-left _ _ r)) (has-in _ (and-right _ _ r)))
+
+  named : (e i : ℕ) → i < m → marks e (getD w₂ (8192 + i) 0) ≡ true → getD (p .kind) e 0 ≡ kindOf w i
+  named e i h z = k .only i e h (subst T (sym (sym (marks-bit e (getD w₂ (8192 + i) 0)) ∙ z)) tt) .1
 
   module _ (proper : Proper p) (rises : Rises m w) where
     pairs-marked : MarkedPairs m w₂
@@ -151,19 +163,20 @@ module _ {p : Given} {s : List ℕ} {n m : ℕ} {w w₂ : List ℕ} (ready : Rea
         record {
           long = omega arith;
           most = ready .edges;
-          small = λ i l. rw (k .edges .same i (omega arith)) (let f = ready .from i l in let n = ready .nodes in omega arith);
-          rises = λ i j l h. rw (k .edges .same i (omega arith), k .edges .same j (omega arith)) (rises i j l h);
+          rises = λ i j e l h y z.
+              rw (k .edges .same i (omega arith), k .edges .same j (omega arith))
+              (rank-less (getD w i 0) (getD w j 0) (sym (named e i (omega arith) y) ∙ named e j h z) (rises i j l h));
         }
 
-    edge-row : (e : ℕ) → e < p .edges → distinct (marked e (take m w₂) (take m (drop 8192 w₂))) ≡ ascending (row G (sim P G) (givenEdge p e))
+    edge-row : (e : ℕ) → e < p .edges → distinct (marked e (codesOf m w₂) (masksOf m w₂)) ≡ ascending (row G (sim P G) (givenEdge p e))
     unfolding row graphIn
     edge-row e l =
         row-marked pairs-marked e edge asPair (passes e) (λ i h. test e i l h)
-        (λ i h. let b = ready .edges in k .edges .same i (omega arith) ∙ omega arith)
+        (λ i h. let b = ready .edges in ap pairIn (k .edges .same i (omega arith)) ∙ pair-code (getD w i 0))
 
     edge-sets : matchesOf m (p .edges) w₂ ≡ matchSets P G
     unfolding patternIn
     edge-sets = sets-marked pairs-marked (p .edges) (givenEdge p) (row G (sim P G)) edge-row ∙ sym (sets-all-or-none P G (proper .sound))
 
     pub matches : EdgesMatched p s n m w w₂
-    matches = record { edges = k .edges; marked = pairs-marked; sets = edge-sets; only = k .only }
+    matches = record { edges = k .edges; marked = pairs-marked; sets = edge-sets; only = λ i e h l. k .only i e h }

@@ -1,7 +1,6 @@
 -- An accepted pattern by value and as content: the two mean the same pattern.
-use Prim.Native.Nat.{ℕ, zero, suc, _+_, _*_, _/_, _%_, _<_}
+use Prim.Native.Nat.{ℕ, suc, _+_, _*_, _<_}
 use mathlib.Core.Path.{_≡_, sym, ap, ap₂, subst, _∙_}
-use mathlib.Core.Logic.{_⊎_, inl, inr}
 use mathlib.Core.Bool.{Bool}
 use mathlib.Core.List.{List, _∷_, _++_}
 use lib.ListN.{length, take, drop, getD, List·getD-append}
@@ -9,7 +8,7 @@ use lib.Seq.{getD-take, getD-append-add, length-take-le, take-at, drop-at, ext-g
 use lib.Dec.{T}
 use native.Mathlib.Omega.{arith}
 use Rattle.packed.specs.Contents.{nodesOf, edgesOf}
-use Rattle.packed.specs.Plain.{PlainPattern, fromAt, toAt}
+use Rattle.packed.specs.Plain.{PlainPattern, fromAt, toAt, kindAt}
 use Rattle.packed.specs.ByValue.{HoldsPattern}
 use Rattle.packed.specs.declared.by_value.Pattern.{Pattern as Given}
 use Rattle.matching.specs.Simulation.{Edge, between, Pattern, edgesIn, patternOf, sound}
@@ -26,20 +25,20 @@ made l es = record { labels = l; edges = es }
 
 module _ {ws : List ℕ} {bs : List Bool} (q : PlainPattern ws bs) where
   abbrev all : List ℕ
-  all = q .nodes ∷ q .number ∷ (q .labels ++ q .ends)
+  all = q .nodes ∷ q .number ∷ (q .labels ++ q .es)
 
-  ends-long : length (q .ends) ≡ 2 * q .number
-  ends-long = q .edges .two-each
+  fields-long : length (q .es) ≡ 3 * q .number
+  fields-long = q .edges .among .three-each
 
   -- the content by its places
   label-in : (i u : ℕ) → i ≡ suc (suc u) → u < q .nodes → getD ws i 0 ≡ getD (q .labels) u 0
   label-in i u e h =
-      ap₂ (λ (l : List ℕ) (j : ℕ). getD l j 0) (q .content) e ∙ List·getD-append (q .labels) (q .ends) 0 u (omega (arith, q .label-each))
+      ap₂ (λ (l : List ℕ) (j : ℕ). getD l j 0) (q .content) e ∙ List·getD-append (q .labels) (q .es) 0 u (omega (arith, q .label-each))
 
-  end-in : (i j : ℕ) → i ≡ suc (suc (q .nodes + j)) → getD ws i 0 ≡ getD (q .ends) j 0
+  end-in : (i j : ℕ) → i ≡ suc (suc (q .nodes + j)) → getD ws i 0 ≡ getD (q .es) j 0
   end-in i j e =
       ap₂ (λ (l : List ℕ) (k : ℕ). getD l k 0) (q .content) (e ∙ ap (λ (k : ℕ). suc (suc (k + j))) (sym (q .label-each)))
-      ∙ getD-append-add (q .labels) (q .ends) j 0
+      ∙ getD-append-add (q .labels) (q .es) j 0
 
   pub nodes-in : nodesOf ws ≡ q .nodes
   nodes-in = ap (λ (l : List ℕ). getD l 0 0) (q .content)
@@ -48,47 +47,39 @@ module _ {ws : List ℕ} {bs : List Bool} (q : PlainPattern ws bs) where
   edges-in = ap (λ (l : List ℕ). getD l 1 0) (q .content)
 
   -- what the content means
-  pub pattern-is : patternOf ws ≡ made (q .labels) (edgesIn (q .ends))
+  pub pattern-is : patternOf ws ≡ made (q .labels) (edgesIn (q .es))
   unfolding patternOf
   pattern-is =
       let z : 2 + q .nodes ≡ suc (suc (q .nodes)) = omega arith in
       let a : take (nodesOf ws) (drop 2 ws) ≡ q .labels =
-      ap (λ (l : List ℕ). take (getD l 0 0) (drop 2 l)) (q .content) ∙ take-at (q .labels) (q .ends) (q .nodes) (q .label-each) in
-      let b : drop (2 + nodesOf ws) ws ≡ q .ends =
+      ap (λ (l : List ℕ). take (getD l 0 0) (drop 2 l)) (q .content) ∙ take-at (q .labels) (q .es) (q .nodes) (q .label-each) in
+      let b : drop (2 + nodesOf ws) ws ≡ q .es =
       ap (λ (l : List ℕ). drop (2 + getD l 0 0) l) (q .content)
       ∙ ap (λ (k : ℕ). drop k all) z
-      ∙ drop-at (q .labels) (q .ends) (q .nodes) (q .label-each) in
+      ∙ drop-at (q .labels) (q .es) (q .nodes) (q .label-each) in
       ap₂ (λ (l m : List ℕ). made l (edgesIn m)) a b
 
   -- each end is a node, and each node is an end of an edge
-  sound-made : SoundPattern (made (q .labels) (edgesIn (q .ends)))
+  sound-made : SoundPattern (made (q .labels) (edgesIn (q .es)))
   sound-made =
       record {
         ends = λ e i.
-            let r = edgesIn-at (q .ends) (q .number) ends-long i in
-            let l = r .below in
+            let r = edgesIn-at (q .es) (q .number) fields-long i in
             let n = q .label-each in
-            let a = q .edges .are-nodes (2 * r .at) (omega (arith, ends-long)) in
-            let b = q .edges .are-nodes (2 * r .at + 1) (omega (arith, ends-long)) in
-            let c : (fromAt (q .ends) (r .at) < length (q .labels)) × (toAt (q .ends) (r .at) < length (q .labels)) = (omega arith, omega arith) in
+            let a = q .edges .among .from-node (r .at) (r .below) in
+            let b = q .edges .among .to-node (r .at) (r .below) in
+            let c : (fromAt (q .es) (r .at) < length (q .labels)) × (toAt (q .es) (r .at) < length (q .labels)) = (omega arith, omega arith) in
             subst (λ f. (f .from < length (q .labels)) × (f .to < length (q .labels))) (sym (r .holds)) c;
         touched = λ u l.
             let r = q .met u (omega (arith, q .label-each)) in
-            let i : ℕ = r .0 in
-            let j : i / 2 < q .number = omega (arith, r .1, ends-long) in
-            (edgeAt (q .ends) (i / 2), at-edgesIn (q .ends) (q .number) ends-long (i / 2) j, which u i (i % 2) (omega arith) (omega arith) (r .2));
+            (edgeAt (q .es) (r .0), at-edgesIn (q .es) (q .number) fields-long (r .0) (r .1), r .2);
       }
-    where
-      which : (u i r : ℕ) → r < 2 → i ≡ 2 * (i / 2) + r → getD (q .ends) i 0 ≡ u → (fromAt (q .ends) (i / 2) ≡ u) ⊎ (toAt (q .ends) (i / 2) ≡ u)
-      which u i zero l z e = inl (ap (λ (k : ℕ). getD (q .ends) k 0) (let y : 2 * (i / 2) ≡ i = omega arith in y) ∙ e)
-      which u i (suc zero) l z e = inr (ap (λ (k : ℕ). getD (q .ends) k 0) (let y : 2 * (i / 2) + 1 ≡ i = omega arith in y) ∙ e)
-      which u i (suc (suc r)) l z e = absurd (omega arith)
 
   pub sound-of : T (sound (patternOf ws))
-  sound-of = subst (λ P. T (sound P)) (sym pattern-is) (sound-by (made (q .labels) (edgesIn (q .ends))) sound-made)
+  sound-of = subst (λ P. T (sound P)) (sym pattern-is) (sound-by (made (q .labels) (edgesIn (q .es))) sound-made)
 
   pub edges-many : length (patternOf ws .edges) ≡ edgesOf ws
-  edges-many = ap (λ (P : Pattern). length (P .edges)) pattern-is ∙ edgesIn-length (q .ends) (q .number) ends-long ∙ sym edges-in
+  edges-many = ap (λ (P : Pattern). length (P .edges)) pattern-is ∙ edgesIn-length (q .es) (q .number) fields-long ∙ sym edges-in
 
   module _ {p : Given} (h : HoldsPattern ws p) where
     nodes-are : p .nodes ≡ q .nodes
@@ -100,14 +91,14 @@ module _ {ws : List ℕ} {bs : List Bool} (q : PlainPattern ws bs) where
     label-at : (u : ℕ) → u < q .nodes → getD (p .labels) u 0 ≡ getD (q .labels) u 0
     label-at u l = h .labels .each u (omega (arith, nodes-in)) ∙ label-in (2 + 1 * u) u (omega arith) l
 
-    from-at : (e : ℕ) → e < q .number → getD (p .from) e 0 ≡ fromAt (q .ends) e
-    from-at e l = h .from .each e (omega (arith, edges-in)) ∙ end-in (2 + nodesOf ws + 2 * e) (2 * e) (omega (arith, nodes-in))
+    from-at : (e : ℕ) → e < q .number → getD (p .from) e 0 ≡ fromAt (q .es) e
+    from-at e l = h .from .each e (omega (arith, edges-in)) ∙ end-in (2 + nodesOf ws + 3 * e) (3 * e) (omega (arith, nodes-in))
 
-    to-at : (e : ℕ) → e < q .number → getD (p .to) e 0 ≡ toAt (q .ends) e
-    to-at e l = h .to .each e (omega (arith, edges-in)) ∙ end-in (3 + nodesOf ws + 2 * e) (2 * e + 1) (omega (arith, nodes-in))
+    to-at : (e : ℕ) → e < q .number → getD (p .to) e 0 ≡ toAt (q .es) e
+    to-at e l = h .to .each e (omega (arith, edges-in)) ∙ end-in (3 + nodesOf ws + 3 * e) (3 * e + 1) (omega (arith, nodes-in))
 
-    end-below : (j : ℕ) → j < 2 * q .number → getD (q .ends) j 0 < p .nodes
-    end-below j l = omega (arith, nodes-are, q .edges .are-nodes j (omega (arith, ends-long)))
+    kind-at : (e : ℕ) → e < q .number → getD (p .kind) e 0 ≡ kindAt (q .es) e
+    kind-at e l = h .kind .each e (omega (arith, edges-in)) ∙ end-in (4 + nodesOf ws + 3 * e) (3 * e + 2) (omega (arith, nodes-in))
 
     pub fair-by : Fair p
     fair-by =
@@ -117,9 +108,11 @@ module _ {ws : List ℕ} {bs : List Bool} (q : PlainPattern ws bs) where
           labels-long = h .labels .long;
           from-long = h .from .long;
           to-long = h .to .long;
+          kind-long = h .kind .long;
           labels = λ u l. let k : u < q .nodes = omega (arith, nodes-are) in rw (label-at u k) (q .are-labels u (omega (arith, q .label-each)));
-          from = λ e l. let k : e < q .number = omega (arith, edges-are) in rw (from-at e k) (end-below (2 * e) (omega arith));
-          to = λ e l. let k : e < q .number = omega (arith, edges-are) in rw (to-at e k) (end-below (2 * e + 1) (omega arith));
+          from = λ e l. let k : e < q .number = omega (arith, edges-are) in rw (from-at e k) (omega (arith, nodes-are, q .edges .among .from-node e k));
+          to = λ e l. let k : e < q .number = omega (arith, edges-are) in rw (to-at e k) (omega (arith, nodes-are, q .edges .among .to-node e k));
+          kind = λ e l. let k : e < q .number = omega (arith, edges-are) in rw (kind-at e k) (q .edges .among .is-kind e k);
         }
 
     abbrev labels-front : List ℕ
@@ -133,11 +126,11 @@ module _ {ws : List ℕ} {bs : List Bool} (q : PlainPattern ws bs) where
         ext-getD 0 labels-front (q .labels) (front-long ∙ nodes-are ∙ sym (q .label-each))
         (λ i l. getD-take (p .nodes) (p .labels) i 0 (omega (arith, front-long)) ∙ label-at i (omega (arith, front-long, nodes-are)))
 
-    pub edges-same : upTo (givenAt p) (p .edges) ≡ edgesIn (q .ends)
+    pub edges-same : upTo (givenAt p) (p .edges) ≡ edgesIn (q .es)
     edges-same =
         ap (upTo (givenAt p)) edges-are
-        ∙ upTo-same (givenAt p) (edgeAt (q .ends)) (q .number) (λ i l. λ z. between (from-at i l z) (to-at i l z))
-        ∙ sym (edgesIn-upTo (q .ends) (q .number) ends-long)
+        ∙ upTo-same (givenAt p) (edgeAt (q .es)) (q .number) (λ i l. λ z. between (from-at i l z) (to-at i l z) (kind-at i l z))
+        ∙ sym (edgesIn-upTo (q .es) (q .number) fields-long)
 
     -- by value it means the same
     pub pattern-same : patternIn p ≡ patternOf ws

@@ -1,5 +1,5 @@
 -- An accepted record whose edges stand in the workspace: it is ready to be matched, and means the graph of its content.
-use Prim.Native.Nat.{ℕ, _+_, _*_, _/_, _%_, _<_, _≤_}
+use Prim.Native.Nat.{ℕ, _+_, _*_, _/_, _%_, _^_, _<_, _≤_}
 use mathlib.Core.Path.{_≡_, sym, ap, ap₂, subst, _∙_}
 use mathlib.Core.List.{List}
 use lib.ListN.{length, take, drop, getD, length-drop}
@@ -7,44 +7,39 @@ use lib.Seq.{getD-take, getD-drop, length-take-le, ext-getD}
 use native.Mathlib.Omega.{arith}
 use Rattle.packed.specs.Bits.{field}
 use Rattle.packed.specs.Format.{ok, decode}
-use Rattle.packed.specs.Formats.{record′, code}
-use Rattle.packed.specs.Contents.{nodesOf, edgesOf}
-use Rattle.packed.specs.Plain.{fromAt, toAt}
+use Rattle.packed.specs.Formats.{record′, rank}
+use Rattle.packed.specs.Contents.{nodesOf, edgesOf, edgeWord, ranks}
+use Rattle.packed.specs.Plain.{fromAt, toAt, kindAt, EdgesAmong}
 use Rattle.packed.specs.LoadedGraph.{Holds}
-use Rattle.packed.specs.Distinct.{Increasing}
 use Rattle.packed.proofs.DistinctMerge.{increasing-at}
-use Rattle.packed.proofs.GraphLaws.{labels-field, record-bounds, ends-below, codes-length, codes-at}
+use Rattle.packed.proofs.EdgePlaces.{each-length, each-at}
+use Rattle.packed.proofs.GraphLaws.{labels-field, record-bounds, record-among}
 use Rattle.packed.proofs.SortedEdges.{record-rises}
 use Rattle.matching.specs.Lists.{In, upTo}
 use Rattle.matching.specs.Simulation.{Edge, between, Pattern, Graph, edgesIn, graphOf, matchSets}
 use Rattle.matching.specs.Steps.{edgeOfWord, graphIn, Ready, Edges}
-use Rattle.matching.specs.Matched.{Rises}
+use Rattle.matching.specs.Matched.{rankOf, Rises}
 use Rattle.matching.specs.Index.{indexFor, indexOf}
 use Rattle.matching.specs.Sweeping.{Ends}
 use Rattle.matching.specs.Late.{ByStart, edgesAt}
 use Rattle.matching.proofs.UpToLaws.{length-upTo, getD-upTo, upTo-same}
 use Rattle.matching.proofs.MatchSetLaws.{Narrow}
+use Rattle.matching.proofs.RankLaws.{rank-from}
 use Rattle.matching.proofs.EdgeLaws.{edgeAt, edgesIn-upTo, edgesIn-at, edgesIn-length}
 
 -- ---- the content of an accepted record
--- the ends of its edges
-abbrev endsOf : List ℕ → List ℕ
-endsOf ws = drop (2 + nodesOf ws) ws
+-- the fields of its edges
+abbrev fieldsOf : List ℕ → List ℕ
+fieldsOf ws = drop (2 + nodesOf ws) ws
 
 module _ (s ws : List ℕ) (e : decode record′ s ≡ ok ws) where
-  ends-long : length (endsOf ws) ≡ 2 * edgesOf ws
-  ends-long = length-drop (2 + nodesOf ws) ws ∙ omega (arith, record-bounds s ws e .2)
+  among : EdgesAmong (nodesOf ws) 8 (edgesOf ws) (fieldsOf ws)
+  among = record-among s ws e
 
-  end-below : (j : ℕ) → j < 2 * edgesOf ws → getD (endsOf ws) j 0 < nodesOf ws
-  end-below j l =
-      let z : 2 + nodesOf ws + j ≡ 2 + (nodesOf ws + j) = omega arith in
-      rw (getD-drop (2 + nodesOf ws) ws j 0, z) (ends-below s ws e j l)
-
-  edge-below : {f : Edge} → In f (edgesIn (endsOf ws)) → (f .from < nodesOf ws) × (f .to < nodesOf ws)
+  edge-below : {f : Edge} → In f (edgesIn (fieldsOf ws)) → (f .from < nodesOf ws) × (f .to < nodesOf ws)
   edge-below {f} j =
-      let r = edgesIn-at (endsOf ws) (edgesOf ws) ends-long j in
-      let l = r .below in
-      subst (λ g. (g .from < nodesOf ws) × (g .to < nodesOf ws)) (sym (r .holds)) (end-below (2 * r .at) (omega arith), end-below (2 * r .at + 1) (omega arith))
+      let r = edgesIn-at (fieldsOf ws) (edgesOf ws) (among .three-each) j in
+      subst (λ g. (g .from < nodesOf ws) × (g .to < nodesOf ws)) (sym (r .holds)) (among .from-node (r .at) (r .below), among .to-node (r .at) (r .below))
 
   pub graph-narrow : Narrow (graphOf ws)
   unfolding graphOf
@@ -52,7 +47,7 @@ module _ (s ws : List ℕ) (e : decode record′ s ≡ ok ws) where
 
   pub graph-few : length (graphOf ws .edges) ≤ 8192
   unfolding graphOf
-  graph-few = omega (arith, edgesIn-length (endsOf ws) (edgesOf ws) ends-long, record-bounds s ws e .1)
+  graph-few = omega (arith, edgesIn-length (fieldsOf ws) (edgesOf ws) (among .three-each), record-bounds s ws e .1)
 
 abbrev with-edges : List ℕ → List Edge → Graph
 with-edges l es = record { labels = l; edges = es }
@@ -65,8 +60,11 @@ module _ {s : List ℕ} {n m : ℕ} {w : List ℕ} (h : Holds s n m w) where
   few : m ≤ 8192
   few = omega (arith, h .edges, record-bounds s ws (h .is) .1)
 
-  two-each : length (endsOf ws) ≡ 2 * m
-  two-each = ends-long s ws (h .is) ∙ ap (λ (k : ℕ). 2 * k) (sym (h .edges))
+  abbrev edges-among : EdgesAmong (nodesOf ws) 8 (edgesOf ws) (fieldsOf ws)
+  edges-among = among s ws (h .is)
+
+  three-each : length (fieldsOf ws) ≡ 3 * m
+  three-each = edges-among .three-each ∙ ap (λ (k : ℕ). 3 * k) (sym (h .edges))
 
   front-long : length (take m w) ≡ m
   front-long = length-take-le m w (omega (arith, few, h .long))
@@ -74,28 +72,41 @@ module _ {s : List ℕ} {n m : ℕ} {w : List ℕ} (h : Holds s n m w) where
   front-at : (i : ℕ) → i < m → getD (take m w) i 0 ≡ getD w i 0
   front-at i l = getD-take m w i 0 l
 
-  ends-in : (i : ℕ) → i < m → (fromAt (endsOf ws) i < n) × (toAt (endsOf ws) i < n)
-  ends-in i l =
-      let e = h .edges in
-      let k = h .nodes in
-      let a = end-below s ws (h .is) (2 * i) (omega arith) in
-      let b = end-below s ws (h .is) (2 * i + 1) (omega arith) in
-      (omega arith, omega arith)
+  edge-in : (i : ℕ) → i < m → (fromAt (fieldsOf ws) i < n) × (toAt (fieldsOf ws) i < n) × (kindAt (fieldsOf ws) i < 8)
+  edge-in i l =
+      let j : i < edgesOf ws = omega (arith, h .edges) in
+      (omega (arith, h .nodes, edges-among .from-node i j), omega (arith, h .nodes, edges-among .to-node i j), edges-among .is-kind i j)
 
-  -- each word is the code of the edge in its place
-  code-at : (i : ℕ) → i < m → getD w i 0 ≡ code (fromAt (endsOf ws) i) (toAt (endsOf ws) i)
-  code-at i l =
+  -- each word is that of the edge in its place
+  word-at : (i : ℕ) → i < m → getD w i 0 ≡ edgeWord (fromAt (fieldsOf ws) i) (toAt (fieldsOf ws) i) (kindAt (fieldsOf ws) i)
+  word-at i l =
       sym (front-at i l)
       ∙ ap (λ (c : List ℕ). getD c i 0) (h .front)
-      ∙ codes-at (endsOf ws) i (omega (arith, codes-length m (endsOf ws) two-each))
+      ∙ each-at edgeWord (fieldsOf ws) i (omega (arith, each-length edgeWord m (fieldsOf ws) three-each))
 
-  halves : (i : ℕ) → i < m → (getD w i 0 / 4096 ≡ fromAt (endsOf ws) i) × (getD w i 0 % 4096 ≡ toAt (endsOf ws) i)
-  halves i l =
-      let c = code-at i l in
-      let b = ends-in i l in
+  -- its parts
+  parts : (i : ℕ) → i < m
+      → (getD w i 0 / 4096 % 4096 ≡ fromAt (fieldsOf ws) i) × (getD w i 0 % 4096 ≡ toAt (fieldsOf ws) i) × (getD w i 0 / 2 ^ 24 ≡ kindAt (fieldsOf ws) i)
+  parts i l =
+      let c = word-at i l in
+      let b = edge-in i l in
+      let x = b .0 in
+      let y = b .1 in
       let k = h .nodes in
       let f = record-bounds s ws (h .is) .0 in
-      (omega arith, omega arith)
+      (omega arith, omega arith, omega arith)
+
+  -- the rank of a word is that of its edge
+  rank-at : (i : ℕ) → i < m → getD (ranks (fieldsOf ws)) i 0 ≡ rankOf (getD w i 0)
+  rank-at i l =
+      let c = word-at i l in
+      let b = edge-in i l in
+      let x = b .0 in
+      let y = b .1 in
+      let k = h .nodes in
+      let f = record-bounds s ws (h .is) .0 in
+      each-at rank (fieldsOf ws) i (omega (arith, each-length rank m (fieldsOf ws) three-each))
+      ∙ omega (arith, c)
 
   pub ready-by : length s ≤ 65536 → Ready s n m w
   ready-by l =
@@ -107,17 +118,18 @@ module _ {s : List ℕ} {n m : ℕ} {w : List ℕ} (h : Holds s n m w) where
         nodes = omega (arith, b .0);
         edges = few;
         long = h .long;
-        from = λ i j. rw (halves i j .0) (ends-in i j .0);
-        to = λ i j. rw (halves i j .1) (ends-in i j .1);
+        from = λ i j. rw (parts i j .0) (edge-in i j .0);
+        to = λ i j. rw (parts i j .1) (edge-in i j .1);
+        kind = λ i j. rw (parts i j .2) (edge-in i j .2);
       }
 
   pub rises-by : Rises m w
   rises-by i j l k =
-      let a = increasing-at (take m w) (subst Increasing (sym (h .front)) (record-rises s ws (h .is))) i j l (omega (arith, front-long)) in
-      rw (front-at i (omega arith), front-at j k) at a
+      let a = increasing-at (ranks (fieldsOf ws)) (record-rises s ws (h .is)) i j l (omega (arith, each-length rank m (fieldsOf ws) three-each)) in
+      omega (arith, a, rank-at i (omega arith), rank-at j k)
 
   pub order-by : ByStart m w
-  order-by i j l k = let z = rises-by i j l k in omega arith
+  order-by i j l k = rank-from (getD w i 0) (getD w j 0) (rw (parts j k .2) (edge-in j k .2)) (rises-by i j l k)
 
   labels-same : upTo (λ v. field s (27 + 32 * v) 32) n ≡ take (nodesOf ws) (drop 2 ws)
   labels-same =
@@ -131,10 +143,10 @@ module _ {s : List ℕ} {n m : ℕ} {w : List ℕ} (h : Holds s n m w) where
       ∙ labels-field s ws (h .is) v (omega arith)
       ∙ sym (getD-take (nodesOf ws) (drop 2 ws) v 0 (omega arith) ∙ getD-drop 2 ws v 0))
 
-  edges-same : edgesAt m w ≡ edgesIn (endsOf ws)
+  edges-same : edgesAt m w ≡ edgesIn (fieldsOf ws)
   edges-same =
-      upTo-same (λ i. edgeOfWord (getD w i 0)) (edgeAt (endsOf ws)) m (λ i l. λ z. between (halves i l .0 z) (halves i l .1 z))
-      ∙ sym (edgesIn-upTo (endsOf ws) m two-each)
+      upTo-same (λ i. edgeOfWord (getD w i 0)) (edgeAt (fieldsOf ws)) m (λ i l. λ z. between (parts i l .0 z) (parts i l .1 z) (parts i l .2 z))
+      ∙ sym (edgesIn-upTo (fieldsOf ws) m three-each)
 
   pub graph-same : graphIn s n m w ≡ graphOf ws
   unfolding graphIn graphOf
@@ -164,6 +176,7 @@ module _ {m : ℕ} {w w′ : List ℕ} (e : Edges w w′) where
         long = e .long ∙ r .long;
         from = λ i l. rw (e .same i (omega arith)) (r .from i l);
         to = λ i l. rw (e .same i (omega arith)) (r .to i l);
+        kind = λ i l. rw (e .same i (omega arith)) (r .kind i l);
       }
 
   pub rises-again : m ≤ 8192 → Rises m w → Rises m w′

@@ -171,13 +171,13 @@ module _ {n free due d : ℕ} {leaving arriving w leave arrive out : List ℕ} {
             record {
               most = P .ends .most;
               long = A .falls .long ∙ P .ends .long;
-              from = λ i l. (let z = P .ends .from i l in let y = ap (λ (x : ℕ). x / 4096) (A .falls .same i l) in omega arith);
+              from = λ i l. (let z = P .ends .from i l in let y = ap (λ (x : ℕ). x / 4096 % 4096) (A .falls .same i l) in omega arith);
               to = λ i l. (let z = P .ends .to i l in let y = ap (λ (x : ℕ). x % 4096) (A .falls .same i l) in omega arith);
             };
         order = λ i j p q.
             (let a = P .order i j p q in
-            let b = ap (λ (x : ℕ). x / 4096) (A .falls .same i (omega arith)) in
-            let c = ap (λ (x : ℕ). x / 4096) (A .falls .same j q) in
+            let b = ap (λ (x : ℕ). x / 4096 % 4096) (A .falls .same i (omega arith)) in
+            let c = ap (λ (x : ℕ). x / 4096 % 4096) (A .falls .same j q) in
             omega arith);
         nodes = (let z = P .nodes in let y = A .out-long in omega arith);
         leave-long = A .leave-long ∙ P .leave-long ∙ sym (A .out-long);

@@ -7,10 +7,11 @@ use lib.ListN.{length, getD}
 use lib.Dec.{T}
 use Rattle.matching.specs.Lists.{In}
 use Rattle.matching.specs.Simulation.{Edge, between, Pattern, Graph, has, fits, sim, IsSim}
-use Rattle.matching.specs.Sweeps.{Has, OneOf}
+use Rattle.matching.specs.Sweeps.{Has, Mask, OneOf}
 use Rattle.matching.proofs.MaskBits.{none-has}
 use Rattle.matching.proofs.SimLaws.{has-in, in-has, sim-is, sim-most}
-use Rattle.matching.specs.Sweeping.{fromOf, toOf, heldAt, Tabled}
+use Rattle.matching.specs.Sweeping.{fromOf, toOf, kindOf, heldAt, Tabled}
+use Rattle.matching.specs.Starting.{OfKind}
 use Rattle.matching.specs.Choices.{Safe, Shape, Prepared, Fixed}
 use Rattle.matching.proofs.RoundLaws.{fixed-prepared}
 use Rattle.matching.proofs.RestingLaws.{RestsAt, rests-supports}
@@ -20,12 +21,12 @@ pub record EdgeNumbered (edges : List Edge) (m : ℕ) (numbered : ℕ → Edge) 
   pub has : (e : ℕ) → e < m → In (numbered e) edges
   pub is : (f : Edge) → In f edges → OneOf m (λ e. f ≡ numbered e)
 
--- each pair is held for all links, and the masks have those whose end fits
-pub record Begun (P : Pattern) (G : Graph) (from to : List ℕ) (m n d : ℕ) (w leave arrive : List ℕ) : Type 0 where
-  pub links : EdgeNumbered (P .edges) m (λ e. between (getD from e 0) (getD to e 0))
-  pub pairs : EdgeNumbered (G .edges) d (λ i. between (fromOf w i) (toOf w i))
+-- each pair is held for the links of its kind, and the masks have those whose end fits
+pub record Begun (P : Pattern) (G : Graph) (from to kinds : List ℕ) (m n d : ℕ) (w leave arrive : List ℕ) : Type 0 where
+  pub links : EdgeNumbered (P .edges) m (λ e. between (getD from e 0) (getD to e 0) (getD kinds e 0))
+  pub pairs : EdgeNumbered (G .edges) d (λ i. between (fromOf w i) (toOf w i) (kindOf w i))
   pub nodes : length (G .labels) ≡ n
-  pub held : (i e : ℕ) → i < d → e < m → Has (heldAt w i) e
+  pub held : (i : ℕ) → i < d → Mask (OfKind kinds m (kindOf w i)) (heldAt w i)
   pub leave-by : (v e : ℕ) → e < m → T (fits P G (getD from e 0, v)) → Has (getD leave v 0) e
   pub leave-say : (v e : ℕ) → e < m → Has (getD leave v 0) e → T (fits P G (getD from e 0, v))
   pub arrive-by : (v e : ℕ) → e < m → T (fits P G (getD to e 0, v)) → Has (getD arrive v 0) e
@@ -35,7 +36,7 @@ pub record Begun (P : Pattern) (G : Graph) (from to : List ℕ) (m n d : ℕ) (w
 abbrev pub EndOf : List ℕ → List ℕ → ℕ → ℕ → Type 0
 EndOf from to m u = OneOf m (λ e. (getD from e 0 ≡ u) ⊎ (getD to e 0 ≡ u))
 
-module _ (P : Pattern) (G : Graph) (from to : List ℕ) (m n d : ℕ) (w leave arrive : List ℕ) (B : Begun P G from to m n d w leave arrive) where
+module _ (P : Pattern) (G : Graph) (from to kinds : List ℕ) (m n d : ℕ) (w leave arrive : List ℕ) (B : Begun P G from to kinds m n d w leave arrive) where
   begun-shape : Shape from to m leave arrive
   begun-shape =
       record {
@@ -49,15 +50,15 @@ module _ (P : Pattern) (G : Graph) (from to : List ℕ) (m n d : ℕ) (w leave a
   begun-safe free =
       record {
         supports = λ u v p e le nf q.
-            (let s = sim-is P G .follow u v (has-in (u, v) p) (between (getD from e 0) (getD to e 0)) (B .links .has e le) q in
+            (let s = sim-is P G .follow u v (has-in (u, v) p) (between (getD from e 0) (getD to e 0) (getD kinds e 0)) (B .links .has e le) q in
             let o = B .pairs .is (s .0) (s .1) in
             record {
               at = o .at;
               below = o .below;
               holds = (
                 sym (ap (λ (f : Edge). f .from) (o .holds)) ∙ s .2,
-                B .held (o .at) e (o .below) le,
-                subst (λ (x : ℕ). T (has (getD to e 0, x) (sim P G))) (ap (λ (f : Edge). f .to) (o .holds)) (in-has (s .3)),
+                B .held (o .at) (o .below) .hit e (le, sym (s .3) ∙ ap (λ (f : Edge). f .kind) (o .holds)),
+                subst (λ (x : ℕ). T (has (getD to e 0, x) (sim P G))) (ap (λ (f : Edge). f .to) (o .holds)) (in-has (s .4)),
               );
             });
         leaves = λ u v e p le q. B .leave-by v e le (subst (λ (x : ℕ). T (fits P G (x, v))) (sym q) (sim-is P G .fit u v (has-in (u, v) p)));
@@ -89,9 +90,10 @@ module _ (P : Pattern) (G : Graph) (from to : List ℕ) (m n d : ℕ) (w leave a
               let o = rests-supports from to m (T₁ .few) (fixed-prepared F E .ends) apart (s .shape begun-shape) (F .rests z) u v (p .0) e (k .below) (all e (k .below)) a in
               let i = o .at in
               let c = F .falls .same i (o .below) in (
-                between (fromOf w i) (toOf w i),
+                between (fromOf w i) (toOf w i) (kindOf w i),
                 B .pairs .has i (o .below),
-                sym (ap (λ (y : ℕ). y / 4096) c) ∙ o .holds .0,
+                sym (ap (λ (y : ℕ). y / 4096 % 4096) c) ∙ o .holds .0,
+                sym (B .held i (o .below) .why e (F .falls .part i e (o .below) (o .holds .1)) .1) ∙ sym (ap (λ (f : Edge). f .kind) (k .holds)),
                 (
                   subst₂ (RestsAt from to m n leave′ arrive′) b (ap (λ (y : ℕ). y % 4096) c) (o .holds .2),
                   record { at = e; below = k .below; holds = inr b },
@@ -103,14 +105,14 @@ module _ (P : Pattern) (G : Graph) (from to : List ℕ) (m n d : ℕ) (w leave a
     pub search-greatest : r ≡ 0 → (u v : ℕ) → EndOf from to m u → RestsAt from to m n leave′ arrive′ u v → In (u, v) (sim P G)
     search-greatest z u v k p = sim-most P G _ (stands-sim z) u v (p, k)
 
-    -- a pair is held for a link where its ends are partners of the link's ends
+    -- a pair of the link's kind is held for it where its ends are partners of the link's ends
     pub held-say : r ≡ 0 → (i e : ℕ) → i < d → e < m → Has (heldAt w′ i) e → In (getD from e 0, fromOf w i) (sim P G) × In (getD to e 0, toOf w i) (sim P G)
     held-say z i e l le h =
         let s = F .sound from to m T₁ T₂ apart .shape begun-shape in
         let b = ⊎-elim (λ f. absurd (none-has e f)) (λ b. b) (F .rests z .within i e l h) in
         let n′ = fixed-prepared F E .ends in
         let c = F .falls .same i l in (
-          subst (λ (y : ℕ). In (getD from e 0, y / 4096) (sim P G)) c
+          subst (λ (y : ℕ). In (getD from e 0, y / 4096 % 4096) (sim P G)) c
               (search-greatest z (getD from e 0) (fromOf w′ i) (record { at = e; below = le; holds = inl refl })
               (record { leaves = λ k lk q. s .out-out _ e k le lk (sym q) (b .0); arrives = λ k lk q. s .out-in _ e k le lk (sym q) (b .0) }, n′ .from i l)),
           subst (λ (y : ℕ). In (getD to e 0, y % 4096) (sim P G)) c
@@ -118,6 +120,6 @@ module _ (P : Pattern) (G : Graph) (from to : List ℕ) (m n d : ℕ) (w leave a
               (record { leaves = λ k lk q. s .in-out _ e k le lk (sym q) (b .1); arrives = λ k lk q. s .in-in _ e k le lk (sym q) (b .1) }, n′ .to i l)),
         )
 
-    pub held-by : (i e : ℕ) → i < d → e < m → In (getD from e 0, fromOf w i) (sim P G) → In (getD to e 0, toOf w i) (sim P G) → Has (heldAt w′ i) e
-    held-by i e l le a b =
-        F .sound from to m T₁ T₂ apart .stays (λ u v. has (u, v) (sim P G)) (begun-safe 0) i e l le (in-has a) (in-has b) (B .held i e l le)
+    pub held-by : (i e : ℕ) → i < d → OfKind kinds m (kindOf w i) e → In (getD from e 0, fromOf w i) (sim P G) → In (getD to e 0, toOf w i) (sim P G) → Has (heldAt w′ i) e
+    held-by i e l q a b =
+        F .sound from to m T₁ T₂ apart .stays (λ u v. has (u, v) (sim P G)) (begun-safe 0) i e l (q .0) (in-has a) (in-has b) (B .held i l .hit e q)

@@ -1,12 +1,12 @@
 -- `sim` is a simulation, and every simulation lies in it.
-use mathlib.Core.Path.{_≡_, sym, subst}
+use mathlib.Core.Path.{_≡_, sym}
 use mathlib.Core.List.{List}
 use Prim.Native.Nat.{ℕ, _<_}
 use lib.ListN.{length, getD}
-use lib.Dec.{T, eqb, eqb→eq, eqb-refl, ltb→lt, lt→ltb}
+use lib.Dec.{T, eqb→eq, eqb-refl, ltb→lt, lt→ltb}
 use Rattle.matching.specs.Lists.{In, keep}
 use Rattle.matching.specs.Simulation.{Pair, same, has, Edge, sameEdge, between, asPair, everyPair, bit, Pattern, Graph, fits, follows, sim, IsSim}
-use Rattle.matching.proofs.ListLaws.{and-left, and-right, both, use-if, make-if, in-cast, every-in, in-every, some-in, in-some, keep-in, in-keep, in-gather, in-each, in-below}
+use Rattle.matching.proofs.ListLaws.{and-left, and-right, both, use-if, make-if, equal-test, in-cast, every-in, in-every, some-in, in-some, keep-in, in-keep, in-gather, in-each, in-below}
 use Rattle.matching.proofs.GreatestLaws.{greatest-part, greatest-ok, greatest-all}
 
 -- pairs
@@ -21,15 +21,17 @@ same-refl a = both _ _ (eqb-refl (a .0)) (eqb-refl (a .1))
 -- edges
 pub same-edge : (e f : Edge) → T (sameEdge e f) → e ≡ f
 unfolding sameEdge
-same-edge e f h = λ i. between (eqb→eq (e .from) (f .from) (and-left _ _ h) i) (eqb→eq (e .to) (f .to) (and-right _ _ h) i)
+same-edge e f h = λ i.
+    between (eqb→eq (e .from) (f .from) (and-left _ _ h) i) (eqb→eq (e .to) (f .to) (and-left _ _ (and-right _ _ h)) i)
+    (eqb→eq (e .kind) (f .kind) (and-right _ _ (and-right _ _ h)) i)
 
 pub same-edge-refl : (e : Edge) → T (sameEdge e e)
 unfolding sameEdge
-same-edge-refl e = both _ _ (eqb-refl (e .from)) (eqb-refl (e .to))
+same-edge-refl e = both _ _ (eqb-refl (e .from)) (both _ _ (eqb-refl (e .to)) (eqb-refl (e .kind)))
 
--- by its ends
-pub pair-edge : {e f : Edge} → asPair e ≡ asPair f → e ≡ f
-pair-edge p = λ i. between (p i .0) (p i .1)
+-- by its ends and its kind
+pub pair-edge : {e f : Edge} → asPair e ≡ asPair f → e .kind ≡ f .kind → e ≡ f
+pair-edge p k = λ i. between (p i .0) (p i .1) (k i)
 
 pub has-in : (a : Pair) {l : List Pair} → T (has a l) → In a l
 unfolding has
@@ -64,19 +66,19 @@ module _ (P : Pattern) (G : Graph) where
 
   -- what it is to follow
   pub follows-say : (l : List Pair) {u v : ℕ} → T (follows P G l (u, v))
-      → (e : Edge) → In e (P .edges) → e .from ≡ u → (f : Edge) × In f (G .edges) × (f .from ≡ v) × In (e .to, f .to) l
+      → (e : Edge) → In e (P .edges) → e .from ≡ u → (f : Edge) × In f (G .edges) × (f .from ≡ v) × (f .kind ≡ e .kind) × In (e .to, f .to) l
   unfolding follows
   follows-say l {u} {v} t e j q =
-      let r = some-in _ (G .edges) (use-if _ _ (every-in _ t j) (subst (λ z. T (eqb (e .from) z)) q (eqb-refl (e .from)))) in
-      (r .0, r .1, eqb→eq (r .0 .from) v (and-left _ _ (r .2)), has-in _ (and-right _ _ (r .2)))
+      let r = some-in _ (G .edges) (use-if _ _ (every-in _ t j) (equal-test (e .from) q)) in
+      (r .0, r .1, eqb→eq (r .0 .from) v (and-left _ _ (r .2)), eqb→eq (r .0 .kind) (e .kind) (and-left _ _ (and-right _ _ (r .2))), has-in _ (and-right _ _ (and-right _ _ (r .2))))
 
-  pub follows-by : (l : List Pair) {u v : ℕ} → ((e : Edge) → In e (P .edges) → e .from ≡ u → (f : Edge) × In f (G .edges) × (f .from ≡ v) × In (e .to, f .to) l)
+  pub follows-by : (l : List Pair) {u v : ℕ} → ((e : Edge) → In e (P .edges) → e .from ≡ u → (f : Edge) × In f (G .edges) × (f .from ≡ v) × (f .kind ≡ e .kind) × In (e .to, f .to) l)
       → T (follows P G l (u, v))
   unfolding follows
   follows-by l {u} {v} h =
       in-every _ (P .edges) λ e i. make-if _ _ λ t.
       let j = h e i (eqb→eq (e .from) u t) in
-      in-some _ (j .1) (both _ _ (subst (λ z. T (eqb (j .0 .from) z)) (j .2) (eqb-refl (j .0 .from))) (in-has (j .3)))
+      in-some _ (j .1) (both _ _ (equal-test (j .0 .from) (j .2)) (both _ _ (equal-test (j .0 .kind) (j .3)) (in-has (j .4))))
 
   -- where the search starts
   pub in-start : {u v : ℕ} → T (fits P G (u, v)) → In (u, v) (keep (fits P G) (everyPair (length (P .labels)) (length (G .labels))))
@@ -93,7 +95,7 @@ module _ (P : Pattern) (G : Graph) where
   unfolding sim
   sim-most R s u v r =
       greatest-all (follows P G) (λ x. R (x .0) (x .1))
-      (λ l f x q. follows-by l λ e i p. let n = s .follow (x .0) (x .1) q e i p in (n .0, n .1, n .2, f (e .to, n .0 .to) (n .3)))
+      (λ l f x q. follows-by l λ e i p. let n = s .follow (x .0) (x .1) q e i p in (n .0, n .1, n .2, n .3, f (e .to, n .0 .to) (n .4)))
       _
       (λ x q. in-start (s .fit (x .0) (x .1) q))
       (u, v) r

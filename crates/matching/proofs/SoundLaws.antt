@@ -33,7 +33,7 @@ module _ (from to : List ℕ) (m : ℕ) {free due d : ℕ} {w leave arrive : Lis
         safe = λ S s. b .safe S (a .safe S s);
         stays = λ S s i e l le p q h.
             b .stays S (a .safe S s) i e l le
-            (subst (λ (x : ℕ). T (S (getD from e 0) (x / 4096))) (sym (same i l)) p)
+            (subst (λ (x : ℕ). T (S (getD from e 0) (x / 4096 % 4096))) (sym (same i l)) p)
             (subst (λ (x : ℕ). T (S (getD to e 0) (x % 4096))) (sym (same i l)) q) (a .stays S s i e l le p q h);
         shape = λ s. b .shape (a .shape s);
         aside = λ e le x.
@@ -44,7 +44,7 @@ module _ (from to : List ℕ) (m : ℕ) {free due d : ℕ} {w leave arrive : Lis
               arrives = λ v h. q .arrives v (p .arrives v h);
               held = λ i l f t h.
                   q .held i l
-                  (subst (λ (y : ℕ). Has (getD leave₁ (y / 4096) 0) e) (sym (same i l)) (p .leaves _ f))
+                  (subst (λ (y : ℕ). Has (getD leave₁ (y / 4096 % 4096) 0) e) (sym (same i l)) (p .leaves _ f))
                   (subst (λ (y : ℕ). Has (getD arrive₁ (y % 4096) 0) e) (sym (same i l)) (p .arrives _ t)) (p .held i l f t h);
             });
         leave-part = λ v e h. a .leave-part v e (b .leave-part v e h);
@@ -73,7 +73,7 @@ module _ {free d : ℕ} {w leave arrive out w′ out₁ : List ℕ} (most : d �
   swept-same i l = W .around .low i (omega arith)
 
   pub from-same : (i : ℕ) → i < d → fromOf w′ i ≡ fromOf w i
-  from-same i l = ap (λ (x : ℕ). x / 4096) (swept-same i l)
+  from-same i l = ap (λ (x : ℕ). x / 4096 % 4096) (swept-same i l)
 
   pub to-same : (i : ℕ) → i < d → toOf w′ i ≡ toOf w i
   to-same i l = ap (λ (x : ℕ). x % 4096) (swept-same i l)

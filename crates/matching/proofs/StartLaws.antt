@@ -2,7 +2,7 @@
 use mathlib.Core.Path.{_≡_, refl, ap, _∙_, sym, subst}
 use mathlib.Core.Logic.{_⊎_, inl, inr, ⊎-elim}
 use mathlib.Core.List.{List}
-use Prim.Native.Nat.{ℕ, _≤_, _<_, _+_, _*_, _^_}
+use Prim.Native.Nat.{ℕ, _≤_, _<_, _+_, _*_, _/_, _^_}
 use native.Mathlib.Omega.{arith}
 use lib.ListN.{length, getD, set, replicate, length-set}
 use lib.Seq.{getD-set-same, getD-set-other}
@@ -14,10 +14,11 @@ use Rattle.packed.proofs.OrderCases.{lt-or-ge, eq-or-ne}
 use Rattle.packed.proofs.ByValueLaws.{nothing-at}
 use Rattle.matching.specs.Steps.{Fair}
 use Rattle.matching.specs.Sweeps.{Has, Mask, OneOf}
-use Rattle.matching.specs.Starting.{NodeRoom, ByLabel, OfLabels, Allowed, LinksSpread}
+use Rattle.matching.specs.Sweeping.{kindOf}
+use Rattle.matching.specs.Starting.{NodeRoom, OfKind, ByKind, KindsHeld, ByLabel, OfLabels, Allowed, LinksSpread}
 use Rattle.matching.proofs.Masks.{bit-self, bit-one}
 use Rattle.matching.proofs.MaskBits.{none-has, or-left, or-right, and-say, and-by, minus-say, minus-by, lowest-has, mask-cast, mask-or, mask-one, mask-self, mask-none}
-use Rattle.matching.proofs.Filling.{Filling, filling-start, filling-more, filling-around, filling-front}
+use Rattle.matching.proofs.Filling.{Filling, filling-start, filling-more, filling-around, filling-each, filling-front}
 use Rattle.matching.proofs.RowLaws.{blank-long}
 
 -- a member of x
@@ -36,19 +37,20 @@ room-blank k n l a b c =
       arrive-clear = λ v h. ap (λ (x : List ℕ). getD x v 0) b ∙ nothing-at k v;
     }
 
--- ---- the links of each label
-module _ (labels ends : List ℕ) where
-  abbrev at : ℕ → ℕ
-  at e = getD labels (getD ends e 0) 0
+-- ---- links by a number that each has: for each number below size those of m links that have it
+pub record Grouped (size : ℕ) (at : ℕ → ℕ) (m : ℕ) (t : List ℕ) : Type 0 where
+  pub long : length t ≡ size
+  pub each : (l : ℕ) → l < size → Mask (λ e. (e < m) × (at e ≡ l)) (getD t l 0)
 
-  pub label-start : {t : List ℕ} → t ≡ replicate 32 0 → ByLabel labels ends 0 t
-  label-start {t} z =
+module _ (size : ℕ) (at : ℕ → ℕ) where
+  pub group-start : {t : List ℕ} → t ≡ replicate size 0 → Grouped size at 0 t
+  group-start {t} z =
       record {
-        long = blank-long 32 z;
-        each = λ l h. subst (Mask (λ e. (e < 0) × (at e ≡ l))) (sym (ap (λ (x : List ℕ). getD x l 0) z ∙ nothing-at 32 l)) (mask-none (λ e p. absurd (let q = p .0 in omega arith)));
+        long = blank-long size z;
+        each = λ l h. subst (Mask (λ e. (e < 0) × (at e ≡ l))) (sym (ap (λ (x : List ℕ). getD x l 0) z ∙ nothing-at size l)) (mask-none (λ e p. absurd (let q = p .0 in omega arith)));
       }
 
-  -- one of the links below e that has the label l
+  -- one of the links below e that has the number l
   abbrev Of : ℕ → ℕ → ℕ → Type 0
   Of l e k = (k < e) × (at k ≡ l)
 
@@ -61,8 +63,8 @@ module _ (labels ends : List ℕ) where
   cases : (l e k : ℕ) → Of l (e + 1) k → Of l e k ⊎ (e ≡ k)
   cases l e k p = let h = p .0 in ⊎-elim (λ (y : k < e). inl (y, p .1)) (λ (y : e ≤ k). inr (omega arith)) (lt-or-ge k e)
 
-  pub label-more : {t : List ℕ} {e : ℕ} → ByLabel labels ends e t → at e < 32 → (b : ℕ) → b ≡ 2 ^ e → ByLabel labels ends (e + 1) (set t (at e) (bitOr (getD t (at e) 0) b))
-  label-more {t} {e} B lt b eb =
+  pub group-more : {t : List ℕ} {e : ℕ} → Grouped size at e t → at e < size → (b : ℕ) → b ≡ 2 ^ e → Grouped size at (e + 1) (set t (at e) (bitOr (getD t (at e) 0) b))
+  group-more {t} {e} B lt b eb =
       let x = bitOr (getD t (at e) 0) b in
       let i : at e < length t = let z = B .long in omega arith in
       record {
@@ -78,8 +80,46 @@ module _ (labels ends : List ℕ) where
             (eq-or-ne l (at e));
       }
 
-  pub label-end : {t : List ℕ} {e : ℕ} (m : ℕ) → ByLabel labels ends e t → e ≡ m → ByLabel labels ends m t
-  label-end {t} m B q = subst (λ (x : ℕ). ByLabel labels ends x t) q B
+  pub group-end : {t : List ℕ} {e : ℕ} (m : ℕ) → Grouped size at e t → e ≡ m → Grouped size at m t
+  group-end {t} m B q = subst (λ (x : ℕ). Grouped size at x t) q B
+
+-- ---- the links of each kind
+module _ (kinds : List ℕ) (m : ℕ) where
+  pub kind-end : {t : List ℕ} {e : ℕ} → Grouped 8 (λ k. getD kinds k 0) e t → e ≡ m → ByKind kinds m t
+  kind-end B q = let g = group-end 8 (λ k. getD kinds k 0) m B q in record { long = g .long; each = g .each }
+
+-- each pair gets what the table has for its kind
+pub record Holding (t : List ℕ) (d : ℕ) (w₀ w : List ℕ) (i : ℕ) : Type 0 where
+  pub fill : Filling 8192 d (λ j x. x ≡ getD t (kindOf w₀ j) 0) w₀ w i
+
+pub holding-start : (t : List ℕ) (d : ℕ) (w : List ℕ) → Holding t d w w 0
+holding-start t d w = record { fill = filling-start 8192 d _ w }
+
+module _ {t : List ℕ} {d : ℕ} {w₀ w : List ℕ} {i : ℕ} (h : Holding t d w₀ w i) (few : d ≤ 8192) where
+  word : i < d → getD w i 0 ≡ getD w₀ i 0
+  word l = h .fill .low i (omega arith)
+
+  pub holding-kind : i < d → ((j : ℕ) → j < d → kindOf w₀ j < 8) → kindOf w i < 8
+  holding-kind l k = subst (λ (x : ℕ). x / 2 ^ 24 < 8) (sym (word l)) (k i l)
+
+  pub holding-more : i < d → length w₀ ≡ 16384 → Holding t d w₀ (set w (8192 + i) (getD t (kindOf w i) 0)) (i + 1)
+  holding-more l o =
+      record { fill = filling-more 8192 d _ (h .fill) (8192 + i) (getD t (kindOf w i) 0) l (omega arith) refl (ap (λ (x : ℕ). getD t (x / 2 ^ 24) 0) (word l)) }
+
+  pub holding-end : d ≤ i → ((j : ℕ) → j < d → kindOf w₀ j < 8) → {kinds : List ℕ} {m : ℕ} → ByKind kinds m t → KindsHeld kinds m d w₀ w
+  holding-end l k {kinds} {m} B =
+      record {
+        around = filling-around 8192 d _ (h .fill) l;
+        each = λ j p. subst (Mask (OfKind kinds m (kindOf w₀ j))) (sym (filling-each 8192 d _ (h .fill) l j p)) (B .each (kindOf w₀ j) (k j p));
+      }
+
+-- ---- the links of each label
+module _ (labels ends : List ℕ) where
+  abbrev at : ℕ → ℕ
+  at e = getD labels (getD ends e 0) 0
+
+  pub label-end : {t : List ℕ} {e : ℕ} (m : ℕ) → Grouped 32 at e t → e ≡ m → ByLabel labels ends m t
+  label-end m B q = let g = group-end 32 at m B q in record { long = g .long; each = g .each }
 
   -- what the table has for those of the labels x that the links have
   pub allowed-by : (x used : ℕ) {t : List ℕ} {m r : ℕ} → ByLabel labels ends m t → ((e : ℕ) → e < m → at e < 32) → ((e : ℕ) → e < m → Has used (at e))

@@ -83,8 +83,13 @@ module _ {q : Given} {n d : ℕ} {w : List ℕ} {s : Place} {w′ leave arrive :
   pair : ℕ → Pair
   pair i = pairOf (getD w i 0)
 
+  -- it begins where its word says
+  pair-from : (i : ℕ) → i < d → pair i .0 ≡ fromOf w i
+  unfolding pair pairOf
+  pair-from i l = let z = b .small i l in omega arith
+
   from-same : (i : ℕ) → i < d → fromOf w′ i ≡ fromOf w i
-  from-same i l = ap (λ (y : ℕ). y / 4096) (b .falls .same i l)
+  from-same i l = ap (λ (y : ℕ). y / 4096 % 4096) (b .falls .same i l)
 
   to-same : (i : ℕ) → i < d → toOf w′ i ≡ toOf w i
   to-same i l = ap (λ (y : ℕ). y % 4096) (b .falls .same i l)
@@ -106,17 +111,16 @@ module _ {q : Given} {n d : ℕ} {w : List ℕ} {s : Place} {w′ leave arrive :
   abbrev Marks : Edge → Pair → Type 0
   Marks e f = OneOf (q .edges) (λ k. (e ≡ givenEdge q k) × T (S (getD (q .from) k 0)) × OneOf d (λ i. (f ≡ pair i) × After i k))
 
-  marks-from : (u v : ℕ) → ((k : ℕ) → k < q .edges → getD (q .from) k 0 ≡ u → OneOf d (λ j. (fromOf w j ≡ v) × After j k))
-      → (e : Edge) → In e (leavingOf S Q .edges) → e .from ≡ u → (f : Pair) × Marks e f × (f .0 ≡ v)
-  unfolding pair pairOf
-  marks-from u v h e j p =
+  marks-from : (u v : ℕ) {x : ℕ} → v ≡ x → ((k : ℕ) → k < q .edges → getD (q .from) k 0 ≡ u → OneOf d (λ j. (fromOf w j ≡ v) × After j k))
+      → (e : Edge) → In e (leavingOf S Q .edges) → e .from ≡ u → (f : Pair) × Marks e f × (f .0 ≡ x)
+  marks-from u v y h e j p =
       let m = leaving-in S Q j in
       let o = edges-in q (m .0) in
       let z = ap (λ (x : Edge). x .from) (o .holds) in
       let r = h (o .at) (o .below) (sym z ∙ p) in (
         pair (r .at),
         record { at = o .at; below = o .below; holds = (o .holds, subst (λ (x : ℕ). T (S x)) z (m .1), record { at = r .at; below = r .below; holds = (refl, r .holds .1) }) },
-        r .holds .0,
+        pair-from (r .at) (r .below) ∙ r .holds .0 ∙ y,
       )
 
   supports : (i e : ℕ) → i < d → e < q .edges → T (S (getD (q .from) e 0)) → After i e → Supported (leavingOf S Q) Marks (givenEdge q e) (pair i)
@@ -124,8 +128,8 @@ module _ {q : Given} {n d : ℕ} {w : List ℕ} {s : Place} {w′ leave arrive :
   supports i e l le t h =
       let m = within i e l le t h in
       record {
-        tail = marks-from (getD (q .from) e 0) (fromOf w i) (λ k lk p. begins (fromOf w i) k (ends .from i l) lk (b .shape .out-out (fromOf w i) e k le lk (sym p) (m .0)));
-        head = marks-from (getD (q .to) e 0) (toOf w i) (λ k lk p. begins (toOf w i) k (ends .to i l) lk (b .shape .in-out (toOf w i) e k le lk (sym p) (m .1)));
+        tail = marks-from (getD (q .from) e 0) (fromOf w i) (sym (pair-from i l)) (λ k lk p. begins (fromOf w i) k (ends .from i l) lk (b .shape .out-out (fromOf w i) e k le lk (sym p) (m .0)));
+        head = marks-from (getD (q .to) e 0) (toOf w i) refl (λ k lk p. begins (toOf w i) k (ends .to i l) lk (b .shape .in-out (toOf w i) e k le lk (sym p) (m .1)));
       }
 
   candidate : (i e : ℕ) → i < d → e < q .edges → After i e → In (pair i) (cs (givenEdge q e))
@@ -164,7 +168,7 @@ module _ {q : Given} {n d : ℕ} {w : List ℕ} {s : Place} {w′ leave arrive :
       record {
         at = o .at;
         below = o .below;
-        holds = (sym (ap (λ (x : Pair). x .0) (o .holds)), joined-before (o .at) e (o .below) le i, head-stands i);
+        holds = (sym (ap (λ (x : Pair). x .0) (o .holds) ∙ pair-from (o .at) (o .below)), joined-before (o .at) e (o .below) le i, head-stands i);
       }
 
   -- the nodes at its ends support themselves for all links, since those that leave them leave S
@@ -188,13 +192,15 @@ module _ {q : Given} {n d : ℕ} {w : List ℕ} {s : Place} {w′ leave arrive :
       below g f j =
           let c = edges-in q (join-in-candidate S Q cs j .edge) in
           let o = joined-at (c .at) (c .below) (subst (λ (x : Edge). In (x, f) J) (c .holds) j) in
+          let a = pair-from (o .at) (o .below) in
           let x = ends .from (o .at) (o .below) in
           let y = ends .to (o .at) (o .below) in
           subst (λ (x : Pair). (x .0 < 4096) × (x .1 < 4096)) (sym (o .holds)) (omega arith, omega arith)
 
   joined-after : (i e : ℕ) → i < d → e < q .edges → In (givenEdge q e, pair i) J → After i e
   unfolding pair pairOf
-  joined-after i e l le j = b .stays (stands J) stands-supports stands-below i e l le (tail-stands j) (head-stands j) (joined-before i e l le j)
+  joined-after i e l le j = b .stays (stands J) stands-supports stands-below i e l le
+      (subst (λ (v : ℕ). T (stands J (getD (q .from) e 0) v)) (pair-from i l) (tail-stands j)) (head-stands j) (joined-before i e l le j)
 
   -- ---- the lists
   state : Holds q d w′ (stateAt S Q cs)
@@ -221,7 +227,7 @@ ends-first f e =
     record {
       most = e .most;
       long = sym (f .long) ∙ e .long;
-      from = λ i l. (let z = e .from i l in let y = ap (λ (x : ℕ). x / 4096) (f .same i l) in omega arith);
+      from = λ i l. (let z = e .from i l in let y = ap (λ (x : ℕ). x / 4096 % 4096) (f .same i l) in omega arith);
       to = λ i l. (let z = e .to i l in let y = ap (λ (x : ℕ). x % 4096) (f .same i l) in omega arith);
     }
 
@@ -309,6 +315,7 @@ module _ {q : Given} {n d all : ℕ} {w leave arrive out leaving arriving : List
     first-between : Between q n d w s w′ leave′ arrive′
     first-between =
         record {
+          small = pool .small;
           shut = λ e i t. absurd (unsettled (e .from) t);
           free = subst (Mask _) (sym y) (mask-cast (λ e l. (l, unsettled (getD (q .from) e 0))) (λ e p. p .0) (f .links));
           loose = few;
@@ -383,6 +390,7 @@ module _ {q : Given} {n d : ℕ} (c due : ℕ) {w leave arrive out : List ℕ} (
     between-skip : bitAnd due (s .loose) ≡ 0 → (s′ : Place) → s′ .settled ≡ settled′ → s′ .free ≡ free′ → s′ .loose ≡ s .loose → Between q n d w₀ s′ w leave arrive
     between-skip z s′ x y v =
         record {
+          small = b .small;
           shut = subst (λ (a : ℕ). Shut (patternIn q) (bit a)) (sym x) shut′;
           free = rw (x, y) free-mask;
           loose = rw (y, v) (λ e le h. minus-by (s .free) due e (b .loose e le h) (λ t. none-has e (subst (λ (a : ℕ). Has a e) z (and-by due (s .loose) e t h))));
@@ -406,7 +414,7 @@ module _ {q : Given} {n d : ℕ} (c due : ℕ) {w leave arrive out : List ℕ} (
     sound = F .sound (q .from) (q .to) (q .edges) T₁ T₂ apart
 
     from-then : (i : ℕ) → i < d → fromOf w′ i ≡ fromOf w i
-    from-then i l = ap (λ (y : ℕ). y / 4096) (F .falls .same i l)
+    from-then i l = ap (λ (y : ℕ). y / 4096 % 4096) (F .falls .same i l)
 
     to-then : (i : ℕ) → i < d → toOf w′ i ≡ toOf w i
     to-then i l = ap (λ (y : ℕ). y % 4096) (F .falls .same i l)
@@ -489,6 +497,7 @@ module _ {q : Given} {n d : ℕ} (c due : ℕ) {w leave arrive out : List ℕ} (
       between-rest : (s′ : Place) → s′ .settled ≡ settled′ → s′ .free ≡ free′ → s′ .loose ≡ more → Between q n d w₀ s′ w′ leave′ arrive′
       between-rest s′ x y v =
           record {
+            small = b .small;
             shut = subst (λ (a : ℕ). Shut (patternIn q) (bit a)) (sym x) (shut′ b);
             free = rw (x, y) (free-mask b);
             loose = rw (y, v) (λ e le h. and-say (bitOr (s .loose) r) free′ e h .1);
@@ -498,7 +507,7 @@ module _ {q : Given} {n d : ℕ} (c due : ℕ) {w leave arrive out : List ℕ} (
             offered = offered-then;
             safe = λ R t u. safe-then R (b .safe R t u);
             stays = λ R t u i e l le a k h.
-                (let f = ap (λ (x : ℕ). x / 4096) (b .falls .same i l) in
+                (let f = ap (λ (x : ℕ). x / 4096 % 4096) (b .falls .same i l) in
                 let g = ap (λ (x : ℕ). x % 4096) (b .falls .same i l) in
                 sound .stays R (safe-free R (b .safe R t u)) i e l le
                 (subst (λ (x : ℕ). T (R (getD (q .from) e 0) x)) (sym f) a)

@@ -33,7 +33,7 @@ module _ (d : ℕ) (leave arrive : List ℕ) (free : ℕ) where
     code = h .fill .low i (let z = s .most in omega arith)
 
     pub sweeping-from : fromOf w i < length out₀
-    sweeping-from = let a = s .from i l in let e = ap (λ (x : ℕ). x / 4096) code in omega arith
+    sweeping-from = let a = s .from i l in let e = ap (λ (x : ℕ). x / 4096 % 4096) code in omega arith
 
     pub sweeping-to : toOf w i < length out₀
     sweeping-to = let a = s .to i l in let e = ap (λ (x : ℕ). x % 4096) code in omega arith
@@ -51,7 +51,7 @@ module _ (d : ℕ) (leave arrive : List ℕ) (free : ℕ) where
         let x = heldAfter leave arrive free w i in
         let x₀ = heldAfter leave arrive free w₀ i in
         let ex : x ≡ x₀ = sweeping-word in
-        let ef : f ≡ fromOf w₀ i = ap (λ (y : ℕ). y / 4096) code in
+        let ef : f ≡ fromOf w₀ i = ap (λ (y : ℕ). y / 4096 % 4096) code in
         let fin : f < length out = let a = sweeping-from in let b = h .long in omega arith in
         record {
           fill = filling-more 8192 d _ (h .fill) (8192 + i) x l (let a = s .most in let b = s .long in omega arith) refl ex;
@@ -100,7 +100,7 @@ module _ (d : ℕ) (leave arrive : List ℕ) (free : ℕ) where
   module _ (w₀ out₀ w out : List ℕ) (i last run : ℕ) (s : Ends (length out₀) d w₀) (o : Starts d w₀ out₀) (h : Running d leave arrive free w₀ out₀ w out i last run) (l : i < d)
       (c : ℕ) (C : Carried (fromOf w i) last run c) where
     from-same : fromOf w i ≡ fromOf w₀ i
-    from-same = ap (λ (y : ℕ). y / 4096) (h .sweeping .fill .low i (let z = s .most in omega arith))
+    from-same = ap (λ (y : ℕ). y / 4096 % 4096) (h .sweeping .fill .low i (let z = s .most in omega arith))
 
     word-same : c ≡ getD out (fromOf w i) 0
     word-same =

@@ -16,11 +16,9 @@ use Rattle.packed.proofs.DistinctLaws.{increasing-tail}
 use Rattle.packed.proofs.DistinctMerge.{increasing-at}
 use Rattle.packed.proofs.Walks.{codes-none, codes-more}
 use Rattle.matching.specs.Lists.{In, here, there}
-use Rattle.matching.specs.Steps.{Edges}
 use Rattle.matching.specs.Sweeps.{Has, Mask, OneOf}
 use Rattle.matching.specs.Candidates.{Pool, Beyond, PlaceIn, Walkable, Taken, Listing}
 use Rattle.matching.proofs.ListLaws.{not-in-none, in-cases, in-cast}
-use Rattle.matching.proofs.RecordLaws.{rises-again}
 use Rattle.matching.proofs.MaskBits.{mask-cast, mask-self, or-left, or-right, or-cases}
 
 -- ---- the pool
@@ -33,10 +31,6 @@ pool-less l p =
       rises = λ i j h k. p .rises i j h (omega arith);
     }
 
--- the words below 8192 are as they were
-outside-edges : {d : ℕ} {w w′ : List ℕ} → Outside 8192 d w w′ → Edges w w′
-outside-edges o = record { long = o .long; same = o .low }
-
 pub pool-keep : {d : ℕ} {w w′ : List ℕ} → Pool d w → Outside 8192 d w w′ → Pool d w′
 pool-keep p o =
     let m = p .most in
@@ -44,7 +38,7 @@ pool-keep p o =
       most = m;
       long = o .long ∙ p .long;
       small = λ i h. rw (o .low i (omega arith)) (p .small i h);
-      rises = rises-again (outside-edges o) m (p .rises);
+      rises = λ i j h k. rw (o .low i (omega arith), o .low j (omega arith)) (p .rises i j h k);
     }
 
 pub walkable-keep : {s : List ℕ} {start n d : ℕ} {w w′ : List ℕ} → Walkable s start n d w → Outside 8192 d w w′ → Walkable s start n d w′

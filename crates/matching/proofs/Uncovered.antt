@@ -8,24 +8,26 @@ use lib.Dec.{T, T-not}
 use Rattle.packed.specs.Formats.{code}
 use Rattle.matching.specs.Lists.{In}
 use Rattle.matching.specs.Simulation.{Pair, Edge, sameEdge, asPair, bit, Pattern, Graph, asGraph, fits, ascending, matchSets, viewSheet, IsSim, sound}
-use Rattle.matching.proofs.ByEdge.{rowOf, matchedBy, matched}
-use Rattle.matching.specs.Join.{listsEdge, without}
-use Rattle.matching.proofs.ListLaws.{keep-in, in-some, length-each, getD-each}
+use Rattle.matching.proofs.ByEdge.{rowOf, someMatch, matchedBy, matched}
+use Rattle.matching.specs.Join.{isMatch, without}
+use Rattle.matching.proofs.ListLaws.{keep-in, in-some, each-agree, length-each, getD-each}
 use Rattle.matching.proofs.Masks.{bit-self}
 use Rattle.matching.proofs.SimLaws.{same-edge-refl, pair-edge, FitsInto, fits-by, sim-most}
 use Rattle.matching.proofs.MatchLaws.{Matches, matches-edge, row-say, row-by, SoundPattern, sound-say}
 use Rattle.matching.proofs.CodeLaws.{code-same, ascending-say, ascending-by}
-use Rattle.matching.proofs.MatchSetLaws.{Narrow, sets-in, in-sets, view-sheet, view-same}
+use Rattle.matching.proofs.MatchSetLaws.{Narrow, sets-each, view-each, view-same}
 use Rattle.matching.proofs.Removed.{unlisted-removed}
-use Rattle.matching.proofs.JoinLaws.{lists-by}
+use Rattle.matching.proofs.JoinLaws.{match-by, some-match-each}
 use Rattle.matching.proofs.Covered.{narrow-query}
 
 -- no view's sheet changes
 pub uncovered-views : (Q : Pattern) (Ps : List Pattern) (e : Edge) → (T (matched Q Ps e) → ⊥) → (P : Pattern) → In P Ps → viewSheet P (asGraph Q) ≡ viewSheet P (without e (asGraph Q))
 unfolding matched matchedBy
 uncovered-views Q Ps e n P i =
-    let q = view-sheet P (asGraph Q) in
-    view-same P (asGraph Q) (without e (asGraph Q)) (unlisted-removed P (asGraph Q) e λ l j k. n (in-some _ i (in-some (listsEdge e) (subst (λ ls. In l ls) (sym q) j) (lists-by e k))))
+    let list : Edge → List ℕ = λ g. ascending (rowOf P (asGraph Q) g) in
+    let q = ap (someMatch e (P .edges)) (view-each P (asGraph Q)) ∙ some-match-each e list (P .edges) in
+    view-same P (asGraph Q) (without e (asGraph Q))
+    (unlisted-removed P (asGraph Q) e λ g j k l. n (in-some _ i (subst T (sym q) (in-some (λ h. isMatch e h (list h)) j (match-by e g k l)))))
 
 module _ (Q : Pattern) (ok : SoundPattern Q) where
   -- each node of Q as its own partner
@@ -36,7 +38,7 @@ module _ (Q : Pattern) (ok : SoundPattern Q) where
   unfolding asGraph Own
   own-sim = record {
     fit = λ u v r. subst (λ z. T (fits Q (asGraph Q) (u, z))) (r .0) (fits-by Q (asGraph Q) (own u (r .1)));
-    follow = λ u v r e i q. (e, i, q ∙ r .0, (refl, ok .ends e i .1));
+    follow = λ u v r e i q. (e, i, q ∙ r .0, refl, (refl, ok .ends e i .1));
   }
     where
       own : (u : ℕ) → u < length (Q .labels) → FitsInto Q (asGraph Q) u u
@@ -50,30 +52,26 @@ module _ (Q : Pattern) (ok : SoundPattern Q) where
   pub matches-self : {e : Edge} → In e (Q .edges) → Matches Q (asGraph Q) e (asPair e)
   unfolding asGraph Own
   matches-self {e} i =
-      matches-edge Q (asGraph Q) e e (λ u l. (u, sim-most Q (asGraph Q) Own own-sim u u (refl, l))) i
+      matches-edge Q (asGraph Q) e e (λ u l. (u, sim-most Q (asGraph Q) Own own-sim u u (refl, l))) i refl
       (sim-most Q (asGraph Q) Own own-sim (e .from) (e .from) (refl, ok .ends e i .0))
       (sim-most Q (asGraph Q) Own own-sim (e .to) (e .to) (refl, ok .ends e i .1))
 
--- no list has the code of a removed edge
-removed-unlisted : (P : Pattern) (G : Graph) → Narrow G → (e : Edge) → e .to < 4096 → {l : List ℕ} → In l (matchSets P (without e G)) → In (code (e .from) (e .to)) l → ⊥
+-- the list of no edge of its kind has the code of a removed edge
+removed-unlisted : (P : Pattern) (G : Graph) → Narrow G → (e : Edge) → e .to < 4096 → (g : Edge) → g .kind ≡ e .kind → In (code (e .from) (e .to)) (ascending (rowOf P (without e G) g)) → ⊥
 unfolding without
-removed-unlisted P G n e h {l} i j = of-list (sets-in P (without e G) i)
+removed-unlisted P G n e h g s j = of-pair (ascending-say _ j)
   where
-    of-edge : (g : Edge) → (f : Pair) × In f (rowOf P (without e G) g) × (code (e .from) (e .to) ≡ code (f .0) (f .1)) → ⊥
-    of-edge g (f, k, q) =
+    of-pair : (f : Pair) × In f (rowOf P (without e G) g) × (code (e .from) (e .to) ≡ code (f .0) (f .1)) → ⊥
+    of-pair (f, k, q) =
         let r = row-say P (without e G) k in
         let m = keep-in _ (G .edges) (r .edge) in
         let p : asPair e ≡ asPair (r .link) = code-same h (n (r .link) (m .0) .1) (q ∙ ap (λ (x : Pair). code (x .0) (x .1)) (r .ends)) in
-        T-not (sameEdge e (r .link)) (m .1) (subst (λ z. T (sameEdge e z)) (pair-edge p) (same-edge-refl e))
-
-    of-list : (g : Edge) × In g (P .edges) × (l ≡ ascending (rowOf P (without e G) g)) → ⊥
-    of-list (g, k, q) = of-edge g (ascending-say _ (subst (λ z. In (code (e .from) (e .to)) z) q j))
+        T-not (sameEdge e (r .link)) (m .1) (subst (λ z. T (sameEdge e z)) (pair-edge p (sym (r .kind ∙ s))) (same-edge-refl e))
 
 -- the query's own do
 pub uncovered-query : (Q : Pattern) → T (sound Q) → length (Q .labels) ≤ 4096 → (e : Edge) → In e (Q .edges) → matchSets Q (asGraph Q) ≡ matchSets Q (without e (asGraph Q)) → ⊥
 uncovered-query Q s h e i q =
     let ok = sound-say Q s in
-    let l = ascending (rowOf Q (asGraph Q) e) in
-    removed-unlisted Q (asGraph Q) (narrow-query Q ok h) e (omega (arith, ok .ends e i .1)) {l = l}
-    (subst (λ ls. In l ls) q (in-sets Q (asGraph Q) i))
-    (ascending-by (row-by Q (asGraph Q) (matches-self Q ok i)))
+    let p : ascending (rowOf Q (asGraph Q) e) ≡ ascending (rowOf Q (without e (asGraph Q)) e) = each-agree _ _ (sym (sets-each Q (asGraph Q)) ∙ q ∙ sets-each Q (without e (asGraph Q))) i in
+    removed-unlisted Q (asGraph Q) (narrow-query Q ok h) e (omega (arith, ok .ends e i .1)) e refl
+    (subst (λ l. In (code (e .from) (e .to)) l) p (ascending-by (row-by Q (asGraph Q) (matches-self Q ok i))))

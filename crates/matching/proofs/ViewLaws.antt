@@ -65,7 +65,7 @@ module _ {s : List ℕ} {at : ℕ} {w₀ : List ℕ} {next n : ℕ} {w : List �
       r .comes ∙ ap (push (r .read)) (scan-done (drop next (bits s))) ∙ ap (λ (l : List ℕ). got l (drop next (bits s))) (append-nil (r .read))
 
   -- the words are a pattern's content
-  pub view-fits : at % 8 ≡ 0 → at ≤ 8 * length s → (nodesOf front ≤ 16) × (edgesOf front ≤ 32) × (2 + (nodesOf front + 2 * edgesOf front) ≤ length front)
+  pub view-fits : at % 8 ≡ 0 → at ≤ 8 * length s → (nodesOf front ≤ 16) × (edgesOf front ≤ 32) × (2 + (nodesOf front + 3 * edgesOf front) ≤ length front)
   unfolding from patternSize
   view-fits m h =
       let q = scanned-plain (drop at (bits s)) (drop next (bits s)) (r .read) (omega (arith, length-drop at (bits s), length-bits s)) got-read in

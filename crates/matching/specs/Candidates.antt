@@ -13,14 +13,13 @@ use Rattle.packed.specs.Walks.{codesAt, pairPlace, listFirst, listCount, listsE
 use Rattle.packed.specs.BookSheets.{listAt, sheetAt}
 use Rattle.matching.specs.Lists.{In}
 use Rattle.matching.specs.Sweeps.{Has, Mask, OneOf}
-use Rattle.matching.specs.Matched.{Rises}
 
 -- the codes of d pairs ascend, each once, at the front of the workspace
 pub record Pool (d : ℕ) (w : List ℕ) : Type 0 where
   pub most : d ≤ pairsMost
   pub long : length w ≡ workspace
   pub small : (i : ℕ) → i < d → getD w i 0 < 2 ^ pairWidth
-  pub rises : Rises d w
+  pub rises : (i j : ℕ) → i < j → j < d → getD w i 0 < getD w j 0
 
 -- the codes from r on are greater
 pub record Beyond (w : List ℕ) (first d code r : ℕ) : Type 0 where

@@ -20,20 +20,21 @@ pub record View : Type 0 where
 unfoldable pub pairOf : ℕ → Pair
 pairOf c = (c / 4096, c % 4096)
 
--- the list has the edge e
-unfoldable pub listsEdge : Edge → List ℕ → Bool
-listsEdge e l = member (code (e .from) (e .to)) l
+-- the edge g of a view, whose list is l, matches the edge e: it has the kind of e, and the list has the ends of e
+unfoldable pub isMatch : Edge → Edge → List ℕ → Bool
+isMatch e g l = eqb (g .kind) (e .kind) and member (code (e .from) (e .to)) l
 
--- what the second sheet lists under those edges under which the first lists e
-unfoldable pub under : Edge → List (List ℕ) → List (List ℕ) → List ℕ
-under e [] ls = []
-under e (m ∷ ms) [] = []
-under e (m ∷ ms) (l ∷ ls) = cond (listsEdge e m) l [] ++ under e ms ls
+-- what the second sheet lists under those of the edges gs that match e by the first
+unfoldable pub under : Edge → List Edge → List (List ℕ) → List (List ℕ) → List ℕ
+under e [] ms ls = []
+under e (g ∷ gs) [] ls = []
+under e (g ∷ gs) (m ∷ ms) [] = []
+under e (g ∷ gs) (m ∷ ms) (l ∷ ls) = cond (isMatch e g m) l [] ++ under e gs ms ls
 
--- the candidates for the edge e of the query ("question") Q: the pairs listed under those edges of the views that match e, which are those whose
--- lists, on Q read as a graph, have e
+-- the candidates for the edge e of the query ("question") Q: the pairs listed under those edges of the views that match e, by their lists on Q read
+-- as a graph
 unfoldable pub candidates : Pattern → List View → Edge → List Pair
-candidates Q vs e = each pairOf (gather (λ v. under e (viewSheet (v .pattern) (asGraph Q)) (v .sheet)) vs)
+candidates Q vs e = each pairOf (gather (λ v. under e (v .pattern .edges) (viewSheet (v .pattern) (asGraph Q)) (v .sheet)) vs)
 
 -- an edge of the query and a pair kept for it
 abbrev pub Kept : Type 0

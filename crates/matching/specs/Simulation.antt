@@ -23,16 +23,18 @@ has a l = some (same a) l
 unfoldable pub everyPair : ℕ → ℕ → List Pair
 everyPair n m = gather (λ u. each (λ v. (u, v)) (below m)) (below n)
 
--- an edge ("link") of a pattern or of a graph: all its fields tell it from another, and one test compares them
+-- an edge ("link") of a pattern or of a graph, with its kind, which is its label: all its fields tell it from another, and one test compares them
 pub record Edge : Type 0 where
   pub from : ℕ
   pub to : ℕ
+  pub kind : ℕ
 
 unfoldable pub sameEdge : Edge → Edge → Bool
-sameEdge e f = eqb (e .from) (f .from) and eqb (e .to) (f .to)
+sameEdge e f = eqb (e .from) (f .from) and (eqb (e .to) (f .to) and eqb (e .kind) (f .kind))
 
-abbrev pub between : ℕ → ℕ → Edge
-between a b = record { from = a; to = b }
+-- the edge from a to b of the kind k
+abbrev pub between : ℕ → ℕ → ℕ → Edge
+between a b k = record { from = a; to = b; kind = k }
 
 -- its ends, as a sheet lists them
 abbrev pub asPair : Edge → Pair
@@ -40,7 +42,7 @@ asPair e = (e .from, e .to)
 
 -- what stands for an edge beyond the last
 abbrev pub noEdge : Edge
-noEdge = between 0 0
+noEdge = between 0 0 0
 
 -- bit k of the mask m
 unfoldable pub bit : ℕ → ℕ → Bool
@@ -56,11 +58,12 @@ pub record Graph : Type 0 where
   pub labels : List ℕ
   pub edges : List Edge
 
--- edges by their ends: from, to, from, to, ..
+-- edges by their fields: from, to, kind, from, to, kind, ..
 unfoldable pub edgesIn : List ℕ → List Edge
 edgesIn [] = []
 edgesIn (a ∷ []) = []
-edgesIn (a ∷ b ∷ ends) = between a b ∷ edgesIn ends
+edgesIn (a ∷ b ∷ []) = []
+edgesIn (a ∷ b ∷ k ∷ es) = between a b k ∷ edgesIn es
 
 -- what the content of a pattern and of a record mean
 unfoldable pub patternOf : List ℕ → Pattern
@@ -78,14 +81,14 @@ unfoldable pub fits : Pattern → Graph → Pair → Bool
 fits P G x =
     ltb (x .0) (length (P .labels)) and (ltb (x .1) (length (G .labels)) and bit (getD (G .labels) (x .1) 0) (getD (P .labels) (x .0) 0))
 
--- R is a simulation of P in G: partners have the label, and each edge that leaves u is followed by one that leaves its partner, to a partner
+-- R is a simulation of P in G: partners have the label, and each edge that leaves u is followed by one of its kind that leaves its partner, to a partner
 pub record IsSim (P : Pattern) (G : Graph) (R : ℕ → ℕ → Type 0) : Type 0 where
   pub fit : (u v : ℕ) → R u v → T (fits P G (u, v))
-  pub follow : (u v : ℕ) → R u v → (e : Edge) → In e (P .edges) → e .from ≡ u → (f : Edge) × In f (G .edges) × (f .from ≡ v) × R (e .to) (f .to)
+  pub follow : (u v : ℕ) → R u v → (e : Edge) → In e (P .edges) → e .from ≡ u → (f : Edge) × In f (G .edges) × (f .from ≡ v) × (f .kind ≡ e .kind) × R (e .to) (f .to)
 
--- the same as a test: each edge of P that leaves x .0 is followed by one of G that leaves x .1, to a partner in l
+-- the same as a test: each edge of P that leaves x .0 is followed by one of G of its kind that leaves x .1, to a partner in l
 unfoldable pub follows : Pattern → Graph → List Pair → Pair → Bool
-follows P G l x = every (λ e. eqb (e .from) (x .0) implies some (λ f. eqb (f .from) (x .1) and has (e .to, f .to) l) (G .edges)) (P .edges)
+follows P G l x = every (λ e. eqb (e .from) (x .0) implies some (λ f. eqb (f .from) (x .1) and (eqb (f .kind) (e .kind) and has (e .to, f .to) l)) (G .edges)) (P .edges)
 
 -- the greatest simulation of P in G
 unfoldable pub sim : Pattern → Graph → List Pair
@@ -95,9 +98,9 @@ sim P G = greatest (follows P G) (keep (fits P G) (everyPair (length (P .labels)
 unfoldable pub total : Pattern → List Pair → Bool
 total P s = every (λ u. some (λ x. eqb (x .0) u) s) (below (length (P .labels)))
 
--- the edges of G both of whose ends are partners of the ends of e, as a sheet lists them
+-- the edges of G of the kind of e both of whose ends are partners of the ends of e, as a sheet lists them
 unfoldable pub row : Graph → List Pair → Edge → List Pair
-row G s e = each asPair (keep (λ f. has (e .from, f .from) s and has (e .to, f .to) s) (G .edges))
+row G s e = each asPair (keep (λ f. eqb (f .kind) (e .kind) and (has (e .from, f .from) s and has (e .to, f .to) s)) (G .edges))
 
 -- pairs by their codes, ascending
 unfoldable pub ascending : List Pair → List ℕ

@@ -1,4 +1,4 @@
--- inner: what a search starts with: every pair is held for all links of the pattern, and each node has the links whose end has one of its labels.
+-- inner: what a search starts with: every pair is held for all links of its kind, and each node has the links whose end has one of its labels.
 use Prim.Native.Nat.{ℕ, _+_, _*_, _<_, _≤_}
 use mathlib.Core.Path.{_≡_}
 use mathlib.Core.List.{List}
@@ -7,7 +7,7 @@ use Rattle.packed.specs.Bits.{field}
 use Rattle.packed.specs.Order.{Outside}
 use Rattle.packed.specs.declared.by_value.Pattern.{Pattern as Given}
 use Rattle.matching.specs.Sweeps.{Has, Mask, OneOf}
-use Rattle.matching.specs.Sweeping.{heldAt}
+use Rattle.matching.specs.Sweeping.{kindOf, heldAt}
 
 -- the lent arrays have room for n nodes, and nothing from n on
 pub record NodeRoom (n : ℕ) (leave arrive out : List ℕ) : Type 0 where
@@ -17,10 +17,19 @@ pub record NodeRoom (n : ℕ) (leave arrive out : List ℕ) : Type 0 where
   pub leave-clear : (v : ℕ) → n ≤ v → getD leave v 0 ≡ 0
   pub arrive-clear : (v : ℕ) → n ≤ v → getD arrive v 0 ≡ 0
 
--- each of d pairs is held for x
-pub record AllHeld (d x : ℕ) (w w′ : List ℕ) : Type 0 where
+-- e is one of m links, and its kind is k
+abbrev pub OfKind : List ℕ → ℕ → ℕ → ℕ → Type 0
+OfKind kinds m k e = (e < m) × (getD kinds e 0 ≡ k)
+
+-- for each kind those of m links that have it
+pub record ByKind (kinds : List ℕ) (m : ℕ) (t : List ℕ) : Type 0 where
+  pub long : length t ≡ 8
+  pub each : (k : ℕ) → k < 8 → Mask (OfKind kinds m k) (getD t k 0)
+
+-- each of d pairs is held for those of m links that have its kind
+pub record KindsHeld (kinds : List ℕ) (m d : ℕ) (w w′ : List ℕ) : Type 0 where
   pub around : Outside 8192 d w w′
-  pub each : (i : ℕ) → i < d → heldAt w′ i ≡ x
+  pub each : (i : ℕ) → i < d → Mask (OfKind kinds m (kindOf w i)) (heldAt w′ i)
 
 -- for each label those of m links at whose end it stands: at each link's start, or at each link's end
 pub record ByLabel (labels ends : List ℕ) (m : ℕ) (t : List ℕ) : Type 0 where

@@ -1,5 +1,5 @@
 -- inner: what the join's steps need and leave: sets of the query's nodes and links as masks, and the pairs held between steps.
-use Prim.Native.Nat.{ℕ, _+_, _<_, _≤_}
+use Prim.Native.Nat.{ℕ, _+_, _^_, _<_, _≤_}
 use mathlib.Core.Path.{_≡_}
 use mathlib.Core.List.{List}
 use mathlib.Core.Bool.{Bool}
@@ -7,6 +7,7 @@ use mathlib.Core.Logic.{_⊎_}
 use lib.ListN.{length, getD, take, replicate}
 use lib.Dec.{T}
 use lib.Bits.{bitAnd, bitOr, bitXor}
+use Rattle.packed.specs.Limits.{pairWidth}
 use Rattle.packed.specs.ByValue.{HoldsPattern}
 use Rattle.packed.specs.Calls.{accepted, rejected, readPattern}
 use Rattle.packed.specs.declared.by_value.Pattern.{Pattern as Given}
@@ -68,6 +69,7 @@ Loose d w leave arrive r = (i e : ℕ) → i < d → Has (heldAt w i) e → Has 
 
 -- the masks of the nodes beside what is held: w are the first words, and s the place of the steps
 pub record Between (q : Given) (n d : ℕ) (w : List ℕ) (s : Place) (w′ leave arrive : List ℕ) : Type 0 where
+  pub small : (i : ℕ) → i < d → getD w i 0 < 2 ^ pairWidth
   pub shut : Shut (patternIn q) (bit (s .settled))
   pub free : Mask (λ e. (e < q .edges) × (Has (s .settled) (getD (q .from) e 0) → ⊥)) (s .free)
   pub loose : (e : ℕ) → e < q .edges → Has (s .loose) e → Has (s .free) e

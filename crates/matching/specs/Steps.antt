@@ -1,5 +1,5 @@
--- inner: what matching finds in the workspace: the codes of m edges from word 0 on.
-use Prim.Native.Nat.{ℕ, _+_, _*_, _/_, _%_, _<_, _≤_}
+-- inner: what matching finds in the workspace: the words of m edges from word 0 on, each the code of its ends in the low 24 bits and its kind above them.
+use Prim.Native.Nat.{ℕ, _+_, _*_, _/_, _%_, _^_, _<_, _≤_}
 use mathlib.Core.Path.{_≡_}
 use mathlib.Core.List.{List}
 use lib.ListN.{length, getD, take}
@@ -8,12 +8,12 @@ use Rattle.packed.specs.declared.by_value.Pattern.{Pattern as Given}
 use Rattle.matching.specs.Lists.{upTo}
 use Rattle.matching.specs.Simulation.{Edge, between, Pattern, Graph}
 
--- the edge number e of a pattern that is given by value, and the edge whose code stands in a word
+-- the edge number e of a pattern that is given by value, and the edge that stands in a word
 abbrev pub givenEdge : Given → ℕ → Edge
-givenEdge p e = between (getD (p .from) e 0) (getD (p .to) e 0)
+givenEdge p e = between (getD (p .from) e 0) (getD (p .to) e 0) (getD (p .kind) e 0)
 
 abbrev pub edgeOfWord : ℕ → Edge
-edgeOfWord c = between (c / 4096) (c % 4096)
+edgeOfWord c = between (c / 4096 % 4096) (c % 4096) (c / 2 ^ 24)
 
 -- the pattern that is given by value
 unfoldable pub patternIn : Given → Pattern
@@ -30,9 +30,11 @@ pub record Fair (p : Given) : Type 0 where
   pub labels-long : length (p .labels) ≡ 16
   pub from-long : length (p .from) ≡ 32
   pub to-long : length (p .to) ≡ 32
+  pub kind-long : length (p .kind) ≡ 32
   pub labels : (u : ℕ) → u < p .nodes → getD (p .labels) u 0 < 32
   pub from : (e : ℕ) → e < p .edges → getD (p .from) e 0 < p .nodes
   pub to : (e : ℕ) → e < p .edges → getD (p .to) e 0 < p .nodes
+  pub kind : (e : ℕ) → e < p .edges → getD (p .kind) e 0 < 8
 
 -- the record's labels lie in its bytes, and its edges in the workspace
 pub record Ready (s : List ℕ) (n m : ℕ) (w : List ℕ) : Type 0 where
@@ -41,8 +43,9 @@ pub record Ready (s : List ℕ) (n m : ℕ) (w : List ℕ) : Type 0 where
   pub nodes : n ≤ 4096
   pub edges : m ≤ 8192
   pub long : length w ≡ 16384
-  pub from : (i : ℕ) → i < m → getD w i 0 / 4096 < n
+  pub from : (i : ℕ) → i < m → getD w i 0 / 4096 % 4096 < n
   pub to : (i : ℕ) → i < m → getD w i 0 % 4096 < n
+  pub kind : (i : ℕ) → i < m → getD w i 0 / 2 ^ 24 < 8
 
 -- the words below 8192 are as they were
 pub record Edges (w w′ : List ℕ) : Type 0 where

@@ -8,12 +8,15 @@ use lib.Bits.{bitAnd, bitOr}
 use Rattle.packed.specs.Order.{Outside}
 use Rattle.matching.specs.Sweeps.{Has, Mask, OneOf, Names}
 
--- the ends of the pair i
+-- the ends of the pair i, in the low 24 bits of its word, and the kind above them
 abbrev pub fromOf : List ℕ → ℕ → ℕ
-fromOf w i = getD w i 0 / 4096
+fromOf w i = getD w i 0 / 4096 % 4096
 
 abbrev pub toOf : List ℕ → ℕ → ℕ
 toOf w i = getD w i 0 % 4096
+
+abbrev pub kindOf : List ℕ → ℕ → ℕ
+kindOf w i = getD w i 0 / 2 ^ 24
 
 -- the workspace has room for d pairs, whose ends are below n
 pub record Ends (n d : ℕ) (w : List ℕ) : Type 0 where

@@ -22,7 +22,7 @@ fn skip(work: &[u32], start: usize, d: usize, v: usize) -> usize
     let mut i = start;
     while i < d {
         let x = work[i];
-        let f = (x / limits::NODES) as usize;
+        let f = (x / limits::NODES % limits::NODES) as usize;
         if v <= f {
             return i;
         }

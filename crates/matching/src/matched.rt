@@ -26,9 +26,10 @@ pub fn match_edges(
 {
     let from = p.from;
     let to = p.to;
+    let kind = p.kind;
     let edges = p.edges;
     let all = link_tables::all(edges);
-    start::hold(work, m, all);
+    start::hold(work, m, &kind, edges);
     start::spread(s, n, p, leave, arrive, out);
     let leaving = link_tables::table(&from, &from, edges);
     let arriving = link_tables::table(&from, &to, edges);
@@ -52,9 +53,10 @@ pub fn match_indexed(
 {
     let from = p.from;
     let to = p.to;
+    let kind = p.kind;
     let edges = p.edges;
     let all = link_tables::all(edges);
-    start::hold(work, m, all);
+    start::hold(work, m, &kind, edges);
     start::spread(s, n, p, leave, arrive, out);
     let leaving = link_tables::table(&from, &from, edges);
     let arriving = link_tables::table(&from, &to, edges);

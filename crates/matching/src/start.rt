@@ -1,25 +1,19 @@
-// The start of a search: every pair is held for all links of the pattern, and each node has the links whose end has one of its labels.
+// The start of a search: every pair is held for all links of its kind, and each node has the links whose end has one of its labels.
 ghost use mathlib.Core.Path.{_≡_};
 ghost use Prim.Native.Nat.{ℕ, _+_, _*_, _^_, _<_, _≤_};
 ghost use lib.ListN.{length, getD, replicate};
 ghost use Rattle.matching.specs.Steps.{Fair};
 ghost use Rattle.matching.specs.Sweeps.{Has};
-ghost use Rattle.matching.specs.Starting.{NodeRoom, AllHeld, ByLabel, OfLabels, LinksSpread};
+ghost use Rattle.matching.specs.Sweeping.{kindOf};
+ghost use Rattle.matching.specs.Starting.{NodeRoom, ByKind, KindsHeld, ByLabel, OfLabels, LinksSpread};
 use packed::by_value;
 use packed::by_value::Pattern;
 use packed::limits;
 
-// Each of d pairs is held for x.
-pub fn hold(work: &mut [u32], d: usize, x: u32)
-    requires { ⌜ (d ≤ 8192) × (length (now work) ≡ 16384) ⌝ }
-    ensures { λ r. ⌜ AllHeld d x (now (work .entry)) (now (work .exit)) ⌝ }
+fn no_kinds() -> [u32; 8]
+    ensures { λ r. ⌜ r ≡ replicate 8 0 ⌝ }
 {
-    let mut i: usize = 0;
-    while i < d {
-        let at = limits::HELD + i;
-        work[at] = x;
-        i += 1;
-    }
+    [0u32; 8]
 }
 
 fn no_links() -> [u32; 32]
@@ -34,6 +28,37 @@ fn one(k: usize) -> u32
     ensures { λ r. ⌜ r ≡ 2 ^ k ⌝ }
 {
     1 << k
+}
+
+// For each kind the links below m that have it.
+fn by_kind(kinds: &[u32; 32], m: usize) -> [u32; 8]
+    requires { ⌜ (m ≤ 32) × ((e : ℕ) → e < m → getD (now kinds) e 0 < 8) ⌝ }
+    ensures { λ r. ⌜ ByKind (now (kinds .entry)) m r ⌝ }
+{
+    let mut t = no_kinds();
+    let mut e: usize = 0;
+    while e < m {
+        let k = kinds[e] as usize;
+        let old = t[k];
+        t[k] = old | one(e);
+        e += 1;
+    }
+    t
+}
+
+// Each of d pairs is held for the links below m that have its kind.
+pub fn hold(work: &mut [u32], d: usize, kinds: &[u32; 32], m: usize)
+    requires { ⌜ (d ≤ 8192) × (length (now work) ≡ 16384) × (m ≤ 32) × ((e : ℕ) → e < m → getD (now kinds) e 0 < 8) × ((i : ℕ) → i < d → kindOf (now work) i < 8) ⌝ }
+    ensures { λ r. ⌜ KindsHeld (now (kinds .entry)) m d (now (work .entry)) (now (work .exit)) ⌝ }
+{
+    let t = by_kind(kinds, m);
+    let mut i: usize = 0;
+    while i < d {
+        let k = (work[i] / limits::PAIRS) as usize;
+        let at = limits::HELD + i;
+        work[at] = t[k];
+        i += 1;
+    }
 }
 
 // For each label the links below m at whose end it stands.

@@ -71,7 +71,7 @@ fn loose(work: &[u32], d: usize, leave: &[u32], arrive: &[u32]) -> u32
     let mut i: usize = 0;
     while i < d {
         let x = work[i];
-        let f = (x / limits::NODES) as usize;
+        let f = (x / limits::NODES % limits::NODES) as usize;
         let t = (x % limits::NODES) as usize;
         let at = limits::HELD + i;
         let held = work[at];

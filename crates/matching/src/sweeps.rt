@@ -25,7 +25,7 @@ pub fn sweep(work: &mut [u32], d: usize, leave: &[u32], arrive: &[u32], free: u3
     let mut i: usize = 0;
     while i < d {
         let x = work[i];
-        let f = (x / limits::NODES) as usize;
+        let f = (x / limits::NODES % limits::NODES) as usize;
         let t = (x % limits::NODES) as usize;
         let at = limits::HELD + i;
         let both = leave[f] & arrive[t];

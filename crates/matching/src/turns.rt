@@ -15,7 +15,7 @@ fn mark_start(work: &[u32], i: usize, lost: u32, leave: &[u32], first: &[u16], s
     requires { ⌜ (i < 8192) × (length (now work) ≡ 16384) × (fromOf (now work) i < 4096) × (fromOf (now work) i < length (now leave)) × (fromOf (now work) i + 1 < length (now first)) × (length (now set) ≡ 256) ⌝ }
     ensures { λ r. ⌜ MarkedStart (now (work .entry)) lost (now (leave .entry)) i (now (set .entry)) (now (set .exit)) ⌝ }
 {
-    let f = (work[i] / limits::NODES) as usize;
+    let f = (work[i] / limits::NODES % limits::NODES) as usize;
     let at = limits::HELD + i;
     let hurt = work[at] & (leave[f] & lost);
     if hurt == 0 {

@@ -13,8 +13,8 @@ pub struct View {
     pub next: usize,
 }
 
-fn no_words() -> [u32; 82] {
-    [0u32; 82]
+fn no_words() -> [u32; 114] {
+    [0u32; 114]
 }
 
 fn no_pattern() -> Pattern {
@@ -22,6 +22,7 @@ fn no_pattern() -> Pattern {
         labels: [0u32; 16],
         from: [0u32; 32],
         to: [0u32; 32],
+        kind: [0u32; 32],
         nodes: 0,
         edges: 0,
     }

@@ -30,7 +30,7 @@ held-by {n = n} {w′ = w′} c room f l h = record {
 -- what a pattern by value needs of it
 pub pattern-fits : (s : List ℕ) {n : ℕ} {w w′ : List ℕ} (c : Content (decode pattern s) n w w′) → n ≤ length w
     → (nodesOf (take (n - 0) (drop 0 w′)) ≤ 16) × (edgesOf (take (n - 0) (drop 0 w′)) ≤ 32)
-    × (2 + (nodesOf (take (n - 0) (drop 0 w′)) + 2 * edgesOf (take (n - 0) (drop 0 w′))) ≤ length (take (n - 0) (drop 0 w′)))
+    × (2 + (nodesOf (take (n - 0) (drop 0 w′)) + 3 * edgesOf (take (n - 0) (drop 0 w′))) ≤ length (take (n - 0) (drop 0 w′)))
 unfolding patternSize
 pattern-fits s c room = let b = pattern-bounds s (c .fields) (c .is) in rw (front-is c room) (b .1, b .3, omega (arith, b .4))
 
@@ -39,7 +39,7 @@ pub pattern-held : (s : List ℕ) {p : Pattern} {v : Verdict} {file n : ℕ} {w 
 pattern-held s {p = p} c room f l h = held-by c room f l (subst (λ ws. HoldsPattern ws p) (front-is c room) h)
 
 pub pattern-few : (s : List ℕ) {p : Pattern} {n : ℕ} {w : List ℕ} (q : Held (λ ws. HoldsPattern ws p) (readPattern s) n w) → p .edges ≤ 32
-pattern-few s q = omega (arith, pattern-bounds s (q .fields) (read-says 44 1 pattern s (q .fields) (q .is) .0) .3, q .holds .edges)
+pattern-few s q = omega (arith, pattern-bounds s (q .fields) (read-says 56 1 pattern s (q .fields) (q .is) .0) .3, q .holds .edges)
 
 -- the same of a catalogue's views
 views-held : (s : List ℕ) {n k : ℕ} {w w′ counts : List ℕ} (c : Content (decode catalogue s) n w w′) → n ≤ length w → k ≡ getD (take (n - 0) (drop 0 w′)) 0 0

@@ -60,14 +60,14 @@ module _ (most file : ℕ) (F : Format) (s ws : List ℕ) {A : Type 0} (plain : 
       let p = pick-accepted (ltb most (length s)) file (decode F s) ws in
       (λ e. let q = p .0 e in (ltb-false most (length s) (q .0), plain .0 (q .1)), λ q. p .1 (le-ltb most (length s) (q .0), plain .1 (q .1)))
 
-pub pattern-read : (s ws : List ℕ) → readPattern s ≡ accepted ws ↔ ((length s ≤ 44) × PatternFile s ws)
-pattern-read s ws = read-accepted 44 1 pattern s ws (pattern-accepted s ws)
+pub pattern-read : (s ws : List ℕ) → readPattern s ≡ accepted ws ↔ ((length s ≤ 56) × PatternFile s ws)
+pattern-read s ws = read-accepted 56 1 pattern s ws (pattern-accepted s ws)
 
-pub catalogue-read : (s ws : List ℕ) → readCatalogue s ≡ accepted ws ↔ ((length s ≤ 705) × CatalogueFile s ws)
-catalogue-read s ws = read-accepted 705 2 catalogue s ws (catalogue-accepted s ws)
+pub catalogue-read : (s ws : List ℕ) → readCatalogue s ≡ accepted ws ↔ ((length s ≤ 897) × CatalogueFile s ws)
+catalogue-read s ws = read-accepted 897 2 catalogue s ws (catalogue-accepted s ws)
 
-pub record-read : (s ws : List ℕ) → readRecord s ≡ accepted ws ↔ ((length s ≤ 40964) × RecordFile s ws)
-record-read s ws = read-accepted 40964 3 record′ s ws (record-accepted s ws)
+pub record-read : (s ws : List ℕ) → readRecord s ≡ accepted ws ↔ ((length s ≤ 44036) × RecordFile s ws)
+record-read s ws = read-accepted 44036 3 record′ s ws (record-accepted s ws)
 
 -- for the content p of a pattern
 pub sheet-read : (p s ws : List ℕ) → readSheet p s ≡ accepted ws ↔ ((length s ≤ 65536) × SheetFile (edgesOf p) s ws)

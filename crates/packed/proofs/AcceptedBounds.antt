@@ -31,7 +31,7 @@ plain-bounded ws bs q =
       most-nodes = q .most-nodes;
       some-edges = q .some-edges;
       most-edges = q .most-edges;
-      size = let l = length-append (q .labels) (q .ends) in let m = q .label-each in let n = q .edges .two-each in omega arith;
+      size = let l = length-append (q .labels) (q .es) in let m = q .label-each in let n = q .edges .among .three-each in omega arith;
     })
 
 pub pattern-bounds : (s ws : List ℕ) → decode pattern s ≡ ok ws

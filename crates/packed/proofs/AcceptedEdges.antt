@@ -3,7 +3,7 @@ use Prim.Native.Nat.{ℕ, zero, suc, _+_, _*_, _^_, _≤_, _<_}
 use mathlib.Core.Path.{_≡_, refl, ap, sym, _∙_, subst}
 use mathlib.Core.List.{List, [], _∷_, _++_, append-assoc, append-nil}
 use mathlib.Core.Bool.{Bool, true, false, not, _&&_, _||_}
-use mathlib.Core.Logic.{⊎-elim, _↔_}
+use mathlib.Core.Logic.{_⊎_, inl, inr, ⊎-elim, _↔_}
 use lib.ListN.{length, getD, length-append, List·getD-append}
 use lib.Seq.{getD-at, getD-append-add}
 use lib.Dec.{eqb}
@@ -13,12 +13,17 @@ use borrow.Author.Tests.{eq-eqb, eqb-true}
 use Rattle.packed.specs.Bits.{bitsOf}
 use Rattle.packed.specs.Format.{Format, done, ask, then, times}
 use Rattle.packed.specs.Formats.{linked, edges, isEnd, allEnds}
-use Rattle.packed.specs.Plain.{Laid, Below, fieldBits, fromAt, toAt}
+use Rattle.packed.specs.Plain.{Laid, Below, fieldBits, fromAt, toAt, kindAt, edgeBits, EdgesAmong, Same}
 use Rattle.packed.proofs.RoundTrip.{and-yes}
 use Rattle.packed.proofs.OrderCases.{or-cases}
+use Rattle.packed.proofs.EdgePlaces.{from-cons, to-cons, kind-cons, among-cons, among-tail}
 use Rattle.packed.proofs.AcceptedLaws.{Accepts, accepts-same, Nothing, accepts-done, Asked, accepts-ask, Tested, accepts-test}
 
 -- ---- tests
+
+or-left : (a b : Bool) → a ≡ true → (a || b) ≡ true
+or-left true b e = refl
+or-left false b e = absurd (let z : _≡_ {A = ℕ} 0 1 = cc in omega arith)
 
 or-right : (a b : Bool) → b ≡ true → (a || b) ≡ true
 or-right true b e = refl
@@ -88,125 +93,135 @@ module _ (w bound e : ℕ) (fits : bound ≤ 2 ^ w) where
 
 -- ---- edges by their places
 
-pub from-cons : (x y : ℕ) (l : List ℕ) (i : ℕ) → fromAt (x ∷ y ∷ l) (suc i) ≡ fromAt l i
-from-cons x y l i = ap (λ (n : ℕ). getD (x ∷ y ∷ l) n 0) (let e : 2 * suc i ≡ suc (suc (2 * i)) = omega arith in e)
-
-pub to-cons : (x y : ℕ) (l : List ℕ) (i : ℕ) → toAt (x ∷ y ∷ l) (suc i) ≡ toAt l i
-to-cons x y l i = ap (λ (n : ℕ). getD (x ∷ y ∷ l) n 0) (let e : 2 * suc i + 1 ≡ suc (suc (2 * i + 1)) = omega arith in e)
-
-linked-at : (a b : ℕ) (ends : List ℕ) (i : ℕ) → 2 * i + 1 < length ends → fromAt ends i ≡ a → toAt ends i ≡ b → linked a b ends ≡ true
+linked-at : (a b k : ℕ) (es : List ℕ) (i : ℕ) → 3 * i + 2 < length es → fromAt es i ≡ a → toAt es i ≡ b → kindAt es i ≡ k → linked a b k es ≡ true
 unfolding linked
-linked-at a b [] i h p q = absurd (omega arith)
-linked-at a b (x ∷ []) i h p q = absurd (omega arith)
-linked-at a b (x ∷ y ∷ ends) zero h p q = rw (eq-eqb x a p, eq-eqb y b q)
-linked-at a b (x ∷ y ∷ ends) (suc i) h p q =
-    or-right (eqb x a && eqb y b) (linked a b ends)
-    (linked-at a b ends i (omega arith) (sym (from-cons x y ends i) ∙ p) (sym (to-cons x y ends i) ∙ q))
+linked-at a b k [] i h p q r = absurd (omega arith)
+linked-at a b k (x ∷ []) i h p q r = absurd (omega arith)
+linked-at a b k (x ∷ y ∷ []) i h p q r = absurd (omega arith)
+linked-at a b k (x ∷ y ∷ z ∷ es) zero h p q r = rw (eq-eqb x a p, eq-eqb y b q, eq-eqb z k r)
+linked-at a b k (x ∷ y ∷ z ∷ es) (suc i) h p q r =
+    or-right (eqb x a && (eqb y b && eqb z k)) (linked a b k es)
+    (linked-at a b k es i (omega arith) (sym (from-cons x y z es i) ∙ p) (sym (to-cons x y z es i) ∙ q) (sym (kind-cons x y z es i) ∙ r))
 
-linked-found : (a b : ℕ) (ends : List ℕ) → linked a b ends ≡ true → (i : ℕ) × (2 * i + 1 < length ends) × (fromAt ends i ≡ a) × (toAt ends i ≡ b)
+linked-found : (a b k : ℕ) (es : List ℕ) → linked a b k es ≡ true
+    → (i : ℕ) × (3 * i + 2 < length es) × (fromAt es i ≡ a) × (toAt es i ≡ b) × (kindAt es i ≡ k)
 unfolding linked
-linked-found a b [] h = absurd (let z : _≡_ {A = ℕ} 0 1 = cc in omega arith)
-linked-found a b (x ∷ []) h = absurd (let z : _≡_ {A = ℕ} 0 1 = cc in omega arith)
-linked-found a b (x ∷ y ∷ ends) h =
+linked-found a b k [] h = absurd (let z : _≡_ {A = ℕ} 0 1 = cc in omega arith)
+linked-found a b k (x ∷ []) h = absurd (let z : _≡_ {A = ℕ} 0 1 = cc in omega arith)
+linked-found a b k (x ∷ y ∷ []) h = absurd (let z : _≡_ {A = ℕ} 0 1 = cc in omega arith)
+linked-found a b k (x ∷ y ∷ z ∷ es) h =
     ⊎-elim
-    (λ e. let q = and-yes (eqb x a) (eqb y b) e in (0, omega arith, eqb-true x a (q .0), eqb-true y b (q .1)))
     (λ e.
-    let q = linked-found a b ends e in
-    (suc (q .0), let l = q .1 in omega arith, from-cons x y ends (q .0) ∙ q .2, to-cons x y ends (q .0) ∙ q .3))
-    (or-cases (eqb x a && eqb y b) (linked a b ends) h)
+    let q = and-yes (eqb x a) (eqb y b && eqb z k) e in
+    let r = and-yes (eqb y b) (eqb z k) (q .1) in
+    (0, omega arith, eqb-true x a (q .0), eqb-true y b (r .0), eqb-true z k (r .1)))
+    (λ e.
+    let q = linked-found a b k es e in
+    (suc (q .0), let l = q .1 in omega arith, from-cons x y z es (q .0) ∙ q .2, to-cons x y z es (q .0) ∙ q .3, kind-cons x y z es (q .0) ∙ q .4))
+    (or-cases (eqb x a && (eqb y b && eqb z k)) (linked a b k es) h)
 
--- the edge from a to b after k edges
-module _ (es : List ℕ) (k : ℕ) (long : length es ≡ 2 * k) (a b : ℕ) (rest : List ℕ) where
-  from-here : fromAt (es ++ (a ∷ b ∷ rest)) k ≡ a
-  from-here = getD-at es a (b ∷ rest) 0 (2 * k) long
+-- the edge from a to b of the kind k after n edges
+module _ (es : List ℕ) (n : ℕ) (long : length es ≡ 3 * n) (a b k : ℕ) (rest : List ℕ) where
+  from-here : fromAt (es ++ (a ∷ b ∷ k ∷ rest)) n ≡ a
+  from-here = getD-at es a (b ∷ k ∷ rest) 0 (3 * n) long
 
-  to-here : toAt (es ++ (a ∷ b ∷ rest)) k ≡ b
-  to-here = ap (λ (n : ℕ). getD (es ++ (a ∷ b ∷ rest)) (n + 1) 0) (sym long) ∙ getD-append-add es (a ∷ b ∷ rest) 1 0
+  to-here : toAt (es ++ (a ∷ b ∷ k ∷ rest)) n ≡ b
+  to-here = ap (λ (m : ℕ). getD (es ++ (a ∷ b ∷ k ∷ rest)) (m + 1) 0) (sym long) ∙ getD-append-add es (a ∷ b ∷ k ∷ rest) 1 0
 
-  from-before : (i : ℕ) → i < k → fromAt (es ++ (a ∷ b ∷ rest)) i ≡ fromAt es i
-  from-before i h = List·getD-append es (a ∷ b ∷ rest) 0 (2 * i) (omega arith)
+  kind-here : kindAt (es ++ (a ∷ b ∷ k ∷ rest)) n ≡ k
+  kind-here = ap (λ (m : ℕ). getD (es ++ (a ∷ b ∷ k ∷ rest)) (m + 2) 0) (sym long) ∙ getD-append-add es (a ∷ b ∷ k ∷ rest) 2 0
 
-  to-before : (i : ℕ) → i < k → toAt (es ++ (a ∷ b ∷ rest)) i ≡ toAt es i
-  to-before i h = List·getD-append es (a ∷ b ∷ rest) 0 (2 * i + 1) (omega arith)
+  from-before : (i : ℕ) → i < n → fromAt (es ++ (a ∷ b ∷ k ∷ rest)) i ≡ fromAt es i
+  from-before i h = List·getD-append es (a ∷ b ∷ k ∷ rest) 0 (3 * i) (omega arith)
+
+  to-before : (i : ℕ) → i < n → toAt (es ++ (a ∷ b ∷ k ∷ rest)) i ≡ toAt es i
+  to-before i h = List·getD-append es (a ∷ b ∷ k ∷ rest) 0 (3 * i + 1) (omega arith)
+
+  kind-before : (i : ℕ) → i < n → kindAt (es ++ (a ∷ b ∷ k ∷ rest)) i ≡ kindAt es i
+  kind-before i h = List·getD-append es (a ∷ b ∷ k ∷ rest) 0 (3 * i + 2) (omega arith)
 
   -- it repeats none of them
-  new-differs : not (linked a b es) ≡ true → (i : ℕ) → i < k
-      → fromAt (es ++ (a ∷ b ∷ rest)) i ≡ fromAt (es ++ (a ∷ b ∷ rest)) k → toAt (es ++ (a ∷ b ∷ rest)) i ≡ toAt (es ++ (a ∷ b ∷ rest)) k → ⊥
-  new-differs n i h p q =
-      not-both (linked a b es) n
-      (linked-at a b es i (omega arith) (sym (from-before i h) ∙ p ∙ from-here) (sym (to-before i h) ∙ q ∙ to-here))
+  new-differs : not (linked a b k es) ≡ true → (i : ℕ) → i < n → Same (es ++ (a ∷ b ∷ k ∷ rest)) i n → ⊥
+  new-differs c i h s =
+      not-both (linked a b k es) c
+      (linked-at a b k es i (omega arith) (sym (from-before i h) ∙ s .0 ∙ from-here) (sym (to-before i h) ∙ s .1 ∙ to-here) (sym (kind-before i h) ∙ s .2 ∙ kind-here))
 
-  differs-new : ((i : ℕ) → i < k → fromAt (es ++ (a ∷ b ∷ rest)) i ≡ fromAt (es ++ (a ∷ b ∷ rest)) k → toAt (es ++ (a ∷ b ∷ rest)) i ≡ toAt (es ++ (a ∷ b ∷ rest)) k → ⊥)
-      → not (linked a b es) ≡ true
+  differs-new : ((i : ℕ) → i < n → Same (es ++ (a ∷ b ∷ k ∷ rest)) i n → ⊥) → not (linked a b k es) ≡ true
   differs-new d =
-      not-by (linked a b es) (λ e.
-      let q = linked-found a b es e in
+      not-by (linked a b k es) (λ e.
+      let q = linked-found a b k es e in
       let i : ℕ = q .0 in
-      let l : i < k = let m = q .1 in omega arith in
-      d i l (from-before i l ∙ q .2 ∙ sym from-here) (to-before i l ∙ q .3 ∙ sym to-here))
+      let l : i < n = let m = q .1 in omega arith in
+      d i l (from-before i l ∙ q .2 ∙ sym from-here, to-before i l ∙ q .3 ∙ sym to-here, kind-before i l ∙ q .4 ∙ sym kind-here))
 
--- ---- so many edges more, after the k edges with the ends es; at the end Last holds of all ends
+-- ---- so many edges more, after the n edges with the fields es; at the end Last holds of all fields
 
-pub record EdgesLaid (w nodes : ℕ) (Last : List ℕ → Type 0) (more k : ℕ) (es ws : List ℕ) (bs : List Bool) : Type 0 where
-  pub two-each : length ws ≡ 2 * more
-  pub are-nodes : Below nodes ws
-  pub layout : bs ≡ fieldBits w ws
-  pub differ : (i j : ℕ) → i < j → k ≤ j → j < k + more → fromAt (es ++ ws) i ≡ fromAt (es ++ ws) j → toAt (es ++ ws) i ≡ toAt (es ++ ws) j → ⊥
-  pub ends : Last (es ++ ws)
+pub record EdgesLaid (w wide nodes : ℕ) (Last : List ℕ → Type 0) (more n : ℕ) (es ws : List ℕ) (bs : List Bool) : Type 0 where
+  pub among : EdgesAmong nodes (2 ^ wide) more ws
+  pub layout : bs ≡ edgeBits w wide ws
+  pub differ : (i j : ℕ) → i < j → n ≤ j → j < n + more → Same (es ++ ws) i j → ⊥
+  pub last : Last (es ++ ws)
 
-module _ (w nodes : ℕ) (fits : nodes ≤ 2 ^ w) (last : List ℕ → Format) (Last : List ℕ → Type 0)
-    (accepts-last : (ends : List ℕ) (at : ℕ) → Accepts (last ends) at (λ ws bs. Last ends × Nothing ws bs)) where
-  no-edges : (k : ℕ) (es ws : List ℕ) (bs : List Bool) → (Last es × Nothing ws bs) ↔ EdgesLaid w nodes Last 0 k es ws bs
-  unfolding fieldBits
-  no-edges k es [] bs = (
+module _ (w wide nodes : ℕ) (fits : nodes ≤ 2 ^ w) (last : List ℕ → Format) (Last : List ℕ → Type 0)
+    (accepts-last : (es : List ℕ) (at : ℕ) → Accepts (last es) at (λ ws bs. Last es × Nothing ws bs)) where
+  no-edges : (n : ℕ) (es ws : List ℕ) (bs : List Bool) → (Last es × Nothing ws bs) ↔ EdgesLaid w wide nodes Last 0 n es ws bs
+  unfolding edgeBits
+  no-edges n es [] bs = (
     λ q. record {
-      two-each = refl;
-      are-nodes = λ i h. absurd (omega arith);
+      among = record { three-each = refl; from-node = λ i h. absurd (omega arith); to-node = λ i h. absurd (omega arith); is-kind = λ i h. absurd (omega arith) };
       layout = q .1 .1;
-      differ = λ i j h g l p r. omega arith;
-      ends = subst Last (sym (append-nil es)) (q .0);
+      differ = λ i j h g l s. omega arith;
+      last = subst Last (sym (append-nil es)) (q .0);
     },
-    λ q. (subst Last (append-nil es) (q .ends), (refl, q .layout)),
+    λ q. (subst Last (append-nil es) (q .last), (refl, q .layout)),
   )
-  no-edges k es (v ∷ ws) bs = (λ q. absurd (let z = ap length (q .1 .0) in omega arith), λ q. absurd (let z = q .two-each in omega arith))
+  no-edges n es (v ∷ ws) bs = (λ q. absurd (let z = ap length (q .1 .0) in omega arith), λ q. absurd (let z = q .among .three-each in omega arith))
 
   -- one edge, and the others
   abbrev One : ℕ → ℕ → List ℕ → Laid
-  One more k es = Asked w 0 nodes (λ a. Asked w 0 nodes (λ b. Tested (not (linked a b es)) (EdgesLaid w nodes Last more (suc k) (es ++ (a ∷ b ∷ [])))))
+  One more n es =
+      Asked w 0 nodes (λ a. Asked w 0 nodes (λ b. Asked wide 0 (2 ^ wide) (λ k.
+      Tested (not (linked a b k es)) (EdgesLaid w wide nodes Last more (suc n) (es ++ (a ∷ b ∷ k ∷ []))))))
 
-  edge-to : (more k : ℕ) (es : List ℕ) → length es ≡ 2 * k → (ws : List ℕ) (bs : List Bool) → One more k es ws bs → EdgesLaid w nodes Last (suc more) k es ws bs
-  unfolding fieldBits
-  edge-to more k es long ws bs q =
+  edge-to : (more n : ℕ) (es : List ℕ) → length es ≡ 3 * n → (ws : List ℕ) (bs : List Bool) → One more n es ws bs → EdgesLaid w wide nodes Last (suc more) n es ws bs
+  unfolding edgeBits
+  edge-to more n es long ws bs q =
       let a : ℕ = q .value in
       let b : ℕ = q .after .value in
-      let l : List ℕ = q .after .rest in
-      let r = q .after .after .1 in
-      let shift : (es ++ (a ∷ b ∷ [])) ++ l ≡ es ++ (a ∷ b ∷ l) = append-assoc es (a ∷ b ∷ []) l in
-      let all : ws ≡ a ∷ b ∷ l = q .content ∙ ap (λ (t : List ℕ). a ∷ t) (q .after .content) in
-      let laid : bs ≡ bitsOf w a ++ (bitsOf w b ++ q .after .body) = q .layout ∙ ap (λ (t : List Bool). bitsOf w a ++ t) (q .after .layout) in
+      let k : ℕ = q .after .after .value in
+      let l : List ℕ = q .after .after .rest in
+      let r = q .after .after .after .1 in
+      let shift : (es ++ (a ∷ b ∷ k ∷ [])) ++ l ≡ es ++ (a ∷ b ∷ k ∷ l) = append-assoc es (a ∷ b ∷ k ∷ []) l in
+      let all : ws ≡ a ∷ b ∷ k ∷ l =
+      q .content ∙ ap (λ (t : List ℕ). a ∷ t) (q .after .content) ∙ ap (λ (t : List ℕ). a ∷ b ∷ t) (q .after .after .content) in
+      let laid : bs ≡ bitsOf w a ++ (bitsOf w b ++ (bitsOf wide k ++ q .after .after .body)) =
+      q .layout
+      ∙ ap (λ (t : List Bool). bitsOf w a ++ t) (q .after .layout)
+      ∙ ap (λ (t : List Bool). bitsOf w a ++ (bitsOf w b ++ t)) (q .after .after .layout) in
       rw (all, laid) (record {
-        two-each = let z = r .two-each in omega arith;
-        are-nodes = below-cons (b ∷ l) (q .most) (below-cons l (q .after .most) (r .are-nodes));
-        layout = ap (λ (t : List Bool). bitsOf w a ++ (bitsOf w b ++ t)) (r .layout);
-        differ = λ i j h g m p t. ⊎-elim
-            (λ (e : k ≡ j). new-differs es k long a b l (q .after .after .0) i (omega arith) (rw e p) (rw e t))
-            (λ (e : k < j). r .differ i j h e (omega arith) (rw shift p) (rw shift t))
+        among = among-cons (q .most) (q .after .most) (q .after .after .most) (r .among);
+        layout = ap (λ (t : List Bool). bitsOf w a ++ (bitsOf w b ++ (bitsOf wide k ++ t))) (r .layout);
+        differ = λ i j h g m s. ⊎-elim
+            (λ (e : n ≡ j). new-differs es n long a b k l (q .after .after .after .0) i (omega arith) (rw e s))
+            (λ (e : n < j). r .differ i j h e (omega arith) (rw shift s))
             (eq-or-lt-of-le g);
-        ends = subst Last shift (r .ends);
+        last = subst Last shift (r .last);
       })
 
-  edge-by : (more k : ℕ) (es : List ℕ) → length es ≡ 2 * k → (ws : List ℕ) (bs : List Bool) → EdgesLaid w nodes Last (suc more) k es ws bs → One more k es ws bs
-  unfolding fieldBits
-  edge-by more k es long [] bs q = absurd (let z = q .two-each in omega arith)
-  edge-by more k es long (a ∷ []) bs q = absurd (let z = q .two-each in omega arith)
-  edge-by more k es long (a ∷ b ∷ l) bs q =
-      let shift : (es ++ (a ∷ b ∷ [])) ++ l ≡ es ++ (a ∷ b ∷ l) = append-assoc es (a ∷ b ∷ []) l in
-      let x : a < nodes = q .are-nodes 0 (omega arith) in
-      let y : b < nodes = q .are-nodes 1 (omega arith) in
+  edge-by : (more n : ℕ) (es : List ℕ) → length es ≡ 3 * n → (ws : List ℕ) (bs : List Bool) → EdgesLaid w wide nodes Last (suc more) n es ws bs → One more n es ws bs
+  unfolding edgeBits
+  edge-by more n es long [] bs q = absurd (let z = q .among .three-each in omega arith)
+  edge-by more n es long (a ∷ []) bs q = absurd (let z = q .among .three-each in omega arith)
+  edge-by more n es long (a ∷ b ∷ []) bs q = absurd (let z = q .among .three-each in omega arith)
+  edge-by more n es long (a ∷ b ∷ k ∷ l) bs q =
+      let shift : (es ++ (a ∷ b ∷ k ∷ [])) ++ l ≡ es ++ (a ∷ b ∷ k ∷ l) = append-assoc es (a ∷ b ∷ k ∷ []) l in
+      let x : a < nodes = q .among .from-node 0 (omega arith) in
+      let y : b < nodes = q .among .to-node 0 (omega arith) in
+      let z : k < 2 ^ wide = q .among .is-kind 0 (omega arith) in
       record {
         value = a;
-        rest = b ∷ l;
-        body = bitsOf w b ++ fieldBits w l;
+        rest = b ∷ k ∷ l;
+        body = bitsOf w b ++ (bitsOf wide k ++ edgeBits w wide l);
         content = refl;
         layout = q .layout;
         least = omega arith;
@@ -214,69 +229,92 @@ module _ (w nodes : ℕ) (fits : nodes ≤ 2 ^ w) (last : List ℕ → Format) (
         fits = lt-of-lt-of-le x fits;
         after = record {
           value = b;
-          rest = l;
-          body = fieldBits w l;
+          rest = k ∷ l;
+          body = bitsOf wide k ++ edgeBits w wide l;
           content = refl;
           layout = refl;
           least = omega arith;
           most = y;
           fits = lt-of-lt-of-le y fits;
-          after = (
-            differs-new es k long a b l (λ i h p t. q .differ i k h (omega arith) (omega arith) p t),
-            record {
-              two-each = let z = q .two-each in omega arith;
-              are-nodes = λ i h. q .are-nodes (suc (suc i)) (omega arith);
-              layout = refl;
-              differ = λ i j h g m p t. q .differ i j h (omega arith) (omega arith) (rw (sym shift) p) (rw (sym shift) t);
-              ends = subst Last (sym shift) (q .ends);
-            },
-          );
+          after = record {
+            value = k;
+            rest = l;
+            body = edgeBits w wide l;
+            content = refl;
+            layout = refl;
+            least = omega arith;
+            most = z;
+            fits = z;
+            after = (
+              differs-new es n long a b k l (λ i h s. q .differ i n h (omega arith) (omega arith) s),
+              record {
+                among = among-tail (q .among);
+                layout = refl;
+                differ = λ i j h g m s. q .differ i j h (omega arith) (omega arith) (rw (sym shift) s);
+                last = subst Last (sym shift) (q .last);
+              },
+            );
+          };
         };
       }
 
-  pub accepts-edges : (more k at : ℕ) (es : List ℕ) → length es ≡ 2 * k → Accepts (edges w nodes last more es) at (EdgesLaid w nodes Last more k es)
+  pub accepts-edges : (more n at : ℕ) (es : List ℕ) → length es ≡ 3 * n → Accepts (edges w wide nodes last more es) at (EdgesLaid w wide nodes Last more n es)
   unfolding edges
-  accepts-edges zero k at es long = accepts-same (no-edges k es) (accepts-last es at)
-  accepts-edges (suc more) k at es long =
-      accepts-same (λ ws bs. (edge-to more k es long ws bs, edge-by more k es long ws bs))
+  accepts-edges zero n at es long = accepts-same (no-edges n es) (accepts-last es at)
+  accepts-edges (suc more) n at es long =
+      accepts-same (λ ws bs. (edge-to more n es long ws bs, edge-by more n es long ws bs))
       (accepts-ask w 0 nodes 4 _ at _ (λ a l m.
       accepts-ask w 0 nodes 4 _ (at + w) _ (λ b l′ m′.
-      accepts-test (not (linked a b es)) 5
-      (accepts-edges more (suc k) (at + w + w) (es ++ (a ∷ b ∷ [])) (omega (arith, length-append es (a ∷ b ∷ [])))))))
+      accepts-ask wide 0 (2 ^ wide) 3 _ (at + w + w) _ (λ k l″ m″.
+      accepts-test (not (linked a b k es)) 5
+      (accepts-edges more (suc n) (at + w + w + wide) (es ++ (a ∷ b ∷ k ∷ [])) (omega (arith, length-append es (a ∷ b ∷ k ∷ []))))))))
 
 -- ---- each node is an end
 
-end-at : (x : ℕ) (ends : List ℕ) (i : ℕ) → i < length ends → getD ends i 0 ≡ x → isEnd x ends ≡ true
+abbrev EndOf : ℕ → List ℕ → ℕ → Type 0
+EndOf x es i = (fromAt es i ≡ x) ⊎ (toAt es i ≡ x)
+
+end-at : (x : ℕ) (es : List ℕ) (i : ℕ) → 3 * i + 2 < length es → EndOf x es i → isEnd x es ≡ true
 unfolding isEnd
 end-at x [] i h p = absurd (omega arith)
-end-at x (y ∷ ends) zero h p = rw (eq-eqb y x p)
-end-at x (y ∷ ends) (suc i) h p = or-right (eqb y x) (isEnd x ends) (end-at x ends i (omega arith) p)
+end-at x (a ∷ []) i h p = absurd (omega arith)
+end-at x (a ∷ b ∷ []) i h p = absurd (omega arith)
+end-at x (a ∷ b ∷ k ∷ es) zero h p =
+    or-left (eqb a x || eqb b x) (isEnd x es)
+    (⊎-elim (λ (e : a ≡ x). or-left (eqb a x) (eqb b x) (eq-eqb a x e)) (λ (e : b ≡ x). or-right (eqb a x) (eqb b x) (eq-eqb b x e)) p)
+end-at x (a ∷ b ∷ k ∷ es) (suc i) h p =
+    or-right (eqb a x || eqb b x) (isEnd x es)
+    (end-at x es i (omega arith) (⊎-elim (λ e. inl (sym (from-cons a b k es i) ∙ e)) (λ e. inr (sym (to-cons a b k es i) ∙ e)) p))
 
-end-found : (x : ℕ) (ends : List ℕ) → isEnd x ends ≡ true → (i : ℕ) × (i < length ends) × (getD ends i 0 ≡ x)
+end-found : (x : ℕ) (es : List ℕ) → isEnd x es ≡ true → (i : ℕ) × (3 * i + 2 < length es) × EndOf x es i
 unfolding isEnd
 end-found x [] h = absurd (let z : _≡_ {A = ℕ} 0 1 = cc in omega arith)
-end-found x (y ∷ ends) h =
+end-found x (a ∷ []) h = absurd (let z : _≡_ {A = ℕ} 0 1 = cc in omega arith)
+end-found x (a ∷ b ∷ []) h = absurd (let z : _≡_ {A = ℕ} 0 1 = cc in omega arith)
+end-found x (a ∷ b ∷ k ∷ es) h =
     ⊎-elim
-    (λ e. (0, omega arith, eqb-true y x e))
-    (λ e. let q = end-found x ends e in (suc (q .0), let l = q .1 in omega arith, q .2))
-    (or-cases (eqb y x) (isEnd x ends) h)
+    (λ e. (0, omega arith, ⊎-elim (λ d. inl (eqb-true a x d)) (λ d. inr (eqb-true b x d)) (or-cases (eqb a x) (eqb b x) e)))
+    (λ e.
+    let q = end-found x es e in
+    (suc (q .0), let l = q .1 in omega arith, ⊎-elim (λ d. inl (from-cons a b k es (q .0) ∙ d)) (λ d. inr (to-cons a b k es (q .0) ∙ d)) (q .2)))
+    (or-cases (eqb a x || eqb b x) (isEnd x es) h)
 
 abbrev pub Met : ℕ → List ℕ → Type 0
-Met nodes ends = (x : ℕ) → x < nodes → (i : ℕ) × (i < length ends) × (getD ends i 0 ≡ x)
+Met nodes es = (x : ℕ) → x < nodes → (i : ℕ) × (3 * i + 2 < length es) × EndOf x es i
 
-pub all-met : (nodes : ℕ) (ends : List ℕ) → allEnds nodes ends ≡ true → Met nodes ends
+pub all-met : (nodes : ℕ) (es : List ℕ) → allEnds nodes es ≡ true → Met nodes es
 unfolding allEnds
-all-met zero ends h x l = absurd (omega arith)
-all-met (suc n) ends h x l =
-    let q = and-yes (allEnds n ends) (isEnd n ends) h in
+all-met zero es h x l = absurd (omega arith)
+all-met (suc n) es h x l =
+    let q = and-yes (allEnds n es) (isEnd n es) h in
     ⊎-elim
-    (λ (e : x ≡ n). end-found x ends (ap (λ (y : ℕ). isEnd y ends) e ∙ q .1))
-    (λ (g : x < n). all-met n ends (q .0) x g)
+    (λ (e : x ≡ n). end-found x es (ap (λ (y : ℕ). isEnd y es) e ∙ q .1))
+    (λ (g : x < n). all-met n es (q .0) x g)
     (eq-or-lt-of-le (let g : x ≤ n = omega arith in g))
 
-pub met-all : (nodes : ℕ) (ends : List ℕ) → Met nodes ends → allEnds nodes ends ≡ true
+pub met-all : (nodes : ℕ) (es : List ℕ) → Met nodes es → allEnds nodes es ≡ true
 unfolding allEnds
-met-all zero ends h = refl
-met-all (suc n) ends h =
+met-all zero es h = refl
+met-all (suc n) es h =
     let q = h n (omega arith) in
-    rw (met-all n ends (λ x l. h x (omega arith)), end-at n ends (q .0) (q .1) (q .2))
+    rw (met-all n es (λ x l. h x (omega arith)), end-at n es (q .0) (q .1) (q .2))

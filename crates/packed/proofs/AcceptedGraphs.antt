@@ -9,12 +9,12 @@ use lib.Dec.{lit≤}
 use native.Mathlib.Omega.{arith}
 use Rattle.packed.specs.Bits.{bitsOf}
 use Rattle.packed.specs.Format.{Format, done, ask, then, times}
-use Rattle.packed.specs.Formats.{countField, edges, allEnds, label, joined, pattern, pairs, labels, record′}
+use Rattle.packed.specs.Formats.{countField, edges, allEnds, label, joined, pattern, rising, labels, record′}
 use Rattle.packed.specs.OldRecord.{nothing, oldRecord}
-use Rattle.packed.specs.Plain.{Laid, Below, fieldBits, PlainEdges, PlainPairs, PlainPattern, PlainGraph, PlainRecord}
+use Rattle.packed.specs.Plain.{Laid, Below, fieldBits, edgeBits, PlainEdges, PlainRising, PlainPattern, PlainGraph, PlainRecord}
 use Rattle.packed.proofs.AcceptedLaws.{Accepts, accepts-same, Nothing, accepts-done, Asked, accepts-ask, accepts-test, Then, accepts-then}
 use Rattle.packed.proofs.AcceptedEdges.{Fields, accepts-fields, EdgesLaid, accepts-edges, Met, all-met, met-all}
-use Rattle.packed.proofs.AcceptedPairs.{accepts-pairs}
+use Rattle.packed.proofs.AcceptedRising.{accepts-rising}
 
 -- the widths and bounds of a graph's fields
 record GraphSizes : Type 0 where
@@ -27,6 +27,7 @@ record GraphSizes : Type 0 where
   wide-label : ℕ
   labels-bound : ℕ
   wide-end : ℕ
+  wide-kind : ℕ
   -- every value in range fits its field
   nodes-fit : suc most-nodes ≤ 2 ^ wide-nodes
   number-fits : suc most-number ≤ 2 ^ wide-number
@@ -38,25 +39,25 @@ module _ (z : GraphSizes) where
     nodes : ℕ
     number : ℕ
     marks : List ℕ
-    ends : List ℕ
-    content : ws ≡ nodes ∷ number ∷ (marks ++ ends)
-    layout : bs ≡ bitsOf (z .wide-nodes) nodes ++ (bitsOf (z .wide-number) number ++ (fieldBits (z .wide-label) marks ++ fieldBits (z .wide-end) ends))
+    es : List ℕ
+    content : ws ≡ nodes ∷ number ∷ (marks ++ es)
+    layout : bs ≡ bitsOf (z .wide-nodes) nodes ++ (bitsOf (z .wide-number) number ++ (fieldBits (z .wide-label) marks ++ edgeBits (z .wide-end) (z .wide-kind) es))
     nodes-low : z .least-nodes ≤ nodes
     nodes-high : nodes ≤ z .most-nodes
     number-low : z .least-number ≤ number
     number-high : number ≤ z .most-number
     mark-each : length marks ≡ nodes
     are-marks : Below (z .labels-bound) marks
-    edges : Edges nodes number ends
+    edges : Edges nodes number es
 
   -- the format of the edges, and what it accepts
   module _ (tree : ℕ → ℕ → Format) (Edges : ℕ → ℕ → List ℕ → Type 0)
-      (accepts-tree : (nodes number : ℕ) → nodes ≤ 2 ^ z .wide-end → (at : ℕ) → Accepts (tree nodes number) at (λ ws bs. Edges nodes number ws × (bs ≡ fieldBits (z .wide-end) ws))) where
+      (accepts-tree : (nodes number : ℕ) → nodes ≤ 2 ^ z .wide-end → (at : ℕ) → Accepts (tree nodes number) at (λ ws bs. Edges nodes number ws × (bs ≡ edgeBits (z .wide-end) (z .wide-kind) ws))) where
     abbrev Parts : Laid
     Parts =
         Asked (z .wide-nodes) (z .least-nodes) (suc (z .most-nodes)) (λ nodes.
         Asked (z .wide-number) (z .least-number) (suc (z .most-number)) (λ number.
-        Then (Fields (z .wide-label) (z .labels-bound) nodes) (λ front ws bs. Edges nodes number ws × (bs ≡ fieldBits (z .wide-end) ws))))
+        Then (Fields (z .wide-label) (z .labels-bound) nodes) (λ front ws bs. Edges nodes number ws × (bs ≡ edgeBits (z .wide-end) (z .wide-kind) ws))))
 
     graph-to : (ws : List ℕ) (bs : List Bool) → Parts ws bs → Graph Edges ws bs
     graph-to ws bs q =
@@ -69,7 +70,7 @@ module _ (z : GraphSizes) where
           nodes = nodes;
           number = n .value;
           marks = r .first;
-          ends = r .second;
+          es = r .second;
           content = q .content ∙ ap (λ (l : List ℕ). nodes ∷ l) (n .content) ∙ ap (λ (l : List ℕ). nodes ∷ n .value ∷ l) (r .content);
           layout =
               q .layout
@@ -93,8 +94,8 @@ module _ (z : GraphSizes) where
     graph-by ws bs q =
         record {
           value = q .nodes;
-          rest = q .number ∷ (q .marks ++ q .ends);
-          body = bitsOf (z .wide-number) (q .number) ++ (fieldBits (z .wide-label) (q .marks) ++ fieldBits (z .wide-end) (q .ends));
+          rest = q .number ∷ (q .marks ++ q .es);
+          body = bitsOf (z .wide-number) (q .number) ++ (fieldBits (z .wide-label) (q .marks) ++ edgeBits (z .wide-end) (z .wide-kind) (q .es));
           content = q .content;
           layout = q .layout;
           least = q .nodes-low;
@@ -102,8 +103,8 @@ module _ (z : GraphSizes) where
           fits = let m = q .nodes-high in let f = z .nodes-fit in omega arith;
           after = record {
             value = q .number;
-            rest = q .marks ++ q .ends;
-            body = fieldBits (z .wide-label) (q .marks) ++ fieldBits (z .wide-end) (q .ends);
+            rest = q .marks ++ q .es;
+            body = fieldBits (z .wide-label) (q .marks) ++ edgeBits (z .wide-end) (z .wide-kind) (q .es);
             content = refl;
             layout = refl;
             least = q .number-low;
@@ -111,9 +112,9 @@ module _ (z : GraphSizes) where
             fits = let m = q .number-high in let f = z .number-fits in omega arith;
             after = record {
               first = q .marks;
-              second = q .ends;
+              second = q .es;
               front = fieldBits (z .wide-label) (q .marks);
-              back = fieldBits (z .wide-end) (q .ends);
+              back = edgeBits (z .wide-end) (z .wide-kind) (q .es);
               content = refl;
               layout = refl;
               before = record { many = q .mark-each; small = q .are-marks; layout = refl };
@@ -134,23 +135,22 @@ module _ (z : GraphSizes) where
         (λ ws bs r.
         accepts-tree nodes number (let f = z .ends-fit in omega arith) (at + z .wide-nodes + z .wide-number + length bs)))))
 
--- ---- edges in any order, each once, and what is asked of their ends as a whole
-module _ (w nodes : ℕ) (fits : nodes ≤ 2 ^ w) (last : List ℕ → Format) (Last : List ℕ → Type 0)
-    (accepts-last : (ends : List ℕ) (at : ℕ) → Accepts (last ends) at (λ ws bs. Last ends × Nothing ws bs)) where
-  plain-edges : (number : ℕ) (ws : List ℕ) (bs : List Bool) → EdgesLaid w nodes Last number 0 [] ws bs ↔ ((PlainEdges nodes number ws × Last ws) × (bs ≡ fieldBits w ws))
+-- ---- edges in any order, each once, and what is asked of them as a whole
+module _ (w wide nodes : ℕ) (fits : nodes ≤ 2 ^ w) (last : List ℕ → Format) (Last : List ℕ → Type 0)
+    (accepts-last : (es : List ℕ) (at : ℕ) → Accepts (last es) at (λ ws bs. Last es × Nothing ws bs)) where
+  plain-edges : (number : ℕ) (ws : List ℕ) (bs : List Bool) → EdgesLaid w wide nodes Last number 0 [] ws bs ↔ ((PlainEdges (2 ^ wide) nodes number ws × Last ws) × (bs ≡ edgeBits w wide ws))
   plain-edges number ws bs = (
-    λ q. ((record { two-each = q .two-each; are-nodes = q .are-nodes; differ = λ i j h g p t. q .differ i j h (omega arith) (omega arith) p t }, q .ends), q .layout),
+    λ q. ((record { among = q .among; differ = λ i j h g s. q .differ i j h (omega arith) (omega arith) s }, q .last), q .layout),
     λ q. record {
-      two-each = q .0 .0 .two-each;
-      are-nodes = q .0 .0 .are-nodes;
+      among = q .0 .0 .among;
       layout = q .1;
-      differ = λ i j h g l p t. q .0 .0 .differ i j h (omega arith) p t;
-      ends = q .0 .1;
+      differ = λ i j h g l s. q .0 .0 .differ i j h (omega arith) s;
+      last = q .0 .1;
     },
   )
 
-  accepts-plain : (number at : ℕ) → Accepts (edges w nodes last number []) at (λ ws bs. (PlainEdges nodes number ws × Last ws) × (bs ≡ fieldBits w ws))
-  accepts-plain number at = accepts-same (plain-edges number) (accepts-edges w nodes fits last Last accepts-last number 0 at [] (omega arith))
+  accepts-plain : (number at : ℕ) → Accepts (edges w wide nodes last number []) at (λ ws bs. (PlainEdges (2 ^ wide) nodes number ws × Last ws) × (bs ≡ edgeBits w wide ws))
+  accepts-plain number at = accepts-same (plain-edges number) (accepts-edges w wide nodes fits last Last accepts-last number 0 at [] (omega arith))
 
 -- ---- a pattern
 
@@ -166,20 +166,21 @@ pattern-sizes =
       wide-label = 5;
       labels-bound = 32;
       wide-end = 4;
+      wide-kind = 3;
       nodes-fit = lit≤ tt;
       number-fits = lit≤ tt;
       label-fits = lit≤ tt;
       ends-fit = lit≤ tt;
     }
 
-accepts-joined : (nodes : ℕ) (ends : List ℕ) (at : ℕ) → Accepts (joined nodes ends) at (λ ws bs. Met nodes ends × Nothing ws bs)
+accepts-joined : (nodes : ℕ) (es : List ℕ) (at : ℕ) → Accepts (joined nodes es) at (λ ws bs. Met nodes es × Nothing ws bs)
 unfolding joined
-accepts-joined nodes ends at =
-    accepts-same (λ ws bs. (λ q. (all-met nodes ends (q .0), q .1), λ q. (met-all nodes ends (q .0), q .1)))
-    (accepts-test (allEnds nodes ends) 7 (accepts-done at))
+accepts-joined nodes es at =
+    accepts-same (λ ws bs. (λ q. (all-met nodes es (q .0), q .1), λ q. (met-all nodes es (q .0), q .1)))
+    (accepts-test (allEnds nodes es) 7 (accepts-done at))
 
 abbrev Joined : ℕ → ℕ → List ℕ → Type 0
-Joined nodes number ends = PlainEdges nodes number ends × Met nodes ends
+Joined nodes number es = PlainEdges 8 nodes number es × Met nodes es
 
 plain-pattern : (ws : List ℕ) (bs : List Bool) → Graph pattern-sizes Joined ws bs ↔ PlainPattern ws bs
 plain-pattern ws bs = (
@@ -187,7 +188,7 @@ plain-pattern ws bs = (
     nodes = q .nodes;
     number = q .number;
     labels = q .marks;
-    ends = q .ends;
+    es = q .es;
     content = q .content;
     layout = q .layout;
     some-nodes = q .nodes-low;
@@ -197,13 +198,13 @@ plain-pattern ws bs = (
     label-each = q .mark-each;
     are-labels = q .are-marks;
     edges = q .edges .0;
-    met = q .edges .1;
+    met = λ x h. let m = q .edges .1 x h in let n = q .edges .0 .among .three-each in (m .0, let l = m .1 in omega arith, m .2);
   },
   λ q. record {
     nodes = q .nodes;
     number = q .number;
     marks = q .labels;
-    ends = q .ends;
+    es = q .es;
     content = q .content;
     layout = q .layout;
     nodes-low = q .some-nodes;
@@ -212,7 +213,7 @@ plain-pattern ws bs = (
     number-high = q .most-edges;
     mark-each = q .label-each;
     are-marks = q .are-labels;
-    edges = (q .edges, q .met);
+    edges = (q .edges, λ x h. let m = q .met x h in let n = q .edges .among .three-each in (m .0, let l = m .1 in omega arith, m .2));
   },
 )
 
@@ -220,13 +221,13 @@ pub accepts-pattern : (at : ℕ) → Accepts pattern at PlainPattern
 unfolding pattern label
 accepts-pattern at =
     accepts-same plain-pattern
-    (accepts-graph pattern-sizes (λ nodes number. edges 4 nodes (joined nodes) number []) Joined
-    (λ nodes number fits. accepts-plain 4 nodes fits (joined nodes) (Met nodes) (accepts-joined nodes) number) at)
+    (accepts-graph pattern-sizes (λ nodes number. edges 4 3 nodes (joined nodes) number []) Joined
+    (λ nodes number fits. accepts-plain 4 3 nodes fits (joined nodes) (Met nodes) (accepts-joined nodes) number) at)
 
 -- ---- a record
 
-abbrev record-sizes : GraphSizes
-record-sizes =
+abbrev record-sizes : ℕ → GraphSizes
+record-sizes wide =
     record {
       wide-nodes = 13;
       least-nodes = 0;
@@ -237,19 +238,20 @@ record-sizes =
       wide-label = 32;
       labels-bound = 2 ^ 32;
       wide-end = 12;
+      wide-kind = wide;
       nodes-fit = lit≤ tt;
       number-fits = lit≤ tt;
       label-fits = lit≤ tt;
       ends-fit = lit≤ tt;
     }
 
-plain-record : (Edges : ℕ → ℕ → List ℕ → Type 0) (ws : List ℕ) (bs : List Bool) → Graph record-sizes Edges ws bs ↔ PlainGraph Edges ws bs
-plain-record Edges ws bs = (
+plain-record : (wide : ℕ) (Edges : ℕ → ℕ → List ℕ → Type 0) (ws : List ℕ) (bs : List Bool) → Graph (record-sizes wide) Edges ws bs ↔ PlainGraph wide Edges ws bs
+plain-record wide Edges ws bs = (
   λ q. record {
     nodes = q .nodes;
     number = q .number;
     labels = q .marks;
-    ends = q .ends;
+    es = q .es;
     content = q .content;
     layout = q .layout;
     most-nodes = q .nodes-high;
@@ -262,7 +264,7 @@ plain-record Edges ws bs = (
     nodes = q .nodes;
     number = q .number;
     marks = q .labels;
-    ends = q .ends;
+    es = q .es;
     content = q .content;
     layout = q .layout;
     nodes-low = omega arith;
@@ -278,19 +280,19 @@ plain-record Edges ws bs = (
 pub accepts-record : (at : ℕ) → Accepts record′ at PlainRecord
 unfolding record′ labels
 accepts-record at =
-    accepts-same (plain-record PlainPairs)
-    (accepts-graph record-sizes (λ nodes number. pairs nodes 4 number 0) PlainPairs (λ nodes number fits. accepts-pairs nodes 4 fits number) at)
+    accepts-same (plain-record 3 (PlainRising 8))
+    (accepts-graph (record-sizes 3) (λ nodes number. rising nodes number 0) (PlainRising 8) (λ nodes number fits. accepts-rising nodes fits number) at)
 
 -- ---- a record as it was stored before
 
--- nothing is asked of the ends as a whole
-accepts-any : (ends : List ℕ) (at : ℕ) → Accepts (nothing ends) at (λ ws bs. Unit {0} × Nothing ws bs)
-accepts-any ends at = accepts-same (λ ws bs. (λ q. (tt, q), λ q. q .1)) (accepts-done at)
+-- nothing is asked of the edges as a whole
+accepts-any : (es : List ℕ) (at : ℕ) → Accepts (nothing es) at (λ ws bs. Unit {0} × Nothing ws bs)
+accepts-any es at = accepts-same (λ ws bs. (λ q. (tt, q), λ q. q .1)) (accepts-done at)
 
-pub accepts-old : (at : ℕ) → Accepts oldRecord at (PlainGraph PlainEdges)
+pub accepts-old : (at : ℕ) → Accepts oldRecord at (PlainGraph 0 (PlainEdges 1))
 unfolding oldRecord labels
 accepts-old at =
-    accepts-same (plain-record PlainEdges)
-    (accepts-graph record-sizes (λ nodes number. edges 12 nodes nothing number []) PlainEdges (λ nodes number fits at.
+    accepts-same (plain-record 0 (PlainEdges 1))
+    (accepts-graph (record-sizes 0) (λ nodes number. edges 12 0 nodes nothing number []) (PlainEdges 1) (λ nodes number fits at.
     accepts-same (λ ws bs. (λ q. (q .0 .0, q .1), λ q. ((q .0, tt), q .1)))
-    (accepts-plain 12 nodes fits nothing (λ ends. Unit {0}) accepts-any number at)) at)
+    (accepts-plain 12 0 nodes fits nothing (λ es. Unit {0}) accepts-any number at)) at)

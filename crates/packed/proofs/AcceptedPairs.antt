@@ -1,31 +1,34 @@
 -- What rows of pairs accept.
 use Prim.Native.Nat.{ℕ, zero, suc, _+_, _*_, _^_, _≤_, _<_}
-use mathlib.Core.Path.{_≡_, refl, ap, sym, _∙_, subst}
+use mathlib.Core.Path.{_≡_, refl, ap, ap₂, sym, _∙_, subst}
 use mathlib.Core.List.{List, [], _∷_, _++_}
 use mathlib.Core.Bool.{Bool}
 use mathlib.Core.Logic.{_⊎_, inl, inr, ⊎-elim, _↔_}
-use lib.ListN.{length}
+use lib.ListN.{length, getD}
 use lib.Dec.{leb}
 use native.Mathlib.Omega.{arith}
 use native.Mathlib.Nat.{lt-of-lt-of-le}
 use borrow.Author.Tests.{leb-true, le-leb}
 use Rattle.packed.specs.Bits.{bitsOf}
 use Rattle.packed.specs.Formats.{code, pairs}
-use Rattle.packed.specs.Plain.{Laid, Below, fieldBits, fromAt, toAt, Before, PlainPairs}
+use Rattle.packed.specs.Plain.{Laid, Below, fieldBits, Before, PlainPairs}
 use Rattle.packed.proofs.OrderCases.{lt-or-ge}
 use Rattle.packed.proofs.AcceptedLaws.{Accepts, accepts-same, Nothing, accepts-done, Asked, accepts-ask, Tested, accepts-test}
-use Rattle.packed.proofs.AcceptedEdges.{below-cons, from-cons, to-cons}
+use Rattle.packed.proofs.AcceptedEdges.{below-cons}
 
 -- ---- pairs by their codes
 
-abbrev pub codeFrom : List ℕ → ℕ → ℕ
-codeFrom ends i = code (fromAt ends i) (toAt ends i)
+abbrev codeFrom : List ℕ → ℕ → ℕ
+codeFrom ends i = code (getD ends (2 * i) 0) (getD ends (2 * i + 1) 0)
 
 code-cons : (a b : ℕ) (l : List ℕ) (i : ℕ) → codeFrom (a ∷ b ∷ l) (suc i) ≡ codeFrom l i
-code-cons a b l i = rw (from-cons a b l i, to-cons a b l i)
+code-cons a b l i =
+    let p : 2 * suc i ≡ suc (suc (2 * i)) = omega arith in
+    let q : 2 * suc i + 1 ≡ suc (suc (2 * i + 1)) = omega arith in
+    ap₂ (λ (m n : ℕ). code (getD (a ∷ b ∷ l) m 0) (getD (a ∷ b ∷ l) n 0)) p q
 
--- by from, then to
-pub code-order : (a b c d : ℕ) → b < 4096 → d < 4096 → code a b < code c d ↔ (a < c) ⊎ ((a ≡ c) × (b < d))
+-- by the first number, then the other
+code-order : (a b c d : ℕ) → b < 4096 → d < 4096 → code a b < code c d ↔ (a < c) ⊎ ((a ≡ c) × (b < d))
 code-order a b c d h g = (
   λ l. ⊎-elim (λ (x : a < c). inl x) (λ (x : c ≤ a). inr (omega arith)) (lt-or-ge a c),
   ⊎-elim (λ x. omega arith) (λ x. omega arith),
@@ -141,7 +144,7 @@ module _ (bound e : ℕ) (fits : bound ≤ 2 ^ 12) where
     where
       in-order : (i : ℕ) → suc i < k → length ws ≡ 2 * k → Below bound ws → codeFrom ws i < codeFrom ws (suc i) ↔ Before ws i (suc i)
       in-order i h t small =
-          code-order (fromAt ws i) (toAt ws i) (fromAt ws (suc i)) (toAt ws (suc i))
+          code-order (getD ws (2 * i) 0) (getD ws (2 * i + 1) 0) (getD ws (2 * suc i) 0) (getD ws (2 * suc i + 1) 0)
           (lt-of-lt-of-le (small (2 * i + 1) (omega arith)) fits) (lt-of-lt-of-le (small (2 * suc i + 1) (omega arith)) fits)
 
   pub accepts-pairs : (k at : ℕ) → Accepts (pairs bound e k 0) at (λ ws bs. PlainPairs bound k ws × (bs ≡ fieldBits 12 ws))

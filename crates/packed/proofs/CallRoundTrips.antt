@@ -124,27 +124,27 @@ module _ (most file : ℕ) (F : Format) (s ws : List ℕ) (room room′ words : 
 module _ (s ws : List ℕ) (room room′ words : ℕ) where
   pub pattern-back : Bytes s → withWorkspace words (patternRead s room) ≡ give [] (ws ∷ []) → length s ≤ room′ → withWorkspace words (patternWritten ws room′) ≡ give [] (s ∷ [])
   unfolding patternRead patternWritten
-  pattern-back = plain-back 44 1 pattern s ws room room′ words
+  pattern-back = plain-back 56 1 pattern s ws room room′ words
 
   pub pattern-again : withWorkspace words (patternWritten ws room) ≡ give [] (s ∷ []) → length ws ≤ room′ → withWorkspace words (patternRead s room′) ≡ give [] (ws ∷ [])
   unfolding patternRead patternWritten
-  pattern-again = plain-again 44 1 pattern s ws room room′ words pattern-bytes
+  pattern-again = plain-again 56 1 pattern s ws room room′ words pattern-bytes
 
   pub catalogue-back : Bytes s → withWorkspace words (catalogueRead s room) ≡ give [] (ws ∷ []) → length s ≤ room′ → withWorkspace words (catalogueWritten ws room′) ≡ give [] (s ∷ [])
   unfolding catalogueRead catalogueWritten
-  catalogue-back = plain-back 705 2 catalogue s ws room room′ words
+  catalogue-back = plain-back 897 2 catalogue s ws room room′ words
 
   pub catalogue-again : withWorkspace words (catalogueWritten ws room) ≡ give [] (s ∷ []) → length ws ≤ room′ → withWorkspace words (catalogueRead s room′) ≡ give [] (ws ∷ [])
   unfolding catalogueRead catalogueWritten
-  catalogue-again = plain-again 705 2 catalogue s ws room room′ words catalogue-bytes
+  catalogue-again = plain-again 897 2 catalogue s ws room room′ words catalogue-bytes
 
   pub record-back : Bytes s → withWorkspace words (recordRead s room) ≡ give [] (ws ∷ []) → length s ≤ room′ → withWorkspace words (recordWritten ws room′) ≡ give [] (s ∷ [])
   unfolding recordRead recordWritten
-  record-back = plain-back 40964 3 record′ s ws room room′ words
+  record-back = plain-back 44036 3 record′ s ws room room′ words
 
   pub record-again : withWorkspace words (recordWritten ws room) ≡ give [] (s ∷ []) → length ws ≤ room′ → withWorkspace words (recordRead s room′) ≡ give [] (ws ∷ [])
   unfolding recordRead recordWritten
-  record-again = plain-again 40964 3 record′ s ws room room′ words record-bytes
+  record-again = plain-again 44036 3 record′ s ws room room′ words record-bytes
 
 -- ---- sheets beside a pattern, books beside a catalogue
 
@@ -181,16 +181,16 @@ module _ (most file : ℕ) (P : Format) (F : List ℕ → Format) (test : List �
 module _ (p s ws : List ℕ) (room room′ words : ℕ) where
   pub sheet-back : Bytes s → withWorkspace words (sheetRead p s room) ≡ give [] (ws ∷ []) → length s ≤ room′ → withWorkspace words (sheetWritten p ws room′) ≡ give [] (s ∷ [])
   unfolding sheetRead sheetWritten
-  sheet-back = paired-back 44 1 pattern (λ ps. sheet (edgesOf ps)) (λ ps o a. a) (λ ps o a q e. (e, λ b. refl)) p s ws words room room′
+  sheet-back = paired-back 56 1 pattern (λ ps. sheet (edgesOf ps)) (λ ps o a. a) (λ ps o a q e. (e, λ b. refl)) p s ws words room room′
 
   pub sheet-again : withWorkspace words (sheetWritten p ws room) ≡ give [] (s ∷ []) → length ws ≤ room′ → withWorkspace words (sheetRead p s room′) ≡ give [] (ws ∷ [])
   unfolding sheetRead sheetWritten
-  sheet-again = paired-again 44 1 pattern (λ ps. sheet (edgesOf ps)) (λ ps o a. a) (λ ps o a q e. (e, λ b. refl)) p s ws words room room′
+  sheet-again = paired-again 56 1 pattern (λ ps. sheet (edgesOf ps)) (λ ps o a. a) (λ ps o a q e. (e, λ b. refl)) p s ws words room room′
 
   pub book-back : Bytes s → withWorkspace words (bookRead p s room) ≡ give [] (ws ∷ []) → length s ≤ room′ → withWorkspace words (bookWritten p ws room′) ≡ give [] (s ∷ [])
   unfolding bookRead bookWritten
-  book-back = paired-back 705 2 catalogue (λ cs. book (edgeCounts cs)) (λ cs. uncrowdedBy (edgeCounts cs)) (λ cs. uncrowded-given (edgeCounts cs)) p s ws words room room′
+  book-back = paired-back 897 2 catalogue (λ cs. book (edgeCounts cs)) (λ cs. uncrowdedBy (edgeCounts cs)) (λ cs. uncrowded-given (edgeCounts cs)) p s ws words room room′
 
   pub book-again : withWorkspace words (bookWritten p ws room) ≡ give [] (s ∷ []) → length ws ≤ room′ → withWorkspace words (bookRead p s room′) ≡ give [] (ws ∷ [])
   unfolding bookRead bookWritten
-  book-again = paired-again 705 2 catalogue (λ cs. book (edgeCounts cs)) (λ cs. uncrowdedBy (edgeCounts cs)) (λ cs. uncrowded-given (edgeCounts cs)) p s ws words room room′
+  book-again = paired-again 897 2 catalogue (λ cs. book (edgeCounts cs)) (λ cs. uncrowdedBy (edgeCounts cs)) (λ cs. uncrowded-given (edgeCounts cs)) p s ws words room room′

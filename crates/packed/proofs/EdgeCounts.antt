@@ -27,7 +27,7 @@ pub counting-starts : (ws : List ℕ) (number : ℕ) (table : List ℕ) → tabl
 counting-starts ws number table e = record { counts = []; counted = refl; is = e; rest = ap (λ (n : ℕ). countsIn n (drop 1 ws)) (sym (sub-zero number)) }
 
 -- the words of the pattern that starts at the word i
-size-at : (ws : List ℕ) (i nodes edges : ℕ) → nodes ≡ getD ws i 0 → edges ≡ getD ws (i + 1) 0 → patternSize (drop i ws) ≡ 2 + nodes + 2 * edges
+size-at : (ws : List ℕ) (i nodes edges : ℕ) → nodes ≡ getD ws i 0 → edges ≡ getD ws (i + 1) 0 → patternSize (drop i ws) ≡ 2 + nodes + 3 * edges
 unfolding patternSize
 size-at ws i nodes edges p q = omega (arith, getD-drop i ws 0 0, getD-drop i ws 1 0, ap (λ (k : ℕ). getD ws k 0) (add-zero i))
 
@@ -48,14 +48,14 @@ no-counts ws = refl
 
 pub counting-goes-on : (ws : List ℕ) (number : ℕ) (table : List ℕ) (i j nodes edges : ℕ) → j < 16 → j < number
     → nodes ≡ getD ws i 0 → edges ≡ getD ws (i + 1) 0 → Counting ws number table i j
-    → Counting ws number (set table j edges) (i + (2 + nodes + 2 * edges)) (j + 1)
+    → Counting ws number (set table j edges) (i + (2 + nodes + 3 * edges)) (j + 1)
 counting-goes-on ws number table i j nodes edges h g p q k =
     let c : List ℕ = k .counts in
     let t : List ℕ = replicate (16 - (j + 1)) 0 in
     let e : 16 - j ≡ suc (16 - (j + 1)) = omega arith in
     let m : number - j - 1 ≡ number - (j + 1) = omega arith in
     let n : getD (drop i ws) 1 0 ≡ edges = getD-drop i ws 1 0 ∙ sym q in
-    let d : drop (patternSize (drop i ws)) (drop i ws) ≡ drop (i + (2 + nodes + 2 * edges)) ws =
+    let d : drop (patternSize (drop i ws)) (drop i ws) ≡ drop (i + (2 + nodes + 3 * edges)) ws =
     drop-drop (patternSize (drop i ws)) i ws ∙ ap (λ (z : ℕ). drop (i + z) ws) (size-at ws i nodes edges p q) in
     record {
       counts = c ++ (edges ∷ []);
@@ -67,7 +67,7 @@ counting-goes-on ws number table i j nodes edges h g p q k =
       rest =
           k .rest
           ∙ ap (λ (l : List ℕ). c ++ l) (next-count (number - j) (drop i ws) (omega arith) ∙ rw (n, d, m))
-          ∙ sym (append-assoc c (edges ∷ []) (countsIn (number - (j + 1)) (drop (i + (2 + nodes + 2 * edges)) ws)));
+          ∙ sym (append-assoc c (edges ∷ []) (countsIn (number - (j + 1)) (drop (i + (2 + nodes + 3 * edges)) ws)));
     }
 
 -- where the loop stops, all are counted, if the table holds them all

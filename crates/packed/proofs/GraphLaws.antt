@@ -1,24 +1,23 @@
--- Accepted records by the places of their fields, and the codes of their edges in the workspace.
+-- Accepted records by the places of their fields, and the words of their edges in the workspace.
 use Prim.Native.Nat.{ℕ, zero, suc, _+_, _-_, _*_, _/_, _%_, _^_, _<_, _≤_}
-use mathlib.Core.Path.{_≡_, refl, ap, ap₂, sym, _∙_}
+use mathlib.Core.Path.{_≡_, refl, ap, ap₂, sym, _∙_, subst}
 use mathlib.Core.List.{List, [], _∷_, _++_, append-assoc}
 use mathlib.Core.Bool.{Bool, false}
 use mathlib.Core.Logic.{⊎-elim}
 use lib.ListN.{length, take, drop, getD, set, replicate, length-append, length-drop, length-set, take-append-drop, List·getD-append}
-use lib.Seq.{sets, sets-eq, take-at, drop-at, take-suc, getD-append-add, getD-take, getD-drop, getD-set-same, getD-set-other, length-take-le, ext-getD}
+use lib.Seq.{sets, sets-eq, take-at, drop-at, getD-take, getD-drop, getD-set-same, getD-set-other, length-take-le, ext-getD}
 use native.Mathlib.Omega.{arith}
-use native.Mathlib.Nat.{mul-zero, mul-suc}
-use native.Mathlib.Numerals.{add-one}
+use native.Mathlib.Nat.{mul-zero, mul-suc, lt-of-lt-of-le}
 use Rattle.packed.specs.Bits.{bitsOf, bits, field, gap}
 use Rattle.packed.specs.Format.{ok, decode}
-use Rattle.packed.specs.Formats.{record′, code}
-use Rattle.packed.specs.Contents.{nodesOf, edgesOf, ends, codes}
-use Rattle.packed.specs.Plain.{Whole, fieldBits, Below, fromAt, toAt, PlainGraph}
-use Rattle.packed.specs.LoadedGraph.{CodesAt, Holds, LabelsStored}
+use Rattle.packed.specs.Formats.{record′}
+use Rattle.packed.specs.Contents.{nodesOf, edgesOf, edgeWord, eachEdge, edgeWords, fromWords}
+use Rattle.packed.specs.Plain.{Whole, fieldBits, Below, fromAt, toAt, kindAt, edgeBits, EdgesAmong, PlainGraph}
+use Rattle.packed.specs.LoadedGraph.{WordsAt, Holds, LabelsStored}
 use Rattle.packed.proofs.BitsLaws.{length-bitsOf, length-bits, num-bitsOf-lt}
 use Rattle.packed.proofs.OrderCases.{lt-or-ge, eq-or-ne}
-use Rattle.packed.proofs.Sets.{sets-append, sets-front}
-use Rattle.packed.proofs.AcceptedEdges.{from-cons, to-cons}
+use Rattle.packed.proofs.Sets.{sets-front}
+use Rattle.packed.proofs.EdgePlaces.{from-cons, to-cons, kind-cons, among-tail, each-length, each-at, threes, threes-each}
 use Rattle.packed.proofs.Accepted.{record-accepted}
 
 -- ---- fields by their places in the bits
@@ -47,34 +46,81 @@ fields-here s w (v ∷ vs) at p q e l b (suc j) h =
     (e ∙ ap (λ (t : List Bool). p ++ t) (append-assoc (bitsOf w v) (fieldBits w vs) q) ∙ sym (append-assoc p (bitsOf w v) (fieldBits w vs ++ q)))
     n (λ i g. b (suc i) (omega arith)) j (omega arith)
 
--- ---- the places of a record's fields
-pub record Sited (s ws : List ℕ) : Type 0 where
+-- ---- edges by their places in the bits: w for an end, and wide for a kind
+module _ (w wide size : ℕ) (is : size ≡ w + w + wide) where
+  pub edges-length : (m : ℕ) (es : List ℕ) → length es ≡ 3 * m → length (edgeBits w wide es) ≡ size * m
+  unfolding edgeBits
+  edges-length zero [] e = sym (mul-zero size)
+  edges-length (suc m) [] e = absurd (omega arith)
+  edges-length m (a ∷ []) e = absurd (omega arith)
+  edges-length m (a ∷ b ∷ []) e = absurd (omega arith)
+  edges-length zero (a ∷ b ∷ k ∷ es) e = absurd (omega arith)
+  edges-length (suc m) (a ∷ b ∷ k ∷ es) e =
+      let l : List Bool = edgeBits w wide es in
+      let n : length l ≡ size * m = edges-length m es (omega arith) in
+      length-append (bitsOf w a) (bitsOf w b ++ (bitsOf wide k ++ l))
+      ∙ omega (arith, length-append (bitsOf w b) (bitsOf wide k ++ l), length-append (bitsOf wide k) l, length-bitsOf w a, length-bitsOf w b, length-bitsOf wide k, mul-suc size m)
+
+  -- the edge from a to b of the kind k stands at the bit offset at
+  abbrev EdgeAt : List ℕ → ℕ → ℕ → ℕ → ℕ → Type 0
+  EdgeAt s at a b k = (field s at w ≡ a) × (field s (at + w) w ≡ b) × (field s (at + (w + w)) wide ≡ k)
+
+  edge-here : (s : List ℕ) (at a b k : ℕ) (p q : List Bool) → bits s ≡ p ++ (bitsOf w a ++ (bitsOf w b ++ (bitsOf wide k ++ q))) → length p ≡ at
+      → a < 2 ^ w → b < 2 ^ w → k < 2 ^ wide → EdgeAt s at a b k
+  edge-here s at a b k p q e l x y z =
+      let n : length (p ++ bitsOf w a) ≡ at + w = length-append p (bitsOf w a) ∙ omega (arith, length-bitsOf w a) in
+      let m : length ((p ++ bitsOf w a) ++ bitsOf w b) ≡ at + (w + w) = length-append (p ++ bitsOf w a) (bitsOf w b) ∙ omega (arith, length-bitsOf w b) in (
+        field-here s at w a p (bitsOf w b ++ (bitsOf wide k ++ q)) e l x,
+        field-here s (at + w) w b (p ++ bitsOf w a) (bitsOf wide k ++ q) (e ∙ simp append-assoc) n y,
+        field-here s (at + (w + w)) wide k ((p ++ bitsOf w a) ++ bitsOf w b) q (e ∙ simp append-assoc) m z,
+      )
+
+  edges-here : (s : List ℕ) (nodes m : ℕ) (es : List ℕ) (at : ℕ) (p q : List Bool) → bits s ≡ p ++ (edgeBits w wide es ++ q) → length p ≡ at
+      → nodes ≤ 2 ^ w → EdgesAmong nodes (2 ^ wide) m es → (j : ℕ) → j < m → EdgeAt s (at + size * j) (fromAt es j) (toAt es j) (kindAt es j)
+  unfolding edgeBits
+  edges-here s nodes m [] at p q e l f g j h = absurd (omega (arith, g .three-each))
+  edges-here s nodes m (a ∷ []) at p q e l f g j h = absurd (omega (arith, g .three-each))
+  edges-here s nodes m (a ∷ b ∷ []) at p q e l f g j h = absurd (omega (arith, g .three-each))
+  edges-here s nodes zero (a ∷ b ∷ k ∷ es) at p q e l f g j h = absurd (omega arith)
+  edges-here s nodes (suc m) (a ∷ b ∷ k ∷ es) at p q e l f g zero h =
+      let z : at ≡ at + size * 0 = omega arith in
+      subst (λ (i : ℕ). EdgeAt s i a b k) z
+      (edge-here s at a b k p (edgeBits w wide es ++ q) (e ∙ simp append-assoc) l
+      (lt-of-lt-of-le (g .from-node 0 (omega arith)) f) (lt-of-lt-of-le (g .to-node 0 (omega arith)) f) (g .is-kind 0 (omega arith)))
+  edges-here s nodes (suc m) (a ∷ b ∷ k ∷ es) at p q e l f g (suc j) h =
+      let c : List Bool = bitsOf w a ++ (bitsOf w b ++ bitsOf wide k) in
+      let o : length c ≡ size = length-append (bitsOf w a) (bitsOf w b ++ bitsOf wide k) ∙ omega (arith, length-append (bitsOf w b) (bitsOf wide k), length-bitsOf w a, length-bitsOf w b, length-bitsOf wide k) in
+      let n : length (p ++ c) ≡ at + size = length-append p c ∙ omega arith in
+      let z : at + size * suc j ≡ (at + size) + size * j = omega (arith, mul-suc size j) in
+      rw (from-cons a b k es j, to-cons a b k es j, kind-cons a b k es j, z)
+      (edges-here s nodes m es (at + size) (p ++ c) q (e ∙ simp append-assoc) n f (among-tail g) j (omega arith))
+
+-- ---- the places of a record's fields, where a kind has wide bits
+pub record Sited (wide : ℕ) (s ws : List ℕ) : Type 0 where
   pub nodes : ℕ
   pub number : ℕ
   pub labels : List ℕ
-  pub ends : List ℕ
+  pub es : List ℕ
   pub tail : List Bool
-  pub content : ws ≡ nodes ∷ number ∷ (labels ++ ends)
-  pub spread : bits s ≡ bitsOf 13 nodes ++ (bitsOf 14 number ++ (fieldBits 32 labels ++ (fieldBits 12 ends ++ tail)))
+  pub content : ws ≡ nodes ∷ number ∷ (labels ++ es)
+  pub spread : bits s ≡ bitsOf 13 nodes ++ (bitsOf 14 number ++ (fieldBits 32 labels ++ (edgeBits 12 wide es ++ tail)))
   pub most-nodes : nodes ≤ 4096
   pub most-edges : number ≤ 8192
   pub labels-each : length labels ≡ nodes
   pub are-labels : Below (2 ^ 32) labels
-  pub two-each : length ends ≡ 2 * number
-  pub are-nodes : Below nodes ends
+  pub among : EdgesAmong nodes (2 ^ wide) number es
 
 -- whatever else holds of its edges
-abbrev pub sited-by : {Edges : ℕ → ℕ → List ℕ → Type 0} (s ws : List ℕ) → ((nodes number : ℕ) (ends : List ℕ) → Edges nodes number ends → (length ends ≡ 2 * number) × Below nodes ends)
-    → Whole (PlainGraph Edges) ws (bits s) → Sited s ws
-sited-by s ws basic q =
+abbrev pub sited-by : (wide : ℕ) {Edges : ℕ → ℕ → List ℕ → Type 0} (s ws : List ℕ)
+    → ((nodes number : ℕ) (es : List ℕ) → Edges nodes number es → EdgesAmong nodes (2 ^ wide) number es) → Whole (PlainGraph wide Edges) ws (bits s) → Sited wide s ws
+sited-by wide s ws basic q =
     let p = q .laid in
     let tail : List Bool = replicate (gap (length (q .body))) false in
-    let b = basic (p .nodes) (p .number) (p .ends) (p .edges) in
     record {
       nodes = p .nodes;
       number = p .number;
       labels = p .labels;
-      ends = p .ends;
+      es = p .es;
       tail = tail;
       content = p .content;
       spread = q .fills ∙ ap (λ (l : List Bool). l ++ tail) (p .layout) ∙ simp append-assoc;
@@ -82,14 +128,13 @@ sited-by s ws basic q =
       most-edges = p .most-edges;
       labels-each = p .labels-each;
       are-labels = p .are-labels;
-      two-each = b .0;
-      are-nodes = b .1;
+      among = basic (p .nodes) (p .number) (p .es) (p .edges);
     }
 
-sited : (s ws : List ℕ) → decode record′ s ≡ ok ws → Sited s ws
-sited s ws e = sited-by s ws (λ nodes number ends p. (p .two-each, p .small)) (record-accepted s ws .0 e)
+sited : (s ws : List ℕ) → decode record′ s ≡ ok ws → Sited 3 s ws
+sited s ws e = sited-by 3 s ws (λ nodes number es p. p .among) (record-accepted s ws .0 e)
 
-module _ {s ws : List ℕ} (g : Sited s ws) where
+module _ {wide : ℕ} {s ws : List ℕ} (g : Sited wide s ws) where
   pub nodes-is : nodesOf ws ≡ g .nodes
   nodes-is = ap (λ (l : List ℕ). getD l 0 0) (g .content)
 
@@ -102,26 +147,24 @@ module _ {s ws : List ℕ} (g : Sited s ws) where
   front-length : length front ≡ 27
   front-length = length-append (bitsOf 13 (g .nodes)) (bitsOf 14 (g .number)) ∙ omega (arith, length-bitsOf 13 (g .nodes), length-bitsOf 14 (g .number))
 
-  from-labels : bits s ≡ front ++ (fieldBits 32 (g .labels) ++ (fieldBits 12 (g .ends) ++ g .tail))
+  from-labels : bits s ≡ front ++ (fieldBits 32 (g .labels) ++ (edgeBits 12 wide (g .es) ++ g .tail))
   from-labels = g .spread ∙ simp append-assoc
 
-  from-ends : bits s ≡ (front ++ fieldBits 32 (g .labels)) ++ (fieldBits 12 (g .ends) ++ g .tail)
-  from-ends = g .spread ∙ simp append-assoc
+  from-edges : bits s ≡ (front ++ fieldBits 32 (g .labels)) ++ (edgeBits 12 wide (g .es) ++ g .tail)
+  from-edges = g .spread ∙ simp append-assoc
 
-  before-ends : length (front ++ fieldBits 32 (g .labels)) ≡ 27 + 32 * g .nodes
-  before-ends =
+  before-edges : length (front ++ fieldBits 32 (g .labels)) ≡ 27 + 32 * g .nodes
+  before-edges =
       length-append front (fieldBits 32 (g .labels)) ∙ omega (arith, front-length, fields-length 32 (g .labels), g .labels-each)
 
-  sited-fits : 27 + 32 * nodesOf ws + 24 * edgesOf ws ≤ 8 * length s
+  sited-fits : 27 + 32 * nodesOf ws + (24 + wide) * edgesOf ws ≤ 8 * length s
   sited-fits =
       let l = length-bits s in
-      let a = ap length from-ends ∙ length-append (front ++ fieldBits 32 (g .labels)) (fieldBits 12 (g .ends) ++ g .tail) in
-      let b = length-append (fieldBits 12 (g .ends)) (g .tail) in
-      let c = fields-length 12 (g .ends) in
-      let d = before-ends in
-      let m = g .two-each in
+      let a = ap length from-edges ∙ length-append (front ++ fieldBits 32 (g .labels)) (edgeBits 12 wide (g .es) ++ g .tail) in
+      let b = length-append (edgeBits 12 wide (g .es)) (g .tail) in
+      let c = edges-length 12 wide (24 + wide) refl (edgesOf ws) (g .es) (omega (arith, g .among .three-each, number-is)) in
+      let d = before-edges in
       let x = nodes-is in
-      let y = number-is in
       omega arith
 
   pub sited-nodes : field s 0 13 ≡ nodesOf ws
@@ -131,36 +174,32 @@ module _ {s ws : List ℕ} (g : Sited s ws) where
   sited-number =
       field-here s 13 14 (g .number) (bitsOf 13 (g .nodes)) _ (g .spread) (length-bitsOf 13 (g .nodes)) (let h = g .most-edges in omega arith) ∙ sym number-is
 
+  pub edges-few : field s 13 14 ≤ 8192
+  edges-few = omega (arith, sited-number, number-is, g .most-edges)
+
   sited-label : (v : ℕ) → v < nodesOf ws → field s (27 + 32 * v) 32 ≡ getD ws (2 + v) 0
   sited-label v h =
       let k : v < length (g .labels) = omega (arith, nodes-is, g .labels-each) in
       let z : 2 + v ≡ suc (suc v) = omega arith in
       fields-here s 32 (g .labels) 27 front _ from-labels front-length (g .are-labels) v k
-      ∙ sym (ap₂ (λ (l : List ℕ) (i : ℕ). getD l i 0) (g .content) z ∙ List·getD-append (g .labels) (g .ends) 0 v k)
+      ∙ sym (ap₂ (λ (l : List ℕ) (i : ℕ). getD l i 0) (g .content) z ∙ List·getD-append (g .labels) (g .es) 0 v k)
 
-  pub sited-ends : drop (2 + nodesOf ws) ws ≡ g .ends
-  sited-ends =
+  sited-edges : drop (2 + nodesOf ws) ws ≡ g .es
+  sited-edges =
       let z : 2 + nodesOf ws ≡ suc (suc (g .nodes)) = omega (arith, nodes-is) in
-      ap₂ (λ (i : ℕ) (l : List ℕ). drop i l) z (g .content) ∙ drop-at (g .labels) (g .ends) (g .nodes) (g .labels-each)
+      ap₂ (λ (i : ℕ) (l : List ℕ). drop i l) z (g .content) ∙ drop-at (g .labels) (g .es) (g .nodes) (g .labels-each)
 
-  sited-end : (i : ℕ) → i < 2 * edgesOf ws → field s (27 + 32 * nodesOf ws + 12 * i) 12 ≡ getD (g .ends) i 0
-  sited-end i h =
-      let k : i < length (g .ends) = omega (arith, number-is, g .two-each) in
-      let b : Below (2 ^ 12) (g .ends) = λ j l. let x = g .are-nodes j l in let y = g .most-nodes in omega arith in
-      fields-here s 12 (g .ends) (27 + 32 * nodesOf ws) (front ++ fieldBits 32 (g .labels)) _ from-ends (omega (arith, before-ends, nodes-is)) b i k
+  sited-edge : (j : ℕ) → j < field s 13 14 → EdgeAt 12 wide (24 + wide) refl s (27 + 32 * field s 0 13 + (24 + wide) * j) (fromAt (g .es) j) (toAt (g .es) j) (kindAt (g .es) j)
+  sited-edge j h =
+      edges-here 12 wide (24 + wide) refl s (g .nodes) (g .number) (g .es) (27 + 32 * field s 0 13) (front ++ fieldBits 32 (g .labels)) (g .tail) from-edges
+      (omega (arith, before-edges, nodes-is, sited-nodes)) (g .most-nodes) (g .among) j (omega (arith, sited-number, number-is))
 
-  pub sited-length : length ws ≡ 2 + (nodesOf ws + 2 * edgesOf ws)
+  pub sited-length : length ws ≡ 2 + (nodesOf ws + 3 * edgesOf ws)
   sited-length =
-      ap length (g .content) ∙ omega (arith, length-append (g .labels) (g .ends), g .labels-each, g .two-each, nodes-is, number-is)
+      ap length (g .content) ∙ omega (arith, length-append (g .labels) (g .es), g .labels-each, g .among .three-each, nodes-is, number-is)
 
-  sited-below : (i : ℕ) → i < 2 * edgesOf ws → getD ws (2 + (nodesOf ws + i)) 0 < nodesOf ws
-  sited-below i h =
-      let z : 2 + (nodesOf ws + i) ≡ suc (suc (length (g .labels) + i)) = omega (arith, nodes-is, g .labels-each) in
-      let e : getD ws (2 + (nodesOf ws + i)) 0 ≡ getD (g .ends) i 0 =
-      ap₂ (λ (l : List ℕ) (j : ℕ). getD l j 0) (g .content) z ∙ getD-append-add (g .labels) (g .ends) i 0 in
-      let l = g .are-nodes i (omega (arith, number-is, g .two-each)) in
-      let n = nodes-is in
-      omega arith
+  sited-among : EdgesAmong (nodesOf ws) (2 ^ wide) (edgesOf ws) (drop (2 + nodesOf ws) ws)
+  sited-among = rw (sited-edges, nodes-is, number-is) (g .among)
 
 -- ---- an accepted record
 pub record-nodes-field : (s ws : List ℕ) → decode record′ s ≡ ok ws → field s 0 13 ≡ nodesOf ws
@@ -172,93 +211,70 @@ record-edges-field s ws e = sited-number (sited s ws e)
 pub labels-field : (s ws : List ℕ) → decode record′ s ≡ ok ws → (v : ℕ) → v < nodesOf ws → field s (27 + 32 * v) 32 ≡ getD ws (2 + v) 0
 labels-field s ws e = sited-label (sited s ws e)
 
-pub record-fits : (s ws : List ℕ) → decode record′ s ≡ ok ws → 27 + 32 * nodesOf ws + 24 * edgesOf ws ≤ 8 * length s
+pub record-fits : (s ws : List ℕ) → decode record′ s ≡ ok ws → 27 + 32 * nodesOf ws + 27 * edgesOf ws ≤ 8 * length s
 record-fits s ws e = sited-fits (sited s ws e)
 
 pub record-bounds : (s ws : List ℕ) → decode record′ s ≡ ok ws
-    → (nodesOf ws ≤ 4096) × (edgesOf ws ≤ 8192) × (length ws ≡ 2 + (nodesOf ws + 2 * edgesOf ws)) × (27 + 32 * nodesOf ws ≤ 8 * length s)
+    → (nodesOf ws ≤ 4096) × (edgesOf ws ≤ 8192) × (length ws ≡ 2 + (nodesOf ws + 3 * edgesOf ws)) × (27 + 32 * nodesOf ws ≤ 8 * length s)
 record-bounds s ws e =
     let g = sited s ws e in
     let m = g .most-nodes in
     let n = g .most-edges in
     let x = nodes-is g in
     let y = number-is g in
-    let f = sited-fits g in
+    let f = record-fits s ws e in
     (omega arith, omega arith, sited-length g, omega arith)
 
-pub ends-below : (s ws : List ℕ) → decode record′ s ≡ ok ws → (i : ℕ) → i < 2 * edgesOf ws → getD ws (2 + (nodesOf ws + i)) 0 < nodesOf ws
-ends-below s ws e = sited-below (sited s ws e)
+pub record-among : (s ws : List ℕ) → decode record′ s ≡ ok ws → EdgesAmong (nodesOf ws) 8 (edgesOf ws) (drop (2 + nodesOf ws) ws)
+record-among s ws e = sited-among (sited s ws e)
 
--- ---- codes
-pub codes-length : (m : ℕ) (ends : List ℕ) → length ends ≡ 2 * m → length (codes ends) ≡ m
-unfolding codes
-codes-length zero [] e = refl
-codes-length (suc m) [] e = absurd (omega arith)
-codes-length m (a ∷ []) e = absurd (omega arith)
-codes-length zero (a ∷ b ∷ ends) e = absurd (omega arith)
-codes-length (suc m) (a ∷ b ∷ ends) e = ap suc (codes-length m ends (omega arith))
+-- ---- numbers in the workspace, one more
+pub numbers-more : (v : ℕ → ℕ) (k c : ℕ) (w : List ℕ) → ((j : ℕ) → j < k → getD w j 0 ≡ v j) → k < length w → c ≡ v k
+    → (j : ℕ) → j < k + 1 → getD (set w k c) j 0 ≡ v j
+numbers-more v k c w a h e j l =
+    ⊎-elim
+    (λ (p : j ≡ k). ap (λ (i : ℕ). getD (set w k c) i 0) p ∙ getD-set-same w k c 0 h ∙ e ∙ ap v (sym p))
+    (λ (p : j ≡ k → ⊥). getD-set-other w k j c 0 p ∙ a j (ne-lt p))
+    (eq-or-ne j k)
+  where
+    ne-lt : (j ≡ k → ⊥) → j < k
+    ne-lt p = ⊎-elim (λ (u : j < k). u) (λ (u : k ≤ j). absurd (p (omega arith))) (lt-or-ge j k)
 
-pub codes-at : (ends : List ℕ) (j : ℕ) → j < length (codes ends) → getD (codes ends) j 0 ≡ code (fromAt ends j) (toAt ends j)
-unfolding codes
-codes-at [] j h = absurd (omega arith)
-codes-at (a ∷ []) j h = absurd (omega arith)
-codes-at (a ∷ b ∷ ends) zero h = refl
-codes-at (a ∷ b ∷ ends) (suc j) h = codes-at ends j (omega arith) ∙ sym (ap₂ code (from-cons a b ends j) (to-cons a b ends j))
+-- ---- the words in the workspace, as they are loaded
+pub words-start : (s : List ℕ) (start : ℕ) (w : List ℕ) → WordsAt s start 0 w w
+words-start s start w = record { long = refl; each = λ j h. absurd (omega arith) }
 
--- ---- the codes in the workspace, as they are loaded
-pub codes-start : (s : List ℕ) (start : ℕ) (w : List ℕ) → CodesAt s start 0 w w
-codes-start s start w = record { long = refl; each = λ j h. absurd (omega arith) }
-
-pub codes-more : {s : List ℕ} {start k c : ℕ} {w w′ : List ℕ} → CodesAt s start k w w′ → k < length w′
-    → c ≡ code (field s (start + 24 * k) 12) (field s (start + 24 * k + 12) 12) → CodesAt s start (k + 1) w (set w′ k c)
-codes-more {s} {start} {k} {c} {w} {w′} a h e =
+pub words-more : {s : List ℕ} {start k c : ℕ} {w w′ : List ℕ} → WordsAt s start k w w′ → k < length w′
+    → c ≡ edgeWord (field s (start + 27 * k) 12) (field s (start + 27 * k + 12) 12) (field s (start + 27 * k + 24) 3) → WordsAt s start (k + 1) w (set w′ k c)
+words-more {s} {start} {k} {c} {w} {w′} a h e =
     record {
       long = length-set w′ k c ∙ a .long;
-      each = λ j l.
-          ⊎-elim
-          (λ (p : j ≡ k).
-          ap (λ (i : ℕ). getD (set w′ k c) i 0) p
-          ∙ getD-set-same w′ k c 0 h
-          ∙ e
-          ∙ ap (λ (i : ℕ). code (field s (start + 24 * i) 12) (field s (start + 24 * i + 12) 12)) (sym p))
-          (λ (p : j ≡ k → ⊥). getD-set-other w′ k j c 0 p ∙ a .each j (ne-lt p l))
-          (eq-or-ne j k);
+      each = numbers-more (λ j. edgeWord (field s (start + 27 * j) 12) (field s (start + 27 * j + 12) 12) (field s (start + 27 * j + 24) 3)) k c w′ (a .each) h e;
     }
-  where
-    ne-lt : {j : ℕ} → (j ≡ k → ⊥) → j < k + 1 → j < k
-    ne-lt {j} e l = ⊎-elim (λ (u : j < k). u) (λ (u : k ≤ j). absurd (e (omega arith))) (lt-or-ge j k)
 
--- ---- the edges of an accepted record, loaded
-module _ {s ws : List ℕ} (g : Sited s ws) {w w′ : List ℕ} (fits : 8192 ≤ length w) (c : CodesAt s (27 + 32 * field s 0 13) (field s 13 14) w w′) where
+-- ---- the edges of an accepted record, loaded: what f makes of each stands at the front of the workspace
+module _ {wide : ℕ} {s ws : List ℕ} (g : Sited wide s ws) (f : ℕ → ℕ → ℕ → ℕ) (w : List ℕ) (fits : 8192 ≤ length w)
+    (each : (j : ℕ) → j < field s 13 14 → getD w j 0
+    ≡ f (field s (27 + 32 * field s 0 13 + (24 + wide) * j) 12) (field s (27 + 32 * field s 0 13 + (24 + wide) * j + 12) 12) (field s (27 + 32 * field s 0 13 + (24 + wide) * j + 24) wide)) where
   abbrev m : ℕ
   m = field s 13 14
 
-  pub edges-few : m ≤ 8192
-  edges-few = omega (arith, sited-number g, number-is g, g .most-edges)
+  pub loaded-at : (j : ℕ) → j < m → getD w j 0 ≡ f (fromAt (g .es) j) (toAt (g .es) j) (kindAt (g .es) j)
+  loaded-at j h = let e = sited-edge g j h in each j h ∙ rw (e .0, e .1, e .2)
 
-  pub loaded-at : (j : ℕ) → j < m → getD w′ j 0 ≡ code (fromAt (g .ends) j) (toAt (g .ends) j)
-  loaded-at j h =
-      let x = sited-nodes g in
-      let y = sited-number g in
-      let from : 27 + 32 * field s 0 13 + 24 * j ≡ 27 + 32 * nodesOf ws + 12 * (2 * j) = omega arith in
-      let to : 27 + 32 * field s 0 13 + 24 * j + 12 ≡ 27 + 32 * nodesOf ws + 12 * (2 * j + 1) = omega arith in
-      c .each j h
-      ∙ ap₂ (λ (u v : ℕ). code (field s u 12) (field s v 12)) from to
-      ∙ ap₂ code (sited-end g (2 * j) (omega arith)) (sited-end g (2 * j + 1) (omega arith))
+  edges-many : length (eachEdge f (g .es)) ≡ m
+  edges-many = each-length f m (g .es) (omega (arith, g .among .three-each, sited-number g, number-is g))
 
-  codes-many : length (codes (g .ends)) ≡ m
-  codes-many = codes-length m (g .ends) (omega (arith, g .two-each, sited-number g, number-is g))
-
-  pub loaded-front : take m w′ ≡ codes (drop (2 + nodesOf ws) ws)
+  pub loaded-front : take m w ≡ eachEdge f (drop (2 + nodesOf ws) ws)
   loaded-front =
-      let l : length (take m w′) ≡ m = length-take-le m w′ (omega (arith, c .long, edges-few)) in
-      let k = codes-many in
-      ext-getD 0 (take m w′) (codes (g .ends)) (l ∙ sym k)
+      let l : length (take m w) ≡ m = length-take-le m w (omega (arith, fits, edges-few g)) in
+      let k = edges-many in
+      ext-getD 0 (take m w) (eachEdge f (g .es)) (l ∙ sym k)
       (λ j h. let z : j < m = omega arith in
-      getD-take m w′ j 0 z ∙ loaded-at j z ∙ sym (codes-at (g .ends) j (omega arith)))
-      ∙ ap codes (sym (sited-ends g))
+      getD-take m w j 0 z ∙ loaded-at j z ∙ sym (each-at f (g .es) j (omega arith)))
+      ∙ ap (eachEdge f) (sym (sited-edges g))
 
-pub holds-by : (s ws w : List ℕ) {n m : ℕ} {w′ : List ℕ} → decode record′ s ≡ ok ws → length w ≡ 16384 → CodesAt s (27 + 32 * field s 0 13) (field s 13 14) w w′
+pub holds-by : (s ws w : List ℕ) {n m : ℕ} {w′ : List ℕ} → decode record′ s ≡ ok ws → length w ≡ 16384 → WordsAt s (27 + 32 * field s 0 13) (field s 13 14) w w′
     → n ≡ field s 0 13 → m ≡ field s 13 14 → Holds s n m w′
 holds-by s ws w {w′ = w′} is long c en em =
     record {
@@ -267,17 +283,17 @@ holds-by s ws w {w′ = w′} is long c en em =
       nodes = en ∙ record-nodes-field s ws is;
       edges = em ∙ record-edges-field s ws is;
       long = c .long ∙ long;
-      front = ap (λ (k : ℕ). take k w′) em ∙ loaded-front (sited s ws is) (omega arith) c;
+      front = ap (λ (k : ℕ). take k w′) em ∙ loaded-front (sited s ws is) edgeWord w′ (omega (arith, c .long)) (c .each);
     }
 
-pub holds-bounds : {s : List ℕ} {n m : ℕ} {w : List ℕ} (h : Holds s n m w) → (n ≤ 4096) × (m ≤ 8192) × (27 + 32 * n ≤ 8 * length s) × (2 + n + 2 * m ≡ length (h .fields))
+pub holds-bounds : {s : List ℕ} {n m : ℕ} {w : List ℕ} (h : Holds s n m w) → (n ≤ 4096) × (m ≤ 8192) × (27 + 32 * n ≤ 8 * length s) × (2 + n + 3 * m ≡ length (h .fields))
 holds-bounds {s} h =
     let b = record-bounds s (h .fields) (h .is) in
     let x = h .nodes in
     let y = h .edges in
     (omega (arith, b .0), omega (arith, b .1), omega (arith, b .3), omega (arith, b .2))
 
--- ---- its content, from the labels in its bytes and the codes in the workspace
+-- ---- its content, from the labels in its bytes and the words in the workspace
 pub labels-stored : (s w : List ℕ) → LabelsStored s 0 w w
 labels-stored s w = record { around = record { long = refl; low = λ k h. refl; high = λ k h. refl }; each = λ v h. absurd (omega arith) }
 
@@ -304,55 +320,29 @@ labels-end e a = rw (← e) a
 pub labels-long : {s : List ℕ} {n : ℕ} (a b : ℕ) (out : List ℕ) {out′ : List ℕ} → LabelsStored s n (set (set out 0 a) 1 b) out′ → length out′ ≡ length out
 labels-long a b out l = l .around .long ∙ length-set (set out 0 a) 1 b ∙ length-set out 0 a
 
-pub ends-length : (l : List ℕ) → length (ends l) ≡ 2 * length l
-unfolding ends
-ends-length [] = refl
-ends-length (c ∷ l) = let q = ends-length l in omega arith
+-- ---- fields from words
+pub words-threes : (l : List ℕ) → fromWords l ≡ threes (λ c. c / 4096 % 4096) (λ c. c % 4096) (λ c. c / 2 ^ 24) l
+unfolding fromWords threes
+words-threes [] = refl
+words-threes (c ∷ l) = ap (λ (t : List ℕ). c / 4096 % 4096 ∷ c % 4096 ∷ c / 2 ^ 24 ∷ t) (words-threes l)
 
-ends-snoc : (l : List ℕ) (c : ℕ) → ends (l ++ (c ∷ [])) ≡ ends l ++ (c / 4096 ∷ c % 4096 ∷ [])
-unfolding ends
-ends-snoc [] c = refl
-ends-snoc (d ∷ l) c = ap (λ (t : List ℕ). d / 4096 ∷ d % 4096 ∷ t) (ends-snoc l c)
+pub words-back : {nodes : ℕ} (m : ℕ) (es : List ℕ) → nodes ≤ 4096 → EdgesAmong nodes 8 m es → fromWords (edgeWords es) ≡ es
+words-back m es few g =
+    words-threes (edgeWords es)
+    ∙ threes-each (λ c. c / 4096 % 4096) (λ c. c % 4096) (λ c. c / 2 ^ 24) edgeWord (λ a b k x y z. (omega arith, omega arith, omega arith)) m es g
 
-pub ends-start : (out w : List ℕ) (at : ℕ) → out ≡ sets out at (ends (take 0 w))
-unfolding ends
-ends-start out w at = refl
-
-pub ends-more : (out w : List ℕ) (at k : ℕ) → k < length w
-    → set (set (sets out at (ends (take k w))) (at + 2 * k) (getD w k 0 / 4096)) (at + 2 * k + 1) (getD w k 0 % 4096) ≡ sets out at (ends (take (k + 1) w))
-ends-more out w at k h =
-    let a : ℕ = getD w k 0 / 4096 in
-    let b : ℕ = getD w k 0 % 4096 in
-    let n : at + 2 * k ≡ at + length (ends (take k w)) = omega (arith, ends-length (take k w), length-take-le k w (omega arith)) in
-    ap (λ (i : ℕ). set (set (sets out at (ends (take k w))) (at + 2 * k) a) i b) (add-one (at + 2 * k))
-    ∙ ap (λ (i : ℕ). sets (sets out at (ends (take k w))) i (a ∷ b ∷ [])) n
-    ∙ sets-append out at (ends (take k w)) (a ∷ b ∷ [])
-    ∙ ap (sets out at) (sym (ends-snoc (take k w) (getD w k 0)) ∙ ap ends (sym (take-suc w k 0 h) ∙ ap (λ (i : ℕ). take i w) (sym (add-one k))))
-
-pub ends-codes : (k : ℕ) (es : List ℕ) → length es ≡ 2 * k → Below 4096 es → ends (codes es) ≡ es
-unfolding codes ends
-ends-codes k [] n b = refl
-ends-codes k (x ∷ []) n b = absurd (omega arith)
-ends-codes zero (x ∷ y ∷ es) n b = absurd (omega arith)
-ends-codes (suc k) (x ∷ y ∷ es) n b =
-    let l : y < 4096 = b 1 (omega arith) in
-    let p : code x y / 4096 ≡ x = omega arith in
-    let q : code x y % 4096 ≡ y = omega arith in
-    ap₂ (λ (u v : ℕ). u ∷ v ∷ ends (codes es)) p q
-    ∙ ap (λ (t : List ℕ). x ∷ y ∷ t) (ends-codes k es (omega arith) (λ i h. b (suc (suc i)) (omega arith)))
-
--- two counts, the labels and the ends: the whole content
-module _ {s : List ℕ} {n m : ℕ} {w : List ℕ} (out : List ℕ) {out′ : List ℕ} (h : Holds s n m w) (room : 2 + n + 2 * m ≤ length out) (a : LabelsStored s n (set (set out 0 n) 1 m) out′) where
+-- two counts, the labels and the edges: the whole content
+module _ {s : List ℕ} {n m : ℕ} {w : List ℕ} (out : List ℕ) {out′ : List ℕ} (h : Holds s n m w) (room : 2 + n + 3 * m ≤ length out) (a : LabelsStored s n (set (set out 0 n) 1 m) out′) where
   abbrev ws : List ℕ
   ws = h .fields
 
-  g : Sited s ws
+  g : Sited 3 s ws
   g = sited s ws (h .is)
 
   long′ : length out′ ≡ length out
   long′ = labels-long n m out a
 
-  whole-length : length ws ≡ 2 + n + 2 * m
+  whole-length : length ws ≡ 2 + n + 3 * m
   whole-length = omega (arith, sited-length g, h .nodes, h .edges)
 
   content-at : (j : ℕ) → j < 2 + n → getD out′ j 0 ≡ getD ws j 0
@@ -370,30 +360,29 @@ module _ {s : List ℕ} {n m : ℕ} {w : List ℕ} (out : List ℕ) {out′ : Li
       ext-getD 0 (take (2 + n) out′) (take (2 + n) ws) (p ∙ sym q)
       (λ j l. let k : j < 2 + n = omega arith in getD-take (2 + n) out′ j 0 k ∙ content-at j k ∙ sym (getD-take (2 + n) ws j 0 k))
 
-  ends-same : ends (take m w) ≡ drop (2 + n) ws
-  ends-same =
+  edges-same : fromWords (take m w) ≡ drop (2 + n) ws
+  edges-same =
       let e : 2 + nodesOf ws ≡ 2 + n = omega (arith, h .nodes) in
-      ap ends (h .front)
-      ∙ ends-codes (g .number) (drop (2 + nodesOf ws) ws) (ap length (sited-ends g) ∙ g .two-each)
-      (rw (sited-ends g) (λ i l. let x = g .are-nodes i l in let y = g .most-nodes in omega arith))
+      ap fromWords (h .front)
+      ∙ words-back (edgesOf ws) (drop (2 + nodesOf ws) ws) (record-bounds s ws (h .is) .0) (record-among s ws (h .is))
       ∙ ap (λ (i : ℕ). drop i ws) e
 
-  tail-same : drop (2 + n + 2 * m) out′ ≡ drop (2 + n + 2 * m) out
+  tail-same : drop (2 + n + 3 * m) out′ ≡ drop (2 + n + 3 * m) out
   tail-same =
-      ext-getD 0 (drop (2 + n + 2 * m) out′) (drop (2 + n + 2 * m) out)
-      (length-drop (2 + n + 2 * m) out′ ∙ ap (λ (i : ℕ). i - (2 + n + 2 * m)) long′ ∙ sym (length-drop (2 + n + 2 * m) out))
+      ext-getD 0 (drop (2 + n + 3 * m) out′) (drop (2 + n + 3 * m) out)
+      (length-drop (2 + n + 3 * m) out′ ∙ ap (λ (i : ℕ). i - (2 + n + 3 * m)) long′ ∙ sym (length-drop (2 + n + 3 * m) out))
       (λ j l.
-      getD-drop (2 + n + 2 * m) out′ j 0
-      ∙ a .around .high (2 + n + 2 * m + j) (omega arith)
-      ∙ getD-set-other (set out 0 n) 1 (2 + n + 2 * m + j) m 0 (λ p. omega arith)
-      ∙ getD-set-other out 0 (2 + n + 2 * m + j) n 0 (λ p. omega arith)
-      ∙ sym (getD-drop (2 + n + 2 * m) out j 0))
+      getD-drop (2 + n + 3 * m) out′ j 0
+      ∙ a .around .high (2 + n + 3 * m + j) (omega arith)
+      ∙ getD-set-other (set out 0 n) 1 (2 + n + 3 * m + j) m 0 (λ p. omega arith)
+      ∙ getD-set-other out 0 (2 + n + 3 * m + j) n 0 (λ p. omega arith)
+      ∙ sym (getD-drop (2 + n + 3 * m) out j 0))
 
-  pub content-stored : sets out′ (2 + n) (ends (take m w)) ≡ sets out 0 ws
+  pub content-stored : sets out′ (2 + n) (fromWords (take m w)) ≡ sets out 0 ws
   content-stored =
-      let k : length (drop (2 + n) ws) ≡ 2 * m = length-drop (2 + n) ws ∙ omega (arith, whole-length) in
-      let z : 2 + n + length (drop (2 + n) ws) ≡ 2 + n + 2 * m = omega arith in
-      ap (sets out′ (2 + n)) ends-same
+      let k : length (drop (2 + n) ws) ≡ 3 * m = length-drop (2 + n) ws ∙ omega (arith, whole-length) in
+      let z : 2 + n + length (drop (2 + n) ws) ≡ 2 + n + 3 * m = omega arith in
+      ap (sets out′ (2 + n)) edges-same
       ∙ sets-eq (drop (2 + n) ws) out′ (2 + n) (omega (arith, long′))
       ∙ ap₂ (λ (x y : List ℕ). (x ++ drop (2 + n) ws) ++ y) front-same (ap (λ (i : ℕ). drop i out′) z ∙ tail-same)
       ∙ ap₂ (λ (x : List ℕ) (i : ℕ). x ++ drop i out) (take-append-drop (2 + n) ws) (sym whole-length)

@@ -11,8 +11,10 @@ pub mod RoundTrip
 pub mod Most
 -- formats: what each accepts, in plain rules
 pub mod AcceptedLaws
+pub mod EdgePlaces
 pub mod AcceptedEdges
 pub mod AcceptedPairs
+pub mod AcceptedRising
 pub mod AcceptedGraphs
 pub mod AcceptedTurns
 pub mod AcceptedSheets

@@ -2,9 +2,9 @@
 use Prim.Native.Nat.{ℕ, zero, suc, _+_, _-_, _*_, _/_, _%_, _^_, _<_, _≤_}
 use mathlib.Core.Path.{_≡_, refl, ap, ap₂, sym, _∙_}
 use mathlib.Core.Logic.{⊎-elim}
-use mathlib.Core.List.{List, [], _∷_, _++_, append-assoc, append-nil}
+use mathlib.Core.List.{List, [], _∷_, _++_, map, append-assoc, append-nil}
 use mathlib.Core.Bool.{Bool, true, false, _||_, or-false, or-assoc}
-use lib.ListN.{length, take, drop, getD, set, replicate, length-append, length-take, length-drop, length-set, length-replicate, getD-replicate, List·getD-eq-default}
+use lib.ListN.{length, take, drop, getD, set, replicate, length-append, length-take, length-drop, length-map, length-set, length-replicate, getD-replicate, List·getD-eq-default, List·getD-map}
 use lib.Seq.{sets, take-suc, getD-drop, getD-take, getD-set-same, getD-set-other, length-take-le}
 use lib.Dec.{eqb}
 use native.Mathlib.Omega.{arith}
@@ -15,7 +15,7 @@ use native.Mathlib.Nat.{add-zero, zero-add}
 use Rattle.packed.specs.Bits.{bits, bitsOf, gap}
 use Rattle.packed.specs.Format.{pick, encode, ok}
 use Rattle.packed.specs.Formats.{sheet}
-use Rattle.packed.specs.Matches.{marks, marked, markedFrom, anyEmpty, emptied, allOrNone, codesOf, masksOf, matchesOf, Marked, Counts, SheetWritten, Added, anyZero, sumOf, Listed, pairBits, codedList, sheetBits, ListsWritten, ListingWritten}
+use Rattle.packed.specs.Matches.{marks, marked, markedFrom, anyEmpty, emptied, allOrNone, pairIn, codesOf, masksOf, matchesOf, Marked, Counts, SheetWritten, Added, anyZero, sumOf, Listed, pairBits, codedList, sheetBits, ListsWritten, ListingWritten}
 use Rattle.packed.specs.Contents.{pairCount, sheetFields, sheetLength}
 use Rattle.packed.proofs.BitsLaws.{length-bits, bitsOf-zero, bits-injective}
 use Rattle.packed.proofs.OrderCases.{lt-or-ge}
@@ -23,7 +23,7 @@ use Rattle.packed.proofs.Sets.{sets-append}
 use Rattle.packed.proofs.SetBits.{Next, no-bits}
 use Rattle.packed.proofs.RoundTrip.{Bytes}
 use Rattle.packed.proofs.Files.{bits-sets, bytes-sets}
-use Rattle.packed.proofs.SheetLaws.{Rising, rising-none, rising-next, rising-by, rising-less, Fit, fit-none, fit-next, fit-all, length-all, all-twice, bits-none, bits-one, padded, Encoded, sheet-encodes}
+use Rattle.packed.proofs.SheetLaws.{Rising, rising-none, rising-next, Fit, fit-none, fit-next, fit-all, length-all, all-twice, bits-none, bits-one, padded, Encoded, sheet-encodes}
 
 -- the codes under the edge e, and the lists of the first m edges, by the first n pairs of the workspace
 abbrev pub under : ℕ → ℕ → List ℕ → List ℕ
@@ -52,16 +52,24 @@ marked-more e (x ∷ ps) (y ∷ qs) p q h =
     ap (λ (l : List ℕ). pick (marks e y) (x ∷ l) l) (marked-more e ps qs p q (omega arith))
     ∙ pick-append (marks e y) x (marked e ps qs) (pickOne (marks e q) p)
 
-pub under-more : (e i : ℕ) (w : List ℕ) → 8192 + i < length w → under e (i + 1) w ≡ under e i w ++ pickOne (marks e (getD w (8192 + i) 0)) (getD w i 0)
+-- the codes of words, and of one word more
+codes-more : (ws : List ℕ) (c : ℕ) → map pairIn (ws ++ (c ∷ [])) ≡ map pairIn ws ++ (pairIn c ∷ [])
+codes-more [] c = refl
+codes-more (x ∷ ws) c = ap (λ (l : List ℕ). pairIn x ∷ l) (codes-more ws c)
+
+length-codes : (n : ℕ) (w : List ℕ) → n ≤ length w → length (codesOf n w) ≡ n
+length-codes n w h = length-map (take n w) pairIn ∙ length-take-le n w h
+
+pub under-more : (e i : ℕ) (w : List ℕ) → 8192 + i < length w → under e (i + 1) w ≡ under e i w ++ pickOne (marks e (getD w (8192 + i) 0)) (pairIn (getD w i 0))
 under-more e i w h =
     let d : List ℕ = drop 8192 w in
     let n : length d ≡ length w - 8192 = length-drop 8192 w in
-    let l : length (take i w) ≡ length (take i d) = length-take-le i w (omega arith) ∙ sym (length-take-le i d (omega arith)) in
+    let l : length (codesOf i w) ≡ length (take i d) = length-codes i w (omega arith) ∙ sym (length-take-le i d (omega arith)) in
     let a : take (i + 1) w ≡ take i w ++ (getD w i 0 ∷ []) = ap (λ (k : ℕ). take k w) (add-one i) ∙ take-suc w i 0 (omega arith) in
     let b : take (i + 1) d ≡ take i d ++ (getD d i 0 ∷ []) = ap (λ (k : ℕ). take k d) (add-one i) ∙ take-suc d i 0 (omega arith) in
-    ap₂ (marked e) a b
-    ∙ marked-more e (take i w) (take i d) (getD w i 0) (getD d i 0) l
-    ∙ ap (λ (q : ℕ). under e i w ++ pickOne (marks e q) (getD w i 0)) (getD-drop 8192 w i 0)
+    ap₂ (marked e) (ap (map pairIn) a ∙ codes-more (take i w) (getD w i 0)) b
+    ∙ marked-more e (codesOf i w) (take i d) (pairIn (getD w i 0)) (getD d i 0) l
+    ∙ ap (λ (q : ℕ). under e i w ++ pickOne (marks e q) (pairIn (getD w i 0))) (getD-drop 8192 w i 0)
 
 length-pickOne : (e p q : ℕ) → length (pickOne (marks e q) p) ≡ q / 2 ^ e % 2
 unfolding marks
@@ -75,7 +83,7 @@ length-pickOne e p q = go (q / 2 ^ e % 2) (omega arith)
 pub length-more : (e i : ℕ) (w : List ℕ) → 8192 + i < length w → length (under e (i + 1) w) ≡ length (under e i w) + getD w (8192 + i) 0 / 2 ^ e % 2
 length-more e i w h =
     let q : ℕ = getD w (8192 + i) 0 in
-    let p : ℕ = getD w i 0 in
+    let p : ℕ = pairIn (getD w i 0) in
     ap length (under-more e i w h) ∙ length-append (under e i w) (pickOne (marks e q) p) ∙ ap (λ (k : ℕ). length (under e i w) + k) (length-pickOne e p q)
 
 marked-least : (e : ℕ) (ps qs : List ℕ) → length (marked e ps qs) ≤ length ps
@@ -88,34 +96,46 @@ marked-least e (p ∷ ps) qs = go (marks e (getD qs 0 0)) (marked e ps (drop 1 q
     go false l h = omega arith
 
 pub under-most : (e n : ℕ) (w : List ℕ) → length (under e n w) ≤ n
-under-most e n w = omega (arith, marked-least e (take n w) (take n (drop 8192 w)), length-take n w)
+under-most e n w = omega (arith, marked-least e (codesOf n w) (masksOf n w), length-map (take n w) pairIn, length-take n w)
 
--- ---- the codes rise
+-- ---- the codes under an edge rise
 
-marked-rises : (e : ℕ) {least : ℕ} (ps qs : List ℕ) → Rising least ps → Rising least (marked e ps qs)
+names-rest : (e i : ℕ) (qs : List ℕ) → marks e (getD (drop 1 qs) i 0) ≡ true → marks e (getD qs (suc i) 0) ≡ true
+names-rest e i qs h = ap (λ (k : ℕ). marks e (getD qs k 0)) (omega arith) ∙ ap (marks e) (sym (getD-drop 1 qs i 0)) ∙ h
+
+marked-rises : (e least : ℕ) (ps qs : List ℕ) → ((i : ℕ) → i < length ps → marks e (getD qs i 0) ≡ true → least ≤ getD ps i 0)
+    → ((i : ℕ) → i < length ps → getD ps i 0 < 2 ^ 24)
+    → ((i j : ℕ) → i < j → j < length ps → marks e (getD qs i 0) ≡ true → marks e (getD qs j 0) ≡ true → getD ps i 0 < getD ps j 0)
+    → Rising least (marked e ps qs)
 unfolding marked
-marked-rises e ps qs rising-none = rising-none
-marked-rises e {least} ps qs (rising-next {c = c} {cs = cs} h s r) = go (marks e (getD qs 0 0)) (marked-rises e cs (drop 1 qs) r)
+marked-rises e least [] qs h s r = rising-none
+marked-rises e least (p ∷ ps) qs h s r =
+    go (marks e (getD qs 0 0)) refl
+    (λ k l. marked-rises e k ps (drop 1 qs) (λ i q m. l i q (names-rest e i qs m)) (λ i q. s (suc i) (omega arith))
+    (λ i j a q m n. r (suc i) (suc j) (omega arith) (omega arith) (names-rest e i qs m) (names-rest e j qs n)))
   where
-    go : {l : List ℕ} (b : Bool) → Rising (suc c) l → Rising least (pick b (c ∷ l) l)
-    go true q = rising-next h s q
-    go false q = rising-less (omega arith) q
+    go : {l : List ℕ} (b : Bool) → marks e (getD qs 0 0) ≡ b
+        → ((k : ℕ) → ((i : ℕ) → i < length ps → marks e (getD qs (suc i) 0) ≡ true → k ≤ getD ps i 0) → Rising k l) → Rising least (pick b (p ∷ l) l)
+    go true m rest = rising-next (h 0 (omega arith) m) (s 0 (omega arith)) (rest (suc p) (λ i q n. r 0 (suc i) (omega arith) (omega arith) m n))
+    go false m rest = rest least (λ i q n. h (suc i) (omega arith) n)
 
-fit-from : (e m : ℕ) (ps qs : List ℕ) → Rising 0 ps → length ps ≤ 8192 → Fit (markedFrom e m ps qs)
+fit-from : (e m : ℕ) (ps qs : List ℕ) → ((j : ℕ) → Rising 0 (marked j ps qs)) → length ps ≤ 8192 → Fit (markedFrom e m ps qs)
 unfolding markedFrom
 fit-from e zero ps qs r h = fit-none
-fit-from e (suc m) ps qs r h = fit-next (marked-rises e ps qs r) (omega (arith, marked-least e ps qs)) (fit-from (suc e) m ps qs r h)
+fit-from e (suc m) ps qs r h = fit-next (r e) (omega (arith, marked-least e ps qs)) (fit-from (suc e) m ps qs r h)
 
-codes-rise : (n : ℕ) (w : List ℕ) → Marked n w → Rising 0 (codesOf n w)
-codes-rise n w k =
-    let e : length (take n w) ≡ n = length-take-le n w (omega arith) in
-    let at : (i : ℕ) → i < n → getD (take n w) i 0 ≡ getD w i 0 = λ i q. getD-take n w i 0 q in
-    rising-by 0 (take n w) (λ q. omega arith)
-    (λ i q. rw (at i (omega arith)) (k .small i (omega arith)))
-    (λ i j p q. rw (at i (omega arith), at j (omega arith)) (k .rises i j p (omega arith)))
+under-rises : (n : ℕ) (w : List ℕ) → Marked n w → (e : ℕ) → Rising 0 (under e n w)
+under-rises n w k e =
+    let l : length (codesOf n w) ≡ n = length-codes n w (omega (arith, k .long, k .most)) in
+    let code : (i : ℕ) → i < n → getD (codesOf n w) i 0 ≡ pairIn (getD w i 0) = λ i q. List·getD-map pairIn (take n w) i 0 ∙ ap pairIn (getD-take n w i 0 q) in
+    let mask : (i : ℕ) → i < n → getD (masksOf n w) i 0 ≡ getD w (8192 + i) 0 = λ i q. getD-take n (drop 8192 w) i 0 q ∙ getD-drop 8192 w i 0 in
+    marked-rises e 0 (codesOf n w) (masksOf n w) (λ i q m. omega arith) (λ i q. rw (code i (omega arith)) (omega arith))
+    (λ i j p q a b.
+    rw (code i (omega arith), code j (omega arith))
+    (k .rises i j e p (omega arith) (ap (marks e) (sym (mask i (omega arith))) ∙ a) (ap (marks e) (sym (mask j (omega arith))) ∙ b)))
 
 pub fit-lists : (n m : ℕ) (w : List ℕ) → Marked n w → Fit (listsOf m n w)
-fit-lists n m w k = fit-from 0 m (take n w) (take n (drop 8192 w)) (codes-rise n w k) (omega (arith, length-take n w, k .most))
+fit-lists n m w k = fit-from 0 m (codesOf n w) (masksOf n w) (under-rises n w k) (omega (arith, length-map (take n w) pairIn, length-take n w, k .most))
 
 length-from : (e m : ℕ) (ps qs : List ℕ) → length (markedFrom e m ps qs) ≡ m
 unfolding markedFrom
@@ -126,7 +146,7 @@ pub matches-encode : (n m : ℕ) (w : List ℕ) → Marked n w → Encoded m (ma
 unfolding matchesOf
 matches-encode n m w k =
     let ls : List (List ℕ) = listsOf m n w in
-    sheet-encodes m (allOrNone ls) (length-all ls ∙ length-from 0 m (take n w) (take n (drop 8192 w))) (fit-all ls (fit-lists n m w k)) (all-twice ls)
+    sheet-encodes m (allOrNone ls) (length-all ls ∙ length-from 0 m (codesOf n w) (masksOf n w)) (fit-all ls (fit-lists n m w k)) (all-twice ls)
 
 -- ---- adding the bits of a mask
 
@@ -202,7 +222,7 @@ from-next e (suc m) ps qs =
 
 pub lists-next : (m n : ℕ) (w : List ℕ) → listsOf (suc m) n w ≡ listsOf m n w ++ (under m n w ∷ [])
 lists-next m n w =
-    from-next 0 m (take n w) (take n (drop 8192 w)) ∙ ap (λ (k : ℕ). listsOf m n w ++ (under k n w ∷ [])) (zero-add m)
+    from-next 0 m (codesOf n w) (masksOf n w) ∙ ap (λ (k : ℕ). listsOf m n w ++ (under k n w ∷ [])) (zero-add m)
 
 total-next : (ls : List (List ℕ)) (l : List ℕ) → pairCount (ls ++ (l ∷ [])) ≡ pairCount ls + length l
 unfolding pairCount
@@ -252,7 +272,7 @@ none-from e (suc m) ps qs qs′ = ap (λ (l : List (List ℕ)). [] ∷ l) (none-
 
 pub listed-none : (n m : ℕ) (w : List ℕ) → anyEmpty (listsOf m n w) ≡ true → Listed n m w 0
 unfolding matchesOf allOrNone
-listed-none n m w h = record { is = rw h; lists = none-from 0 m (take n w) [] (take n (drop 8192 w)) ∙ rw h }
+listed-none n m w h = record { is = rw h; lists = none-from 0 m (codesOf n w) [] (masksOf n w) ∙ rw h }
 
 pub listed-all : (n m : ℕ) (w : List ℕ) → anyEmpty (listsOf m n w) ≡ false → Listed n m w n
 unfolding matchesOf allOrNone
@@ -268,7 +288,7 @@ listed-most n m w k l = rw (l .is) (go (anyEmpty (listsOf m n w)))
 pub listed-marked : (n m : ℕ) (w : List ℕ) (k : ℕ) → Listed n m w k → Marked n w → Marked k w
 listed-marked n m w k l t =
     let h : k ≤ n = listed-most n m w k l in
-    record { long = t .long; most = omega (arith, t .most); small = λ i q. t .small i (omega arith); rises = λ i j p q. t .rises i j p (omega arith) }
+    record { long = t .long; most = omega (arith, t .most); rises = λ i j e p q. t .rises i j e p (omega arith) }
 
 pub sum-listed : (n m : ℕ) (w : List ℕ) (k : ℕ) (c : List ℕ) → Listed n m w k → Counts k w c → m ≤ 32 → sumOf m c ≡ pairCount (matchesOf n m w)
 sum-listed n m w k c l t h = sum-is k m w c t h ∙ ap pairCount (l .lists)

@@ -9,7 +9,7 @@ use native.Mathlib.Omega.{arith}
 use native.Mathlib.Nat.{suc-mul}
 use Rattle.packed.specs.Bits.{bitsOf, gap}
 use Rattle.packed.specs.Format.{Format, done, ask, test, pad, then, times, whole, Got, got, fault, push, within, lay, ok, ended, encode}
-use Rattle.packed.specs.Formats.{edges, label, joined, pattern, catalogue, labels, code, pairs, record′}
+use Rattle.packed.specs.Formats.{edges, label, joined, pattern, catalogue, labels, rank, rising, record′}
 use Rattle.packed.proofs.BitsLaws.{gap-small, gap-none, length-bitsOf}
 use Rattle.packed.proofs.RoundTrip.{push-got, pick-got, and-yes, below-bound, ended-ok, inBytes-ok, aligned, onward, lay-test, lay-pad, lay-then, whole-is, times-zero, times-suc}
 use Rattle.packed.proofs.Files.{length-bytesOf}
@@ -127,12 +127,13 @@ pub most-times : (n : ℕ) (f : Format) {k : ℕ} → Most k f → Most (n * k) 
 most-times zero f {k} m = rw (times-zero f) (most-more (0 * k) (omega arith) most-done)
 most-times (suc n) f {k} m = rw (times-suc n f) (most-more (suc n * k) (omega (arith, suc-mul n k)) (most-then f (times n f) m (most-times n f m)))
 
-pub most-edges : (w nodes : ℕ) (last : List ℕ → Format) {k : ℕ} → ((ends : List ℕ) → Most k (last ends)) → (more : ℕ) (ends : List ℕ) → Most (more * (w + w) + k) (edges w nodes last more ends)
+pub most-edges : (w wide nodes : ℕ) (last : List ℕ → Format) {j : ℕ} → ((es : List ℕ) → Most j (last es)) → (more : ℕ) (es : List ℕ)
+    → Most (more * (w + w + wide) + j) (edges w wide nodes last more es)
 unfolding edges
-most-edges w nodes last {k} m zero ends = most-more (0 * (w + w) + k) (omega arith) (m ends)
-most-edges w nodes last {k} m (suc more) ends =
-    most-more (suc more * (w + w) + k) (omega (arith, suc-mul more (w + w)))
-    (most-ask (λ from g. most-ask (λ to h. most-test (most-edges w nodes last m more (ends ++ (from ∷ to ∷ []))))))
+most-edges w wide nodes last {j} m zero es = most-more (0 * (w + w + wide) + j) (omega arith) (m es)
+most-edges w wide nodes last {j} m (suc more) es =
+    most-more (suc more * (w + w + wide) + j) (omega (arith, suc-mul more (w + w + wide)))
+    (most-ask (λ a f. most-ask (λ b g. most-ask (λ k h. most-test (most-edges w wide nodes last m more (es ++ (a ∷ b ∷ k ∷ [])))))))
 
 -- ---- bytes
 
@@ -211,45 +212,46 @@ most-label : Most 5 label
 unfolding label
 most-label = most-ask (λ v h. most-done)
 
-most-joined : (nodes : ℕ) (ends : List ℕ) → Most 0 (joined nodes ends)
+most-joined : (nodes : ℕ) (es : List ℕ) → Most 0 (joined nodes es)
 unfolding joined
-most-joined nodes ends = most-test most-done
+most-joined nodes es = most-test most-done
 
-pub most-pattern : Most 347 pattern
+pub most-pattern : Most 443 pattern
 unfolding pattern
 most-pattern =
-    most-ask {w = 5} {k = 342} (λ nodes h. most-ask {w = 6} {k = 336} (λ number g.
-    most-more 336 (omega arith)
-    (most-then (times nodes label) (edges 4 nodes (joined nodes) number []) (most-times nodes label most-label) (most-edges 4 nodes (joined nodes) (most-joined nodes) number []))))
+    most-ask {w = 5} {k = 438} (λ nodes h. most-ask {w = 6} {k = 432} (λ number g.
+    most-more 432 (omega arith)
+    (most-then (times nodes label) (edges 4 3 nodes (joined nodes) number []) (most-times nodes label most-label) (most-edges 4 3 nodes (joined nodes) (most-joined nodes) number []))))
 
-pub most-catalogue : MostBytes 705 catalogue
+pub most-catalogue : MostBytes 897 catalogue
 unfolding catalogue
 most-catalogue =
-    bytes-ask {w = 5} {k = 704} (λ number h. bytes-more 704 (omega arith) (bytes-times number (whole pattern) (bytes-whole pattern most-pattern)))
+    bytes-ask {w = 5} {k = 896} (λ number h. bytes-more 896 (omega arith) (bytes-times number (whole pattern) (bytes-whole pattern most-pattern)))
 
 most-labels : Most 32 labels
 unfolding labels
 most-labels = most-ask (λ v h. most-done)
 
-most-pairs : (bound e k least : ℕ) → Most (k * 24) (pairs bound e k least)
-unfolding pairs
-most-pairs bound e zero least = most-more (0 * 24) (omega arith) most-done
-most-pairs bound e (suc k) least =
-    most-more (suc k * 24) (omega arith) (most-ask {w = 12} (λ a g. most-ask {w = 12} (λ b h. most-test (most-pairs bound e k (suc (code a b))))))
+most-rising : (nodes n least : ℕ) → Most (n * 27) (rising nodes n least)
+unfolding rising
+most-rising nodes zero least = most-more (0 * 27) (omega arith) most-done
+most-rising nodes (suc n) least =
+    most-more (suc n * 27) (omega arith)
+    (most-ask {w = 12} (λ a f. most-ask {w = 12} (λ b g. most-ask {w = 3} (λ k h. most-test (most-rising nodes n (suc (rank a b k)))))))
 
-pub most-record : Most 327707 record′
+pub most-record : Most 352283 record′
 unfolding record′
 most-record =
-    most-ask {w = 13} {k = 327694} (λ nodes h. most-ask {w = 14} {k = 327680} (λ number g.
-    most-more 327680 (omega arith)
-    (most-then (times nodes labels) (pairs nodes 4 number 0) (most-times nodes labels most-labels) (most-pairs nodes 4 number 0))))
+    most-ask {w = 13} {k = 352270} (λ nodes h. most-ask {w = 14} {k = 352256} (λ number g.
+    most-more 352256 (omega arith)
+    (most-then (times nodes labels) (rising nodes number 0) (most-times nodes labels most-labels) (most-rising nodes number 0))))
 
-pub pattern-bytes : (ws s : List ℕ) → encode pattern ws ≡ ok s → length s ≤ 44
-pattern-bytes ws s e = most-encode pattern 44 ws s (bytes-whole pattern most-pattern) e
+pub pattern-bytes : (ws s : List ℕ) → encode pattern ws ≡ ok s → length s ≤ 56
+pattern-bytes ws s e = most-encode pattern 56 ws s (bytes-whole pattern most-pattern) e
 
-pub catalogue-bytes : (ws s : List ℕ) → encode catalogue ws ≡ ok s → length s ≤ 705
+pub catalogue-bytes : (ws s : List ℕ) → encode catalogue ws ≡ ok s → length s ≤ 897
 catalogue-bytes ws s e =
-    most-encode catalogue 705 ws s (rw (whole-is catalogue) (bytes-then catalogue (pad done) {k = 0} most-catalogue (bytes-pad bytes-done))) e
+    most-encode catalogue 897 ws s (rw (whole-is catalogue) (bytes-then catalogue (pad done) {k = 0} most-catalogue (bytes-pad bytes-done))) e
 
-pub record-bytes : (ws s : List ℕ) → encode record′ ws ≡ ok s → length s ≤ 40964
-record-bytes ws s e = most-encode record′ 40964 ws s (bytes-whole record′ most-record) e
+pub record-bytes : (ws s : List ℕ) → encode record′ ws ≡ ok s → length s ≤ 44036
+record-bytes ws s e = most-encode record′ 44036 ws s (bytes-whole record′ most-record) e

@@ -1,36 +1,27 @@
 -- The moves of a reader of an old record's edges, where repeats are judged at the end.
-use Prim.Native.Nat.{ℕ, suc, _+_, _-_, _<_, _≤_}
+use Prim.Native.Nat.{ℕ, _+_, _-_, _<_, _≤_}
 use mathlib.Core.Path.{_≡_, refl, ap, sym, _∙_}
 use mathlib.Core.List.{List, [], _∷_, _++_}
 use mathlib.Core.Bool.{Bool, true, false, not, _&&_}
 use lib.ListN.{set}
 use native.Mathlib.Omega.{arith}
-use Rattle.packed.specs.Format.{Format, done, test, then, times, bad, decode}
-use Rattle.packed.specs.Formats.{countField, linked, end, edges, labels, code}
+use Rattle.packed.specs.Format.{Format, done, then, times, bad, decode}
+use Rattle.packed.specs.Formats.{countField, linked, end, edges, labels, rank}
 use Rattle.packed.specs.OldRecord.{nothing, oldRecord}
 use Rattle.packed.specs.Reading.{Reading, Refuses, Value, TwoValues, Judges}
-use Rattle.packed.specs.OldLoading.{once, CodesKept, Lazily, LazyPart, Loads}
+use Rattle.packed.specs.OldLoading.{once, RanksKept, Lazily, LazyPart, Loads}
 use Rattle.packed.specs.declared.reply.Refusal.{Refusal}
 use Rattle.packed.specs.declared.reply.Refusal.the-variants.{DuplicateEdge}
 use Rattle.packed.specs.declared.reply.Part.{Part}
 use Rattle.packed.specs.declared.reply.Part.the-variants as part-is
 use Rattle.packed.specs.declared.reply.Loaded.{Loaded}
-use Rattle.packed.proofs.ReadingLaws.{starts, same-at, left-is, goes-on, calls, refused, reads, passes, fails}
+use Rattle.packed.proofs.ReadingLaws.{starts, left-is, goes-on, calls, refused, reads, passes, fails}
 use Rattle.packed.proofs.Files.{judged-bad}
+use Rattle.packed.proofs.Edges.{after, edges-none, reads-old, old-refused}
 use Rattle.packed.proofs.OldRecords.{RecordHeld, held-none, held-more, once-more, once-none}
 
 -- ---- what comes next
-pub edges-next : (nodes left : ℕ) (ends : List ℕ) → 0 < left
-    → edges 12 nodes nothing left ends
-    ≡ end 12 nodes (λ a. end 12 nodes (λ b. test (not (linked a b ends)) 5 (edges 12 nodes nothing (left - 1) (ends ++ (a ∷ b ∷ [])))))
-unfolding edges
-edges-next nodes left ends h = let q : left ≡ suc (left - 1) = omega arith in ap (λ (n : ℕ). edges 12 nodes nothing n ends) q
-
-edges-none : (nodes : ℕ) (ends : List ℕ) → edges 12 nodes nothing 0 ends ≡ done
-unfolding edges
-edges-none nodes ends = refl
-
-pub old-is : oldRecord ≡ countField 13 0 4096 (λ nodes. countField 14 0 8192 (λ number. then (times nodes labels) (edges 12 nodes nothing number [])))
+pub old-is : oldRecord ≡ countField 13 0 4096 (λ nodes. countField 14 0 8192 (λ number. then (times nodes labels) (edges 12 0 nodes nothing number [])))
 unfolding oldRecord
 old-is = refl
 
@@ -55,7 +46,7 @@ pub record EdgesRead (F : Format) (s : List ℕ) (at₀ : ℕ) (w₀ : List ℕ)
 
 module _ {F : Format} {s : List ℕ} {at₀ : ℕ} {w₀ : List ℕ} {i₀ file : ℕ} where
   -- a part that was refused, whatever was loaded
-  loads-refused : {k : ℕ} {ends work₀ w work : List ℕ} {x : Refusal} (r : Loaded) → r .edges ≡ k → r .part ≡ part-is.Refused x → CodesKept ends k work₀ work
+  loads-refused : {k : ℕ} {ends work₀ w work : List ℕ} {x : Refusal} (r : Loaded) → r .edges ≡ k → r .part ≡ part-is.Refused x → RanksKept ends k work₀ work
       → (once ends ≡ true → Refuses F s at₀ file x) → (once ends ≡ false → Refuses F s at₀ file (DuplicateEdge file))
       → Loads F s at₀ w₀ i₀ file work₀ r w work
   loads-refused {k} {ends} r e q h f g = record { nodes = 0; ends = ends; kept = rw e h; part = rw q (f, g) }
@@ -66,7 +57,7 @@ module _ {F : Format} {s : List ℕ} {at₀ : ℕ} {w₀ : List ℕ} {i₀ file 
   loads-stopped {w} {work} r e q f = loads-refused r e q (held-none 0 work .kept) (λ h. f) never
 
 module _ {F : Format} {s : List ℕ} {at₀ : ℕ} {w₀ : List ℕ} {i₀ file nodes : ℕ} where
-  pub edges-start : (number : ℕ) {w work : List ℕ} {at i : ℕ} → Reading F s at₀ w₀ i₀ (edges 12 nodes nothing number []) at w i → i ≤ at
+  pub edges-start : (number : ℕ) {w work : List ℕ} {at i : ℕ} → Reading F s at₀ w₀ i₀ (edges 12 0 nodes nothing number []) at w i → i ≤ at
       → EdgesRead F s at₀ w₀ i₀ file nodes number work w work at i 0 number
   edges-start number {w} {work} r h =
       record {
@@ -75,27 +66,26 @@ module _ {F : Format} {s : List ℕ} {at₀ : ℕ} {w₀ : List ℕ} {i₀ file 
         lazy = record { clean = λ e. r; dirty = never; inside = r .inside; few = h };
       }
 
-  pub edges-read : {number : ℕ} {work₀ w work : List ℕ} {at i k left a b : ℕ} {w′ : List ℕ} → number ≤ 8192 → nodes ≤ 4096 → 0 < left
-      → EdgesRead F s at₀ w₀ i₀ file nodes number work₀ w work at i k left → TwoValues 12 nodes s at w i a b w′
-      → EdgesRead F s at₀ w₀ i₀ file nodes number work₀ w′ (set work k (code a b)) (at + 24) (i + 2) (k + 1) (left - 1)
-  edges-read {number} {work₀} {w} {work} {at} {i} {k} {left} {a} {b} {w′} m n l r p =
+  pub edges-read : {number : ℕ} {work₀ w work : List ℕ} {at i k left a b c : ℕ} {w′ w″ : List ℕ} → number ≤ 8192 → nodes ≤ 4096 → 0 < left
+      → EdgesRead F s at₀ w₀ i₀ file nodes number work₀ w work at i k left → TwoValues 12 nodes s at w i a b w′ → w″ ≡ set w′ (i + 2) 0 → c ≡ rank a b 0
+      → EdgesRead F s at₀ w₀ i₀ file nodes number work₀ w″ (set work k c) (at + 24) (i + 3) (k + 1) (left - 1)
+  edges-read {number} {work₀} {w} {work} {at} {i} {k} {left} {a} {b} {w′ = w′} m n l r p put is =
       let x : a < 4096 = omega (arith, p .first .most) in
       let y : b < 4096 = omega (arith, p .second .most) in
       let ends : List ℕ = r .ends in
-      let G : Format = test (not (linked a b ends)) 5 (edges 12 nodes nothing (left - 1) (ends ++ (a ∷ b ∷ []))) in
-      let e = once-more a b y (r .held .fine) in
-      let step : once ends ≡ true → Reading F s at₀ w₀ i₀ G (at + 24) w′ (i + 2) =
-      λ h. same-at (omega arith) (omega arith) (reads (reads (left-is (edges-next nodes left ends l) (r .lazy .clean h)) (p .first)) (p .second)) in
-      record {
-        ends = ends ++ (a ∷ b ∷ []);
+      let e = once-more a b 0 y (omega arith) (r .held .fine) in
+      let step : once ends ≡ true → Reading F s at₀ w₀ i₀ (after 12 0 nodes nothing left ends a b 0) (at + 24) (set w′ (i + 2) 0) (i + 3) =
+      λ h. reads-old 12 nodes nothing left ends l (r .lazy .clean h) (omega arith) p in
+      rw (put, is) (record {
+        ends = ends ++ (a ∷ b ∷ 0 ∷ []);
         held = held-more m l x y (r .held);
         lazy = record {
-          clean = once-cases (once ends) (linked a b ends) e (λ h g. passes g (step h));
-          dirty = once-fails (once ends) (linked a b ends) e (λ h g. fails (DuplicateEdge file) g refl (step h)) (r .lazy .dirty);
+          clean = once-cases (once ends) (linked a b 0 ends) e (λ h g. passes g (step h));
+          dirty = once-fails (once ends) (linked a b 0 ends) e (λ h g. fails (DuplicateEdge file) g refl (step h)) (r .lazy .dirty);
           inside = omega (arith, p .second .fits);
           few = omega (arith, r .lazy .few);
         };
-      }
+      })
 
   -- an end of the next edge is refused: a repeat stands before it
   pub edges-refused : {number : ℕ} {work₀ w work : List ℕ} {at i k left : ℕ} {w′ : List ℕ} {x : Refusal} (r : Loaded) → r .edges ≡ k → r .part ≡ part-is.Refused x
@@ -103,7 +93,7 @@ module _ {F : Format} {s : List ℕ} {at₀ : ℕ} {w₀ : List ℕ} {i₀ file 
       → ((f : ℕ → ℕ → Format) → Refuses (end 12 nodes (λ a. end 12 nodes (λ b. f a b))) s at file x)
       → Loads F s at₀ w₀ i₀ file work₀ r w′ work
   edges-refused {left = left} r e q l t p =
-      loads-refused r e q (t .held .kept) (λ h. refused (left-is (edges-next nodes left (t .ends) l) (t .lazy .clean h)) (p _)) (t .lazy .dirty)
+      loads-refused r e q (t .held .kept) (λ h. old-refused 12 nodes nothing left (t .ends) l (t .lazy .clean h) p) (t .lazy .dirty)
 
   pub edges-ended : {number : ℕ} {work₀ w work : List ℕ} {at i k left : ℕ} (r : Loaded) → r .edges ≡ k → r .part ≡ part-is.Upto at i
       → left ≤ 0 → EdgesRead F s at₀ w₀ i₀ file nodes number work₀ w work at i k left → Loads F s at₀ w₀ i₀ file work₀ r w work
@@ -125,7 +115,7 @@ module _ {F : Format} {s : List ℕ} {at₀ : ℕ} {w₀ : List ℕ} {i₀ : ℕ
   -- what was loaded, where no edge stands twice
   pub lazy-ends : {file nodes : ℕ} {ends : List ℕ} {at i : ℕ} {w : List ℕ} → once ends ≡ true → Lazily F s at₀ w₀ i₀ file nodes 0 ends at w i
       → Reading F s at₀ w₀ i₀ done at w i
-  lazy-ends {nodes = nodes} {ends} h q = left-is (edges-none nodes ends) (q .clean h)
+  lazy-ends {nodes = nodes} {ends} h q = left-is (edges-none 12 0 nodes nothing ends) (q .clean h)
 
 -- and where one does
 pub loads-repeat : {F : Format} {s w₀ : List ℕ} {file : ℕ} {work : List ℕ} {l : Loaded} {w work′ : List ℕ} (q : Loads F s 0 w₀ 0 file work l w work′) → once (q .ends) ≡ false
@@ -143,13 +133,13 @@ loads-wrong q h e = let p = rw e at (q .part) in rw e (judged-bad (p .0 h))
 
 -- a record up to its labels, its edges, and the end of its labels
 module _ {s w w₁ : List ℕ} {nodes : ℕ} (p : Value 13 0 4097 s 0 w 0 nodes w₁) where
-  pub old-nodes : Reading oldRecord s 0 w 0 (countField 14 0 8192 (λ number. then (times nodes labels) (edges 12 nodes nothing number []))) 13 w₁ 1
+  pub old-nodes : Reading oldRecord s 0 w 0 (countField 14 0 8192 (λ number. then (times nodes labels) (edges 12 0 nodes nothing number []))) 13 w₁ 1
   old-nodes = reads (left-is old-is (starts (omega arith))) p
 
   module _ {w₂ : List ℕ} {number : ℕ} (q : Value 14 0 8193 s 13 w₁ 1 number w₂) where
-    pub old-number : Reading oldRecord s 0 w 0 (then (times nodes labels) (edges 12 nodes nothing number [])) 27 w₂ 2
+    pub old-number : Reading oldRecord s 0 w 0 (then (times nodes labels) (edges 12 0 nodes nothing number [])) 27 w₂ 2
     old-number = reads old-nodes q
 
     pub old-labels : {at : ℕ} {w₃ : List ℕ} {i : ℕ} → Reading (times nodes labels) s 27 w₂ 2 done at w₃ i
-        → Reading oldRecord s 0 w 0 (edges 12 nodes nothing number []) at w₃ i
-    old-labels r = calls (times nodes labels) (edges 12 nodes nothing number []) old-number r
+        → Reading oldRecord s 0 w 0 (edges 12 0 nodes nothing number []) at w₃ i
+    old-labels r = calls (times nodes labels) (edges 12 0 nodes nothing number []) old-number r

@@ -18,11 +18,11 @@ pub label-is : label ≡ ask 5 0 32 3 (λ v. done)
 unfolding label
 label-is = refl
 
-pub joined-is : (nodes : ℕ) (ends : List ℕ) → joined nodes ends ≡ test (allEnds nodes ends) 7 done
+pub joined-is : (nodes : ℕ) (es : List ℕ) → joined nodes es ≡ test (allEnds nodes es) 7 done
 unfolding joined
-joined-is nodes ends = refl
+joined-is nodes es = refl
 
-pattern-is : pattern ≡ countField 5 1 16 (λ nodes. countField 6 1 32 (λ number. then (times nodes label) (edges 4 nodes (joined nodes) number [])))
+pattern-is : pattern ≡ countField 5 1 16 (λ nodes. countField 6 1 32 (λ number. then (times nodes label) (edges 4 3 nodes (joined nodes) number [])))
 unfolding pattern
 pattern-is = refl
 
@@ -33,7 +33,7 @@ catalogue-is = refl
 -- ---- reading
 
 module _ (s : List ℕ) (at : ℕ) (w : List ℕ) (i : ℕ) (h : at ≤ 8 * length s) where
-  pub pattern-starts : Reading pattern s at w i (countField 5 1 16 (λ nodes. countField 6 1 32 (λ number. then (times nodes label) (edges 4 nodes (joined nodes) number [])))) at w i
+  pub pattern-starts : Reading pattern s at w i (countField 5 1 16 (λ nodes. countField 6 1 32 (λ number. then (times nodes label) (edges 4 3 nodes (joined nodes) number [])))) at w i
   pattern-starts = left-is pattern-is (starts h)
 
   pub whole-starts : (F : Format) → Reading (whole F) s at w i (then F (pad done)) at w i
@@ -44,7 +44,7 @@ module _ (s : List ℕ) (at : ℕ) (w : List ℕ) (i : ℕ) (h : at ≤ 8 * leng
 
   -- the numbers of nodes and edges
   pub pattern-counts : {nodes number : ℕ} {w′ w″ : List ℕ} → Value 5 1 17 s at w i nodes w′ → Value 6 1 33 s (at + 5) w′ (i + 1) number w″
-      → Reading pattern s at w i (then (times nodes label) (edges 4 nodes (joined nodes) number [])) (at + 11) w″ (i + 2)
+      → Reading pattern s at w i (then (times nodes label) (edges 4 3 nodes (joined nodes) number [])) (at + 11) w″ (i + 2)
   pattern-counts p q = same-at (omega arith) (omega arith) (reads (reads pattern-starts p) q)
 
 -- the last part of F was read, or refused, by its own reader
@@ -63,7 +63,7 @@ module _ {F : Format} {s : List ℕ} {at₀ : ℕ} {w₀ : List ℕ} {i₀ : ℕ
 -- ---- writing
 
 module _ (ws : List ℕ) (i : ℕ) (b : List ℕ) (at : ℕ) (h : i ≤ length ws) where
-  pub pattern-begins : Writing pattern ws i b at (countField 5 1 16 (λ nodes. countField 6 1 32 (λ number. then (times nodes label) (edges 4 nodes (joined nodes) number [])))) i b at
+  pub pattern-begins : Writing pattern ws i b at (countField 5 1 16 (λ nodes. countField 6 1 32 (λ number. then (times nodes label) (edges 4 3 nodes (joined nodes) number [])))) i b at
   pattern-begins = left-to pattern-is (begins h)
 
   pub whole-begins : (F : Format) → Writing (whole F) ws i b at (then F (pad done)) i b at
@@ -73,5 +73,5 @@ module _ (ws : List ℕ) (i : ℕ) (b : List ℕ) (at : ℕ) (h : i ≤ length w
   catalogue-begins = left-to catalogue-is (begins h)
 
   pub pattern-counts-put : {nodes number : ℕ} {b′ b″ : List ℕ} → Put 5 1 17 ws i b at nodes b′ → Put 6 1 33 ws (i + 1) b′ (at + 5) number b″
-      → Writing pattern ws i b at (then (times nodes label) (edges 4 nodes (joined nodes) number [])) (i + 2) b″ (at + 11)
+      → Writing pattern ws i b at (then (times nodes label) (edges 4 3 nodes (joined nodes) number [])) (i + 2) b″ (at + 11)
   pattern-counts-put p q = same-to (omega arith) (omega arith) (writes (writes pattern-begins p) q)

@@ -3,12 +3,12 @@ use Prim.Native.Nat.{ℕ, _+_, _-_, _*_, _%_, _<_, _≤_}
 use mathlib.Core.Path.{_≡_, refl, ap, sym, _∙_}
 use mathlib.Core.List.{List, [], _∷_, _++_, append-nil}
 use mathlib.Core.Bool.{Bool, true, false}
-use lib.ListN.{length, take, drop, length-append, length-drop}
+use lib.ListN.{length, take, drop, length-append, length-drop, set}
 use lib.Seq.{sets, drop-drop}
 use lib.Dec.{leb}
 use native.Mathlib.Omega.{arith}
 use borrow.Author.Tests.{le-leb, lt-leb, lt-ltb, le-ltb}
-use Rattle.packed.specs.Bits.{bits, field, zeros, gap}
+use Rattle.packed.specs.Bits.{num, numFrom, bits, field, zeros, gap}
 use Rattle.packed.specs.Format.{Format, done, ask, test, pad, then, Got, got, fault, push, within, scan}
 use Rattle.packed.specs.Refusals.{numberOf, detailOf}
 use Rattle.packed.specs.Reading.{from, Reading, Refuses, Value}
@@ -146,6 +146,27 @@ module _ {F : Format} {s : List ℕ} {at₀ : ℕ} {w₀ : List ℕ} {i₀ : ℕ
         inside = p .fits;
         paced = omega (arith, p .some);
       })
+
+  -- a field of no bits is 0
+  pub reads-none : {e : ℕ} {f : ℕ → Format} {at : ℕ} {w : List ℕ} {i : ℕ} → i + 1 + at₀ ≤ i₀ + at
+      → Reading F s at₀ w₀ i₀ (ask 0 0 1 e f) at w i → Reading F s at₀ w₀ i₀ (f 0) at (set w i 0) (i + 1)
+  unfolding from num numFrom
+  reads-none {e} {f} {at} {w} {i} h r =
+      let b : List ℕ = r .read in
+      record {
+        read = b ++ (0 ∷ []);
+        comes =
+            r .comes
+            ∙ ap (push b) (scan-ask 0 0 1 e f (drop at (bits s)) 0 (omega arith) refl (in-range 0 1 0 (omega arith) (omega arith)))
+            ∙ push-push b (0 ∷ []) (scan (f 0) (drop at (bits s)));
+        holds =
+            ap (λ (x : List ℕ). sets x i (0 ∷ [])) (r .holds)
+            ∙ ap (λ (k : ℕ). sets (sets w₀ i₀ b) k (0 ∷ [])) (r .next)
+            ∙ sets-append w₀ i₀ b (0 ∷ []);
+        next = omega (arith, r .next, length-append b (0 ∷ []));
+        inside = r .inside;
+        paced = h;
+      }
 
   -- a test
   pub passes : {b : Bool} {e : ℕ} {G : Format} {at : ℕ} {w : List ℕ} {i : ℕ} → b ≡ true → Reading F s at₀ w₀ i₀ (test b e G) at w i → Reading F s at₀ w₀ i₀ G at w i

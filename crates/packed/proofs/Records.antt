@@ -9,14 +9,15 @@ use lib.Seq.{sets, length-sets}
 use lib.Dec.{leb}
 use native.Mathlib.Omega.{arith}
 use native.Mathlib.Nat.{sub-zero}
-use borrow.Author.Tests.{leb-true, leb-false}
+use native.Mathlib.Numerals.{add-one}
+use borrow.Author.Tests.{leb-true, leb-false, le-leb, lt-leb}
 use Rattle.packed.specs.Bits.{bits, bitsOf, field, gap}
-use Rattle.packed.specs.Format.{Format, done, ask, pad, then, times, whole, bad, encode}
-use Rattle.packed.specs.Formats.{countField, pairs, labels, record′}
-use Rattle.packed.specs.Reading.{from, Reading, Refuses, Value, TwoValues, Content}
-use Rattle.packed.specs.Writing.{Writing, Put}
+use Rattle.packed.specs.Format.{Format, done, ask, test, pad, then, times, whole, bad, encode}
+use Rattle.packed.specs.Formats.{countField, rank, rising, labels, record′}
+use Rattle.packed.specs.Reading.{from, Reading, Refuses, Value, EdgeValues, Content}
+use Rattle.packed.specs.Writing.{Writing, Rejects, Put, EdgePut}
 use Rattle.packed.specs.Accepting.{replyOf}
-use Rattle.packed.specs.LoadedGraph.{Cut, CodesAt, LoadsCodes, CodesLoaded}
+use Rattle.packed.specs.LoadedGraph.{Cut, WordsAt, LoadsWords, WordsLoaded}
 use Rattle.packed.specs.declared.reply.Refusal.{Refusal}
 use Rattle.packed.specs.declared.reply.Refusal.the-variants.{Truncated, NoSuchNode, NotAscending}
 use Rattle.packed.specs.declared.reply.Part.{Part}
@@ -25,11 +26,10 @@ use Rattle.packed.proofs.BitsLaws.{length-bits, field-lt, field-add}
 use Rattle.packed.proofs.OrderCases.{lt-or-ge, or-cases, or-neither}
 use Rattle.packed.proofs.Sets.{sets-beyond}
 use Rattle.packed.proofs.RoundTrip.{Bytes, bits-bytesOf, whole-is}
-use Rattle.packed.proofs.ReadingLaws.{starts, same-at, left-is, goes-on, calls, calls-refused, refused, reads, too-high, field-short, field-wrong}
-use Rattle.packed.proofs.WritingLaws.{begins, same-to, left-to, parts, writes, fills}
+use Rattle.packed.proofs.ReadingLaws.{starts, same-at, left-is, goes-on, calls, calls-refused, refused, reads, passes, fails, too-high, field-short, field-wrong}
+use Rattle.packed.proofs.WritingLaws.{begins, same-to, left-to, parts, writes, accepts, denies, rejected, fills}
 use Rattle.packed.proofs.Files.{written-whole-tail, written-whole-ok}
-use Rattle.packed.proofs.Sheets.{pairs-end, pair-passes, pair-falls, pair-refused}
-use Rattle.packed.proofs.GraphLaws.{codes-start, codes-more}
+use Rattle.packed.proofs.GraphLaws.{words-start, words-more}
 
 -- ---- what comes next
 pub labels-next : (left : ℕ) → 0 < left → times left labels ≡ ask 32 0 (2 ^ 32) 3 (λ v. times (left - 1) labels)
@@ -44,11 +44,46 @@ labels-suc : (n : ℕ) → times (suc n) labels ≡ ask 32 0 (2 ^ 32) 3 (λ v. t
 unfolding times labels then
 labels-suc n = refl
 
-pub record-is : record′ ≡ countField 13 0 4096 (λ nodes. countField 14 0 8192 (λ number. then (times nodes labels) (pairs nodes 4 number 0)))
+pub record-is : record′ ≡ countField 13 0 4096 (λ nodes. countField 14 0 8192 (λ number. then (times nodes labels) (rising nodes number 0)))
 unfolding record′
 record-is = refl
 
+-- after the edge from a to b of the kind k
+abbrev afterEdge : ℕ → ℕ → ℕ → ℕ → ℕ → ℕ → Format
+afterEdge nodes left least a b k = test (leb least (rank a b k)) 6 (rising nodes (left - 1) (suc (rank a b k)))
+
+abbrev nextEdge : ℕ → (ℕ → ℕ → ℕ → Format) → Format
+nextEdge nodes f = ask 12 0 nodes 4 (λ a. ask 12 0 nodes 4 (λ b. ask 3 0 8 3 (λ k. f a b k)))
+
+rising-more : (nodes left least : ℕ) → 0 < left → rising nodes left least ≡ nextEdge nodes (afterEdge nodes left least)
+unfolding rising
+rising-more nodes left least h = let q : left ≡ suc (left - 1) = omega arith in ap (λ (n : ℕ). rising nodes n least) q
+
+pub rising-end : (nodes left least : ℕ) → left ≤ 0 → rising nodes left least ≡ done
+unfolding rising
+rising-end nodes zero least h = refl
+rising-end nodes (suc n) least h = absurd (omega arith)
+
 -- ---- reading
+-- one edge more
+module _ {F : Format} {s : List ℕ} {at₀ : ℕ} {w₀ : List ℕ} {i₀ : ℕ} (nodes left least : ℕ) {at : ℕ} {w : List ℕ} {i : ℕ} (h : 0 < left)
+    (r : Reading F s at₀ w₀ i₀ (rising nodes left least) at w i) where
+  edge-read : {a b k : ℕ} {w′ : List ℕ} → EdgeValues 12 nodes s at w i a b k w′ → Reading F s at₀ w₀ i₀ (afterEdge nodes left least a b k) (at + 27) w′ (i + 3)
+  edge-read p =
+      same-at (omega arith) (omega arith)
+      (reads (same-at (omega arith) (omega arith) (reads (reads (left-is (rising-more nodes left least h) r) (p .ends .first)) (p .ends .second))) (p .kind))
+
+  edge-passes : {a b k : ℕ} {w′ : List ℕ} → EdgeValues 12 nodes s at w i a b k w′ → least ≤ rank a b k
+      → Reading F s at₀ w₀ i₀ (rising nodes (left - 1) (rank a b k + 1)) (at + 27) w′ (i + 3)
+  edge-passes {a} {b} {k} p g = left-is (ap (rising nodes (left - 1)) (sym (add-one (rank a b k)))) (passes (le-leb least (rank a b k) g) (edge-read p))
+
+  -- it doesn't exceed the one before
+  edge-falls : {file a b k : ℕ} {w′ : List ℕ} → EdgeValues 12 nodes s at w i a b k w′ → rank a b k < least → Refuses F s at₀ file (NotAscending file)
+  edge-falls {file} {a} {b} {k} p g = fails (NotAscending file) (lt-leb least (rank a b k) g) refl (edge-read p)
+
+  edge-refused : {file : ℕ} {x : Refusal} → ((f : ℕ → ℕ → ℕ → Format) → Refuses (nextEdge nodes f) s at file x) → Refuses F s at₀ file x
+  edge-refused p = refused (left-is (rising-more nodes left least h) r) (p (afterEdge nodes left least))
+
 -- any 32 bits are right for the labels of a node
 labels-value : (s : List ℕ) (at i : ℕ) → at + 32 ≤ 8 * length s → Value 32 0 (2 ^ 32) s at [] i (field s at 32) []
 labels-value s at i h = record { some = omega arith; fits = h; is = refl; least = omega arith; most = field-lt s at 32 32 (omega arith); stored = refl }
@@ -91,144 +126,177 @@ reading-from k r =
     }
 
 module _ {s : List ℕ} {nodes : ℕ} (p : Value 13 0 4097 s 0 [] 0 nodes []) where
-  pub record-nodes : Reading record′ s 0 [] 0 (countField 14 0 8192 (λ number. then (times nodes labels) (pairs nodes 4 number 0))) 13 [] 1
+  pub record-nodes : Reading record′ s 0 [] 0 (countField 14 0 8192 (λ number. then (times nodes labels) (rising nodes number 0))) 13 [] 1
   record-nodes = reads (left-is record-is (starts (omega arith))) p
 
   module _ {number : ℕ} (q : Value 14 0 8193 s 13 [] 1 number []) where
-    record-number : Reading record′ s 0 [] 0 (then (times nodes labels) (pairs nodes 4 number 0)) 27 [] 2
+    record-number : Reading record′ s 0 [] 0 (then (times nodes labels) (rising nodes number 0)) 27 [] 2
     record-number = reads record-nodes q
 
     pub record-short : 8 * length s < 27 + 32 * nodes → Refuses record′ s 0 3 (Truncated 3)
-    record-short h = calls-refused (times nodes labels) (pairs nodes 4 number 0) record-number (labels-short nodes (record-number .inside) h)
+    record-short h = calls-refused (times nodes labels) (rising nodes number 0) record-number (labels-short nodes (record-number .inside) h)
 
-    record-labels : 27 + 32 * nodes ≤ 8 * length s → Reading record′ s 0 [] 0 (pairs nodes 4 number 0) (27 + 32 * nodes) [] (2 + nodes)
-    record-labels h = calls (times nodes labels) (pairs nodes 4 number 0) record-number (labels-there nodes (starts (record-number .inside)) h)
+    record-labels : 27 + 32 * nodes ≤ 8 * length s → Reading record′ s 0 [] 0 (rising nodes number 0) (27 + 32 * nodes) [] (2 + nodes)
+    record-labels h = calls (times nodes labels) (rising nodes number 0) record-number (labels-there nodes (starts (record-number .inside)) h)
 
-    pub record-read : {at i : ℕ} → 27 + 32 * nodes ≤ 8 * length s → Reading (pairs nodes 4 number 0) s (27 + 32 * nodes) [] 0 done at [] i
+    pub record-read : {at i : ℕ} → 27 + 32 * nodes ≤ 8 * length s → Reading (rising nodes number 0) s (27 + 32 * nodes) [] 0 done at [] i
         → Reading record′ s 0 [] 0 done at [] (2 + nodes + i)
     record-read h r = goes-on (record-labels h) (reading-from (2 + nodes) r)
 
-    pub record-refused : {x : Refusal} → 27 + 32 * nodes ≤ 8 * length s → Refuses (pairs nodes 4 number 0) s (27 + 32 * nodes) 3 x → Refuses record′ s 0 3 x
+    pub record-refused : {x : Refusal} → 27 + 32 * nodes ≤ 8 * length s → Refuses (rising nodes number 0) s (27 + 32 * nodes) 3 x → Refuses record′ s 0 3 x
     record-refused h r = refused (record-labels h) r
 
--- ---- the edges, by their codes
--- the two ends of an edge whose bits are all there, from its code
-module _ (s : List ℕ) (at code : ℕ) (there : at + 24 ≤ 8 * length s) (is : code ≡ field s at 24) where
-  halves : code ≡ field s at 12 * 4096 + field s (at + 12) 12
-  halves = is ∙ field-add s at 12 12 (omega arith)
+-- ---- the edges, by their ranks
+-- the fields of an edge whose bits are all there, from its rank
+module _ (s : List ℕ) (at r : ℕ) (there : at + 27 ≤ 8 * length s) (is : r ≡ field s at 27) where
+  fields : r ≡ (field s at 12 * 4096 + field s (at + 12) 12) * 8 + field s (at + 24) 3
+  fields =
+      is
+      ∙ field-add s at 24 3 (omega arith)
+      ∙ ap (λ (c : ℕ). c * 8 + field s (at + 24) 3) (field-add s at 12 12 (omega arith))
 
-  from-is : code / 4096 ≡ field s at 12
-  from-is = let h = halves in let l = field-lt s (at + 12) 12 12 (omega arith) in omega arith
+  from-is : r / 8 / 4096 ≡ field s at 12
+  from-is = omega (arith, fields, field-lt s (at + 12) 12 12 (omega arith), field-lt s (at + 24) 3 3 (omega arith))
 
-  to-is : code % 4096 ≡ field s (at + 12) 12
-  to-is = let h = halves in let l = field-lt s (at + 12) 12 12 (omega arith) in omega arith
+  to-is : r / 8 % 4096 ≡ field s (at + 12) 12
+  to-is = omega (arith, fields, field-lt s (at + 12) 12 12 (omega arith), field-lt s (at + 24) 3 3 (omega arith))
+
+  kind-is : r % 8 ≡ field s (at + 24) 3
+  kind-is = omega (arith, fields, field-lt s (at + 24) 3 3 (omega arith))
+
+  word-is : r % 8 * 2 ^ 24 + r / 8 ≡ field s (at + 24) 3 * 2 ^ 24 + (field s at 12 * 4096 + field s (at + 12) 12)
+  word-is = omega (arith, fields, field-lt s (at + 24) 3 3 (omega arith))
 
   module _ (nodes : ℕ) where
-    from-value : (i : ℕ) → code / 4096 < nodes → Value 12 0 nodes s at [] i (code / 4096) []
+    from-value : (i : ℕ) → r / 8 / 4096 < nodes → Value 12 0 nodes s at [] i (r / 8 / 4096) []
     from-value i h = record { some = omega arith; fits = omega arith; is = from-is; least = omega arith; most = h; stored = refl }
 
-    edge-values : (i : ℕ) → code / 4096 < nodes → code % 4096 < nodes → TwoValues 12 nodes s at [] i (code / 4096) (code % 4096) []
+    edge-values : (i : ℕ) → r / 8 / 4096 < nodes → r / 8 % 4096 < nodes → EdgeValues 12 nodes s at [] i (r / 8 / 4096) (r / 8 % 4096) (r % 8) []
     edge-values i h g =
         record {
           between = [];
-          first = from-value i h;
-          second = record { some = omega arith; fits = omega arith; is = to-is; least = omega arith; most = g; stored = refl };
+          ends = record {
+            between = [];
+            first = from-value i h;
+            second = record { some = omega arith; fits = omega arith; is = to-is; least = omega arith; most = g; stored = refl };
+          };
+          kind = record { some = omega arith; fits = omega arith; is = kind-is; least = omega arith; most = omega arith; stored = refl };
         }
 
     -- an end that is no node
-    from-stray : (f : ℕ → Format) → nodes ≤ code / 4096 → Refuses (ask 12 0 nodes 4 f) s at 3 (NoSuchNode 3)
-    from-stray f h = record { number = field-wrong s at 12 0 nodes 4 f (code / 4096) (omega arith) from-is (too-high 0 nodes (code / 4096) h); detail = refl }
+    from-stray : (f : ℕ → Format) → nodes ≤ r / 8 / 4096 → Refuses (ask 12 0 nodes 4 f) s at 3 (NoSuchNode 3)
+    from-stray f h = record { number = field-wrong s at 12 0 nodes 4 f (r / 8 / 4096) (omega arith) from-is (too-high 0 nodes (r / 8 / 4096) h); detail = refl }
 
-    to-stray : (f : ℕ → Format) → nodes ≤ code % 4096 → Refuses (ask 12 0 nodes 4 f) s (at + 12) 3 (NoSuchNode 3)
-    to-stray f h = record { number = field-wrong s (at + 12) 12 0 nodes 4 f (code % 4096) (omega arith) to-is (too-high 0 nodes (code % 4096) h); detail = refl }
+    to-stray : (f : ℕ → Format) → nodes ≤ r / 8 % 4096 → Refuses (ask 12 0 nodes 4 f) s (at + 12) 3 (NoSuchNode 3)
+    to-stray f h = record { number = field-wrong s (at + 12) 12 0 nodes 4 f (r / 8 % 4096) (omega arith) to-is (too-high 0 nodes (r / 8 % 4096) h); detail = refl }
 
-    edge-stray : (nodes ≤ code / 4096) ⊎ (nodes ≤ code % 4096) → (f : ℕ → ℕ → Format) → Refuses (ask 12 0 nodes 4 (λ a. ask 12 0 nodes 4 (λ b. f a b))) s at 3 (NoSuchNode 3)
+    edge-stray : (nodes ≤ r / 8 / 4096) ⊎ (nodes ≤ r / 8 % 4096) → (f : ℕ → ℕ → ℕ → Format) → Refuses (nextEdge nodes f) s at 3 (NoSuchNode 3)
     edge-stray t f =
         ⊎-elim
-        (λ (h : code / 4096 < nodes).
+        (λ (h : r / 8 / 4096 < nodes).
         refused (reads (starts {w₀ = []} {i₀ = 0} (omega arith)) (from-value 0 h))
-        (to-stray (λ b. f (code / 4096) b) (⊎-elim (λ (g : nodes ≤ code / 4096). absurd (omega arith)) (λ g. g) t)))
-        (λ (h : nodes ≤ code / 4096). from-stray (λ a. ask 12 0 nodes 4 (λ b. f a b)) h)
-        (lt-or-ge (code / 4096) nodes)
+        (to-stray (λ b. ask 3 0 8 3 (λ k. f (r / 8 / 4096) b k)) (⊎-elim (λ (g : nodes ≤ r / 8 / 4096). absurd (omega arith)) (λ g. g) t)))
+        (λ (h : nodes ≤ r / 8 / 4096). from-stray (λ a. ask 12 0 nodes 4 (λ b. ask 3 0 8 3 (λ k. f a b k))) h)
+        (lt-or-ge (r / 8 / 4096) nodes)
 
 -- whether an end of the edge with this code is no node
 abbrev strays : ℕ → ℕ → Bool
 strays nodes code = leb nodes (code / 4096) || leb nodes (code % 4096)
 
-pub strays-no : (nodes code : ℕ) → strays nodes code ≡ false → (code / 4096 < nodes) × (code % 4096 < nodes)
+strays-no : (nodes code : ℕ) → strays nodes code ≡ false → (code / 4096 < nodes) × (code % 4096 < nodes)
 strays-no nodes code e =
     let q = or-neither (leb nodes (code / 4096)) (leb nodes (code % 4096)) e in
     (leb-false nodes (code / 4096) (q .0), leb-false nodes (code % 4096) (q .1))
 
--- k of the edges were read, with their codes at the front of the workspace
+-- k of the edges were read, with their words at the front of the workspace
 pub record EdgesJudged (s : List ℕ) (start nodes number : ℕ) (w₀ w : List ℕ) (least k : ℕ) : Type 0 where
-  pub reading : Reading (pairs nodes 4 number 0) s start [] 0 (pairs nodes 4 (number - k) least) (start + 24 * k) [] (2 * k)
-  pub codes : CodesAt s start k w₀ w
+  pub reading : Reading (rising nodes number 0) s start [] 0 (rising nodes (number - k) least) (start + 27 * k) [] (3 * k)
+  pub words : WordsAt s start k w₀ w
 
 pub judged-start : (s : List ℕ) (start nodes number : ℕ) (w : List ℕ) → start ≤ 8 * length s → EdgesJudged s start nodes number w w 0 0
 judged-start s start nodes number w h =
     record {
-      reading = same-at (omega arith) refl (left-is (ap (λ (k : ℕ). pairs nodes 4 k 0) (sym (sub-zero number))) (starts h));
-      codes = codes-start s start w;
+      reading = same-at (omega arith) refl (left-is (ap (λ (k : ℕ). rising nodes k 0) (sym (sub-zero number))) (starts h));
+      words = words-start s start w;
     }
 
-module _ {s : List ℕ} {start nodes number : ℕ} {w₀ w : List ℕ} {least k : ℕ} (r : EdgesJudged s start nodes number w₀ w least k) where
-  pub judged-end : (at : ℕ) → at ≡ start + 24 * k → k ≡ number → LoadsCodes s start nodes number w₀ (part-is.Upto at (2 * number)) w
+module _ {s : List ℕ} {start nodes number : ℕ} {w₀ w : List ℕ} {least k : ℕ} (j : EdgesJudged s start nodes number w₀ w least k) where
+  pub judged-end : (at : ℕ) → at ≡ start + 27 * k → k ≡ number → LoadsWords s start nodes number w₀ (part-is.Upto at (3 * number)) w
   judged-end at place e =
-      (same-at (sym place) (ap (λ (j : ℕ). 2 * j) e) (left-is (pairs-end nodes 4 (number - k) least (omega arith)) (r .reading)), rw e at (r .codes))
+      (same-at (sym place) (ap (λ (i : ℕ). 3 * i) e) (left-is (rising-end nodes (number - k) least (omega arith)) (j .reading)), rw e at (j .words))
 
-  pub judged-cut : (at : ℕ) {x : Refusal} → at ≡ start + 24 * k → k < number → Cut s at nodes x → Refuses (pairs nodes 4 number 0) s start 3 x
-  judged-cut at place h c = pair-refused nodes 4 (number - k) least (omega arith) (r .reading) (rw (← place) c)
+  pub judged-cut : (at : ℕ) {x : Refusal} → at ≡ start + 27 * k → k < number → Cut s at nodes x → Refuses (rising nodes number 0) s start 3 x
+  judged-cut at place h c = edge-refused nodes (number - k) least (omega arith) (j .reading) (rw (← place) c)
 
   -- one edge more, whose bits are all there
-  module _ (at code : ℕ) (h : k < number) (place : at ≡ start + 24 * k) (there : start + 24 * k + 24 ≤ 8 * length s) (read : code ≡ field s at 24) where
-    is : code ≡ field s (start + 24 * k) 24
-    is = read ∙ ap (λ (i : ℕ). field s i 24) place
+  module _ (at r : ℕ) (h : k < number) (place : at ≡ start + 27 * k) (there : start + 27 * k + 27 ≤ 8 * length s) (read : r ≡ field s at 27) where
+    is : r ≡ field s (start + 27 * k) 27
+    is = read ∙ ap (λ (i : ℕ). field s i 27) place
 
-    pub judged-stray : strays nodes code ≡ true → Refuses (pairs nodes 4 number 0) s start 3 (NoSuchNode 3)
+    pub judged-stray : strays nodes (r / 8) ≡ true → Refuses (rising nodes number 0) s start 3 (NoSuchNode 3)
     judged-stray t =
-        pair-refused nodes 4 (number - k) least (omega arith) (r .reading)
-        (edge-stray s (start + 24 * k) code there is nodes
-        (⊎-elim (λ e. inl (leb-true nodes (code / 4096) e)) (λ e. inr (leb-true nodes (code % 4096) e)) (or-cases (leb nodes (code / 4096)) (leb nodes (code % 4096)) t)))
+        edge-refused nodes (number - k) least (omega arith) (j .reading)
+        (edge-stray s (start + 27 * k) r there is nodes
+        (⊎-elim (λ e. inl (leb-true nodes (r / 8 / 4096) e)) (λ e. inr (leb-true nodes (r / 8 % 4096) e)) (or-cases (leb nodes (r / 8 / 4096)) (leb nodes (r / 8 % 4096)) t)))
 
-    module _ (fine : strays nodes code ≡ false) where
-      ends : TwoValues 12 nodes s (start + 24 * k) [] (2 * k) (code / 4096) (code % 4096) []
-      ends = let f = strays-no nodes code fine in edge-values s (start + 24 * k) code there is nodes (2 * k) (f .0) (f .1)
+    module _ (fine : strays nodes (r / 8) ≡ false) where
+      values : EdgeValues 12 nodes s (start + 27 * k) [] (3 * k) (r / 8 / 4096) (r / 8 % 4096) (r % 8) []
+      values = let f = strays-no nodes (r / 8) fine in edge-values s (start + 27 * k) r there is nodes (3 * k) (f .0) (f .1)
 
-      again : code / 4096 * 4096 + code % 4096 ≡ code
+      again : rank (r / 8 / 4096) (r / 8 % 4096) (r % 8) ≡ r
       again = omega arith
 
-      pub judged-falls : code < least → Refuses (pairs nodes 4 number 0) s start 3 (NotAscending 3)
-      judged-falls l = pair-falls nodes 4 (number - k) least (omega arith) (r .reading) ends (omega (arith, again))
+      pub judged-falls : r < least → Refuses (rising nodes number 0) s start 3 (NotAscending 3)
+      judged-falls l = edge-falls nodes (number - k) least (omega arith) (j .reading) values (omega (arith, again))
 
-      pub judged-more : least ≤ code → k < length w → EdgesJudged s start nodes number w₀ (set w k code) (code + 1) (k + 1)
-      judged-more l m =
+      pub judged-more : {c : ℕ} → least ≤ r → k < length w → c ≡ r % 8 * 2 ^ 24 + r / 8 → EdgesJudged s start nodes number w₀ (set w k c) (r + 1) (k + 1)
+      judged-more l m e =
           record {
             reading =
                 same-at (omega arith) (omega arith)
-                (left-is (ap₂ (pairs nodes 4) (let z : number - k - 1 ≡ number - (k + 1) = omega arith in z) (ap (λ (c : ℕ). c + 1) again))
-                (pair-passes nodes 4 (number - k) least (omega arith) (r .reading) ends (omega (arith, again))));
-            codes = codes-more (r .codes) m (halves s (start + 24 * k) code there is);
+                (left-is (ap₂ (rising nodes) (let z : number - k - 1 ≡ number - (k + 1) = omega arith in z) (ap (λ (c : ℕ). c + 1) again))
+                (edge-passes nodes (number - k) least (omega arith) (j .reading) values (omega (arith, again))));
+            words = words-more (j .words) m (e ∙ word-is s (start + 27 * k) r there is);
           }
 
 -- of a record that is not refused
-pub codes-loaded : {s w w′ : List ℕ} {nodes number : ℕ} (r : Part) → nodes ≡ field s 0 13 → number ≡ field s 13 14 → CodesAt s (27 + 32 * nodes) number w w′
-    → CodesLoaded s w (replyOf r) w′
-codes-loaded (part-is.Upto at i) e d c = rw (e, d) at c
-codes-loaded (part-is.Refused x) e d c = tt
+pub words-loaded : {s w w′ : List ℕ} {nodes number : ℕ} (r : Part) → nodes ≡ field s 0 13 → number ≡ field s 13 14 → WordsAt s (27 + 32 * nodes) number w w′
+    → WordsLoaded s w (replyOf r) w′
+words-loaded (part-is.Upto at i) e d c = rw (e, d) at c
+words-loaded (part-is.Refused x) e d c = tt
 
 -- ---- writing
+-- one edge more
+module _ {F : Format} {ws : List ℕ} {i₀ : ℕ} {b₀ : List ℕ} {at₀ : ℕ} (nodes left least : ℕ) {i : ℕ} {b : List ℕ} {at : ℕ} (h : 0 < left)
+    (r : Writing F ws i₀ b₀ at₀ (rising nodes left least) i b at) where
+  edge-put : {x y z : ℕ} {b′ : List ℕ} → EdgePut 12 nodes ws i b at x y z b′ → Writing F ws i₀ b₀ at₀ (afterEdge nodes left least x y z) (i + 3) b′ (at + 27)
+  edge-put p =
+      same-to (omega arith) (omega arith)
+      (writes (same-to (omega arith) (omega arith) (writes (writes (left-to (rising-more nodes left least h) r) (p .ends .first)) (p .ends .second))) (p .kind))
+
+  pub edge-accepted : {x y z : ℕ} {b′ : List ℕ} → EdgePut 12 nodes ws i b at x y z b′ → least ≤ rank x y z
+      → Writing F ws i₀ b₀ at₀ (rising nodes (left - 1) (rank x y z + 1)) (i + 3) b′ (at + 27)
+  edge-accepted {x} {y} {z} p g = left-to (ap (rising nodes (left - 1)) (sym (add-one (rank x y z)))) (accepts (le-leb least (rank x y z) g) (edge-put p))
+
+  -- it doesn't exceed the one before
+  pub edge-denied : {file x y z : ℕ} {b′ : List ℕ} → EdgePut 12 nodes ws i b at x y z b′ → rank x y z < least → Rejects F ws i₀ at₀ file (NotAscending file)
+  edge-denied {file} {x} {y} {z} p g = denies (NotAscending file) (lt-leb least (rank x y z) g) refl (edge-put p)
+
+  pub edge-rejected : {file : ℕ} {x : Refusal} → ((f : ℕ → ℕ → ℕ → Format) → Rejects (nextEdge nodes f) ws i at file x) → Rejects F ws i₀ at₀ file x
+  edge-rejected p = rejected (left-to (rising-more nodes left least h) r) (p (afterEdge nodes left least))
+
+-- a record up to its edges
 module _ {ws b b₁ : List ℕ} {nodes : ℕ} (p : Put 13 0 4097 ws 0 b 0 nodes b₁) where
-  pub nodes-written : Writing record′ ws 0 b 0 (countField 14 0 8192 (λ number. then (times nodes labels) (pairs nodes 4 number 0))) 1 b₁ 13
+  pub nodes-written : Writing record′ ws 0 b 0 (countField 14 0 8192 (λ number. then (times nodes labels) (rising nodes number 0))) 1 b₁ 13
   nodes-written = writes (left-to record-is (begins (omega arith))) p
 
   module _ {b₂ : List ℕ} {number : ℕ} (q : Put 14 0 8193 ws 1 b₁ 13 number b₂) where
-    pub number-written : Writing record′ ws 0 b 0 (then (times nodes labels) (pairs nodes 4 number 0)) 2 b₂ 27
+    pub number-written : Writing record′ ws 0 b 0 (then (times nodes labels) (rising nodes number 0)) 2 b₂ 27
     number-written = writes nodes-written q
 
     pub labels-written : {i : ℕ} {b₃ : List ℕ} {at : ℕ} → Writing (times nodes labels) ws 2 b₂ 27 done i b₃ at
-        → Writing record′ ws 0 b 0 (pairs nodes 4 number 0) i b₃ at
-    labels-written r = parts (times nodes labels) (pairs nodes 4 number 0) number-written r
+        → Writing record′ ws 0 b 0 (rising nodes number 0) i b₃ at
+    labels-written r = parts (times nodes labels) (rising nodes number 0) number-written r
 
 -- ---- the end of a content
 module _ {F : Format} {ws b₀ : List ℕ} {i : ℕ} {b : List ℕ} {at : ℕ} (byte : ℕ) (fits : 8 * byte ≡ at + gap at) (r : Writing F ws 0 b₀ 0 done i b at) where

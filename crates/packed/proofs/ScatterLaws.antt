@@ -12,7 +12,7 @@ use native.Mathlib.Numerals.{add-one}
 use borrow.Author.Count.{below-more}
 use Rattle.packed.specs.Bits.{bits, bitsOf}
 use Rattle.packed.specs.Format.{pick}
-use Rattle.packed.specs.Matches.{marks, marked, markedFrom, Marked, Counts, pairBits, codedList, listStart, laid, scatter, scatters, CountsWritten, PairPut, ListsWritten}
+use Rattle.packed.specs.Matches.{marks, marked, markedFrom, pairIn, Marked, Counts, pairBits, codedList, listStart, laid, scatter, scatters, CountsWritten, PairPut, ListsWritten}
 use Rattle.packed.proofs.BitsLaws.{length-bitsOf}
 use Rattle.packed.proofs.SetBits.{Next, no-bits, bit-low, bit-high}
 use Rattle.packed.proofs.OrderCases.{lt-or-ge, eq-or-ne}
@@ -126,11 +126,11 @@ scatter-low m to x v b h l =
     ∙ scatter-same m to to (x % 2 ^ m) x v b (λ e q. refl) (λ e q. marks-low x m e q)
 
 pub scattering-next : {i m : ℕ} {w ps₀ b₀ ps b ps′ b′ : List ℕ} → Scattering i m w ps₀ b₀ ps b → m ≤ 32 → 8192 + i < length w → length b′ ≡ length b
-    → getD w (8192 + i) 0 % 2 ^ m < 2 ^ m → PairPut (getD w (8192 + i) 0 % 2 ^ m) (getD w i 0) ps b ps′ b′ → Scattering (i + 1) m w ps₀ b₀ ps′ b′
+    → getD w (8192 + i) 0 % 2 ^ m < 2 ^ m → PairPut (getD w (8192 + i) 0 % 2 ^ m) (pairIn (getD w i 0)) ps b ps′ b′ → Scattering (i + 1) m w ps₀ b₀ ps′ b′
 unfolding scatters
 scattering-next {i} {m} {w} {ps₀} {b₀} {ps} {b} {ps′} {b′} t h l s r p =
     let x : ℕ = getD w (8192 + i) 0 in
-    let v : ℕ = getD w i 0 in
+    let v : ℕ = pairIn (getD w i 0) in
     record {
       long = p .long ∙ t .long;
       size = s ∙ t .size;
@@ -247,12 +247,12 @@ listed-none e w = refl
 module _ (n : ℕ) (w c : List ℕ) (t : Counts n w c) (k : Marked n w) where
   -- one pair more in each list that its mask names
   scatter-laid : (m i : ℕ) (to : ℕ → ℕ) (b : List Bool) → m ≤ 32 → i < n → ((e : ℕ) → e < m → to e ≡ listStart e c + 14 + 24 * length (listed e i w))
-      → scatter m to (getD w (8192 + i) 0) (getD w i 0) (laid m (λ e. listed e i w) c b) ≡ laid m (λ e. listed e (i + 1) w) c b
+      → scatter m to (getD w (8192 + i) 0) (pairIn (getD w i 0)) (laid m (λ e. listed e i w) c b) ≡ laid m (λ e. listed e (i + 1) w) c b
   unfolding scatter laid
   scatter-laid zero i to b h l f = refl
   scatter-laid (suc e) i to b h l f =
       let x : ℕ = getD w (8192 + i) 0 in
-      let v : ℕ = getD w i 0 in
+      let v : ℕ = pairIn (getD w i 0) in
       let q : 8192 + i < length w = omega (arith, k .long, k .most) in
       let p : List Bool = bitsOf 14 (getD c e 0) ++ pairBits (listed e i w) in
       let y : List Bool = pick (marks e x) (bitsOf 24 v) [] in
@@ -274,7 +274,7 @@ module _ (n : ℕ) (w c : List ℕ) (t : Counts n w c) (k : Marked n w) where
   unfolding scatters
   scatters-laid m zero to b h l f = laid-same m (λ e. []) (λ e. listed e 0 w) c b (λ e. listed-none e w)
   scatters-laid m (suc i) to b h l f =
-      ap (scatter m (λ e. to e + 24 * length (listed e i w)) (getD w (8192 + i) 0) (getD w i 0)) (scatters-laid m i to b h (omega arith) f)
+      ap (scatter m (λ e. to e + 24 * length (listed e i w)) (getD w (8192 + i) 0) (pairIn (getD w i 0))) (scatters-laid m i to b h (omega arith) f)
       ∙ scatter-laid m i (λ e. to e + 24 * length (listed e i w)) b h l (λ e q. omega (arith, f e q))
       ∙ laid-same m (λ e. listed e (i + 1) w) (λ e. listed e (suc i) w) c b (λ e. ap (λ (z : ℕ). listed e z w) (add-one i))
 

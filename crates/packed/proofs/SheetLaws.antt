@@ -40,10 +40,6 @@ rising-by least (c ∷ cs) h s r =
     rising-next (h (omega arith)) (s 0 (omega arith))
     (rising-by (suc c) cs (λ q. r 0 1 (omega arith) (omega arith)) (λ i q. s (suc i) (omega arith)) (λ i j p q. r (suc i) (suc j) (omega arith) (omega arith)))
 
-pub rising-less : {least k : ℕ} {l : List ℕ} → k ≤ least → Rising least l → Rising k l
-rising-less h rising-none = rising-none
-rising-less {k = k} h (rising-next {c = c} p s r) = rising-next {least = k} {c = c} (omega arith) s r
-
 pub fit-emptied : (ls : List (List ℕ)) → Fit (emptied ls)
 unfolding emptied
 fit-emptied [] = fit-none

@@ -17,8 +17,9 @@ pub record HoldsPattern (ws : List ℕ) (p : Pattern) : Type 0 where
   pub nodes : p .nodes ≡ nodesOf ws
   pub edges : p .edges ≡ edgesOf ws
   pub labels : Spread ws 2 1 (nodesOf ws) 16 (p .labels)
-  pub from : Spread ws (2 + nodesOf ws) 2 (edgesOf ws) 32 (p .from)
-  pub to : Spread ws (3 + nodesOf ws) 2 (edgesOf ws) 32 (p .to)
+  pub from : Spread ws (2 + nodesOf ws) 3 (edgesOf ws) 32 (p .from)
+  pub to : Spread ws (3 + nodesOf ws) 3 (edgesOf ws) 32 (p .to)
+  pub kind : Spread ws (4 + nodesOf ws) 3 (edgesOf ws) 32 (p .kind)
 
 -- the numbers of edges, in a table of 16
 pub record CountTable (ws r : List ℕ) : Type 0 where

@@ -1,12 +1,12 @@
 -- What stands in the content of a file: its fields in order, one number each.
-use Prim.Native.Nat.{ℕ, zero, suc, _+_, _-_, _*_, _/_, _%_}
+use Prim.Native.Nat.{ℕ, zero, suc, _+_, _-_, _*_, _/_, _%_, _^_}
 use mathlib.Core.List.{List, [], _∷_, _++_, map}
 use mathlib.Core.Bool.{Bool, false, cond, _||_}
 use lib.ListN.{length, take, drop, getD, replicate}
 use lib.Dec.{eqb, ltb}
-use Rattle.packed.specs.Limits.{nodesMost}
+use Rattle.packed.specs.Limits.{nodesMost, kindsMost, pairWidth}
 use Rattle.packed.specs.Format.{pick}
-use Rattle.packed.specs.Formats.{code, standing}
+use Rattle.packed.specs.Formats.{code, rank, standing}
 
 -- ---- a pattern: how many nodes and edges it has, and how many fields
 abbrev pub nodesOf : List ℕ → ℕ
@@ -16,7 +16,7 @@ abbrev pub edgesOf : List ℕ → ℕ
 edgesOf ws = getD ws 1 0
 
 unfoldable pub patternSize : List ℕ → ℕ
-patternSize ws = 2 + (nodesOf ws + 2 * edgesOf ws)
+patternSize ws = 2 + (nodesOf ws + 3 * edgesOf ws)
 
 -- ---- a catalogue
 
@@ -101,14 +101,35 @@ unfoldable pub distinct : List ℕ → List ℕ
 distinct [] = []
 distinct (x ∷ xs) = insert x (distinct xs)
 
--- ---- edges by their ends: from, to, from, to, ..
+-- ---- edges by their fields: from, to, kind, from, to, kind, ..
 
--- the codes of edges with these ends
-unfoldable pub codes : List ℕ → List ℕ
-codes [] = []
-codes (a ∷ []) = []
-codes (a ∷ b ∷ es) = code a b ∷ codes es
+-- the word of an edge in the workspace: the code of its ends, and its kind above the 24 bits of the code
+abbrev pub edgeWord : ℕ → ℕ → ℕ → ℕ
+edgeWord a b k = k * 2 ^ pairWidth + code a b
 
--- the ends of the same edges, each once, by ascending code
-unfoldable pub sortedEnds : List ℕ → List ℕ
-sortedEnds es = ends (distinct (codes es))
+-- what f makes of each of the edges with these fields
+unfoldable pub eachEdge : (ℕ → ℕ → ℕ → ℕ) → List ℕ → List ℕ
+eachEdge f [] = []
+eachEdge f (a ∷ []) = []
+eachEdge f (a ∷ b ∷ []) = []
+eachEdge f (a ∷ b ∷ k ∷ es) = f a b k ∷ eachEdge f es
+
+-- their words, and their ranks
+abbrev pub edgeWords : List ℕ → List ℕ
+edgeWords es = eachEdge edgeWord es
+
+abbrev pub ranks : List ℕ → List ℕ
+ranks es = eachEdge rank es
+
+-- the fields of the edges that stand in these words, and of those with these ranks
+unfoldable pub fromWords : List ℕ → List ℕ
+fromWords [] = []
+fromWords (c ∷ cs) = c / nodesMost % nodesMost ∷ c % nodesMost ∷ c / 2 ^ pairWidth ∷ fromWords cs
+
+unfoldable pub fromRanks : List ℕ → List ℕ
+fromRanks [] = []
+fromRanks (r ∷ rs) = r / kindsMost / nodesMost ∷ r / kindsMost % nodesMost ∷ r % kindsMost ∷ fromRanks rs
+
+-- the fields of the same edges, each once, by ascending rank
+unfoldable pub sortedEdges : List ℕ → List ℕ
+sortedEdges es = fromRanks (distinct (ranks es))

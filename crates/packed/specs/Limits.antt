@@ -2,20 +2,20 @@
 -- src/limits.rt.
 use Prim.Native.Nat.{ℕ, _*_}
 
--- "at most 44 bytes", "705", "40,964"; "a book, a lone sheet and an answer each have at most 65,536 bytes"
+-- "the most bytes become 56 for a question, 897 for a catalogue, 44,036 for a record"; "a book, a lone sheet and an answer each have at most 65,536 bytes"
 abbrev pub patternMost : ℕ
-patternMost = 44
+patternMost = 56
 
 abbrev pub catalogueMost : ℕ
-catalogueMost = 705
+catalogueMost = 897
 
 abbrev pub recordMost : ℕ
-recordMost = 40964
+recordMost = 44036
 
 abbrev pub bookMost : ℕ
 bookMost = 65536
 
--- the most bytes of a record as it was stored before its edges stood in order
+-- the most bytes of a record as it was stored before its edges stood in order and had kinds
 abbrev pub oldRecordMost : ℕ
 oldRecordMost = 40964
 
@@ -42,6 +42,16 @@ edgesMost = 8192
 
 abbrev pub countMost : ℕ
 countMost = 8192
+
+-- how many kinds of edges there are, and how many bits a kind has: none in a record as it was stored before
+abbrev pub kindsMost : ℕ
+kindsMost = 8
+
+abbrev pub kindWidth : ℕ
+kindWidth = 3
+
+abbrev pub oldKindWidth : ℕ
+oldKindWidth = 0
 
 -- how many bits the fields of a pattern have: its numbers of nodes and edges, a label, an end of an edge
 abbrev pub patternNodesWidth : ℕ

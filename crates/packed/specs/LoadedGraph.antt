@@ -1,12 +1,12 @@
 -- inner: a record's edges in the workspace, as they are judged.
-use Prim.Native.Nat.{ℕ, _+_, _*_, _<_, _≤_}
+use Prim.Native.Nat.{ℕ, _+_, _*_, _/_, _%_, _^_, _<_, _≤_}
 use mathlib.Core.Path.{_≡_}
 use mathlib.Core.List.{List, []}
 use lib.ListN.{length, take, drop, getD}
 use Rattle.packed.specs.Bits.{field}
 use Rattle.packed.specs.Format.{Format, done, ask, ok, decode}
-use Rattle.packed.specs.Formats.{pairs, record′, code}
-use Rattle.packed.specs.Contents.{nodesOf, edgesOf, codes}
+use Rattle.packed.specs.Formats.{kind, rising, record′}
+use Rattle.packed.specs.Contents.{nodesOf, edgesOf, edgeWord, edgeWords}
 use Rattle.packed.specs.Limits.{recordMost}
 use Rattle.packed.specs.Refusals.{numberOf, detailOf}
 use Rattle.packed.specs.Order.{Outside}
@@ -29,31 +29,31 @@ ReadsCounts s (two-is.Refused x) = Refuses record′ s 0 3 x
 
 -- an edge whose bits are not all there is refused by x
 abbrev pub Cut : List ℕ → ℕ → ℕ → Refusal → Type 0
-Cut s at nodes x = (f : ℕ → ℕ → Format) → Refuses (ask 12 0 nodes 4 (λ a. ask 12 0 nodes 4 (λ b. f a b))) s at 3 x
+Cut s at nodes x = (f : ℕ → ℕ → ℕ → Format) → Refuses (ask 12 0 nodes 4 (λ a. ask 12 0 nodes 4 (λ b. kind 3 (λ k. f a b k)))) s at 3 x
 
--- the codes of m edges whose ends stand from the bit offset start on are at the front of the workspace
-pub record CodesAt (s : List ℕ) (start m : ℕ) (w w′ : List ℕ) : Type 0 where
+-- the words of m edges that stand from the bit offset start on are at the front of the workspace
+pub record WordsAt (s : List ℕ) (start m : ℕ) (w w′ : List ℕ) : Type 0 where
   pub long : length w′ ≡ length w
-  pub each : (j : ℕ) → j < m → getD w′ j 0 ≡ code (field s (start + 24 * j) 12) (field s (start + 24 * j + 12) 12)
+  pub each : (j : ℕ) → j < m → getD w′ j 0 ≡ edgeWord (field s (start + 27 * j) 12) (field s (start + 27 * j + 12) 12) (field s (start + 27 * j + 24) 3)
 
 -- m edges were read into the workspace, or refused
-abbrev pub LoadsCodes : List ℕ → ℕ → ℕ → ℕ → List ℕ → Part → List ℕ → Type 0
-LoadsCodes s start nodes m w (part-is.Upto at i) w′ = Reading (pairs nodes 4 m 0) s start [] 0 done at [] i × CodesAt s start m w w′
-LoadsCodes s start nodes m w (part-is.Refused x) w′ = Refuses (pairs nodes 4 m 0) s start 3 x
+abbrev pub LoadsWords : List ℕ → ℕ → ℕ → ℕ → List ℕ → Part → List ℕ → Type 0
+LoadsWords s start nodes m w (part-is.Upto at i) w′ = Reading (rising nodes m 0) s start [] 0 done at [] i × WordsAt s start m w w′
+LoadsWords s start nodes m w (part-is.Refused x) w′ = Refuses (rising nodes m 0) s start 3 x
 
--- unless the record is refused, the codes of its edges stand there
-abbrev pub CodesLoaded : List ℕ → List ℕ → Reply → List ℕ → Type 0
-CodesLoaded s w (reply-is.Done n) w′ = CodesAt s (27 + 32 * field s 0 13) (field s 13 14) w w′
-CodesLoaded s w (reply-is.Refused x) w′ = Unit {0}
+-- unless the record is refused, the words of its edges stand there
+abbrev pub WordsLoaded : List ℕ → List ℕ → Reply → List ℕ → Type 0
+WordsLoaded s w (reply-is.Done n) w′ = WordsAt s (27 + 32 * field s 0 13) (field s 13 14) w w′
+WordsLoaded s w (reply-is.Refused x) w′ = Unit {0}
 
--- a record was accepted, with so many nodes and edges; the codes of its edges stand at the front of the workspace, in order
+-- a record was accepted, with so many nodes and edges; the words of its edges stand at the front of the workspace, in order
 pub record Holds (s : List ℕ) (n m : ℕ) (w : List ℕ) : Type 0 where
   pub fields : List ℕ
   pub is : decode record′ s ≡ ok fields
   pub nodes : n ≡ nodesOf fields
   pub edges : m ≡ edgesOf fields
   pub long : length w ≡ 16384
-  pub front : take m w ≡ codes (drop (2 + nodesOf fields) fields)
+  pub front : take m w ≡ edgeWords (drop (2 + nodesOf fields) fields)
 
 abbrev pub LoadsGraph : List ℕ → Graph → List ℕ → Type 0
 LoadsGraph s (graph-is.Of n m) w = Holds s n m w × (length s ≤ recordMost)

@@ -1,7 +1,7 @@
--- inner: a sheet made from pairs: codes in ascending order, each with a mask that says under which edges of the pattern it is listed.
+-- inner: a sheet made from pairs: words in whose low 24 bits stand their codes, each with a mask that says under which edges of the pattern it is listed.
 use Prim.Native.Nat.{ℕ, zero, suc, _+_, _*_, _/_, _%_, _^_, _<_, _≤_}
 use mathlib.Core.Path.{_≡_}
-use mathlib.Core.List.{List, [], _∷_, _++_}
+use mathlib.Core.List.{List, [], _∷_, _++_, map}
 use mathlib.Core.Bool.{Bool, true, false, _||_}
 use lib.ListN.{length, take, drop, getD}
 use lib.Seq.{sets}
@@ -37,9 +37,13 @@ emptied (l ∷ ls) = [] ∷ emptied ls
 unfoldable pub allOrNone : List (List ℕ) → List (List ℕ)
 allOrNone ls = pick (anyEmpty ls) (emptied ls) ls
 
--- the n codes at the front of the workspace, and their masks from word 8192 on
+-- the code of the pair in a word: a record's edge has its kind above it
+abbrev pub pairIn : ℕ → ℕ
+pairIn c = c % 2 ^ 24
+
+-- the codes of the n pairs at the front of the workspace, and their masks from word 8192 on
 abbrev pub codesOf : ℕ → List ℕ → List ℕ
-codesOf n w = take n w
+codesOf n w = map pairIn (take n w)
 
 abbrev pub masksOf : ℕ → List ℕ → List ℕ
 masksOf n w = take n (drop 8192 w)
@@ -48,12 +52,11 @@ masksOf n w = take n (drop 8192 w)
 unfoldable pub matchesOf : ℕ → ℕ → List ℕ → List (List ℕ)
 matchesOf n m w = allOrNone (markedFrom 0 m (codesOf n w) (masksOf n w))
 
--- the codes ascend, each once
+-- the codes that are listed under one edge ascend, each once
 pub record Marked (n : ℕ) (w : List ℕ) : Type 0 where
   pub long : 16384 ≤ length w
   pub most : n ≤ 8192
-  pub small : (i : ℕ) → i < n → getD w i 0 < 2 ^ 24
-  pub rises : (i j : ℕ) → i < j → j < n → getD w i 0 < getD w j 0
+  pub rises : (i j e : ℕ) → i < j → j < n → marks e (getD w (8192 + i) 0) ≡ true → marks e (getD w (8192 + j) 0) ≡ true → pairIn (getD w i 0) < pairIn (getD w j 0)
 
 -- how many pairs the lists have, each by itself
 pub record Counts (n : ℕ) (w c : List ℕ) : Type 0 where
@@ -120,7 +123,7 @@ scatter (suc e) to x v b = sets (scatter e to x v b) (to e) (pick (marks e x) (b
 unfoldable pub scatters : ℕ → ℕ → List ℕ → (ℕ → ℕ) → List Bool → List Bool
 scatters zero m w to b = b
 scatters (suc i) m w to b =
-    scatter m (λ e. to e + 24 * length (marked e (codesOf i w) (masksOf i w))) (getD w (8192 + i) 0) (getD w i 0) (scatters i m w to b)
+    scatter m (λ e. to e + 24 * length (marked e (codesOf i w) (masksOf i w))) (getD w (8192 + i) 0) (pairIn (getD w i 0)) (scatters i m w to b)
 
 -- the counts stand, and each list has a place behind its own
 pub record CountsWritten (m : ℕ) (c out ps : List ℕ) (r : ℕ) (out′ : List ℕ) : Type 0 where

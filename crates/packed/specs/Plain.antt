@@ -38,23 +38,57 @@ pub record InTurn (One : ℕ → Laid) (number : ℕ) (ws : List ℕ) (bs : List
   pub content : ws ≡ flatten contents
   pub layout : bs ≡ flatten laid
 
--- ---- edges and pairs: from, to, from, to, ..
+-- ---- edges: from, to, kind, from, to, kind, ..
 
 abbrev pub fromAt : List ℕ → ℕ → ℕ
-fromAt ends i = getD ends (2 * i) 0
+fromAt es i = getD es (3 * i) 0
 
 abbrev pub toAt : List ℕ → ℕ → ℕ
-toAt ends i = getD ends (2 * i + 1) 0
+toAt es i = getD es (3 * i + 1) 0
 
--- so many edges between so many nodes: each end is a node (4), and no edge repeats an earlier one (5)
-pub record PlainEdges (nodes number : ℕ) (ends : List ℕ) : Type 0 where
-  pub two-each : length ends ≡ 2 * number
-  pub are-nodes : Below nodes ends
-  pub differ : (i j : ℕ) → i < j → j < number → fromAt ends i ≡ fromAt ends j → toAt ends i ≡ toAt ends j → ⊥
+abbrev pub kindAt : List ℕ → ℕ → ℕ
+kindAt es i = getD es (3 * i + 2) 0
 
--- pair i stands before pair j: by from, then to
+-- their bits: w for an end, and wide for a kind
+unfoldable pub edgeBits : ℕ → ℕ → List ℕ → List Bool
+edgeBits w wide [] = []
+edgeBits w wide (a ∷ []) = []
+edgeBits w wide (a ∷ b ∷ []) = []
+edgeBits w wide (a ∷ b ∷ k ∷ es) = bitsOf w a ++ (bitsOf w b ++ (bitsOf wide k ++ edgeBits w wide es))
+
+-- so many edges between so many nodes: each end is a node (4), and each kind one of so many
+pub record EdgesAmong (nodes kinds number : ℕ) (es : List ℕ) : Type 0 where
+  pub three-each : length es ≡ 3 * number
+  pub from-node : (i : ℕ) → i < number → fromAt es i < nodes
+  pub to-node : (i : ℕ) → i < number → toAt es i < nodes
+  pub is-kind : (i : ℕ) → i < number → kindAt es i < kinds
+
+-- the edges i and j have the same fields
+abbrev pub Same : List ℕ → ℕ → ℕ → Type 0
+Same es i j = (fromAt es i ≡ fromAt es j) × (toAt es i ≡ toAt es j) × (kindAt es i ≡ kindAt es j)
+
+-- no edge repeats an earlier one (5)
+pub record PlainEdges (kinds nodes number : ℕ) (es : List ℕ) : Type 0 where
+  pub among : EdgesAmong nodes kinds number es
+  pub differ : (i j : ℕ) → i < j → j < number → Same es i j → ⊥
+
+-- the edge i stands before the edge j: by from, then to, then kind
+abbrev pub EdgeBefore : List ℕ → ℕ → ℕ → Type 0
+EdgeBefore es i j =
+    (fromAt es i < fromAt es j)
+    ⊎ ((fromAt es i ≡ fromAt es j) × ((toAt es i < toAt es j) ⊎ ((toAt es i ≡ toAt es j) × (kindAt es i < kindAt es j))))
+
+-- the edges ascend strictly (6)
+pub record PlainRising (kinds nodes number : ℕ) (es : List ℕ) : Type 0 where
+  pub among : EdgesAmong nodes kinds number es
+  pub ascend : (i : ℕ) → suc i < number → EdgeBefore es i (suc i)
+
+-- ---- pairs: a number, another, a number, another, ..
+
+-- pair i stands before pair j: by the first number, then the other
 abbrev pub Before : List ℕ → ℕ → ℕ → Type 0
-Before ends i j = (fromAt ends i < fromAt ends j) ⊎ ((fromAt ends i ≡ fromAt ends j) × (toAt ends i < toAt ends j))
+Before ends i j =
+    (getD ends (2 * i) 0 < getD ends (2 * j) 0) ⊎ ((getD ends (2 * i) 0 ≡ getD ends (2 * j) 0) × (getD ends (2 * i + 1) 0 < getD ends (2 * j + 1) 0))
 
 -- so many pairs of numbers below bound, strictly ascending (6)
 pub record PlainPairs (bound number : ℕ) (ends : List ℕ) : Type 0 where
@@ -62,22 +96,22 @@ pub record PlainPairs (bound number : ℕ) (ends : List ℕ) : Type 0 where
   pub small : Below bound ends
   pub ascend : (i : ℕ) → suc i < number → Before ends i (suc i)
 
--- ---- a pattern: 1 to 16 nodes, each with a label 0 to 31, and 1 to 32 edges; each node is an end of some edge (7)
+-- ---- a pattern: 1 to 16 nodes, each with a label 0 to 31, and 1 to 32 edges, each with a kind 0 to 7; each node is an end of some edge (7)
 pub record PlainPattern (ws : List ℕ) (bs : List Bool) : Type 0 where
   pub nodes : ℕ
   pub number : ℕ
   pub labels : List ℕ
-  pub ends : List ℕ
-  pub content : ws ≡ nodes ∷ number ∷ (labels ++ ends)
-  pub layout : bs ≡ bitsOf 5 nodes ++ (bitsOf 6 number ++ (fieldBits 5 labels ++ fieldBits 4 ends))
+  pub es : List ℕ
+  pub content : ws ≡ nodes ∷ number ∷ (labels ++ es)
+  pub layout : bs ≡ bitsOf 5 nodes ++ (bitsOf 6 number ++ (fieldBits 5 labels ++ edgeBits 4 3 es))
   pub some-nodes : 1 ≤ nodes
   pub most-nodes : nodes ≤ 16
   pub some-edges : 1 ≤ number
   pub most-edges : number ≤ 32
   pub label-each : length labels ≡ nodes
   pub are-labels : Below 32 labels
-  pub edges : PlainEdges nodes number ends
-  pub met : (x : ℕ) → x < nodes → (i : ℕ) × (i < length ends) × (getD ends i 0 ≡ x)
+  pub edges : PlainEdges 8 nodes number es
+  pub met : (x : ℕ) → x < nodes → (i : ℕ) × (i < number) × ((fromAt es i ≡ x) ⊎ (toAt es i ≡ x))
 
 -- the file s has the content ws
 abbrev pub PatternFile : List ℕ → List ℕ → Type 0
@@ -96,23 +130,23 @@ pub record PlainCatalogue (ws : List ℕ) (bs : List Bool) : Type 0 where
 abbrev pub CatalogueFile : List ℕ → List ℕ → Type 0
 CatalogueFile s ws = PlainCatalogue ws (bits s)
 
--- ---- a record: 0 to 4,096 nodes, each with 32 bits of labels, and 0 to 8,192 edges, of which Edges holds
-pub record PlainGraph (Edges : ℕ → ℕ → List ℕ → Type 0) (ws : List ℕ) (bs : List Bool) : Type 0 where
+-- ---- a record: 0 to 4,096 nodes, each with 32 bits of labels, and 0 to 8,192 edges, of which Edges holds, with wide bits for a kind
+pub record PlainGraph (wide : ℕ) (Edges : ℕ → ℕ → List ℕ → Type 0) (ws : List ℕ) (bs : List Bool) : Type 0 where
   pub nodes : ℕ
   pub number : ℕ
   pub labels : List ℕ
-  pub ends : List ℕ
-  pub content : ws ≡ nodes ∷ number ∷ (labels ++ ends)
-  pub layout : bs ≡ bitsOf 13 nodes ++ (bitsOf 14 number ++ (fieldBits 32 labels ++ fieldBits 12 ends))
+  pub es : List ℕ
+  pub content : ws ≡ nodes ∷ number ∷ (labels ++ es)
+  pub layout : bs ≡ bitsOf 13 nodes ++ (bitsOf 14 number ++ (fieldBits 32 labels ++ edgeBits 12 wide es))
   pub most-nodes : nodes ≤ 4096
   pub most-edges : number ≤ 8192
   pub labels-each : length labels ≡ nodes
   pub are-labels : Below (2 ^ 32) labels
-  pub edges : Edges nodes number ends
+  pub edges : Edges nodes number es
 
--- each end is a node (4), and the edges ascend (6)
+-- each end is a node (4), each kind is 0 to 7, and the edges ascend (6)
 abbrev pub PlainRecord : Laid
-PlainRecord = PlainGraph PlainPairs
+PlainRecord = PlainGraph 3 (PlainRising 8)
 
 abbrev pub RecordFile : List ℕ → List ℕ → Type 0
 RecordFile s ws = Whole PlainRecord ws (bits s)

@@ -13,6 +13,8 @@ use Rattle.packed.specs.declared.reply.Field.{Field}
 use Rattle.packed.specs.declared.reply.Field.the-variants as field-is
 use Rattle.packed.specs.declared.reply.Two.{Two}
 use Rattle.packed.specs.declared.reply.Two.the-variants as two-is
+use Rattle.packed.specs.declared.reply.Three.{Three}
+use Rattle.packed.specs.declared.reply.Three.the-variants as three-is
 use Rattle.packed.specs.declared.reply.Part.{Part}
 use Rattle.packed.specs.declared.reply.Part.the-variants as part-is
 
@@ -89,6 +91,17 @@ abbrev pub ReadsTwo : ℕ → ℕ → ℕ → List ℕ → ℕ → List ℕ → 
 ReadsTwo wide bound e s at w i file (two-is.Values a b) w′ = TwoValues wide bound s at w i a b w′
 ReadsTwo wide bound e s at w i file (two-is.Refused x) w′ =
     (f : ℕ → ℕ → Format) → Refuses (ask wide 0 bound e (λ a. ask wide 0 bound e (λ b. f a b))) s at file x
+
+-- an edge: two ends and a kind of 3 bits
+pub record EdgeValues (wide nodes : ℕ) (s : List ℕ) (at : ℕ) (w : List ℕ) (i a b k : ℕ) (w′ : List ℕ) : Type 0 where
+  pub between : List ℕ
+  pub ends : TwoValues wide nodes s at w i a b between
+  pub kind : Value 3 0 8 s (at + 2 * wide) between (i + 2) k w′
+
+abbrev pub ReadsEdge : ℕ → ℕ → List ℕ → ℕ → List ℕ → ℕ → ℕ → Three → List ℕ → Type 0
+ReadsEdge wide nodes s at w i file (three-is.Values a b k) w′ = EdgeValues wide nodes s at w i a b k w′
+ReadsEdge wide nodes s at w i file (three-is.Refused x) w′ =
+    (f : ℕ → ℕ → ℕ → Format) → Refuses (ask wide 0 nodes 4 (λ a. ask wide 0 nodes 4 (λ b. ask 3 0 8 3 (λ k. f a b k)))) s at file x
 
 -- the end of a file: zero bits up to a whole byte, and nothing after; what any format that was read up to here then says of the file
 abbrev pub Closes : List ℕ → ℕ → ℕ → ℕ → Part → Type 0

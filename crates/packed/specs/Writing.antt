@@ -14,6 +14,8 @@ use Rattle.packed.specs.declared.reply.Field.{Field}
 use Rattle.packed.specs.declared.reply.Field.the-variants as field-is
 use Rattle.packed.specs.declared.reply.Two.{Two}
 use Rattle.packed.specs.declared.reply.Two.the-variants as two-is
+use Rattle.packed.specs.declared.reply.Three.{Three}
+use Rattle.packed.specs.declared.reply.Three.the-variants as three-is
 use Rattle.packed.specs.declared.reply.Part.{Part}
 use Rattle.packed.specs.declared.reply.Part.the-variants as part-is
 
@@ -68,3 +70,14 @@ abbrev pub WritesTwo : ℕ → ℕ → ℕ → List ℕ → ℕ → List ℕ →
 WritesTwo wide bound e ws i b at file (two-is.Values x y) b′ = TwoPut wide bound ws i b at x y b′
 WritesTwo wide bound e ws i b at file (two-is.Refused x) b′ =
     (f : ℕ → ℕ → Format) → Rejects (ask wide 0 bound e (λ a. ask wide 0 bound e (λ b. f a b))) ws i at file x
+
+-- an edge: two ends and a kind of 3 bits
+pub record EdgePut (wide nodes : ℕ) (ws : List ℕ) (i : ℕ) (b : List ℕ) (at x y z : ℕ) (b′ : List ℕ) : Type 0 where
+  pub between : List ℕ
+  pub ends : TwoPut wide nodes ws i b at x y between
+  pub kind : Put 3 0 8 ws (i + 2) between (at + 2 * wide) z b′
+
+abbrev pub WritesEdge : ℕ → ℕ → List ℕ → ℕ → List ℕ → ℕ → ℕ → Three → List ℕ → Type 0
+WritesEdge wide nodes ws i b at file (three-is.Values x y z) b′ = EdgePut wide nodes ws i b at x y z b′
+WritesEdge wide nodes ws i b at file (three-is.Refused x) b′ =
+    (f : ℕ → ℕ → ℕ → Format) → Rejects (ask wide 0 nodes 4 (λ a. ask wide 0 nodes 4 (λ b. ask 3 0 8 3 (λ k. f a b k)))) ws i at file x

@@ -9,7 +9,7 @@ ghost use Rattle.packed.specs.OldRecord.{oldRecord, readOldRecord};
 ghost use Rattle.packed.specs.ByValue.{HoldsPattern};
 ghost use Rattle.packed.specs.Calls.{readFile, readPattern, readCatalogue, readRecord};
 ghost use Rattle.packed.specs.Accepting.{replyOf, AcceptsFile, AcceptsWith, HoldsViews};
-ghost use Rattle.packed.specs.LoadedGraph.{CodesLoaded};
+ghost use Rattle.packed.specs.LoadedGraph.{WordsLoaded};
 ghost use Rattle.packed.specs.OldLoading.{Orders};
 use crate::by_value;
 use crate::by_value::Pattern;
@@ -105,10 +105,10 @@ fn reply_of(p: Part) -> Reply
     }
 }
 
-// A record: the codes of its edges go to the front of the workspace.
+// A record: the words of its edges go to the front of the workspace.
 pub(crate) fn accept_record(s: &[u8], work: &mut [u32]) -> Reply
     requires { ⌜ length (now work) ≡ 16384 ⌝ }
-    ensures { λ r. ⌜ AcceptsFile (readRecord (now (s .entry))) r [] [] × CodesLoaded (now (s .entry)) (now (work .entry)) r (now (work .exit)) ⌝ }
+    ensures { λ r. ⌜ AcceptsFile (readRecord (now (s .entry))) r [] [] × WordsLoaded (now (s .entry)) (now (work .entry)) r (now (work .exit)) ⌝ }
 {
     if limits::RECORD_MOST < s.len() {
         return Reply::Refused(Refusal::TooLong(3));

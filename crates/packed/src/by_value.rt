@@ -8,12 +8,13 @@ ghost use Rattle.packed.specs.ByValue.{Spread, HoldsPattern};
 use crate::bits;
 use crate::limits;
 
-// A pattern: the label of each node, and the ends of each edge. What lies beyond its nodes and edges is zero.
+// A pattern: the label of each node, and the ends and the kind of each edge. What lies beyond its nodes and edges is zero.
 #[repr(C)]
 pub struct Pattern {
     pub labels: [u32; 16],
     pub from: [u32; 32],
     pub to: [u32; 32],
+    pub kind: [u32; 32],
     pub nodes: usize,
     pub edges: usize,
 }
@@ -35,6 +36,7 @@ pub(crate) fn no_pattern() -> Pattern {
         labels: no_labels(),
         from: no_ends(),
         to: no_ends(),
+        kind: no_ends(),
         nodes: 0,
         edges: 0,
     }
@@ -55,15 +57,15 @@ fn labels_of(words: &[u32], first: usize, n: usize) -> [u32; 16]
     l
 }
 
-// Every other word of the 2 * m from first on.
+// Every third word of the 3 * m from first on.
 fn ends_of(words: &[u32], first: usize, m: usize) -> [u32; 32]
-    requires { ⌜ (m ≤ 32) × (first + 2 * m ≤ length (now words) + 1) ⌝ }
-    ensures { λ r. ⌜ Spread (now (words .entry)) first 2 m 32 r ⌝ }
+    requires { ⌜ (m ≤ 32) × (first + 3 * m ≤ length (now words) + 2) ⌝ }
+    ensures { λ r. ⌜ Spread (now (words .entry)) first 3 m 32 r ⌝ }
 {
     let mut l = no_ends();
     let mut e: usize = 0;
     while e < m {
-        let at = first + 2 * e;
+        let at = first + 3 * e;
         l[e] = words[at];
         e += 1;
     }
@@ -72,7 +74,7 @@ fn ends_of(words: &[u32], first: usize, m: usize) -> [u32; 32]
 
 // The pattern whose content the words are.
 pub fn pattern_of(words: &[u32]) -> Pattern
-    requires { ⌜ (nodesOf (now words) ≤ 16) × (edgesOf (now words) ≤ 32) × (2 + (nodesOf (now words) + 2 * edgesOf (now words)) ≤ length (now words)) ⌝ }
+    requires { ⌜ (nodesOf (now words) ≤ 16) × (edgesOf (now words) ≤ 32) × (2 + (nodesOf (now words) + 3 * edgesOf (now words)) ≤ length (now words)) ⌝ }
     ensures { λ r. ⌜ HoldsPattern (now (words .entry)) r ⌝ }
 {
     let nodes = words[0] as usize;
@@ -80,10 +82,12 @@ pub fn pattern_of(words: &[u32]) -> Pattern
     let labels = labels_of(words, 2, nodes);
     let from = ends_of(words, 2 + nodes, edges);
     let to = ends_of(words, 3 + nodes, edges);
+    let kind = ends_of(words, 4 + nodes, edges);
     Pattern {
         labels,
         from,
         to,
+        kind,
         nodes,
         edges,
     }

@@ -60,7 +60,7 @@ pub fn read_catalogue(bytes: &[u8], out: &mut [u32], work: &mut [u32]) -> Reply
     give_words(work, n, out)
 }
 
-// A record is judged with the codes of its edges going to the workspace, and once it is accepted and fits its content is stored.
+// A record is judged with the words of its edges going to the workspace, and once it is accepted and fits its content is stored.
 pub fn read_record(bytes: &[u8], out: &mut [u32], work: &mut [u32]) -> Reply
     requires { ⌜ length (now work) ≡ 16384 ⌝ }
     ensures { λ r. ⌜ Fulfils (recordRead (now (bytes .entry)) (length (now (out .entry)))) (replyTold r) (now (out .entry)) (now (out .exit)) ⌝ }
@@ -68,7 +68,7 @@ pub fn read_record(bytes: &[u8], out: &mut [u32], work: &mut [u32]) -> Reply
     let g = graph::load_record(bytes, work);
     match g {
         Graph::Of(nodes, edges) => {
-            let n = 2 + nodes + 2 * edges;
+            let n = 2 + nodes + 3 * edges;
             if out.len() < n {
                 return Reply::Refused(Refusal::NoRoom(n));
             }
@@ -251,8 +251,8 @@ pub fn write_book(catalogue: &[u8], fields: &[u32], out: &mut [u8], work: &mut [
 // ---- the converter
 
 // A word for each field that an old record can have.
-fn no_fields() -> [u32; 20482]
-    ensures { λ r. ⌜ r ≡ replicate 20482 0 ⌝ }
+fn no_fields() -> [u32; 28674]
+    ensures { λ r. ⌜ r ≡ replicate 28674 0 ⌝ }
 {
     [0u32; limits::OLD_RECORD_FIELDS]
 }
@@ -269,6 +269,6 @@ pub fn sort_record(old: &[u8], out: &mut [u8], work: &mut [u32]) -> Reply
     };
     let nodes = fields[0] as usize;
     let edges = fields[1] as usize;
-    record::store_ends(work, edges, &mut fields, 2 + nodes);
+    record::store_ranked(work, edges, &mut fields, 2 + nodes);
     write_record(&fields[0..n], out)
 }

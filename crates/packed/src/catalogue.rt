@@ -18,8 +18,8 @@ use crate::reply::Refusal;
 
 // So many patterns, each on a byte, in a catalogue.
 fn read_patterns(s: &[u8], start: usize, number: u32, words: &mut [u32], first: usize) -> Part
-    requires { ⌜ Stands (now s) (8 * start) first × Room (now words) first (82 * number) ⌝ }
-    ensures { λ r. ⌜ ReadsBytesUpTo (82 * number) (times number (whole pattern)) (now (s .entry)) start (now (words .entry)) first 2 r (now (words .exit)) ⌝ }
+    requires { ⌜ Stands (now s) (8 * start) first × Room (now words) first (114 * number) ⌝ }
+    ensures { λ r. ⌜ ReadsBytesUpTo (114 * number) (times number (whole pattern)) (now (s .entry)) start (now (words .entry)) first 2 r (now (words .exit)) ⌝ }
 {
     let mut byte = start;
     let mut i = first;
@@ -38,8 +38,8 @@ fn read_patterns(s: &[u8], start: usize, number: u32, words: &mut [u32], first: 
 
 // A catalogue's number and views.
 fn read_views(s: &[u8], words: &mut [u32]) -> Part
-    requires { ⌜ (length (now s) ≤ 65536) × Room (now words) 0 1313 ⌝ }
-    ensures { λ r. ⌜ ReadsBytesUpTo 1313 catalogue (now (s .entry)) 0 (now (words .entry)) 0 2 r (now (words .exit)) ⌝ }
+    requires { ⌜ (length (now s) ≤ 65536) × Room (now words) 0 1825 ⌝ }
+    ensures { λ r. ⌜ ReadsBytesUpTo 1825 catalogue (now (s .entry)) 0 (now (words .entry)) 0 2 r (now (words .exit)) ⌝ }
 {
     let f = field::read_field(
         s,
@@ -67,8 +67,8 @@ fn read_views(s: &[u8], words: &mut [u32]) -> Part
 
 // A whole catalogue: its content stands at the front of the words.
 pub(crate) fn judge_catalogue(s: &[u8], words: &mut [u32]) -> Part
-    requires { ⌜ (length (now s) ≤ 65536) × Room (now words) 0 1313 ⌝ }
-    ensures { λ r. ⌜ JudgesUpTo 1313 (decode catalogue (now (s .entry))) 2 r (now (words .entry)) (now (words .exit)) ⌝ }
+    requires { ⌜ (length (now s) ≤ 65536) × Room (now words) 0 1825 ⌝ }
+    ensures { λ r. ⌜ JudgesUpTo 1825 (decode catalogue (now (s .entry))) 2 r (now (words .entry)) (now (words .exit)) ⌝ }
 {
     let p = read_views(s, words);
     let Part::Upto(byte, _) = p else {
@@ -83,7 +83,7 @@ pub(crate) fn judge_catalogue(s: &[u8], words: &mut [u32]) -> Part
 // So many patterns, each on a byte, in a catalogue: the rest of the lent bytes, from the running byte on, is lent to the pattern's writer.
 fn write_patterns(words: &[u32], first: usize, number: u32, out: &mut [u8], start: usize) -> Part
     requires { ⌜ (first ≤ length (now words)) × (number ≤ 16) × (start ≤ 1) ⌝ }
-    ensures { λ r. ⌜ WritesBytes (times number (whole pattern)) (now (words .entry)) first (now (out .entry)) start (44 * number) 2 r (now (out .exit)) ⌝ }
+    ensures { λ r. ⌜ WritesBytes (times number (whole pattern)) (now (words .entry)) first (now (out .entry)) start (56 * number) 2 r (now (out .exit)) ⌝ }
 {
     let mut i = first;
     let mut byte = start;
@@ -103,7 +103,7 @@ fn write_patterns(words: &[u32], first: usize, number: u32, out: &mut [u8], star
 
 // A catalogue's number and views.
 fn write_views(words: &[u32], out: &mut [u8]) -> Part
-    ensures { λ r. ⌜ WritesBytes catalogue (now (words .entry)) 0 (now (out .entry)) 0 705 2 r (now (out .exit)) ⌝ }
+    ensures { λ r. ⌜ WritesBytes catalogue (now (words .entry)) 0 (now (out .entry)) 0 897 2 r (now (out .exit)) ⌝ }
 {
     let f = field::write_field(
         words,
@@ -165,7 +165,7 @@ pub(crate) fn edge_counts(words: &[u32]) -> [u32; 16]
         let nodes = word_at(words, i);
         let number = word_at(words, i + 1);
         counts[j] = number;
-        i += 2 + nodes as usize + 2 * number as usize;
+        i += 2 + nodes as usize + 3 * number as usize;
         j += 1;
     }
     counts

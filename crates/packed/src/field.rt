@@ -1,16 +1,18 @@
-// One field of a file, two of a kind, and the end of a file.
+// One field of a file, two of a kind, an edge, and the end of a file.
 ghost use mathlib.Core.Path.{_≡_};
 ghost use Prim.Native.Nat.{_+_, _*_, _^_, _<_, _≤_, min};
 ghost use lib.ListN.{length};
 ghost use lib.Seq.{sets};
 ghost use Rattle.packed.specs.Bits.{bits, bitsOf, gap};
 ghost use Rattle.packed.specs.Refusals.{numberOf, detailOf};
-ghost use Rattle.packed.specs.Reading.{Stands, ReadsField, ReadsTwo, Closes};
-ghost use Rattle.packed.specs.Writing.{WritesField, WritesTwo};
+ghost use Rattle.packed.specs.Reading.{Stands, ReadsField, ReadsTwo, ReadsEdge, Closes};
+ghost use Rattle.packed.specs.Writing.{WritesField, WritesTwo, WritesEdge};
 use crate::bits;
+use crate::limits;
 use crate::reply::Field;
 use crate::reply::Part;
 use crate::reply::Refusal;
+use crate::reply::Three;
 use crate::reply::Two;
 use crate::workspace;
 
@@ -78,6 +80,51 @@ pub fn read_two(
     match g {
         Field::Value(b) => Two::Values(a, b),
         Field::Refused(x) => Two::Refused(x),
+    }
+}
+
+// An edge between so many nodes, whose ends have so many bits, into the words from i on.
+pub fn read_edge(
+    s: &[u8],
+    at: usize,
+    width: u32,
+    nodes: u32,
+    file: u32,
+    words: &mut [u32],
+    i: usize,
+) -> Three
+    requires { ⌜ Stands (now s) at i × (1 ≤ width) × (width ≤ 32) ⌝ }
+    ensures { λ r. ⌜ ReadsEdge width nodes (now (s .entry)) at (now (words .entry)) i file r (now (words .exit)) ⌝ }
+{
+    let f = read_two(
+        s,
+        at,
+        width,
+        nodes as u64,
+        Refusal::NoSuchNode(file),
+        file,
+        words,
+        i,
+    );
+    match f {
+        Two::Values(a, b) => {
+            let g = read_field(
+                s,
+                at + 2 * width as usize,
+                limits::KIND_WIDTH,
+                0,
+                limits::KIND_BOUND,
+                Refusal::OutOfRange(file),
+                file,
+                words,
+                i + 2,
+            );
+            match g {
+                Field::Value(k) => Three::Values(a, b, k),
+                Field::Refused(x) => Three::Refused(x),
+            }
+        }
+        Two::Refused(x) => Three::Refused(x),
     }
 }
 
@@ -160,6 +207,51 @@ pub fn write_two(
     match g {
         Field::Value(b) => Two::Values(a, b),
         Field::Refused(x) => Two::Refused(x),
+    }
+}
+
+// The words from i on as an edge between so many nodes, whose ends have so many bits.
+pub fn write_edge(
+    words: &[u32],
+    i: usize,
+    width: u32,
+    nodes: u32,
+    file: u32,
+    out: &mut [u8],
+    at: usize,
+) -> Three
+    requires { ⌜ (i ≤ length (now words)) × (at + 2 * width + 3 < 2 ^ 60) × (width ≤ 32) × (nodes ≤ 2 ^ width) ⌝ }
+    ensures { λ r. ⌜ WritesEdge width nodes (now (words .entry)) i (now (out .entry)) at file r (now (out .exit)) ⌝ }
+{
+    let f = write_two(
+        words,
+        i,
+        width,
+        nodes as u64,
+        Refusal::NoSuchNode(file),
+        file,
+        out,
+        at,
+    );
+    match f {
+        Two::Values(a, b) => {
+            let g = write_field(
+                words,
+                i + 2,
+                limits::KIND_WIDTH,
+                0,
+                limits::KIND_BOUND,
+                Refusal::OutOfRange(file),
+                file,
+                out,
+                at + 2 * width as usize,
+            );
+            match g {
+                Field::Value(k) => Three::Values(a, b, k),
+                Field::Refused(x) => Three::Refused(x),
+            }
+        }
+        Two::Refused(x) => Three::Refused(x),
     }
 }
 

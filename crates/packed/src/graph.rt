@@ -14,7 +14,7 @@ pub enum Graph {
     Refused(Refusal),
 }
 
-// Accepts a record or refuses it. Where it is accepted, the codes of its edges stand at the front of the workspace.
+// Accepts a record or refuses it. Where it is accepted, the words of its edges stand at the front of the workspace.
 pub fn load_record(s: &[u8], work: &mut [u32]) -> Graph
     requires { ⌜ length (now work) ≡ 16384 ⌝ }
     ensures { λ r. ⌜ LoadsGraph (now (s .entry)) r (now (work .exit)) ⌝ }

@@ -2,18 +2,18 @@
 // names in specs/Limits.antt.
 
 // The most bytes of a pattern, a catalogue, a record; of a book, a lone sheet and an answer.
-pub const PATTERN_MOST: usize = 44;
+pub const PATTERN_MOST: usize = 56;
 
-pub const CATALOGUE_MOST: usize = 705;
+pub const CATALOGUE_MOST: usize = 897;
 
-pub const RECORD_MOST: usize = 40964;
+pub const RECORD_MOST: usize = 44036;
 
 pub const BOOK_MOST: usize = 65536;
 
-// The most bytes of a record as it was stored before its edges stood in order, and the most fields of its content.
+// The most bytes of a record as it was stored before its edges stood in order and had kinds, and the most fields of its content.
 pub const OLD_RECORD_MOST: usize = 40964;
 
-pub const OLD_RECORD_FIELDS: usize = 20482;
+pub const OLD_RECORD_FIELDS: usize = 28674;
 
 // The most different pairs of a book.
 pub const PAIRS_MOST: usize = 8192;
@@ -35,10 +35,22 @@ pub const COUNT_MOST: usize = 8192;
 // The code of a pair is its from times this, and its to: the numbers of nodes are below it.
 pub const NODES: u32 = NODES_MOST;
 
+// The codes of pairs are below this. The word of a record's edge in the workspace is the code of its two ends, and its kind times this.
+pub const PAIRS: u32 = NODES * NODES;
+
+// The kind of an edge, in patterns and in records: how many there are, and the bits of one.
+pub const KINDS: u32 = 8;
+
+pub const KIND_WIDTH: u32 = 3;
+
+pub const KIND_BITS: usize = KIND_WIDTH as usize;
+
+pub const KIND_BOUND: u64 = KINDS as u64;
+
 // The fields of files: .._WIDTH is how many bits a field has, .._BITS the same as the way to the next place, and .._BOUND what its value stays
 // below.
 
-// A pattern has its number of nodes, its number of edges, the label of each node, and two ends for each edge.
+// A pattern has its number of nodes, its number of edges, the label of each node, and two ends and a kind for each edge.
 pub const PATTERN_NODES_WIDTH: u32 = 5;
 
 pub const PATTERN_NODES_BITS: usize = PATTERN_NODES_WIDTH as usize;
@@ -57,7 +69,7 @@ pub const LABEL_BOUND: u64 = 1 << LABEL_WIDTH;
 
 pub const END_WIDTH: u32 = 4;
 
-pub const ENDS_BITS: usize = 2 * END_WIDTH as usize;
+pub const PATTERN_EDGE_BITS: usize = 2 * END_WIDTH as usize + KIND_BITS;
 
 // Where the labels of a pattern begin: behind its two numbers.
 pub const PATTERN_LABELS: usize = PATTERN_NODES_BITS + PATTERN_EDGES_WIDTH as usize;
@@ -69,7 +81,7 @@ pub const VIEWS_BITS: usize = VIEWS_WIDTH as usize;
 
 pub const VIEWS_BOUND: u64 = VIEWS_MOST as u64 + 1;
 
-// A record has its number of nodes, its number of edges, the labels of each node, and two nodes for each edge.
+// A record has its number of nodes, its number of edges, the labels of each node, and two nodes and a kind for each edge; an old one has no kinds.
 pub const NODES_WIDTH: u32 = 13;
 
 pub const NODES_BITS: usize = NODES_WIDTH as usize;
@@ -92,7 +104,11 @@ pub const NODE_BITS: usize = NODE_WIDTH as usize;
 
 pub const NODE_BOUND: u64 = NODES_MOST as u64;
 
-pub const EDGE_BITS: usize = 2 * NODE_BITS;
+pub const EDGE_WIDTH: u32 = 2 * NODE_WIDTH + KIND_WIDTH;
+
+pub const EDGE_BITS: usize = EDGE_WIDTH as usize;
+
+pub const OLD_EDGE_BITS: usize = 2 * NODE_BITS;
 
 // Where the labels of a record begin, in bits: behind its two numbers.
 pub const LABELS: usize = NODES_BITS + EDGES_WIDTH as usize;

@@ -1,5 +1,5 @@
-// A sheet made from pairs: n codes, ascending, at the front of the workspace, and from word 8192 on for each a mask of the pattern's
-// edges that list it.
+// A sheet made from pairs: n words at the front of the workspace, in whose low 24 bits stand their codes, and from word 8192 on for each a mask of
+// the pattern's edges that list it.
 ghost use mathlib.Core.Path.{_≡_};
 ghost use Prim.Native.Nat.{ℕ, _+_, _*_, _/_, _%_, _^_, _<_, _≤_};
 ghost use lib.ListN.{length, getD, replicate};
@@ -196,7 +196,7 @@ fn write_pairs(work: &[u32], n: usize, m: u32, places: &mut [usize; 32], out: &m
     while i < n {
         let mask = limits::HELD + i;
         let x = low_bits(work[mask], m);
-        put_pair(x, work[i], places, out);
+        put_pair(x, work[i] % limits::PAIRS, places, out);
         i += 1;
     }
 }

@@ -1,4 +1,4 @@
-// Records as they were stored before their edges stood in order. The codes of the edges are loaded into the workspace on the way, where
+// Records as they were stored before their edges stood in order and had kinds. The ranks of the edges are loaded into the workspace on the way, where
 // they are sorted: to find a repeat, and to write the record anew.
 ghost use mathlib.Core.Path.{_≡_};
 ghost use mathlib.Core.List.{List, []};
@@ -9,7 +9,7 @@ ghost use Rattle.packed.specs.Format.{times, decode};
 ghost use Rattle.packed.specs.Formats.{labels, edges};
 ghost use Rattle.packed.specs.OldRecord.{nothing, oldRecord};
 ghost use Rattle.packed.specs.Reading.{Stands, ReadsPart, Judges};
-ghost use Rattle.packed.specs.OldLoading.{Loads, CodesLoaded, EndsAt, Orders};
+ghost use Rattle.packed.specs.OldLoading.{Loads, RanksLoaded, EndsAt, Orders};
 ghost use Rattle.packed.specs.Accepting.{replyOf};
 use crate::field;
 use crate::limits;
@@ -19,6 +19,7 @@ use crate::reply::Part;
 use crate::reply::Refusal;
 use crate::reply::Two;
 use crate::sort;
+use crate::workspace;
 
 // The labels of so many nodes.
 fn read_labels(s: &[u8], start: usize, n: u32, words: &mut [u32], first: usize) -> Part
@@ -54,7 +55,7 @@ fn read_labels(s: &[u8], start: usize, n: u32, words: &mut [u32], first: usize) 
     Part::Upto(at, i)
 }
 
-// So many edges between so many nodes, whose codes go to the front of the workspace; repeats are not looked for.
+// So many edges between so many nodes, of kind 0, whose ranks go to the front of the workspace; repeats are not looked for.
 fn read_edges(
     s: &[u8],
     start: usize,
@@ -65,8 +66,8 @@ fn read_edges(
     work: &mut [u32],
 ) -> Loaded
     requires { ⌜ Stands (now s) start first × (nodes ≤ 4096) × (number ≤ 8192) × (8192 ≤ length (now work)) ⌝ }
-    ensures { λ r. ⌜ Loads (edges 12 nodes nothing number []) (now (s .entry)) start (now (words .entry)) first 3 (now (work .entry)) r (now (words .exit)) (now (work .exit))
-        × CodesLoaded (now (s .entry)) start number (now (work .entry)) (r .part) (r .edges) (now (work .exit)) ⌝ }
+    ensures { λ r. ⌜ Loads (edges 12 0 nodes nothing number []) (now (s .entry)) start (now (words .entry)) first 3 (now (work .entry)) r (now (words .exit)) (now (work .exit))
+        × RanksLoaded (now (s .entry)) start number (now (work .entry)) (r .part) (r .edges) (now (work .exit)) ⌝ }
 {
     let mut at = start;
     let mut i = first;
@@ -85,9 +86,10 @@ fn read_edges(
         );
         match f {
             Two::Values(a, b) => {
-                work[k] = a * limits::NODES + b;
-                at += limits::EDGE_BITS;
-                i += 2;
+                work[k] = (a * limits::NODES + b) * limits::KINDS;
+                workspace::store(words, i + 2, 0);
+                at += limits::OLD_EDGE_BITS;
+                i += 3;
                 k += 1;
                 left -= 1;
             }
@@ -119,7 +121,7 @@ fn stopped(x: Refusal) -> Loaded
 fn read_fields(s: &[u8], words: &mut [u32], work: &mut [u32]) -> Loaded
     requires { ⌜ (length (now s) ≤ 65536) × (8192 ≤ length (now work)) ⌝ }
     ensures { λ r. ⌜ Loads oldRecord (now (s .entry)) 0 (now (words .entry)) 0 3 (now (work .entry)) r (now (words .exit)) (now (work .exit))
-        × CodesLoaded (now (s .entry)) (27 + 32 * field (now (s .entry)) 0 13) (field (now (s .entry)) 13 14) (now (work .entry)) (r .part) (r .edges) (now (work .exit)) ⌝ }
+        × RanksLoaded (now (s .entry)) (27 + 32 * field (now (s .entry)) 0 13) (field (now (s .entry)) 13 14) (now (work .entry)) (r .part) (r .edges) (now (work .exit)) ⌝ }
 {
     let f = field::read_field(
         s,
@@ -162,7 +164,7 @@ fn read_fields(s: &[u8], words: &mut [u32], work: &mut [u32]) -> Loaded
     }
 }
 
-// A whole record: its content goes to the front of the words as far as they go. On acceptance the codes of its edges stand at the
+// A whole record: its content goes to the front of the words as far as they go. On acceptance the ranks of its edges stand at the
 // front of the workspace, ascending.
 pub(crate) fn judge_old_record(s: &[u8], words: &mut [u32], work: &mut [u32]) -> Part
     requires { ⌜ (length (now s) ≤ 65536) × (length (now work) ≡ 16384) ⌝ }

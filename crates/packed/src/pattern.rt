@@ -14,7 +14,7 @@ use crate::limits;
 use crate::reply::Field;
 use crate::reply::Part;
 use crate::reply::Refusal;
-use crate::reply::Two;
+use crate::reply::Three;
 
 // So many labels.
 fn read_labels(s: &[u8], start: usize, n: u32, file: u32, words: &mut [u32], first: usize) -> Part
@@ -50,41 +50,42 @@ fn read_labels(s: &[u8], start: usize, n: u32, file: u32, words: &mut [u32], fir
     Part::Upto(at, i)
 }
 
-// Whether the edge from a to b is among those with these ends.
-fn is_linked(ends: &[u32], a: u32, b: u32) -> bool
-    ensures { λ r. ⌜ r ≡ linked a b (now (ends .entry)) ⌝ }
+// Whether the edge from a to b of the kind k is among those with these fields.
+fn is_linked(edges: &[u32], a: u32, b: u32, k: u32) -> bool
+    ensures { λ r. ⌜ r ≡ linked a b k (now (edges .entry)) ⌝ }
 {
     let mut i = 0;
-    while 1 < ends.len() - i {
-        if (ends[i] == a) & (ends[i + 1] == b) {
+    while 2 < edges.len() - i {
+        if (edges[i] == a) & ((edges[i + 1] == b) & (edges[i + 2] == k)) {
             return true;
         }
-        i += 2;
+        i += 3;
     }
     false
 }
 
-fn is_end(ends: &[u32], x: u32) -> bool
-    ensures { λ r. ⌜ r ≡ isEnd x (now (ends .entry)) ⌝ }
+// Whether x is an end of an edge with these fields.
+fn is_end(edges: &[u32], x: u32) -> bool
+    ensures { λ r. ⌜ r ≡ isEnd x (now (edges .entry)) ⌝ }
 {
     let mut i = 0;
-    while i < ends.len() {
-        if ends[i] == x {
+    while 2 < edges.len() - i {
+        if (edges[i] == x) | (edges[i + 1] == x) {
             return true;
         }
-        i += 1;
+        i += 3;
     }
     false
 }
 
 // Whether each node below n is an end.
-fn are_ends(ends: &[u32], n: u32) -> bool
-    ensures { λ r. ⌜ r ≡ allEnds n (now (ends .entry)) ⌝ }
+fn are_ends(edges: &[u32], n: u32) -> bool
+    ensures { λ r. ⌜ r ≡ allEnds n (now (edges .entry)) ⌝ }
 {
     let mut all = true;
     let mut x: u32 = 0;
     while x < n {
-        all = all & is_end(ends, x);
+        all = all & is_end(edges, x);
         x += 1;
     }
     all
@@ -100,33 +101,24 @@ fn read_edges(
     words: &mut [u32],
     first: usize,
 ) -> Part
-    requires { ⌜ Stands (now s) start first × Room (now words) first (2 * number) ⌝ }
-    ensures { λ r. ⌜ ReadsUpTo (2 * number) (edges 4 nodes (joined nodes) number []) (now (s .entry)) start (now (words .entry)) first file r (now (words .exit)) ⌝ }
+    requires { ⌜ Stands (now s) start first × Room (now words) first (3 * number) ⌝ }
+    ensures { λ r. ⌜ ReadsUpTo (3 * number) (edges 4 3 nodes (joined nodes) number []) (now (s .entry)) start (now (words .entry)) first file r (now (words .exit)) ⌝ }
 {
     let mut at = start;
     let mut i = first;
     let mut left = number;
     while 0 < left {
-        let f = field::read_two(
-            s,
-            at,
-            limits::END_WIDTH,
-            nodes as u64,
-            Refusal::NoSuchNode(file),
-            file,
-            words,
-            i,
-        );
+        let f = field::read_edge(s, at, limits::END_WIDTH, nodes, file, words, i);
         match f {
-            Two::Values(a, b) => {
-                if is_linked(&words[first..i], a, b) {
+            Three::Values(a, b, k) => {
+                if is_linked(&words[first..i], a, b, k) {
                     return Part::Refused(Refusal::DuplicateEdge(file));
                 }
-                at += limits::ENDS_BITS;
-                i += 2;
+                at += limits::PATTERN_EDGE_BITS;
+                i += 3;
                 left -= 1;
             }
-            Two::Refused(x) => {
+            Three::Refused(x) => {
                 return Part::Refused(x);
             }
         }
@@ -140,8 +132,8 @@ fn read_edges(
 
 // The fields of a pattern.
 fn read_fields(s: &[u8], start: usize, file: u32, words: &mut [u32], first: usize) -> Part
-    requires { ⌜ Stands (now s) start first × Room (now words) first 82 ⌝ }
-    ensures { λ r. ⌜ ReadsUpTo 82 pattern (now (s .entry)) start (now (words .entry)) first file r (now (words .exit)) ⌝ }
+    requires { ⌜ Stands (now s) start first × Room (now words) first 114 ⌝ }
+    ensures { λ r. ⌜ ReadsUpTo 114 pattern (now (s .entry)) start (now (words .entry)) first file r (now (words .exit)) ⌝ }
 {
     let f = field::read_field(
         s,
@@ -193,8 +185,8 @@ fn read_fields(s: &[u8], start: usize, file: u32, words: &mut [u32], first: usiz
 
 // A pattern from a byte on: the next byte and the next word.
 pub fn read_pattern(s: &[u8], byte: usize, file: u32, words: &mut [u32], first: usize) -> Part
-    requires { ⌜ Stands (now s) (8 * byte) first × Room (now words) first 82 ⌝ }
-    ensures { λ r. ⌜ ReadsBytesUpTo 82 (whole pattern) (now (s .entry)) byte (now (words .entry)) first file r (now (words .exit)) ⌝ }
+    requires { ⌜ Stands (now s) (8 * byte) first × Room (now words) first 114 ⌝ }
+    ensures { λ r. ⌜ ReadsBytesUpTo 114 (whole pattern) (now (s .entry)) byte (now (words .entry)) first file r (now (words .exit)) ⌝ }
 {
     let p = read_fields(s, 8 * byte, file, words, first);
     let Part::Upto(at, i) = p else {
@@ -209,8 +201,8 @@ pub fn read_pattern(s: &[u8], byte: usize, file: u32, words: &mut [u32], first: 
 
 // A whole pattern, a file of its own: its content stands at the front of the words.
 pub(crate) fn judge_pattern(s: &[u8], words: &mut [u32]) -> Part
-    requires { ⌜ (length (now s) ≤ 65536) × Room (now words) 0 82 ⌝ }
-    ensures { λ r. ⌜ JudgesUpTo 82 (decode pattern (now (s .entry))) 1 r (now (words .entry)) (now (words .exit)) ⌝ }
+    requires { ⌜ (length (now s) ≤ 65536) × Room (now words) 0 114 ⌝ }
+    ensures { λ r. ⌜ JudgesUpTo 114 (decode pattern (now (s .entry))) 1 r (now (words .entry)) (now (words .exit)) ⌝ }
 {
     let p = read_pattern(s, 0, 1, words, 0);
     let Part::Upto(byte, _) = p else {
@@ -273,33 +265,24 @@ fn write_edges(
     out: &mut [u8],
     start: usize,
 ) -> Part
-    requires { ⌜ (first ≤ length (now words)) × (nodes ≤ 16) × (start + 8 * number ≤ 2 ^ 20) ⌝ }
-    ensures { λ r. ⌜ WritesPart (edges 4 nodes (joined nodes) number []) (now (words .entry)) first (now (out .entry)) start (8 * number) file r (now (out .exit)) ⌝ }
+    requires { ⌜ (first ≤ length (now words)) × (nodes ≤ 16) × (start + 11 * number ≤ 2 ^ 20) ⌝ }
+    ensures { λ r. ⌜ WritesPart (edges 4 3 nodes (joined nodes) number []) (now (words .entry)) first (now (out .entry)) start (11 * number) file r (now (out .exit)) ⌝ }
 {
     let mut i = first;
     let mut at = start;
     let mut left = number;
     while 0 < left {
-        let f = field::write_two(
-            words,
-            i,
-            limits::END_WIDTH,
-            nodes as u64,
-            Refusal::NoSuchNode(file),
-            file,
-            out,
-            at,
-        );
+        let f = field::write_edge(words, i, limits::END_WIDTH, nodes, file, out, at);
         match f {
-            Two::Values(a, b) => {
-                if is_linked(&words[first..i], a, b) {
+            Three::Values(a, b, k) => {
+                if is_linked(&words[first..i], a, b, k) {
                     return Part::Refused(Refusal::DuplicateEdge(file));
                 }
-                i += 2;
-                at += limits::ENDS_BITS;
+                i += 3;
+                at += limits::PATTERN_EDGE_BITS;
                 left -= 1;
             }
-            Two::Refused(x) => {
+            Three::Refused(x) => {
                 return Part::Refused(x);
             }
         }
@@ -314,7 +297,7 @@ fn write_edges(
 // The fields of a pattern.
 fn write_fields(words: &[u32], first: usize, file: u32, out: &mut [u8], start: usize) -> Part
     requires { ⌜ (first ≤ length (now words)) × (start ≤ 2 ^ 19) ⌝ }
-    ensures { λ r. ⌜ WritesPart pattern (now (words .entry)) first (now (out .entry)) start 347 file r (now (out .exit)) ⌝ }
+    ensures { λ r. ⌜ WritesPart pattern (now (words .entry)) first (now (out .entry)) start 443 file r (now (out .exit)) ⌝ }
 {
     let f = field::write_field(
         words,
@@ -367,7 +350,7 @@ fn write_fields(words: &[u32], first: usize, file: u32, out: &mut [u8], start: u
 // A pattern at the front of out: the next byte and the next word.
 pub(crate) fn write_pattern(words: &[u32], first: usize, file: u32, out: &mut [u8]) -> Part
     requires { ⌜ first ≤ length (now words) ⌝ }
-    ensures { λ r. ⌜ WritesBytes (whole pattern) (now (words .entry)) first (now (out .entry)) 0 44 file r (now (out .exit)) ⌝ }
+    ensures { λ r. ⌜ WritesBytes (whole pattern) (now (words .entry)) first (now (out .entry)) 0 56 file r (now (out .exit)) ⌝ }
 {
     let p = write_fields(words, first, file, out, 0);
     let Part::Upto(at, i) = p else {

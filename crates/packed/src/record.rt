@@ -1,34 +1,31 @@
-// Records. The codes of the edges go to the workspace as they are judged, where they stand in order.
+// Records. The words of the edges go to the workspace as they are judged, where they stand in order.
 ghost use mathlib.Core.Path.{_≡_};
 ghost use mathlib.Core.List.{List, []};
-ghost use Prim.Native.Nat.{ℕ, _+_, _*_, _^_, _<_, _≤_};
+ghost use Prim.Native.Nat.{ℕ, _+_, _*_, _/_, _%_, _^_, _<_, _≤_};
 ghost use lib.ListN.{length, take};
 ghost use lib.Seq.{sets};
 ghost use Rattle.packed.specs.Format.{ok, times, decode, encode};
-ghost use Rattle.packed.specs.Formats.{labels, record′};
-ghost use Rattle.packed.specs.Contents.{ends};
+ghost use Rattle.packed.specs.Formats.{labels, rising, record′};
+ghost use Rattle.packed.specs.Contents.{fromWords, fromRanks};
 ghost use Rattle.packed.specs.Reading.{Value, Judges};
 ghost use Rattle.packed.specs.Writing.{WritesPart, JudgesFields};
 ghost use Rattle.packed.specs.Accepting.{replyOf};
-ghost use Rattle.packed.specs.LoadedGraph.{ReadsCounts, Cut, LoadsCodes, CodesLoaded, LabelsStored, Holds};
+ghost use Rattle.packed.specs.LoadedGraph.{ReadsCounts, Cut, LoadsWords, WordsLoaded, LabelsStored, Holds};
 use crate::bits;
 use crate::field;
 use crate::limits;
 use crate::reply::Field;
 use crate::reply::Part;
 use crate::reply::Refusal;
+use crate::reply::Three;
 use crate::reply::Two;
-use crate::sheet;
 
-// Labels and edges take whole bytes, so that each stands from the same bit of a byte on: the byte and the bit of the first labels, and the
-// bytes of the labels of a node and of an edge.
+// Labels take whole bytes, so that those of each node stand from the same bit of a byte on: the byte and the bit of the first, and the bytes of each.
 const LABELS_BYTE: usize = limits::LABELS / 8;
 
 const LABELS_BIT: usize = limits::LABELS % 8;
 
 const LABELS_BYTES: usize = limits::LABELS_BITS / 8;
-
-const EDGE_BYTES: usize = limits::EDGE_BITS / 8;
 
 // The numbers of nodes and edges.
 fn read_counts(s: &[u8]) -> Two
@@ -72,61 +69,61 @@ fn read_counts(s: &[u8]) -> Two
 
 // Why an edge is refused whose bits are not all there.
 fn cut_edge(s: &[u8], at: usize, nodes: u32) -> Refusal
-    requires { ⌜ (length (now s) ≤ 65536) × (at ≤ 8 * length (now s)) × (8 * length (now s) < at + 24) ⌝ }
+    requires { ⌜ (length (now s) ≤ 65536) × (at ≤ 8 * length (now s)) × (8 * length (now s) < at + 27) ⌝ }
     ensures { λ r. ⌜ Cut (now (s .entry)) at nodes r ⌝ }
 {
     let mut none = [0u32; 1];
-    let f = field::read_two(
-        s,
-        at,
-        limits::NODE_WIDTH,
-        nodes as u64,
-        Refusal::NoSuchNode(3),
-        3,
-        &mut none[0..0],
-        0,
-    );
+    let f = field::read_edge(s, at, limits::NODE_WIDTH, nodes, 3, &mut none[0..0], 0);
     match f {
-        Two::Values(_, _) => Refusal::Truncated(3),
-        Two::Refused(x) => x,
+        Three::Values(_, _, _) => Refusal::Truncated(3),
+        Three::Refused(x) => x,
     }
 }
 
-// So many edges between so many nodes, the first in the byte start: those whose bits are all there are taken whole, by their codes, which go to
-// the front of the workspace.
-fn load_edges(s: &[u8], start: usize, nodes: u32, number: usize, work: &mut [u32]) -> Part
-    requires { ⌜ (length (now s) ≤ 65536) × (8 * start + 3 ≤ 8 * length (now s)) × (nodes ≤ 4096) × (number ≤ 8192) × (8192 ≤ length (now work)) ⌝ }
-    ensures { λ r. ⌜ LoadsCodes (now (s .entry)) (8 * start + 3) nodes number (now (work .entry)) r (now (work .exit)) ⌝ }
+// The word of the edge with this rank: its code, and its kind above it.
+fn word_of(rank: u32) -> u32
+    requires { ⌜ rank < 2 ^ 27 ⌝ }
+    ensures { λ r. ⌜ r ≡ rank % 8 * 2 ^ 24 + rank / 8 ⌝ }
 {
-    let there = (8 * s.len() - (8 * start + LABELS_BIT)) / limits::EDGE_BITS;
+    rank % limits::KINDS * limits::PAIRS + rank / limits::KINDS
+}
+
+// So many edges between so many nodes, the first at the bit offset start: those whose bits are all there are taken whole, by their ranks, and their
+// words go to the front of the workspace.
+fn load_edges(s: &[u8], start: usize, nodes: u32, number: usize, work: &mut [u32]) -> Part
+    requires { ⌜ (length (now s) ≤ 65536) × (start ≤ 8 * length (now s)) × (nodes ≤ 4096) × (number ≤ 8192) × (8192 ≤ length (now work)) ⌝ }
+    ensures { λ r. ⌜ LoadsWords (now (s .entry)) start nodes number (now (work .entry)) r (now (work .exit)) ⌝ }
+{
+    let there = (8 * s.len() - start) / limits::EDGE_BITS;
     let whole = field::within(number, there);
-    let mut byte = start;
+    let mut at = start;
     let mut least: u32 = 0;
     let mut k: usize = 0;
     while k < whole {
-        let code = bits::get_bits(s, 8 * byte + LABELS_BIT, limits::PAIR_WIDTH);
+        let rank = bits::get_bits(s, at, limits::EDGE_WIDTH);
+        let code = rank / limits::KINDS;
         if (nodes <= code / limits::NODES) | (nodes <= code % limits::NODES) {
             return Part::Refused(Refusal::NoSuchNode(3));
         }
-        if code < least {
+        if rank < least {
             return Part::Refused(Refusal::NotAscending(3));
         }
-        work[k] = code;
-        least = code + 1;
-        byte += EDGE_BYTES;
+        work[k] = word_of(rank);
+        least = rank + 1;
+        at += limits::EDGE_BITS;
         k += 1;
     }
     if k < number {
-        return Part::Refused(cut_edge(s, 8 * byte + LABELS_BIT, nodes));
+        return Part::Refused(cut_edge(s, at, nodes));
     }
-    Part::Upto(8 * byte + LABELS_BIT, 2 * number)
+    Part::Upto(at, 3 * number)
 }
 
 // The labels and the edges, behind the counts, and the end of the record. Any 32 bits are right for the labels of a node, so that these only have
 // to be there.
 fn judge_parts(s: &[u8], nodes: u32, number: u32, work: &mut [u32]) -> Part
     requires { ⌜ (length (now s) ≤ 65536) × (8192 ≤ length (now work)) × Value 13 0 4097 (now s) 0 [] 0 nodes [] × Value 14 0 8193 (now s) 13 [] 1 number [] ⌝ }
-    ensures { λ r. ⌜ Judges (decode record′ (now (s .entry))) 3 r [] [] × CodesLoaded (now (s .entry)) (now (work .entry)) (replyOf r) (now (work .exit)) ⌝ }
+    ensures { λ r. ⌜ Judges (decode record′ (now (s .entry))) 3 r [] [] × WordsLoaded (now (s .entry)) (now (work .entry)) (replyOf r) (now (work .exit)) ⌝ }
 {
     let n = nodes as usize;
     if 8 * s.len() < limits::LABELS + limits::LABELS_BITS * n {
@@ -134,7 +131,7 @@ fn judge_parts(s: &[u8], nodes: u32, number: u32, work: &mut [u32]) -> Part
     }
     let p = load_edges(
         s,
-        LABELS_BYTE + LABELS_BYTES * n,
+        limits::LABELS + limits::LABELS_BITS * n,
         nodes,
         number as usize,
         work,
@@ -145,10 +142,10 @@ fn judge_parts(s: &[u8], nodes: u32, number: u32, work: &mut [u32]) -> Part
     field::close_file(s, at, 2 + n + i, 3)
 }
 
-// A whole record, without its content. On acceptance the codes of the edges stand at the front of the workspace.
+// A whole record, without its content. On acceptance the words of the edges stand at the front of the workspace.
 pub(crate) fn judge_record(s: &[u8], work: &mut [u32]) -> Part
     requires { ⌜ (length (now s) ≤ 65536) × (8192 ≤ length (now work)) ⌝ }
-    ensures { λ r. ⌜ Judges (decode record′ (now (s .entry))) 3 r [] [] × CodesLoaded (now (s .entry)) (now (work .entry)) (replyOf r) (now (work .exit)) ⌝ }
+    ensures { λ r. ⌜ Judges (decode record′ (now (s .entry))) 3 r [] [] × WordsLoaded (now (s .entry)) (now (work .entry)) (replyOf r) (now (work .exit)) ⌝ }
 {
     let f = read_counts(s);
     match f {
@@ -171,31 +168,52 @@ fn store_labels(s: &[u8], nodes: usize, out: &mut [u32])
     }
 }
 
-// The ends of the m edges whose codes stand at the front of the workspace, from the word at on.
-pub fn store_ends(work: &[u32], m: usize, out: &mut [u32], at: usize)
-    requires { ⌜ (m ≤ length (now work)) × (at + 2 * m ≤ length (now out)) ⌝ }
-    ensures { λ r. ⌜ now (out .exit) ≡ sets (now (out .entry)) at (ends (take m (now (work .entry)))) ⌝ }
+// The fields of the m edges whose words stand at the front of the workspace, from the word at on.
+fn store_edges(work: &[u32], m: usize, out: &mut [u32], at: usize)
+    requires { ⌜ (m ≤ length (now work)) × (at + 3 * m ≤ length (now out)) ⌝ }
+    ensures { λ r. ⌜ now (out .exit) ≡ sets (now (out .entry)) at (fromWords (take m (now (work .entry)))) ⌝ }
 {
     let mut k: usize = 0;
     while k < m {
-        let code = work[k];
-        let from = at + 2 * k;
+        let word = work[k];
+        let from = at + 3 * k;
         let to = from + 1;
-        out[from] = code / limits::NODES;
-        out[to] = code % limits::NODES;
+        let kind = from + 2;
+        out[from] = word / limits::NODES % limits::NODES;
+        out[to] = word % limits::NODES;
+        out[kind] = word / limits::PAIRS;
         k += 1;
     }
 }
 
-// The content of an accepted record with so many nodes and edges, whose codes stand in the workspace, goes to the front of out.
+// The same of the m edges whose ranks stand there.
+pub fn store_ranked(work: &[u32], m: usize, out: &mut [u32], at: usize)
+    requires { ⌜ (m ≤ length (now work)) × (at + 3 * m ≤ length (now out)) ⌝ }
+    ensures { λ r. ⌜ now (out .exit) ≡ sets (now (out .entry)) at (fromRanks (take m (now (work .entry)))) ⌝ }
+{
+    let mut k: usize = 0;
+    while k < m {
+        let rank = work[k];
+        let code = rank / limits::KINDS;
+        let from = at + 3 * k;
+        let to = from + 1;
+        let kind = from + 2;
+        out[from] = code / limits::NODES;
+        out[to] = code % limits::NODES;
+        out[kind] = rank % limits::KINDS;
+        k += 1;
+    }
+}
+
+// The content of an accepted record with so many nodes and edges, whose words stand in the workspace, goes to the front of out.
 pub(crate) fn store_record(s: &[u8], nodes: usize, edges: usize, work: &[u32], out: &mut [u32])
-    requires { ⌜ Holds (now s) nodes edges (now work) × (length (now s) ≤ 65536) × (2 + nodes + 2 * edges ≤ length (now out)) ⌝ }
+    requires { ⌜ Holds (now s) nodes edges (now work) × (length (now s) ≤ 65536) × (2 + nodes + 3 * edges ≤ length (now out)) ⌝ }
     ensures { λ r. ⌜ ((ws : List ℕ) → decode record′ (now (s .entry)) ≡ ok ws → now (out .exit) ≡ sets (now (out .entry)) 0 ws) ⌝ }
 {
     out[0] = nodes as u32;
     out[1] = edges as u32;
     store_labels(s, nodes, out);
-    store_ends(work, edges, out, 2 + nodes);
+    store_edges(work, edges, out, 2 + nodes);
 }
 
 // The labels of so many nodes.
@@ -232,9 +250,46 @@ fn write_labels(words: &[u32], first: usize, n: u32, out: &mut [u8], start: usiz
     Part::Upto(at, i)
 }
 
+// So many edges between so many nodes, ascending.
+fn write_edges(
+    words: &[u32],
+    first: usize,
+    nodes: u32,
+    number: u32,
+    out: &mut [u8],
+    start: usize,
+) -> Part
+    requires { ⌜ (first ≤ length (now words)) × (number ≤ 8192) × (nodes ≤ 4096) × (start ≤ 2 ^ 40) ⌝ }
+    ensures { λ r. ⌜ WritesPart (rising nodes number 0) (now (words .entry)) first (now (out .entry)) start (27 * number) 3 r (now (out .exit)) ⌝ }
+{
+    let mut i = first;
+    let mut at = start;
+    let mut least: u32 = 0;
+    let mut left = number;
+    while 0 < left {
+        let f = field::write_edge(words, i, limits::NODE_WIDTH, nodes, 3, out, at);
+        match f {
+            Three::Values(a, b, k) => {
+                let rank = (a * limits::NODES + b) * limits::KINDS + k;
+                if rank < least {
+                    return Part::Refused(Refusal::NotAscending(3));
+                }
+                least = rank + 1;
+                i += 3;
+                at += limits::EDGE_BITS;
+                left -= 1;
+            }
+            Three::Refused(x) => {
+                return Part::Refused(x);
+            }
+        }
+    }
+    Part::Upto(at, i)
+}
+
 // The fields of a record.
 fn write_fields(words: &[u32], out: &mut [u8]) -> Part
-    ensures { λ r. ⌜ WritesPart record′ (now (words .entry)) 0 (now (out .entry)) 0 327707 3 r (now (out .exit)) ⌝ }
+    ensures { λ r. ⌜ WritesPart record′ (now (words .entry)) 0 (now (out .entry)) 0 352283 3 r (now (out .exit)) ⌝ }
 {
     let f = field::write_field(
         words,
@@ -274,7 +329,7 @@ fn write_fields(words: &[u32], out: &mut [u8]) -> Part
     let Part::Upto(at, i) = p else {
         return p;
     };
-    sheet::write_pairs(words, i, number, nodes, Refusal::NoSuchNode(3), 3, out, at)
+    write_edges(words, i, nodes, number, out, at)
 }
 
 // A whole record: its bytes go to the front of out as far as it goes.

@@ -62,6 +62,12 @@ pub(crate) enum Two {
     Refused(Refusal),
 }
 
+// An edge: two ends and a kind.
+pub(crate) enum Three {
+    Values(u32, u32, u32),
+    Refused(Refusal),
+}
+
 // A part of an old record that was read up to its edges, and how many edges were loaded.
 pub(crate) struct Loaded {
     pub part: Part,

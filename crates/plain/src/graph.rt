@@ -1,4 +1,4 @@
-// The content of patterns and records: two counts, the labels, the ends of the edges.
+// The content of patterns and records: two counts, the labels, and for each edge its from, to and kind.
 ghost use Prim.Native.Nat.{_<_, _≤_};
 
 pub fn word(s: &[u32], i: usize) -> u32 {
@@ -68,12 +68,19 @@ pub fn from(s: &[u32], nodes: usize, edge: usize) -> usize
     requires { ⌜ (nodes ≤ 4096) × (edge ≤ 8192) ⌝ }
     ensures { λ r. ⌜ r < 4096 ⌝ }
 {
-    node(word(s, 2 + nodes + 2 * edge))
+    node(word(s, 2 + nodes + 3 * edge))
 }
 
 pub fn to(s: &[u32], nodes: usize, edge: usize) -> usize
     requires { ⌜ (nodes ≤ 4096) × (edge ≤ 8192) ⌝ }
     ensures { λ r. ⌜ r < 4096 ⌝ }
 {
-    node(word(s, 3 + nodes + 2 * edge))
+    node(word(s, 3 + nodes + 3 * edge))
+}
+
+pub fn kind(s: &[u32], nodes: usize, edge: usize) -> usize
+    requires { ⌜ (nodes ≤ 4096) × (edge ≤ 8192) ⌝ }
+    ensures { λ r. ⌜ r < 8 ⌝ }
+{
+    (word(s, 4 + nodes + 3 * edge) % 8) as usize
 }

@@ -29,14 +29,23 @@ fn is_total(pattern: &[u32], related: &[u8], n: usize) -> bool
     total
 }
 
-// Puts a pair at a place where both its nodes are partners: the place after it.
-fn list_pair(code: u32, u: usize, next: usize, related: &[u8], out: &mut [u32], at: usize) -> usize
+// Puts a pair at a place where its edge is of this kind and both its nodes are partners: the place after it.
+fn list_pair(
+    code: u32,
+    u: usize,
+    next: usize,
+    kind: usize,
+    related: &[u8],
+    out: &mut [u32],
+    at: usize,
+) -> usize
     requires { ⌜ (u ≤ 4096) × (next ≤ 4096) × (at ≤ 1000000) ⌝ }
     ensures { λ r. ⌜ (at ≤ r) × (r ≤ at + 2) ⌝ }
 {
-    let v = code / 4096 % 4096;
-    let w = code % 4096;
-    if simulation::is_related(related, u, v as usize)
+    let v = code / 32768 % 4096;
+    let w = code / 8 % 4096;
+    if ((code % 8) as usize == kind)
+        & simulation::is_related(related, u, v as usize)
         & simulation::is_related(related, next, w as usize)
     {
         graph::put(out, at, v);
@@ -46,10 +55,11 @@ fn list_pair(code: u32, u: usize, next: usize, related: &[u8], out: &mut [u32], 
     at
 }
 
-// The pairs of the pattern's edge from u to next among m edges, ascending: the place after them.
+// The pairs of the pattern's edge from u to next of this kind among m edges, ascending: the place after them.
 fn list_pairs(
     u: usize,
     next: usize,
+    kind: usize,
     codes: &[u32],
     m: usize,
     related: &[u8],
@@ -62,7 +72,7 @@ fn list_pairs(
     let mut at = start;
     let mut i: usize = 0;
     while i < m {
-        at = list_pair(graph::word(codes, i), u, next, related, out, at);
+        at = list_pair(graph::word(codes, i), u, next, kind, related, out, at);
         i += 1;
     }
     at
@@ -72,6 +82,7 @@ fn list_pairs(
 fn list_edge(
     u: usize,
     next: usize,
+    kind: usize,
     codes: &[u32],
     m: usize,
     related: &[u8],
@@ -82,7 +93,7 @@ fn list_edge(
     ensures { λ r. ⌜ r ≤ start + 16385 ⌝ }
 {
     let first = start + 1;
-    let end = list_pairs(u, next, codes, m, related, out, first);
+    let end = list_pairs(u, next, kind, codes, m, related, out, first);
     let count = (end - first) / 2;
     graph::put(out, start, count as u32);
     end
@@ -99,7 +110,8 @@ fn list_edges(pattern: &[u32], codes: &[u32], m: usize, related: &[u8], out: &mu
     while e < edges {
         let u = graph::from(pattern, nodes, e);
         let next = graph::to(pattern, nodes, e);
-        at = list_edge(u, next, codes, m, related, out, at);
+        let kind = graph::kind(pattern, nodes, e);
+        at = list_edge(u, next, kind, codes, m, related, out, at);
         e += 1;
     }
     at

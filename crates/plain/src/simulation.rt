@@ -64,23 +64,31 @@ fn clear(reached: &mut [u8], n: usize) {
     }
 }
 
-// Marks the node from which the edge i leads to a partner of the pattern's node u.
-fn mark_one(record: &[u32], n: usize, i: usize, u: usize, related: &[u8], reached: &mut [u8])
+// Marks the node from which the edge i leads to a partner of the pattern's node u, if it is of this kind.
+fn mark_one(
+    record: &[u32],
+    n: usize,
+    i: usize,
+    u: usize,
+    kind: usize,
+    related: &[u8],
+    reached: &mut [u8],
+)
     requires { ⌜ (n ≤ 4096) × (i ≤ 8192) × (u ≤ 4096) ⌝ }
 {
-    if is_related(related, u, graph::to(record, n, i)) {
+    if (graph::kind(record, n, i) == kind) & is_related(related, u, graph::to(record, n, i)) {
         graph::put_byte(reached, graph::from(record, n, i), 1);
     }
 }
 
-// Marks each node from which an edge leads to a partner of the pattern's node u.
-fn mark(record: &[u32], n: usize, u: usize, related: &[u8], reached: &mut [u8])
+// Marks each node from which an edge of this kind leads to a partner of the pattern's node u.
+fn mark(record: &[u32], n: usize, u: usize, kind: usize, related: &[u8], reached: &mut [u8])
     requires { ⌜ (n ≤ 4096) × (u ≤ 4096) ⌝ }
 {
     let m = graph::record_edges(record);
     let mut i: usize = 0;
     while i < m {
-        mark_one(record, n, i, u, related, reached);
+        mark_one(record, n, i, u, kind, related, reached);
         i += 1;
     }
 }
@@ -112,10 +120,11 @@ fn drop_unmarked(u: usize, n: usize, related: &mut [u8], reached: &[u8]) -> bool
     0 < dropped
 }
 
-// Drops the partners of u that have no edge to a partner of the pattern's node next.
+// Drops the partners of u that have no edge of this kind to a partner of the pattern's node next.
 fn support(
     u: usize,
     next: usize,
+    kind: usize,
     record: &[u32],
     n: usize,
     related: &mut [u8],
@@ -124,7 +133,7 @@ fn support(
     requires { ⌜ (u ≤ 4096) × (next ≤ 4096) × (n ≤ 4096) ⌝ }
 {
     clear(reached, n);
-    mark(record, n, next, related, reached);
+    mark(record, n, next, kind, related, reached);
     drop_unmarked(u, n, related, reached)
 }
 
@@ -139,7 +148,8 @@ fn pass(pattern: &[u32], record: &[u32], n: usize, related: &mut [u8], reached: 
     while e < edges {
         let u = graph::from(pattern, nodes, e);
         let next = graph::to(pattern, nodes, e);
-        dropped = support(u, next, record, n, related, reached) | dropped;
+        let kind = graph::kind(pattern, nodes, e);
+        dropped = support(u, next, kind, record, n, related, reached) | dropped;
         e += 1;
     }
     dropped

@@ -5,16 +5,16 @@ use crate::calls;
 use crate::calls::Outcome;
 use crate::slices;
 
-fn pattern_words() -> [u32; 82]
-    ensures { λ r. ⌜ 82 ≡ length r ⌝ }
+fn pattern_words() -> [u32; 114]
+    ensures { λ r. ⌜ 114 ≡ length r ⌝ }
 {
-    [0; 82]
+    [0; 114]
 }
 
-fn record_words() -> [u32; 20482]
-    ensures { λ r. ⌜ 20482 ≡ length r ⌝ }
+fn record_words() -> [u32; 28674]
+    ensures { λ r. ⌜ 28674 ≡ length r ⌝ }
 {
-    [0; 20482]
+    [0; 28674]
 }
 
 // What is said first of the two files: a refusal, or that both were read.

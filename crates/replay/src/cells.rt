@@ -49,6 +49,13 @@ pub const GAP: usize = 24;
 // The set that a client answers from.
 pub const SET: usize = 25;
 
+// What the kinds of links are drawn by: see `records`.
+pub const LINK_KIND: usize = 26;
+
+pub const LINK_KINDS: usize = 27;
+
+pub const KIND_FORM: usize = 28;
+
 // So many registers can be set by an instruction.
 pub const REGISTERS: usize = 32;
 

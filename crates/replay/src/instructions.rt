@@ -21,7 +21,7 @@ const BYTES: usize = 32;
 const KEEP: usize = 36;
 
 // A field is added to the content; the last field gets its upper 8 bits; so many lists are added; the content becomes a record,
-// with its links ascending or, where the value isn't 0, as they are drawn.
+// with the pairs of its links ascending or, where the value isn't 0, as they are drawn.
 const FIELD: usize = 37;
 
 const HIGH: usize = 38;
@@ -54,7 +54,7 @@ const FIELDS: usize = 49;
 
 const PAIRS: usize = 50;
 
-// The content, which is that of a record, becomes a part, whatever it says.
+// The content, which is that of a record, becomes a part, whatever it says: below 4 as records were stored before links had kinds.
 const PACK: usize = 51;
 
 // The content becomes that of a sheet of so many lists.

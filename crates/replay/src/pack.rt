@@ -1,4 +1,4 @@
-// The file of a record's content, whatever it says: with links in any order, as they were stored before they had one.
+// The file of a record's content, whatever it says.
 use crate::cells;
 use crate::memory;
 use crate::records;
@@ -16,35 +16,47 @@ fn put_field(value: u32, width: usize, place: usize, memory: &mut [u8]) -> usize
     at
 }
 
-// The width of a record's field i, where it has n items.
-fn width(i: usize, n: usize) -> usize {
-    if i < slices::plus(2, n) {
+// The width of a record's field i, where it has n items and the kind of a link so many bits.
+fn width(i: usize, n: usize, kind: usize) -> usize {
+    let items = slices::plus(2, n);
+    if i < items {
         match i {
             0 => 13,
             1 => 14,
             _ => 32,
         }
+    } else if slices::less(i, items) % 3 == 2 {
+        kind
     } else {
         12
     }
 }
 
-fn put_fields(words: &[u32], n: usize, count: usize, place: usize, memory: &mut [u8]) -> usize {
+fn put_fields(
+    words: &[u32],
+    n: usize,
+    kind: usize,
+    count: usize,
+    place: usize,
+    memory: &mut [u8],
+) -> usize {
     let mut at = place;
     let mut i: usize = 0;
     while i < count {
-        at = put_field(slices::word_at(words, i), width(i, n), at, memory);
+        at = put_field(slices::word_at(words, i), width(i, n, kind), at, memory);
         i += 1;
     }
     at
 }
 
-// The content becomes a part, with zero bits up to a whole byte.
+// The content becomes the part of the last two bits' number, with zero bits up to a whole byte. Below 4 the kinds of links are left out, as
+// records were stored before they had them.
 pub fn record(part: usize, words: &[u32], memory: &mut [u8], cells: &mut [u64]) {
     let start = cells::number(cells, cells::START + part % 4) % 0x1000_0000;
     let count = cells::number(cells, cells::CONTENT);
     let n = slices::word_at(words, 0) as usize;
-    let end = put_fields(words, n, count, start * 8, memory);
+    let kind = if part < 4 { 0 } else { 3 };
+    let end = put_fields(words, n, kind, count, start * 8, memory);
     let last = put_field(0, 7 - slices::plus(end, 7) % 8, end, memory);
     cells::set(cells, cells::END + part % 4, last / 8);
 }

@@ -115,7 +115,7 @@ pub extern "C" fn yuthaqim_write_record(
     numbered::reply(packed::write_record(fields, out, work))
 }
 
-// Sorts the edges of a record that was stored before they stood in order: writes the record.
+// Sorts the edges of a record that was stored before they had kinds, or even an order: writes the record.
 #[no_mangle]
 pub extern "C" fn yuthaqim_sort_record(
     old: &[u8],

@@ -74,10 +74,13 @@ calls! {
     write_sheet = yuthaqim_write_sheet(pattern: u8, fields: u32; out: u8) -> Replied, usize;
     /// Writes a book beside the file of its catalogue.
     write_book = yuthaqim_write_book(catalogue: u8, fields: u32; out: u8) -> Replied, usize;
-    /// Writes the record of a file that was stored before links had an order, with its links ascending. The file is read by
-    /// the rules of then: in any order, and [`TWICE`](crate::TWICE) for a link that repeats an earlier one.
+    /// Writes the record of a file that was stored before links had kinds, or even an order: its links ascending, each with
+    /// kind 0. Patterns whose links all have kind 0 have the same sheets. The file is read by the rules of then: at most
+    /// [`OLD_RECORD_BYTES`](crate::OLD_RECORD_BYTES), a from and a to for each link, in any order, and
+    /// [`TWICE`](crate::TWICE) for one that repeats an earlier one.
     sort_record = yuthaqim_sort_record(old: u8; out: u8) -> Replied, usize;
-    /// Searches a record for a pattern: writes the pattern's sheet.
+    /// Searches a record for a pattern: writes the pattern's sheet. A link of the pattern is met by links of the record of
+    /// its own kind alone; the sheet lists pairs, since the link of the pattern gives the kind.
     search = yuthaqim_search(pattern: u8, record: u8; out: u8) -> Replied, usize;
     /// Makes the index of a record: for each item the number of links that begin at lower items, then the number of all
     /// links. So a record of n items has n + 1 entries.
@@ -88,7 +91,8 @@ calls! {
     search_indexed = yuthaqim_search_indexed(pattern: u8, record: u8, index: u16; out: u8) -> Replied, usize;
     /// Makes the book of a catalogue from a record: writes a sheet for each extract.
     make_book = yuthaqim_make_book(catalogue: u8, record: u8; out: u8) -> Replied, usize;
-    /// Quotes a question with a catalogue. It has no output, and uncovered is one of its results.
+    /// Quotes a question with a catalogue: a link of an extract matches links of the question of its own kind alone. It has
+    /// no output, and uncovered is one of its results.
     quote = yuthaqim_quote(question: u8, catalogue: u8;) -> Quoted, Quote;
     /// Answers a covered question from a book: writes the question's sheet, the one that searching the record gives if
     /// the book was made from a record.
@@ -98,8 +102,8 @@ calls! {
     /// [`UNCOVERED`](crate::UNCOVERED) the detail is the lowest link that this set leaves unmatched.
     answer_from = yuthaqim_answer_from(question: u8, catalogue: u8 [set: u16] book: u8; out: u8) -> Replied, usize;
     /// Shows why a question is uncovered: writes the question read as a record, and the same without its lowest
-    /// unmatched link, which is the lowest by its number in the question; the links of both records ascend. Every extract
-    /// lists the same on both, the question doesn't.
+    /// unmatched link, which is the lowest by its number in the question; a link between the same items of another kind
+    /// stays. The links of both records ascend. Every extract lists the same on both, the question doesn't.
     show_uncovered = yuthaqim_show_uncovered(question: u8, catalogue: u8; first: u8, second: u8) -> Showed, (usize, usize);
     /// Finds the cheapest set of extracts that covers a question, by one charge for each extract, in catalogue order. No set
     /// that covers costs less; of those that cost as much it has the fewest extracts, and of those it comes first when the

@@ -6,14 +6,15 @@
 //! a [`Refusal`], which leaves the output as it was. The words may hold anything before a call. Afterwards the first
 //! [`WORK_WORDS`] of them are zero and those beyond are as they were; on [`DESK`] all of them are.
 //!
-//! Content is a file's fields in order, one word each, padding left out. That of a sheet is 0 alone where nothing was found,
-//! else 1 and then the counts and pairs.
+//! Content is a file's fields in order, one word each, padding left out. That of a pattern or a record is the number of items,
+//! the number of links, the kind of each item or in a record its kinds, and for each link its from, its to and its kind, which
+//! is 0 to 7. That of a sheet is 0 alone where nothing was found, else 1 and then the counts and pairs.
 //!
 //! ```
 //! # fn main() -> Result<(), yuthaqim::Refusal> {
-//! let question = [0x20, 0x80, 0x08, 0x86, 0x02, 0x04, 0x26, 0x46];
+//! let question = [0x20, 0x80, 0x08, 0x86, 0x02, 0x00, 0x80, 0x98, 0x23, 0x00];
 //! let catalogue =
-//!     [0x18, 0x10, 0x20, 0x08, 0x08, 0x18, 0x40, 0x08, 0xc0, 0x44, 0x80, 0x18, 0x40, 0x10, 0xc0, 0x44, 0x80];
+//!     [0x18, 0x10, 0x20, 0x08, 0x08, 0x18, 0x40, 0x08, 0xc0, 0x40, 0x90, 0x18, 0x40, 0x10, 0xc0, 0x40, 0x90];
 //! let mut work = vec![0; yuthaqim::WORK_WORDS];
 //! let quote = yuthaqim::quote(&question, &catalogue, &mut work)?;
 //! assert!(quote.covered);
@@ -23,7 +24,7 @@
 //! assert_eq!(cheapest.sum, 350);
 //!
 //! let mut record = [0; yuthaqim::RECORD_BYTES];
-//! let length = yuthaqim::write_record(&[3, 2, 1, 6, 8, 0, 1, 1, 2], &mut record, &mut work)?;
+//! let length = yuthaqim::write_record(&[3, 2, 1, 6, 8, 0, 1, 0, 1, 2, 0], &mut record, &mut work)?;
 //! let record = &record[..length];
 //! let mut book = [0; yuthaqim::BOOK_BYTES];
 //! let length = yuthaqim::make_book(&catalogue, record, &mut book, &mut work)?;
@@ -49,6 +50,14 @@
 //! index[1] = 2;
 //! let refusal = yuthaqim::search_indexed(&question, record, &index[..entries], &mut same, &mut work).unwrap_err();
 //! assert_eq!((refusal.number, refusal.detail), (yuthaqim::INDEX, 1));
+//!
+//! // Two links that differ in their kind alone: an extract of kind 1 matches the second.
+//! let mut two = [0; yuthaqim::PATTERN_BYTES];
+//! let length = yuthaqim::write_pattern(&[2, 2, 0, 1, 0, 1, 0, 0, 1, 1], &mut two, &mut work)?;
+//! let mut one = [0; yuthaqim::CATALOGUE_BYTES];
+//! let size = yuthaqim::write_catalogue(&[1, 2, 1, 0, 1, 0, 1, 1], &mut one, &mut work)?;
+//! let quote = yuthaqim::quote(&two[..length], &one[..size], &mut work)?;
+//! assert_eq!((quote.matches(0, 0), quote.matches(1, 0), quote.lowest_unmatched), (0, 1, Some(0)));
 //! # Ok(())
 //! # }
 //! ```
@@ -66,17 +75,18 @@ use std::fmt;
 pub const WORK_WORDS: usize = 16_384;
 
 /// The most bytes of each file; an answer is a sheet. A sheet for nothing found is one byte, 0; else with m links and t pairs
-/// it takes (1 + 14 · m + 24 · t) / 8 bytes, rounded up.
-pub const PATTERN_BYTES: usize = 44;
-pub const CATALOGUE_BYTES: usize = 705;
-pub const RECORD_BYTES: usize = 40_964;
+/// it takes (1 + 14 · m + 24 · t) / 8 bytes, rounded up. An old record is one that [`sort_record`] reads.
+pub const PATTERN_BYTES: usize = 56;
+pub const CATALOGUE_BYTES: usize = 897;
+pub const RECORD_BYTES: usize = 44_036;
+pub const OLD_RECORD_BYTES: usize = 40_964;
 pub const SHEET_BYTES: usize = 65_536;
 pub const BOOK_BYTES: usize = 65_536;
 
 /// The most words of its content: who lends a reader so many never meets [`NO_FIT`].
-pub const PATTERN_WORDS: usize = 82;
-pub const CATALOGUE_WORDS: usize = 1_313;
-pub const RECORD_WORDS: usize = 20_482;
+pub const PATTERN_WORDS: usize = 114;
+pub const CATALOGUE_WORDS: usize = 1_825;
+pub const RECORD_WORDS: usize = 28_674;
 pub const SHEET_WORDS: usize = 43_690;
 pub const BOOK_WORDS: usize = 43_701;
 

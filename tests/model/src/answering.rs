@@ -33,7 +33,7 @@ pub fn greatest_choice(question: &Pattern, candidates: Choice) -> Choice {
             leaving.all(|(_, begins)| begins.contains(&v))
         };
         let mut dropped = false;
-        for (&(u, next), pairs) in question.links.iter().zip(&mut kept) {
+        for (&(u, next, _), pairs) in question.links.iter().zip(&mut kept) {
             let before = pairs.len();
             pairs.retain(|&(v, w)| supported(u, v) && supported(next, w));
             dropped |= pairs.len() < before;
@@ -105,7 +105,7 @@ pub fn answer_from(
 mod tests {
     use super::*;
     use crate::matching::{make_book, search};
-    use crate::quoting::tests::{C, D, SLOW};
+    use crate::quoting::tests::{of_kinds, C, D, SLOW};
 
     const ROOM: usize = BOOK_BYTES;
     const WORK: usize = WORK_WORDS;
@@ -121,7 +121,7 @@ mod tests {
 
     #[test]
     fn k9_as_the_search() {
-        let k9 = write_record(&[3, 2, 1, 6, 8, 0, 1, 1, 2], ROOM, WORK).unwrap();
+        let k9 = write_record(&[3, 2, 1, 6, 8, 0, 1, 0, 1, 2, 0], ROOM, WORK).unwrap();
         let book = make_book(&C, &k9, ROOM, WORK).unwrap();
         assert_eq!(answered(&book), [1, 1, 0, 1, 1, 0, 1, 1, 1, 2, 1, 1, 2]);
         assert_eq!(answer(&D, &C, &book, ROOM, WORK), search(&D, &k9, ROOM, WORK));
@@ -151,7 +151,7 @@ mod tests {
 
     #[test]
     fn the_client_may_choose() {
-        let k9 = write_record(&[3, 2, 1, 6, 8, 0, 1, 1, 2], ROOM, WORK).unwrap();
+        let k9 = write_record(&[3, 2, 1, 6, 8, 0, 1, 0, 1, 2, 0], ROOM, WORK).unwrap();
         let made = make_book(&C, &k9, ROOM, WORK).unwrap();
         for set in [6, 7, 0xffff, 0xfffe] {
             assert_eq!(answer_from(&D, &C, set, &made, ROOM, WORK), search(&D, &k9, ROOM, WORK));
@@ -174,16 +174,44 @@ mod tests {
     }
 
     #[test]
+    fn links_that_differ_in_their_kinds_alone() {
+        let (question, catalogue) = of_kinds(&[0, 1], &[&[1], &[0], &[0, 1]]);
+        // Section 0 has both kinds to run 2, section 1 one to run 2 and the other to run 3.
+        let kinds = graph_fields(&[1, 1, 2, 2], &[(0, 2, 0), (0, 2, 1), (1, 2, 0), (1, 3, 1)]);
+        let record = write_record(&kinds, ROOM, WORK).unwrap();
+        let book = make_book(&catalogue, &record, ROOM, WORK).unwrap();
+        let searched = search(&question, &record, ROOM, WORK).unwrap();
+        assert_eq!(read_sheet(&question, &searched, ROOM, WORK).unwrap(), [1, 2, 0, 2, 1, 2, 2, 0, 2, 1, 3]);
+        assert_eq!(answer(&question, &catalogue, &book, ROOM, WORK), Ok(searched.clone()));
+        for set in [3, 4, 5, 6, 7, 0xffff] {
+            assert_eq!(answer_from(&question, &catalogue, set, &book, ROOM, WORK), Ok(searched.clone()));
+        }
+        // Extract 0 lists the pairs of kind 1, which are no candidates for the link of kind 0.
+        for (set, lowest) in [(0, 0), (1, 0), (2, 1), (0xfff8, 0)] {
+            assert_eq!(answer_from(&question, &catalogue, set, &book, ROOM, WORK), refused(UNCOVERED, lowest));
+        }
+    }
+
+    #[test]
+    fn candidates_of_two_kinds_in_a_book_of_no_record() {
+        let (question, catalogue) = of_kinds(&[0, 1], &[&[1], &[0]]);
+        // Pairs of kind 1, then of kind 0. Item 3 lacks kind 1, and item 5 kind 0.
+        let book = write_book(&catalogue, &[1, 2, 0, 1, 5, 6, 1, 2, 0, 2, 3, 4], ROOM, WORK).unwrap();
+        let sheet = answer(&question, &catalogue, &book, ROOM, WORK).unwrap();
+        assert_eq!(read_sheet(&question, &sheet, ROOM, WORK).unwrap(), [1, 1, 0, 2, 1, 0, 1]);
+    }
+
+    #[test]
     fn refusals_in_order() {
         let mut crowd = vec![1, 8_192];
         crowd.extend((0..8_192).flat_map(|i| [i / 2, i % 2]));
-        let one = write_pattern(&[2, 1, 0, 1, 0, 1], ROOM, WORK).unwrap();
+        let one = write_pattern(&[2, 1, 0, 1, 0, 1, 0], ROOM, WORK).unwrap();
         let mut full = write_sheet(&one, &crowd, ROOM, WORK).unwrap();
         full.extend(write_sheet(&one, &[1, 1, 0, 2], ROOM, WORK).unwrap());
-        let twice = write_catalogue(&[2, 2, 1, 0, 1, 0, 1, 2, 1, 0, 1, 0, 1], ROOM, WORK).unwrap();
+        let twice = write_catalogue(&[2, 2, 1, 0, 1, 0, 1, 0, 2, 1, 0, 1, 0, 1, 0], ROOM, WORK).unwrap();
         for (question, catalogue, book, work, number, detail) in [
-            (&D[..7], &C[..16], &[][..], WORK - 1, DESK, 0),
-            (&D[..7], &C[..16], &[], WORK, SHORT, PATTERN),
+            (&D[..9], &C[..16], &[][..], WORK - 1, DESK, 0),
+            (&D[..9], &C[..16], &[], WORK, SHORT, PATTERN),
             (&D, &C[..16], &[], WORK, SHORT, CATALOGUE),
             (&D, &C, &[], WORK, SHORT, BOOK),
             (&D, &C, &[0; BOOK_BYTES + 1], WORK, LONG, BOOK),

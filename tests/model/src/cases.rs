@@ -1,6 +1,7 @@
-//! The cases, by sections: files and contents written out, limits, damaged files, the worked cases, searches beside the
-//! plain one, questions and their answers, the steps of joins, and the refusals of every call.
+//! The cases, by sections: files and contents written out, limits, damaged files, the worked cases, links with kinds, searches
+//! beside the plain one, questions and their answers, the steps of joins, and the refusals of every call.
 
+mod kinds;
 mod questions;
 mod refusals;
 mod searches;
@@ -16,6 +17,7 @@ pub fn written() -> (Vec<u8>, String) {
     lend_most(&mut script);
     table::write(&mut script);
     worked::write(&mut script);
+    kinds::write(&mut script);
     searches::write(&mut script);
     questions::write(&mut script);
     steps::write(&mut script);
@@ -34,12 +36,12 @@ fn lend_most(script: &mut Script) {
 }
 
 /// The question and the catalogue of the requirements, and parts of the catalogue.
-const D: [u8; 8] = [0x20, 0x80, 0x08, 0x86, 0x02, 0x04, 0x26, 0x46];
+const D: [u8; 10] = [0x20, 0x80, 0x08, 0x86, 0x02, 0x00, 0x80, 0x98, 0x23, 0x00];
 const C: [u8; 17] =
-    [0x18, 0x10, 0x20, 0x08, 0x08, 0x18, 0x40, 0x08, 0xc0, 0x44, 0x80, 0x18, 0x40, 0x10, 0xc0, 0x44, 0x80];
+    [0x18, 0x10, 0x20, 0x08, 0x08, 0x18, 0x40, 0x08, 0xc0, 0x40, 0x90, 0x18, 0x40, 0x10, 0xc0, 0x40, 0x90];
 const ONE: [u8; 4] = [0x10, 0x20, 0x08, 0x08];
 /// A catalogue that has extract 1 of C alone.
-const SLOW: [u8; 7] = [0x08, 0x18, 0x40, 0x08, 0xc0, 0x44, 0x80];
+const SLOW: [u8; 7] = [0x08, 0x18, 0x40, 0x08, 0xc0, 0x40, 0x90];
 
 /// The writer's output becomes a part of its own.
 fn keep_as(script: &mut Script, part: usize) {

@@ -50,7 +50,7 @@ pub fn is_tied(question: &[u8], catalogue: &[u8], charges: &[u32], cheapest: &Ch
 #[cfg(test)]
 mod tests {
     use super::*;
-    use crate::quoting::tests::{C, D, NONE, SLOW};
+    use crate::quoting::tests::{of_kinds, C, D, NONE, SLOW};
 
     const WORK: usize = WORK_WORDS;
 
@@ -58,7 +58,7 @@ mod tests {
     fn links(numbers: &[u32]) -> Vec<u32> {
         let mut fields = vec![2 * numbers.len() as u32, numbers.len() as u32];
         fields.extend(numbers.iter().flat_map(|n| [2 * n, 2 * n + 1]));
-        fields.extend((0..numbers.len() as u32).flat_map(|i| [2 * i, 2 * i + 1]));
+        fields.extend((0..numbers.len() as u32).flat_map(|i| [2 * i, 2 * i + 1, 0]));
         fields
     }
 
@@ -100,10 +100,20 @@ mod tests {
     }
 
     #[test]
+    fn links_that_differ_in_their_kinds_alone() {
+        let (question, catalogue) = of_kinds(&[0, 1], &[&[0, 1], &[0], &[1], &[2]]);
+        let of = |charges: &[u32]| cheapest(&question, &catalogue, charges, WORK);
+        assert_eq!(of(&[9, 4, 4, 0]), Ok(Cheapest { set: vec![1, 2], sum: 8, chosen: vec![0] }));
+        assert_eq!(of(&[8, 4, 4, 0]).unwrap().set, [0]);
+        let (question, catalogue) = of_kinds(&[0, 1], &[&[1], &[2], &[1]]);
+        assert_eq!(cheapest(&question, &catalogue, &[0; 3], WORK), refused(UNCOVERED, 0));
+    }
+
+    #[test]
     fn refusals_in_order() {
         for (question, catalogue, charges, work, number, detail) in [
-            (&D[..7], &C[..16], 0, WORK - 1, DESK, 0),
-            (&D[..7], &C[..16], 0, WORK, SHORT, PATTERN),
+            (&D[..9], &C[..16], 0, WORK - 1, DESK, 0),
+            (&D[..9], &C[..16], 0, WORK, SHORT, PATTERN),
             (&D[..], &C[..16], 0, WORK, SHORT, CATALOGUE),
             (&D[..], &C[..], 0, WORK, CHARGES, 0),
             (&D[..], &C[..], 2, WORK, CHARGES, 2),

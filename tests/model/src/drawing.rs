@@ -20,34 +20,48 @@ impl Rule {
     }
 }
 
-/// The kinds that are used: so many from the first on.
+/// The kinds that are used: of items so many from the first on, and so of links.
 #[derive(Clone, Copy)]
 pub struct Kinds {
     first: u32,
     number: u32,
+    link_first: u32,
+    link_number: u32,
 }
 
+/// One time in three all links have kind 0.
 pub fn draw_kinds(rule: &mut Rule) -> Kinds {
     let number = 1 + rule.draw(4);
     let first = rule.draw(29);
-    Kinds { first, number }
+    let (link_first, link_number) = match rule.draw(3) {
+        0 => (0, 1),
+        _ => {
+            let number = 1 + rule.draw(3);
+            (rule.draw(9 - number), number)
+        }
+    };
+    Kinds { first, number, link_first, link_number }
 }
 
-pub fn kind(rule: &mut Rule, kinds: Kinds) -> u32 {
-    kinds.first + rule.draw(kinds.number)
+impl Kinds {
+    /// The kind of an item.
+    fn item(self, rule: &mut Rule) -> u32 {
+        self.first + rule.draw(self.number)
+    }
+
+    fn link(self, rule: &mut Rule) -> u32 {
+        self.link_first + rule.draw(self.link_number)
+    }
+
+    /// Whether all links have kind 0, as those of an old record.
+    pub fn are_old(self) -> bool {
+        (self.link_first, self.link_number) == (0, 1)
+    }
 }
 
-/// The content of a graph.
-pub fn content(kinds: &[u32], links: &[(u32, u32)]) -> Vec<u32> {
-    let mut fields = vec![kinds.len() as u32, links.len() as u32];
-    fields.extend(kinds);
-    fields.extend(links.iter().flat_map(|&(from, to)| [from, to]));
-    fields
-}
-
-/// The link t of a pattern with n items. The first n links reach each item: a tree from item 0, a tree to it, a
+/// The ends of link t of a pattern with n items. The first n links reach each item: a tree from item 0, a tree to it, a
 /// link from each item, pairs. The others are any.
-fn pattern_link(rule: &mut Rule, form: u32, t: u32, n: u32) -> (u32, u32) {
+fn pattern_ends(rule: &mut Rule, form: u32, t: u32, n: u32) -> (u32, u32) {
     if t >= n {
         return (rule.draw(n), rule.draw(n));
     }
@@ -61,20 +75,27 @@ fn pattern_link(rule: &mut Rule, form: u32, t: u32, n: u32) -> (u32, u32) {
     }
 }
 
-/// The content of a pattern with n items. So many links are tried; 32 are enough.
+/// The content of a pattern with n items. So many links are tried; 32 are enough. Beyond the first n, one in three is beside
+/// another.
 pub fn draw_pattern_of(rule: &mut Rule, n: u32, tries: u32, kinds: Kinds) -> Vec<u32> {
-    let items: Vec<u32> = (0..n).map(|_| kind(rule, kinds)).collect();
+    let items: Vec<u32> = (0..n).map(|_| kinds.item(rule)).collect();
     let form = rule.draw(4);
-    let mut links = Vec::new();
+    let mut links: Vec<Link> = Vec::new();
     for t in 0..tries {
         if links.len() < 32 {
-            let link = pattern_link(rule, form, t, n);
+            let (from, to) = if t >= n && rule.draw(3) == 0 {
+                let (from, to, _) = links[rule.draw(links.len() as u32) as usize];
+                (from, to)
+            } else {
+                pattern_ends(rule, form, t, n)
+            };
+            let link = (from, to, kinds.link(rule));
             if !links.contains(&link) {
                 links.push(link);
             }
         }
     }
-    content(&items, &links)
+    graph_fields(&items, &links)
 }
 
 /// The content of a pattern of any size.
@@ -114,29 +135,37 @@ fn draw_links(rule: &mut Rule, m: u32, spared: u32) -> Vec<u32> {
     links
 }
 
-/// The content of the part of a question that has these links and their ends.
-fn part(question: &Pattern, links: &[u32]) -> Vec<u32> {
-    let links: Vec<(u32, u32)> = links.iter().map(|&e| question.links[e as usize]).collect();
-    let is_end = |u: &u32| links.iter().any(|&(from, to)| from == *u || to == *u);
+/// The part of a question that has these links and their ends.
+fn part(question: &Pattern, links: &[u32]) -> Pattern {
+    let links: Vec<Link> = links.iter().map(|&e| question.links[e as usize]).collect();
+    let is_end = |u: &u32| links.iter().any(|&(from, to, _)| from == *u || to == *u);
     let items: Vec<u32> = (0..question.kinds.len() as u32).filter(is_end).collect();
     let number = |u: u32| items.iter().position(|&item| item == u).unwrap() as u32;
-    let kinds: Vec<u32> = items.iter().map(|&u| question.kinds[u as usize]).collect();
-    let links: Vec<(u32, u32)> = links.iter().map(|&(from, to)| (number(from), number(to))).collect();
-    content(&kinds, &links)
+    let kinds = items.iter().map(|&u| question.kinds[u as usize]).collect();
+    let links = links.iter().map(|&(from, to, kind)| (number(from), number(to), kind)).collect();
+    Pattern { kinds, links }
 }
 
-/// An extract: a pattern of its own, a part of the question in which one item has any kind, or a part of it.
+/// An extract: a pattern of its own, a part of the question in which one item or one link has any kind, or a part of it.
 fn draw_extract(rule: &mut Rule, question: &Pattern, spared: u32, kinds: Kinds) -> Vec<u32> {
     let form = rule.draw(8);
     if form == 0 {
         return draw_pattern(rule, kinds);
     }
-    let mut fields = part(question, &draw_links(rule, question.links.len() as u32, spared));
+    let Pattern { kinds: mut items, mut links } =
+        part(question, &draw_links(rule, question.links.len() as u32, spared));
     if form == 1 {
-        let item = rule.draw(fields[0]);
-        fields[2 + item as usize] = kind(rule, kinds);
+        let item = rule.draw(items.len() as u32) as usize;
+        items[item] = kinds.item(rule);
     }
-    fields
+    if form == 2 {
+        let e = rule.draw(links.len() as u32) as usize;
+        let link = (links[e].0, links[e].1, kinds.link(rule));
+        if !links.contains(&link) {
+            links[e] = link;
+        }
+    }
+    graph_fields(&items, &links)
 }
 
 fn draw_catalogue(rule: &mut Rule, question: &Pattern, full: bool, kinds: Kinds) -> Vec<u8> {
@@ -152,7 +181,7 @@ fn draw_catalogue(rule: &mut Rule, question: &Pattern, full: bool, kinds: Kinds)
 }
 
 pub fn pattern_file(pattern: &Pattern) -> Vec<u8> {
-    write_pattern(&content(&pattern.kinds, &pattern.links), PATTERN_BYTES, WORK_WORDS).unwrap()
+    write_pattern(&graph_fields(&pattern.kinds, &pattern.links), PATTERN_BYTES, WORK_WORDS).unwrap()
 }
 
 /// The files of a question and a catalogue.
@@ -194,16 +223,20 @@ pub fn draw_items(rule: &mut Rule, size: u32, case: u32) -> u32 {
     size - rule.draw(size / 4 + 1)
 }
 
-/// A record with n items.
+/// A record with n items. A pair has a link of one kind, of some, or of every kind; one whose links have kind 0 has one.
 pub fn draw_record(rule: &mut Rule, n: u32, kinds: Kinds) -> Drawn {
+    let kind_form = if kinds.are_old() { 0 } else { [0, 1, 1, 2][rule.draw(4) as usize] };
     Drawn {
         seed: rule.draw(65_536),
         items: n as usize,
-        links: rule.draw(4 * n + 1).min(8_192) as usize,
+        links: rule.draw(4 * n + 1).min([8_192, 2_730, 1_024][kind_form]) as usize,
         kind: kinds.first as usize,
         kinds: kinds.number as usize,
         item_form: rule.draw(4) as usize,
         link_form: rule.draw(6) as usize,
+        link_kind: kinds.link_first as usize,
+        link_kinds: kinds.link_number as usize,
+        kind_form,
     }
 }
 

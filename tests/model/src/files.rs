@@ -10,10 +10,13 @@ use std::ops::RangeBounds;
 pub const WORK_WORDS: usize = 16_384;
 
 /// The most bytes of each file.
-pub const PATTERN_BYTES: usize = 44;
-pub const CATALOGUE_BYTES: usize = 705;
-pub const RECORD_BYTES: usize = 40_964;
+pub const PATTERN_BYTES: usize = 56;
+pub const CATALOGUE_BYTES: usize = 897;
+pub const RECORD_BYTES: usize = 44_036;
 pub const BOOK_BYTES: usize = 65_536;
+
+/// The most bytes of a record as it was stored before its links had an order and kinds.
+pub const OLD_RECORD_BYTES: usize = 40_964;
 
 /// The most different pairs of a book.
 pub const BOOK_PAIRS: usize = 8_192;
@@ -50,11 +53,14 @@ pub fn refused<T>(number: u32, detail: usize) -> Result<T, Refusal> {
 
 // What the files mean.
 
-/// A question or an extract.
+/// A link: from, to and its kind.
+pub type Link = (u32, u32, u32);
+
+/// A question or an extract: the kind of each item, and the links.
 #[derive(Clone, Debug, PartialEq, Eq)]
 pub struct Pattern {
     pub kinds: Vec<u32>,
-    pub links: Vec<(u32, u32)>,
+    pub links: Vec<Link>,
 }
 
 pub type Catalogue = Vec<Pattern>;
@@ -63,7 +69,7 @@ pub type Catalogue = Vec<Pattern>;
 #[derive(Clone, Debug, PartialEq, Eq)]
 pub struct Record {
     pub kinds: Vec<u32>,
-    pub links: Vec<(u32, u32)>,
+    pub links: Vec<Link>,
 }
 
 /// The list of pairs of each link of a pattern.
@@ -208,16 +214,26 @@ impl<'a> Walk<'a> {
 
 // The formats.
 
-fn walk_link(walk: &mut Walk, items: u32, width: usize) -> Result<(u32, u32), Refusal> {
+/// The two ends of a link.
+fn walk_ends(walk: &mut Walk, items: u32, width: usize) -> Result<(u32, u32), Refusal> {
     Ok((walk.field(width, ..items, STRAY)?, walk.field(width, ..items, STRAY)?))
 }
 
+fn walk_link(walk: &mut Walk, items: u32, width: usize) -> Result<Link, Refusal> {
+    let (from, to) = walk_ends(walk, items, width)?;
+    Ok((from, to, walk.field(3, 0..=7, COUNT)?))
+}
+
 /// Links in any order, none twice.
-fn walk_links(walk: &mut Walk, items: u32, links: u32, width: usize) -> Result<Vec<(u32, u32)>, Refusal> {
+fn walk_links<T: Copy + Ord>(
+    walk: &mut Walk,
+    links: u32,
+    link: impl Fn(&mut Walk) -> Result<T, Refusal>,
+) -> Result<Vec<T>, Refusal> {
     let mut list = Vec::new();
     let mut seen = BTreeSet::new();
     for _ in 0..links {
-        let link = walk_link(walk, items, width)?;
+        let link = link(walk)?;
         if !seen.insert(link) {
             return walk.refuse(TWICE);
         }
@@ -226,8 +242,8 @@ fn walk_links(walk: &mut Walk, items: u32, links: u32, width: usize) -> Result<V
     Ok(list)
 }
 
-/// Links that strictly ascend, by from, then to.
-fn walk_ascending(walk: &mut Walk, items: u32, links: u32, width: usize) -> Result<Vec<(u32, u32)>, Refusal> {
+/// Links that strictly ascend, by from, then to, then kind.
+fn walk_ascending(walk: &mut Walk, items: u32, links: u32, width: usize) -> Result<Vec<Link>, Refusal> {
     let mut list = Vec::new();
     for _ in 0..links {
         let link = walk_link(walk, items, width)?;
@@ -246,9 +262,9 @@ fn walk_pattern(walk: &mut Walk) -> Result<Pattern, Refusal> {
     for _ in 0..items {
         kinds.push(walk.field(5, 0..=31, COUNT)?);
     }
-    let links = walk_links(walk, items, links, 4)?;
+    let links = walk_links(walk, links, |walk| walk_link(walk, items, 4))?;
     for item in 0..items {
-        if !links.iter().any(|&(from, to)| from == item || to == item) {
+        if !links.iter().any(|&(from, to, _)| from == item || to == item) {
             return walk.refuse(LOOSE);
         }
     }
@@ -284,12 +300,12 @@ fn walk_record(walk: &mut Walk) -> Result<Record, Refusal> {
     Ok(Record { kinds, links })
 }
 
-/// A record as it was stored before its links had an order.
+/// A record as it was stored before its links had an order and kinds. Each of them counts as one of kind 0.
 fn walk_old_record(walk: &mut Walk) -> Result<Record, Refusal> {
     let (kinds, links) = walk_items(walk)?;
-    let links = walk_links(walk, kinds.len() as u32, links, 12)?;
+    let links = walk_links(walk, links, |walk| walk_ends(walk, kinds.len() as u32, 12))?;
     walk.padding()?;
-    Ok(Record { kinds, links })
+    Ok(Record { kinds, links: links.into_iter().map(|(from, to)| (from, to, 0)).collect() })
 }
 
 fn walk_sheet(walk: &mut Walk, pattern: &Pattern) -> Result<Sheet, Refusal> {
@@ -479,36 +495,53 @@ pub fn write_book(catalogue: &[u8], fields: &[u32], room_bytes: usize, work_word
     give_book(walk.bytes(), room_bytes)
 }
 
-/// A record's content.
-pub fn record_fields(kinds: &[u32], links: &[(u32, u32)]) -> Vec<u32> {
+/// The content of a pattern or a record.
+pub fn graph_fields(kinds: &[u32], links: &[Link]) -> Vec<u32> {
     let mut fields = vec![kinds.len() as u32, links.len() as u32];
     fields.extend(kinds);
-    fields.extend(links.iter().flat_map(|&(from, to)| [from, to]));
+    fields.extend(links.iter().flat_map(|&(from, to, kind)| [from, to, kind]));
     fields
 }
 
-/// 14, the file by the old rules, then 12: the record with its links in order.
+/// 14, the file by the old rules, then 12: the record with its links in order, each of kind 0.
 pub fn sort_record(old: &[u8], room_bytes: usize, work_words: usize) -> Result<Vec<u8>, Refusal> {
     judge_desk(work_words)?;
-    let (Record { kinds, mut links }, _) = read(old, RECORD_BYTES, RECORD, walk_old_record)?;
+    let (Record { kinds, mut links }, _) = read(old, OLD_RECORD_BYTES, RECORD, walk_old_record)?;
     links.sort();
-    write_record(&record_fields(&kinds, &links), room_bytes, work_words)
+    write_record(&graph_fields(&kinds, &links), room_bytes, work_words)
 }
 
-/// A file of a record's layout with these fields, whatever they say.
-pub fn pack_record(fields: &[u32]) -> Vec<u8> {
+// Files whatever they say.
+
+/// A file of a graph's layout: the widths of the two counts, of an item's kinds, and of a link's ends and kind.
+fn pack(fields: &[u32], counts: [usize; 2], item: usize, link: [usize; 3]) -> Vec<u8> {
     let mut walk = Walk::over_values(fields, RECORD);
+    let items = 2 + fields.first().map_or(0, |&items| items as usize);
     for (place, &value) in fields.iter().enumerate() {
         let width = match place {
-            0 => 13,
-            1 => 14,
-            _ if place < 2 + fields[0] as usize => 32,
-            _ => 12,
+            0 | 1 => counts[place],
+            _ if place < items => item,
+            _ => link[(place - items) % 3],
         };
         walk.pieces.push(Piece::Field { width, value });
     }
     walk.pieces.push(Piece::Padding);
     walk.bytes()
+}
+
+/// The file of a pattern's content, whatever it says.
+pub fn pack_pattern(fields: &[u32]) -> Vec<u8> {
+    pack(fields, [5, 6], 5, [4, 4, 3])
+}
+
+/// The file of a record's content, whatever it says.
+pub fn pack_record(fields: &[u32]) -> Vec<u8> {
+    pack(fields, [13, 14], 32, [12, 12, 3])
+}
+
+/// The same as it would have been stored before links had an order and kinds, so without the kinds.
+pub fn pack_old_record(fields: &[u32]) -> Vec<u8> {
+    pack(fields, [13, 14], 32, [12, 12, 0])
 }
 
 #[cfg(test)]

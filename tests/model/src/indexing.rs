@@ -12,7 +12,7 @@ pub const INDEX_ENTRIES: usize = 4_097;
 /// For each item the number of links that begin at lower items, then the number of all.
 fn index_of(record: &Record) -> Vec<u16> {
     let items = record.kinds.len() as u32;
-    let below = |item: u32| record.links.iter().filter(|&&(from, _)| from < item).count();
+    let below = |item: u32| record.links.iter().filter(|&&(from, ..)| from < item).count();
     let mut index: Vec<u16> = (0..items).map(|item| below(item) as u16).collect();
     index.push(record.links.len() as u16);
     index
@@ -65,17 +65,14 @@ mod tests {
     const ROOM: usize = BOOK_BYTES;
     const WORK: usize = WORK_WORDS;
     /// Extract 1 of C.
-    const SLOW: [u8; 6] = [0x18, 0x40, 0x08, 0xc0, 0x44, 0x80];
+    const SLOW: [u8; 6] = [0x18, 0x40, 0x08, 0xc0, 0x40, 0x90];
 
-    fn record(kinds: &[u32], links: &[(u32, u32)]) -> Vec<u8> {
-        let mut fields = vec![kinds.len() as u32, links.len() as u32];
-        fields.extend(kinds);
-        fields.extend(links.iter().flat_map(|&(from, to)| [from, to]));
-        write_record(&fields, ROOM, WORK).unwrap()
+    fn record(kinds: &[u32], links: &[Link]) -> Vec<u8> {
+        write_record(&graph_fields(kinds, links), ROOM, WORK).unwrap()
     }
 
     fn k6() -> Vec<u8> {
-        record(&[1, 2, 8, 2], &[(0, 1), (0, 3), (1, 2)])
+        record(&[1, 2, 8, 2], &[(0, 1, 0), (0, 3, 0), (1, 2, 0)])
     }
 
     fn made(record: &[u8]) -> Vec<u16> {
@@ -87,12 +84,25 @@ mod tests {
         assert_eq!(made(&record(&[], &[])), [0]);
         assert_eq!(made(&record(&[0, 0], &[])), [0, 0, 0]);
         assert_eq!(made(&k6()), [0, 2, 3, 3, 3]);
-        assert_eq!(made(&record(&[0, 0, 0], &[(2, 0), (2, 1)])), [0, 0, 0, 2]);
+        assert_eq!(made(&record(&[0, 0, 0], &[(2, 0, 0), (2, 1, 0)])), [0, 0, 0, 2]);
+    }
+
+    #[test]
+    fn links_are_counted_by_their_kinds() {
+        let kinds = record(&[1, 2, 8], &[(0, 1, 0), (0, 1, 1), (0, 1, 7), (1, 2, 3), (1, 2, 5)]);
+        assert_eq!(made(&kinds), [0, 3, 5, 5]);
+        let pattern = write_pattern(&[2, 2, 0, 1, 0, 1, 1, 0, 1, 7], ROOM, WORK).unwrap();
+        assert_eq!(search_indexed(&pattern, &kinds, &[0, 3, 5, 5], ROOM, WORK), search(&pattern, &kinds, ROOM, WORK));
+        // That of the pairs isn't its own.
+        assert_eq!(check_index(&kinds, &[0, 1, 2, 2], WORK), refused(INDEX, 1));
+        let all: Vec<Link> = (0..8_192).map(|link| (link / 256, link / 8 % 32, link % 8)).collect();
+        let index = made(&record(&[1; 32], &all));
+        assert_eq!((index[1], index[31], index[32]), (256, 7_936, 8_192));
     }
 
     #[test]
     fn the_largest_record() {
-        let links: Vec<(u32, u32)> = (0..8_192).map(|link| (link / 2, link % 2)).collect();
+        let links: Vec<Link> = (0..8_192).map(|link| (link / 2, link % 2, link % 8)).collect();
         let index = made(&record(&vec![1; 4_096], &links));
         assert_eq!(index.len(), INDEX_ENTRIES);
         assert_eq!(index[1..3], [2, 4]);

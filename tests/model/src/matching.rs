@@ -10,7 +10,7 @@ pub fn record_of(bytes: &[u8], work_words: usize) -> Result<Record, Refusal> {
     let fields = read_record(bytes, ENOUGH, work_words)?;
     let items = fields[0] as usize;
     let kinds = fields[2..2 + items].to_vec();
-    let links = fields[2 + items..].chunks(2).map(|ends| (ends[0], ends[1])).collect();
+    let links = fields[2 + items..].chunks(3).map(|link| (link[0], link[1], link[2])).collect();
     Ok(Record { kinds, links })
 }
 
@@ -20,8 +20,8 @@ pub fn record_of(bytes: &[u8], work_words: usize) -> Result<Record, Refusal> {
 /// dropped, until none is. A pair of any simulation is never dropped, so all of them lie in what is left.
 fn greatest_simulation(pattern: &Pattern, record: &Record) -> Vec<Vec<bool>> {
     let mut leaving = vec![Vec::new(); record.kinds.len()];
-    for &(from, to) in &record.links {
-        leaving[from as usize].push(to as usize);
+    for &(from, to, kind) in &record.links {
+        leaving[from as usize].push((to as usize, kind));
     }
     let has = |v: usize, kind: u32| record.kinds[v] >> kind & 1 == 1;
     let items = 0..record.kinds.len();
@@ -29,9 +29,9 @@ fn greatest_simulation(pattern: &Pattern, record: &Record) -> Vec<Vec<bool>> {
         pattern.kinds.iter().map(|&kind| items.clone().map(|v| has(v, kind)).collect()).collect();
     loop {
         let mut dropped = false;
-        for &(u, next) in &pattern.links {
+        for &(u, next, kind) in &pattern.links {
             for v in items.clone() {
-                let supported = leaving[v].iter().any(|&w| related[next as usize][w]);
+                let supported = leaving[v].iter().any(|&(w, its)| its == kind && related[next as usize][w]);
                 if related[u as usize][v] && !supported {
                     related[u as usize][v] = false;
                     dropped = true;
@@ -44,7 +44,7 @@ fn greatest_simulation(pattern: &Pattern, record: &Record) -> Vec<Vec<bool>> {
     }
 }
 
-/// A pattern's sheet from a record.
+/// A pattern's sheet from a record: a pair for each record link of the pattern link's kind that joins partners.
 pub fn sheet(pattern: &Pattern, record: &Record) -> Sheet {
     let related = greatest_simulation(pattern, record);
     if related.iter().any(|partners| !partners.contains(&true)) {
@@ -52,9 +52,10 @@ pub fn sheet(pattern: &Pattern, record: &Record) -> Sheet {
     }
     let mut links = record.links.clone();
     links.sort();
-    let listed = |&(u, next): &(u32, u32)| {
+    let listed = |&(u, next, kind): &Link| {
         let both = |v: u32, w: u32| related[u as usize][v as usize] && related[next as usize][w as usize];
-        links.iter().copied().filter(|&(v, w)| both(v, w)).collect()
+        let met = links.iter().filter(|&&(v, w, its)| its == kind && both(v, w));
+        met.map(|&(v, w, _)| (v, w)).collect()
     };
     pattern.links.iter().map(listed).collect()
 }
@@ -84,7 +85,7 @@ pub fn search(pattern: &[u8], record: &[u8], room: usize, work_words: usize) -> 
 }
 
 /// 14, the catalogue, the record, then 12. A book of a record has no more different pairs than the record has
-/// links, so 10 doesn't fall to it.
+/// links, whatever their kinds, so 10 doesn't fall to it.
 pub fn make_book(catalogue: &[u8], record: &[u8], room: usize, work_words: usize) -> Result<Vec<u8>, Refusal> {
     read_catalogue(catalogue, ENOUGH, work_words)?;
     let record = record_of(record, work_words)?;
@@ -102,21 +103,20 @@ mod tests {
     const ROOM: usize = BOOK_BYTES;
     const WORK: usize = WORK_WORDS;
 
-    const D: [u8; 8] = [0x20, 0x80, 0x08, 0x86, 0x02, 0x04, 0x26, 0x46];
-    const C: [u8; 17] = [
-        0x18, 0x10, 0x20, 0x08, 0x08, 0x18, 0x40, 0x08, 0xc0, 0x44, 0x80, 0x18, 0x40, 0x10, 0xc0, 0x44, 0x80,
-    ];
+    const D: [u8; 10] = [0x20, 0x80, 0x08, 0x86, 0x02, 0x00, 0x80, 0x98, 0x23, 0x00];
+    const C: [u8; 17] =
+        [0x18, 0x10, 0x20, 0x08, 0x08, 0x18, 0x40, 0x08, 0xc0, 0x40, 0x90, 0x18, 0x40, 0x10, 0xc0, 0x40, 0x90];
     /// Extract 1 of C alone.
-    const SLOW: [u8; 6] = [0x18, 0x40, 0x08, 0xc0, 0x44, 0x80];
+    const SLOW: [u8; 6] = [0x18, 0x40, 0x08, 0xc0, 0x40, 0x90];
     /// Kind 5 linked to itself.
-    const SELF: [u32; 5] = [1, 1, 5, 0, 0];
+    const SELF: [u32; 6] = [1, 1, 5, 0, 0, 0];
 
     fn pattern(fields: &[u32]) -> Vec<u8> {
         write_pattern(fields, ROOM, WORK).unwrap()
     }
 
-    fn record(kinds: &[u32], links: &[(u32, u32)]) -> Vec<u8> {
-        write_record(&record_fields(kinds, links), ROOM, WORK).unwrap()
+    fn record(kinds: &[u32], links: &[Link]) -> Vec<u8> {
+        write_record(&graph_fields(kinds, links), ROOM, WORK).unwrap()
     }
 
     fn listed(pattern: &[u8], record: &[u8]) -> Vec<u32> {
@@ -125,7 +125,7 @@ mod tests {
     }
 
     fn k6() -> Vec<u8> {
-        record(&[1, 2, 8, 2], &[(0, 1), (0, 3), (1, 2)])
+        record(&[1, 2, 8, 2], &[(0, 1, 0), (0, 3, 0), (1, 2, 0)])
     }
 
     #[test]
@@ -137,44 +137,92 @@ mod tests {
 
     #[test]
     fn k7_the_greatest_and_not_the_least() {
-        let both_ways = record(&[32, 32], &[(0, 1), (1, 0)]);
+        let both_ways = record(&[32, 32], &[(0, 1, 0), (1, 0, 0)]);
         assert_eq!(listed(&pattern(&SELF), &both_ways), [1, 2, 0, 1, 1, 0]);
     }
 
     #[test]
     fn k8_a_chain_has_none() {
-        let chain = record(&[32, 32, 32], &[(0, 1), (1, 2)]);
+        let chain = record(&[32, 32, 32], &[(0, 1, 0), (1, 2, 0)]);
         assert_eq!(listed(&pattern(&SELF), &chain), [0]);
     }
 
     #[test]
     fn k9_one_item_for_two() {
-        let run = record(&[1, 6, 8], &[(0, 1), (1, 2)]);
+        let run = record(&[1, 6, 8], &[(0, 1, 0), (1, 2, 0)]);
         assert_eq!(listed(&D, &run), [1, 1, 0, 1, 1, 0, 1, 1, 1, 2, 1, 1, 2]);
     }
 
     #[test]
     fn k10_an_empty_record() {
-        let one = pattern(&[2, 1, 0, 1, 0, 1]);
+        let one = pattern(&[2, 1, 0, 1, 0, 1, 0]);
         assert_eq!(search(&one, &record(&[], &[]), ROOM, WORK), Ok(vec![0]));
         assert_eq!(search(&one, &record(&[], &[]), 0, WORK), refused(NO_FIT, 1));
     }
 
     #[test]
     fn links_out_of_order() {
-        let turned = pack_record(&record_fields(&[1, 2, 8, 2], &[(1, 2), (0, 3), (0, 1)]));
-        assert_eq!(make_book(&C, &turned, ROOM, WORK), refused(ORDER, RECORD));
-        assert_eq!(search(&SLOW, &turned, ROOM, WORK), refused(ORDER, RECORD));
-        assert_eq!(sort_record(&turned, ROOM, WORK), Ok(k6()));
+        let turned = graph_fields(&[1, 2, 8, 2], &[(1, 2, 0), (0, 3, 0), (0, 1, 0)]);
+        assert_eq!(make_book(&C, &pack_record(&turned), ROOM, WORK), refused(ORDER, RECORD));
+        assert_eq!(search(&SLOW, &pack_record(&turned), ROOM, WORK), refused(ORDER, RECORD));
+        assert_eq!(sort_record(&pack_old_record(&turned), ROOM, WORK), Ok(k6()));
+    }
+
+    /// An item of kind 0 linked to one of kind 1 by links of these kinds.
+    fn one(kinds: &[u32]) -> Vec<u32> {
+        graph_fields(&[0, 1], &kinds.iter().map(|&kind| (0, 1, kind)).collect::<Vec<Link>>())
+    }
+
+    #[test]
+    fn a_link_is_met_by_one_of_its_kind() {
+        // Items 0 and 1 of kind 0, items 2 and 3 of kind 1.
+        let kinds = record(&[1, 1, 2, 2], &[(0, 2, 0), (0, 2, 1), (0, 3, 1), (1, 2, 7), (1, 3, 0)]);
+        for (links, lists) in [
+            (&[0][..], &[1, 2, 0, 2, 1, 3][..]),
+            (&[1], &[1, 2, 0, 2, 0, 3]),
+            (&[7], &[1, 1, 1, 2]),
+            (&[2], &[0]),
+            // Item 1 has no link of kind 1, so its link of kind 0 goes.
+            (&[0, 1], &[1, 1, 0, 2, 2, 0, 2, 0, 3]),
+            (&[1, 0], &[1, 2, 0, 2, 0, 3, 1, 0, 2]),
+            (&[0, 7], &[1, 1, 1, 3, 1, 1, 2]),
+            (&[0, 1, 7], &[0]),
+        ] {
+            assert_eq!(listed(&pattern(&one(links)), &kinds), lists);
+        }
+    }
+
+    #[test]
+    fn a_link_of_another_kind_supports_nothing() {
+        // K6 with the link from run to reading of kind 1.
+        let other = record(&[1, 2, 8, 2], &[(0, 1, 0), (0, 3, 0), (1, 2, 1)]);
+        assert_eq!(listed(&SLOW, &other), [0]);
+        let mixed = pattern(&[3, 2, 0, 1, 3, 0, 1, 0, 1, 2, 1]);
+        assert_eq!(listed(&mixed, &other), [1, 1, 0, 1, 1, 1, 2]);
+        assert_eq!(listed(&mixed, &k6()), [0]);
+        // K7 round a cycle whose links have two kinds.
+        let both_ways = record(&[32, 32], &[(0, 1, 0), (1, 0, 1)]);
+        assert_eq!(listed(&pattern(&SELF), &both_ways), [0]);
+        let round = pattern(&[2, 2, 5, 5, 0, 1, 0, 1, 0, 1]);
+        assert_eq!(listed(&round, &both_ways), [1, 1, 0, 1, 1, 1, 0]);
+    }
+
+    #[test]
+    fn a_sorted_record_has_links_of_kind_0() {
+        let old = pack_old_record(&graph_fields(&[1, 2], &[(0, 1, 0)]));
+        let sorted = sort_record(&old, ROOM, WORK).unwrap();
+        assert_eq!(listed(&pattern(&one(&[0])), &sorted), [1, 1, 0, 1]);
+        for kind in 1..8 {
+            assert_eq!(listed(&pattern(&one(&[kind])), &sorted), [0]);
+            assert_eq!(listed(&pattern(&one(&[0, kind])), &sorted), [0]);
+        }
     }
 
     #[test]
     fn a_book_has_its_sheets_one_after_the_other() {
         let mut sheets = Vec::new();
         for extract in judge_catalogue(&C).unwrap() {
-            let mut fields = vec![extract.kinds.len() as u32, extract.links.len() as u32];
-            fields.extend(&extract.kinds);
-            fields.extend(extract.links.iter().flat_map(|&(from, to)| [from, to]));
+            let fields = graph_fields(&extract.kinds, &extract.links);
             sheets.extend(search(&pattern(&fields), &k6(), ROOM, WORK).unwrap());
         }
         assert_eq!(make_book(&C, &k6(), ROOM, WORK), Ok(sheets));
@@ -185,7 +233,7 @@ mod tests {
     fn refusals_in_order() {
         assert_eq!(search(&[], &[], 0, WORK - 1), refused(DESK, 0));
         assert_eq!(search(&[], &[], 0, WORK), refused(SHORT, PATTERN));
-        assert_eq!(search(&[0; 45], &[], 0, WORK), refused(LONG, PATTERN));
+        assert_eq!(search(&[0; 57], &[], 0, WORK), refused(LONG, PATTERN));
         assert_eq!(search(&SLOW, &[], 0, WORK), refused(SHORT, RECORD));
         assert_eq!(search(&SLOW, &k6(), 9, WORK), refused(NO_FIT, 10));
         assert_eq!(search(&SLOW, &k6(), 10, WORK).map(|sheet| sheet.len()), Ok(10));
@@ -199,10 +247,10 @@ mod tests {
     #[test]
     fn a_sheet_over_its_most_bytes() {
         // Three lists of 8,192 pairs each.
-        let mut links: Vec<(u32, u32)> = (0..8_192).map(|link| (link / 2, (link / 2 + link % 2) % 4_096)).collect();
+        let mut links: Vec<Link> = (0..8_192).map(|link| (link / 2, (link / 2 + link % 2) % 4_096, 0)).collect();
         links.sort();
         let full = record(&vec![1; 4_096], &links);
-        let three = pattern(&[2, 3, 0, 0, 0, 0, 0, 1, 1, 0]);
+        let three = pattern(&[2, 3, 0, 0, 0, 0, 0, 0, 1, 0, 1, 0, 0]);
         let length = (1 + 3 * 14 + 3 * 8_192 * 24usize).div_ceil(8);
         assert_eq!(search(&three, &full, ENOUGH, WORK), refused(NO_FIT, length));
     }

@@ -30,14 +30,15 @@ fn judge(question: &[u8], catalogue: &[u8], work_words: usize) -> Result<(Patter
     Ok((judge_pattern(question)?, judge_catalogue(catalogue)?))
 }
 
-/// For each question link the extract links whose list, on the question read as a record, contains it.
+/// For each question link the extract links of its kind whose list, on the question read as a record, contains it. A list
+/// has pairs, which say nothing of a kind: that of the extract link is theirs.
 fn mapping(question: &Pattern, catalogue: &Catalogue) -> Vec<Vec<(usize, usize)>> {
     let record = as_record(question);
     let mut mapping = vec![Vec::new(); question.links.len()];
     for (a, extract) in catalogue.iter().enumerate() {
         for (b, list) in sheet(extract, &record).iter().enumerate() {
-            for (e, link) in question.links.iter().enumerate() {
-                if list.contains(link) {
+            for (e, &(from, to, kind)) in question.links.iter().enumerate() {
+                if extract.links[b].2 == kind && list.contains(&(from, to)) {
                     mapping[e].push((a, b));
                 }
             }
@@ -95,11 +96,11 @@ pub fn quote(question: &[u8], catalogue: &[u8], work_words: usize) -> Result<Quo
 fn write(record: Record, room: usize, work_words: usize) -> Result<Vec<u8>, Refusal> {
     let Record { kinds, mut links } = record;
     links.sort();
-    write_record(&record_fields(&kinds, &links), room, work_words)
+    write_record(&graph_fields(&kinds, &links), room, work_words)
 }
 
 /// The question read as a record, and the same without its lowest unmatched link, which is the lowest by its number in the
-/// question. After the files 13, then 12 for the first of the two that doesn't fit.
+/// question: one link of one kind. After the files 13, then 12 for the first of the two that doesn't fit.
 pub fn show(
     question: &[u8],
     catalogue: &[u8],
@@ -121,12 +122,11 @@ pub mod tests {
     use super::*;
 
     const WORK: usize = WORK_WORDS;
-    pub const D: [u8; 8] = [0x20, 0x80, 0x08, 0x86, 0x02, 0x04, 0x26, 0x46];
-    pub const C: [u8; 17] = [
-        0x18, 0x10, 0x20, 0x08, 0x08, 0x18, 0x40, 0x08, 0xc0, 0x44, 0x80, 0x18, 0x40, 0x10, 0xc0, 0x44, 0x80,
-    ];
+    pub const D: [u8; 10] = [0x20, 0x80, 0x08, 0x86, 0x02, 0x00, 0x80, 0x98, 0x23, 0x00];
+    pub const C: [u8; 17] =
+        [0x18, 0x10, 0x20, 0x08, 0x08, 0x18, 0x40, 0x08, 0xc0, 0x40, 0x90, 0x18, 0x40, 0x10, 0xc0, 0x40, 0x90];
     /// Only extract 1 of C.
-    pub const SLOW: [u8; 7] = [0x08, 0x18, 0x40, 0x08, 0xc0, 0x44, 0x80];
+    pub const SLOW: [u8; 7] = [0x08, 0x18, 0x40, 0x08, 0xc0, 0x40, 0x90];
     /// No extracts.
     pub const NONE: [u8; 1] = [0];
 
@@ -135,12 +135,12 @@ pub mod tests {
     }
 
     fn slow_to_fast() -> Vec<u8> {
-        write_catalogue(&[1, 2, 1, 1, 2, 0, 1], ENOUGH, WORK).unwrap()
+        write_catalogue(&[1, 2, 1, 1, 2, 0, 1, 0], ENOUGH, WORK).unwrap()
     }
 
     #[test]
     fn k1_the_question() {
-        let fields = [4, 4, 0, 1, 2, 3, 0, 1, 0, 2, 1, 3, 2, 3];
+        let fields = [4, 4, 0, 1, 2, 3, 0, 1, 0, 0, 2, 0, 1, 3, 0, 2, 3, 0];
         assert_eq!(write_pattern(&fields, ENOUGH, WORK), Ok(D.to_vec()));
     }
 
@@ -158,22 +158,22 @@ pub mod tests {
         assert_eq!(quoted(&SLOW), quote);
         let (first, second) = show(&D, &SLOW, ENOUGH, ENOUGH, WORK).unwrap();
         let fields = |links: &[u32]| {
-            let mut fields = vec![4, links.len() as u32 / 2, 1, 2, 4, 8];
+            let mut fields = vec![4, links.len() as u32 / 3, 1, 2, 4, 8];
             fields.extend(links);
             fields
         };
-        assert_eq!(read_record(&first, ENOUGH, WORK), Ok(fields(&[0, 1, 0, 2, 1, 3, 2, 3])));
-        assert_eq!(read_record(&second, ENOUGH, WORK), Ok(fields(&[0, 1, 1, 3, 2, 3])));
+        assert_eq!(read_record(&first, ENOUGH, WORK), Ok(fields(&[0, 1, 0, 0, 2, 0, 1, 3, 0, 2, 3, 0])));
+        assert_eq!(read_record(&second, ENOUGH, WORK), Ok(fields(&[0, 1, 0, 1, 3, 0, 2, 3, 0])));
     }
 
     #[test]
     fn shown_links_ascend() {
         // D with its links turned. Links 0, from 2 to 3, and 2, from 0 to 2, are unmatched.
-        let turned = write_pattern(&[4, 4, 0, 1, 2, 3, 2, 3, 1, 3, 0, 2, 0, 1], ENOUGH, WORK).unwrap();
+        let turned = write_pattern(&[4, 4, 0, 1, 2, 3, 2, 3, 0, 1, 3, 0, 0, 2, 0, 0, 1, 0], ENOUGH, WORK).unwrap();
         let (first, second) = show(&turned, &SLOW, ENOUGH, ENOUGH, WORK).unwrap();
-        let links = [(0, 1), (0, 2), (1, 3), (2, 3)];
-        assert_eq!(read_record(&first, ENOUGH, WORK), Ok(record_fields(&[1, 2, 4, 8], &links)));
-        assert_eq!(read_record(&second, ENOUGH, WORK), Ok(record_fields(&[1, 2, 4, 8], &links[..3])));
+        let links = [(0, 1, 0), (0, 2, 0), (1, 3, 0), (2, 3, 0)];
+        assert_eq!(read_record(&first, ENOUGH, WORK), Ok(graph_fields(&[1, 2, 4, 8], &links)));
+        assert_eq!(read_record(&second, ENOUGH, WORK), Ok(graph_fields(&[1, 2, 4, 8], &links[..3])));
     }
 
     #[test]
@@ -192,26 +192,95 @@ pub mod tests {
     #[test]
     fn an_extract_that_fits_in_part_is_not_credited() {
         // Section to slow run to fast run: the first link alone would match.
-        let catalogue = write_catalogue(&[1, 3, 2, 0, 1, 2, 0, 1, 1, 2], ENOUGH, WORK).unwrap();
+        let catalogue = write_catalogue(&[1, 3, 2, 0, 1, 2, 0, 1, 0, 1, 2, 0], ENOUGH, WORK).unwrap();
         assert_eq!(quoted(&catalogue).mapping, vec![vec![]; 4]);
     }
 
     #[test]
     fn taking_stops_when_all_are_matched() {
         // The question itself twice: the second is never taken, so the first is kept.
-        let twice = write_catalogue(&[2, 2, 1, 0, 1, 0, 1, 2, 1, 0, 1, 0, 1], ENOUGH, WORK).unwrap();
-        let question = write_pattern(&[2, 1, 0, 1, 0, 1], ENOUGH, WORK).unwrap();
+        let twice = write_catalogue(&[2, 2, 1, 0, 1, 0, 1, 0, 2, 1, 0, 1, 0, 1, 0], ENOUGH, WORK).unwrap();
+        let question = write_pattern(&[2, 1, 0, 1, 0, 1, 0], ENOUGH, WORK).unwrap();
         assert_eq!(quote(&question, &twice, WORK).unwrap().chosen, [0]);
+    }
+
+    /// Items of kinds 0 and 1 linked by links of these kinds.
+    pub fn one(kinds: &[u32]) -> Vec<u32> {
+        graph_fields(&[0, 1], &kinds.iter().map(|&kind| (0, 1, kind)).collect::<Vec<Link>>())
+    }
+
+    /// The files of a question that has these kinds, and of extracts that have these.
+    pub fn of_kinds(question: &[u32], extracts: &[&[u32]]) -> (Vec<u8>, Vec<u8>) {
+        let mut fields = vec![extracts.len() as u32];
+        fields.extend(extracts.iter().flat_map(|kinds| one(kinds)));
+        let question = write_pattern(&one(question), ENOUGH, WORK).unwrap();
+        (question, write_catalogue(&fields, ENOUGH, WORK).unwrap())
+    }
+
+    /// The links of the two records that are shown, which are of the question's items.
+    fn shown(question: &[u8], catalogue: &[u8]) -> (Vec<Link>, Vec<Link>) {
+        let (first, second) = show(question, catalogue, ENOUGH, ENOUGH, WORK).unwrap();
+        let links = |record: &[u8]| crate::matching::record_of(record, WORK).unwrap().links;
+        (links(&first), links(&second))
+    }
+
+    #[test]
+    fn a_list_holds_the_pair_and_only_one_kind_is_matched() {
+        let (question, catalogue) = of_kinds(&[0, 1], &[&[1]]);
+        // On the question read as a record the extract's list is the pair of both links.
+        let record = as_record(&judge_pattern(&question).unwrap());
+        assert_eq!(sheet(&judge_catalogue(&catalogue).unwrap()[0], &record), [[(0, 1)]]);
+        let mapping = vec![vec![], vec![(0, 0)]];
+        let expected = Quote { covered: false, mapping, chosen: vec![], lowest_unmatched: Some(0) };
+        assert_eq!(quote(&question, &catalogue, WORK), Ok(expected));
+        assert_eq!(shown(&question, &catalogue), (vec![(0, 1, 0), (0, 1, 1)], vec![(0, 1, 1)]));
+    }
+
+    #[test]
+    fn links_that_differ_in_their_kinds_alone() {
+        for (question, extracts, mapping, chosen) in [
+            (&[0, 1][..], &[&[1][..], &[0]][..], vec![vec![(1, 0)], vec![(0, 0)]], vec![0, 1]),
+            (&[0, 1], &[&[1, 0]], vec![vec![(0, 1)], vec![(0, 0)]], vec![0]),
+            (&[0, 1], &[&[0], &[1, 0]], vec![vec![(0, 0), (1, 1)], vec![(1, 0)]], vec![1]),
+            // An extract with a kind that the question lacks fits it nowhere.
+            (&[0, 1], &[&[0, 2], &[1]], vec![vec![], vec![(1, 0)]], vec![]),
+            (&[7], &[&[0], &[7, 0], &[7]], vec![vec![(2, 0)]], vec![2]),
+            (&[0, 1, 2], &[&[2, 0]], vec![vec![(0, 1)], vec![], vec![(0, 0)]], vec![]),
+        ] {
+            let (question, catalogue) = of_kinds(question, extracts);
+            let quote = quote(&question, &catalogue, WORK).unwrap();
+            assert_eq!((quote.mapping, quote.chosen), (mapping, chosen));
+        }
+    }
+
+    #[test]
+    fn the_shown_records_differ_in_one_link_of_one_kind() {
+        // Kinds out of order in the question: the lowest unmatched link is the lowest by its number.
+        let (question, catalogue) = of_kinds(&[5, 0, 3], &[&[3]]);
+        let whole = vec![(0, 1, 0), (0, 1, 3), (0, 1, 5)];
+        assert_eq!(shown(&question, &catalogue), (whole.clone(), whole[..2].to_vec()));
+        let (question, catalogue) = of_kinds(&[5, 0, 3], &[&[5, 3]]);
+        assert_eq!(shown(&question, &catalogue), (whole.clone(), whole[1..].to_vec()));
+        let (question, catalogue) = of_kinds(&[5, 0, 3], &[]);
+        assert_eq!(shown(&question, &catalogue), (whole.clone(), whole[..2].to_vec()));
+    }
+
+    #[test]
+    fn an_extract_that_follows_a_link_of_another_kind() {
+        // D whose link from slow run to reading has kind 1: extract 1 of C doesn't fit it.
+        let question = write_pattern(&[4, 4, 0, 1, 2, 3, 0, 1, 0, 0, 2, 0, 1, 3, 1, 2, 3, 0], ENOUGH, WORK).unwrap();
+        let quote = quote(&question, &C, WORK).unwrap();
+        assert_eq!(quote.mapping, [vec![(0, 0)], vec![(2, 0)], vec![], vec![(2, 1)]]);
     }
 
     #[test]
     fn refusals_in_order() {
         for (question, catalogue, work, number, detail) in [
-            (&D[..7], &C[..16], WORK - 1, DESK, 0),
-            (&D[..7], &C[..16], WORK, SHORT, PATTERN),
-            (&[0; 45][..], &C[..16], WORK, LONG, PATTERN),
+            (&D[..9], &C[..16], WORK - 1, DESK, 0),
+            (&D[..9], &C[..16], WORK, SHORT, PATTERN),
+            (&[0; 57][..], &C[..16], WORK, LONG, PATTERN),
             (&D[..], &C[..16], WORK, SHORT, CATALOGUE),
-            (&D[..], &[0; 706][..], WORK, LONG, CATALOGUE),
+            (&D[..], &[0; 898][..], WORK, LONG, CATALOGUE),
         ] {
             assert_eq!(quote(question, catalogue, work), refused(number, detail));
             assert_eq!(show(question, catalogue, 0, 0, work), refused(number, detail));

@@ -36,6 +36,9 @@ const FIRST: usize = 22;
 const STEP: usize = 23;
 const GAP: usize = 24;
 pub const SET: usize = 25;
+const LINK_KIND: usize = 26;
+const LINK_KINDS: usize = 27;
+const KIND_FORM: usize = 28;
 
 /// The instructions.
 const BYTES: usize = 32;
@@ -324,7 +327,7 @@ impl Script {
         self.registers[SEED] = state as usize;
     }
 
-    /// The content becomes that of a record, its links ascending or as they are drawn.
+    /// The content becomes that of a record, the pairs of its links ascending or as they are drawn.
     pub fn record(&mut self, drawn: Drawn, ascending: bool) {
         for (register, value) in [
             (SEED, drawn.seed as usize),
@@ -334,6 +337,9 @@ impl Script {
             (KINDS, drawn.kinds),
             (ITEM_FORM, drawn.item_form),
             (LINK_FORM, drawn.link_form),
+            (LINK_KIND, drawn.link_kind),
+            (LINK_KINDS, drawn.link_kinds),
+            (KIND_FORM, drawn.kind_form),
         ] {
             self.set(register, value);
         }
@@ -342,11 +348,20 @@ impl Script {
         self.add(&drawn.content(ascending));
     }
 
-    /// The content, which is that of a record with links in any order, becomes a part as it was stored before they had one.
+    /// The content, which is that of a record, becomes a part whatever it says.
     pub fn pack(&mut self, part: usize) {
+        self.lay_packed(part, part + 4, pack_record);
+    }
+
+    /// The same as it was stored before links had an order and kinds, so without their kinds.
+    pub fn pack_old(&mut self, part: usize) {
+        self.lay_packed(part, part, pack_old_record);
+    }
+
+    fn lay_packed(&mut self, part: usize, value: usize, packed: impl Fn(&[u32]) -> Vec<u8>) {
         self.set(START + part, PLACES[part]);
-        self.instruction(PACK, part);
-        let file = pack_record(&self.words[..self.registers[CONTENT]]);
+        self.instruction(PACK, value);
+        let file = packed(&self.words[..self.registers[CONTENT]]);
         let end = PLACES[part] + file.len();
         self.memory[PLACES[part]..end].copy_from_slice(&file);
         self.registers[END + part] = end;

@@ -1,7 +1,7 @@
 //! The rule by which the program `replay` and the model draw the content of records and lists alike, so that large files
 //! need not stand among the cases.
 
-use crate::files::record_fields;
+use crate::files::{graph_fields, Link};
 use std::collections::BTreeSet;
 
 pub fn next(state: u32) -> u32 {
@@ -16,8 +16,8 @@ pub fn below(state: u32, n: usize) -> usize {
     (state / 65_536) as usize % n
 }
 
-/// How a record is drawn: so many items, and so many links where four times as many tries give them; the kinds from the
-/// first on; the form of the items and of the links.
+/// How a record is drawn: so many items, and so many pairs with links where four times as many tries give them; the kinds of
+/// items from the first on; the form of the items and of the pairs; the kinds of links from the first on, and their form.
 #[derive(Clone, Copy, Debug, Default)]
 pub struct Drawn {
     pub seed: u32,
@@ -27,9 +27,12 @@ pub struct Drawn {
     pub kinds: usize,
     pub item_form: usize,
     pub link_form: usize,
+    pub link_kind: usize,
+    pub link_kinds: usize,
+    pub kind_form: usize,
 }
 
-/// An item or a link is drawn by the four states that follow one.
+/// An item or a pair is drawn by the four states that follow one.
 fn four(state: &mut u32) -> [u32; 4] {
     [(); 4].map(|()| {
         *state = next(*state);
@@ -57,9 +60,9 @@ impl Drawn {
         }
     }
 
-    /// The link t: any; to an item near by; chains of 64; a ring; at one of four items; forward; a different one at each
+    /// The pair t: any; to an item near by; chains of 64; a ring; at one of four items; forward; a different one at each
     /// t. An end that is no item makes no link.
-    fn link(&self, t: usize, [a, b, c, d]: [u32; 4]) -> (usize, usize) {
+    fn pair(&self, t: usize, [a, b, c, d]: [u32; 4]) -> (usize, usize) {
         let n = self.items;
         let (from, to, few) = (below(a, n), below(b, n), below(c, 4));
         let rest = |x: usize| if n == 0 { 0 } else { x % n };
@@ -81,23 +84,45 @@ impl Drawn {
         }
     }
 
-    /// The content of the record, its links ascending or as they are drawn.
+    fn link_bit(&self, state: u32) -> u32 {
+        1 << ((self.link_kind + below(state, self.link_kinds)) % 8)
+    }
+
+    /// The kinds of the links that a pair has, drawn by the pair: one; up to three; all.
+    fn link_kinds(&self, from: u32, to: u32) -> u32 {
+        let a = next((from * 4_096 + to) ^ self.seed);
+        let b = next(a);
+        match self.kind_form {
+            0 => self.link_bit(a),
+            1 => self.link_bit(a) | self.link_bit(b) | self.link_bit(next(b)),
+            _ => 255,
+        }
+    }
+
+    /// The links of a pair, by their kinds.
+    fn links(&self, (from, to): (u32, u32)) -> Vec<Link> {
+        let kinds = self.link_kinds(from, to);
+        (0..8).filter(|kind| kinds >> kind & 1 == 1).map(|kind| (from, to, kind)).collect()
+    }
+
+    /// The content of the record, the pairs of its links ascending or as they are drawn.
     pub fn content(&self, ascending: bool) -> Vec<u32> {
         let mut state = self.seed;
         let kinds: Vec<u32> = (0..self.items).map(|v| self.item(v, four(&mut state))).collect();
-        let mut links = Vec::new();
+        let mut pairs = Vec::new();
         let mut seen = BTreeSet::new();
         for t in 0..4 * self.links {
-            let (from, to) = self.link(t, four(&mut state));
-            let is_link = from < self.items && to < self.items;
-            if links.len() < self.links && is_link && seen.insert((from, to)) {
-                links.push((from as u32, to as u32));
+            let (from, to) = self.pair(t, four(&mut state));
+            let is_pair = from < self.items && to < self.items;
+            if pairs.len() < self.links && is_pair && seen.insert((from, to)) {
+                pairs.push((from as u32, to as u32));
             }
         }
         if ascending {
-            links.sort();
+            pairs.sort();
         }
-        record_fields(&kinds, &links)
+        let links: Vec<Link> = pairs.into_iter().flat_map(|pair| self.links(pair)).collect();
+        graph_fields(&kinds, &links)
     }
 }
 
@@ -171,5 +196,57 @@ impl Pairs {
             code += step;
         }
         fields
+    }
+}
+
+#[cfg(test)]
+mod tests {
+    use super::*;
+    use crate::files::{
+        pack_old_record, pack_record, sort_record, write_record, ORDER, RECORD, RECORD_BYTES, WORK_WORDS,
+    };
+
+    fn drawn(link_form: usize, kind_form: usize, link_kinds: usize) -> Drawn {
+        let (seed, items, links, kinds, link_kind) = (7, 40, 90, 3, 6);
+        Drawn { seed, items, links, kind: 30, kinds, item_form: 1, link_form, link_kind, link_kinds, kind_form }
+    }
+
+    fn kinds_of(fields: &[u32]) -> Vec<u32> {
+        fields[2 + fields[0] as usize..].chunks(3).map(|link| link[2]).collect()
+    }
+
+    #[test]
+    fn drawn_records_are_accepted() {
+        for link_form in 0..7 {
+            for kind_form in 0..3 {
+                for link_kinds in 0..4 {
+                    let fields = drawn(link_form, kind_form, link_kinds).content(true);
+                    assert_eq!(write_record(&fields, RECORD_BYTES, WORK_WORDS), Ok(pack_record(&fields)));
+                    let kinds = kinds_of(&fields);
+                    assert_eq!(kinds.len(), fields[1] as usize);
+                    let is_one = |kind: &u32| (0..link_kinds.max(1) as u32).any(|i| (6 + i) % 8 == *kind);
+                    assert!(kind_form == 2 || kinds.iter().all(is_one));
+                }
+            }
+        }
+    }
+
+    #[test]
+    fn one_kind_some_and_all() {
+        let pairs = drawn(0, 0, 3).content(true)[1];
+        assert_eq!(drawn(0, 1, 1).content(true)[1], pairs);
+        let some = drawn(0, 1, 3).content(true)[1];
+        assert!(pairs < some && some < 3 * pairs);
+        assert_eq!(drawn(0, 2, 0).content(true)[1], 8 * pairs);
+    }
+
+    #[test]
+    fn a_drawn_old_record_is_sorted() {
+        let old = Drawn { link_kind: 0, ..drawn(0, 0, 0) };
+        let (in_order, turned) = (old.content(true), old.content(false));
+        assert_ne!(turned, in_order);
+        let refusal = write_record(&turned, RECORD_BYTES, WORK_WORDS).unwrap_err();
+        assert_eq!((refusal.number, refusal.detail), (ORDER, RECORD));
+        assert_eq!(sort_record(&pack_old_record(&turned), RECORD_BYTES, WORK_WORDS), Ok(pack_record(&in_order)));
     }
 }

@@ -16,7 +16,7 @@ fn led_to(question: &Pattern, item: u32) -> Items {
     let mut reached = Items::new();
     loop {
         let before = reached.len();
-        for &(from, to) in &question.links {
+        for &(from, to, _) in &question.links {
             if from == item || reached.contains(&from) {
                 reached.insert(to);
             }
@@ -47,7 +47,7 @@ fn next_component(question: &Pattern, settled: &Items) -> Option<Items> {
 /// What stands where these items are settled: for the links that leave them the greatest choice for these links alone, for
 /// all others their candidates.
 fn state(question: &Pattern, candidates: &Choice, settled: &Items) -> Choice {
-    let leaves: Vec<bool> = question.links.iter().map(|(from, _)| settled.contains(from)).collect();
+    let leaves: Vec<bool> = question.links.iter().map(|(from, ..)| settled.contains(from)).collect();
     let links = question.links.iter().zip(&leaves).filter(|(_, leaves)| **leaves).map(|(link, _)| *link).collect();
     let alone = Pattern { kinds: question.kinds.clone(), links };
     let own = candidates.iter().zip(&leaves).filter(|(_, leaves)| **leaves).map(|(pairs, _)| pairs.clone()).collect();
@@ -75,7 +75,7 @@ mod tests {
     use super::*;
 
     fn question(items: usize, links: &[(u32, u32)]) -> Pattern {
-        Pattern { kinds: vec![0; items], links: links.to_vec() }
+        Pattern { kinds: vec![0; items], links: links.iter().map(|&(from, to)| (from, to, 0)).collect() }
     }
 
     fn ring(n: u32) -> Vec<(u32, u32)> {
@@ -157,7 +157,7 @@ mod tests {
         let candidates = choice(&[&[(0, 0), (0, 1)], &[(0, 1), (1, 1)], &[(0, 0), (1, 2)], &[(1, 1), (2, 3)]]);
         let states = steps(&question, &candidates);
         for (before, after) in states.iter().zip(&states[1..]) {
-            for (e, (from, _)) in question.links.iter().enumerate() {
+            for (e, (from, ..)) in question.links.iter().enumerate() {
                 if before.0.contains(from) {
                     assert_eq!(before.1[e], after.1[e]);
                 }
@@ -165,5 +165,17 @@ mod tests {
         }
         let all = &states.last().unwrap().1;
         assert_eq!(*all, greatest_choice(&question, candidates.clone()));
+    }
+
+    #[test]
+    fn links_that_differ_in_their_kinds_alone() {
+        let mut question = question(3, &[(0, 1), (0, 1), (1, 2)]);
+        question.links[1].2 = 1;
+        assert_eq!(settled(&question), [vec![2], vec![1, 2], vec![0, 1, 2]]);
+        // (0, 1) goes on at 1, (0, 3) doesn't. Item 4 lacks the second kind.
+        let candidates = choice(&[&[(0, 1), (4, 1)], &[(0, 1), (0, 3)], &[(1, 2)]]);
+        let states = steps(&question, &candidates);
+        assert_eq!(states[1].1, candidates);
+        assert_eq!(states[2].1, choice(&[&[(0, 1)], &[(0, 1)], &[(1, 2)]]));
     }
 }

@@ -326,7 +326,7 @@ impl Desk<u8> {
         notes.end(&asked, &expected, &answered, expected.as_ref().err().copied(), &held)
     }
 
-    /// For the second record a few bytes fewer are lent. It is three bytes shorter than the first.
+    /// For the second record a few bytes fewer are lent. It is three or four bytes shorter than the first.
     pub fn show(
         &mut self,
         notes: &mut Notes,
@@ -334,7 +334,7 @@ impl Desk<u8> {
         lent: Lent,
         question: &[u8],
         catalogue: &[u8],
-    ) -> Result<(), Difference> {
+    ) -> Result<Result<(Vec<u8>, Vec<u8>), Refusal>, Difference> {
         let fewer = draw.below(6);
         let second = |room: usize| room.saturating_sub(fewer);
         let show = |room, work| quoting::show(question, catalogue, room, second(room), work);
@@ -359,6 +359,7 @@ impl Desk<u8> {
             ("second output", self.second.begins(rest)),
             ("workspace", self.work.is_cleared()),
         ];
-        notes.end(&asked, &expected, &answered, expected.as_ref().err().copied(), &held)
+        notes.end(&asked, &expected, &answered, expected.as_ref().err().copied(), &held)?;
+        Ok(expected)
     }
 }

@@ -1,30 +1,58 @@
 //! Patterns, catalogues, charges, records and books, all of them right.
 
 use crate::draw::{Draw, Size};
-use model::files::{Book, Catalogue, Pattern, Record, Sheet};
+use model::files::{Book, Catalogue, Link, Pattern, Record, Sheet};
 use std::collections::BTreeSet;
 
-/// The kinds in use, so few that different graphs have some in common.
-pub struct Kinds(Vec<u32>);
+/// The kinds in use, of items and of links, so few that different graphs have some in common.
+pub struct Kinds {
+    items: Vec<u32>,
+    links: Vec<u32>,
+}
 
 impl Kinds {
     pub fn draw(draw: &mut Draw) -> Kinds {
-        let number = draw.within(1, 4);
-        Kinds((0..number).map(|_| draw.below(32) as u32).collect())
+        let mut links: Vec<u32> = (0..draw.within(1, 3)).map(|_| draw.below(8) as u32).collect();
+        if draw.one_in(8) {
+            links = (0..8).collect();
+        }
+        Kinds { links, ..Kinds::of_old_links(draw) }
     }
 
-    fn one(&self, draw: &mut Draw) -> u32 {
-        draw.of(&self.0)
+    /// The kinds of a record whose links have none, so that each has kind 0.
+    pub fn of_old_links(draw: &mut Draw) -> Kinds {
+        let number = draw.within(1, 4);
+        Kinds { items: (0..number).map(|_| draw.below(32) as u32).collect(), links: vec![0] }
+    }
+
+    fn item(&self, draw: &mut Draw) -> u32 {
+        draw.of(&self.items)
+    }
+
+    fn link(&self, draw: &mut Draw) -> u32 {
+        draw.of(&self.links)
     }
 }
 
-pub type Links = Vec<(u32, u32)>;
+pub type Links = Vec<Link>;
 
-fn draw_link(draw: &mut Draw, items: usize) -> (u32, u32) {
+/// Two of so many items.
+fn draw_pair(draw: &mut Draw, items: usize) -> (u32, u32) {
     (draw.below(items) as u32, draw.below(items) as u32)
 }
 
-fn put_link(links: &mut Links, link: (u32, u32), most: usize) {
+/// A link between any items, or one time in so many beside another link.
+fn draw_link(draw: &mut Draw, kinds: &Kinds, items: usize, links: &[Link], beside_one_in: usize) -> Link {
+    let (from, to) = if !links.is_empty() && draw.one_in(beside_one_in) {
+        let (from, to, _) = draw.of(links);
+        (from, to)
+    } else {
+        draw_pair(draw, items)
+    };
+    (from, to, kinds.link(draw))
+}
+
+fn put_link(links: &mut Links, link: Link, most: usize) {
     if links.len() < most && !links.contains(&link) {
         links.push(link);
     }
@@ -35,32 +63,39 @@ pub fn draw_pattern(draw: &mut Draw, kinds: &Kinds, most: usize) -> Pattern {
     let items = draw.low(1, most);
     let mut links = Links::new();
     for item in 0..items as u32 {
-        if !links.iter().any(|&(from, to)| from == item || to == item) {
+        if !links.iter().any(|&(from, to, _)| from == item || to == item) {
             let other = draw.below(items) as u32;
-            let link = if draw.one_in(2) { (item, other) } else { (other, item) };
-            put_link(&mut links, link, 32);
+            let (from, to) = if draw.one_in(2) { (item, other) } else { (other, item) };
+            put_link(&mut links, (from, to, kinds.link(draw)), 32);
         }
     }
     let more = if draw.one_in(8) { draw.below(40) } else { draw.low(0, items) };
     for _ in 0..more {
-        put_link(&mut links, draw_link(draw, items), 32);
+        let link = draw_link(draw, kinds, items, &links, 3);
+        put_link(&mut links, link, 32);
     }
     draw.shuffle(&mut links);
-    Pattern { kinds: (0..items).map(|_| kinds.one(draw)).collect(), links }
+    Pattern { kinds: (0..items).map(|_| kinds.item(draw)).collect(), links }
+}
+
+/// Whether a pattern has links that differ in their kinds alone.
+pub fn has_links_beside(pattern: &Pattern) -> bool {
+    let pairs: BTreeSet<(u32, u32)> = pattern.links.iter().map(|&(from, to, _)| (from, to)).collect();
+    pairs.len() < pattern.links.len()
 }
 
 /// The part of a pattern that has these links and their ends.
-fn part(pattern: &Pattern, links: &[(u32, u32)]) -> Pattern {
-    let items: BTreeSet<u32> = links.iter().flat_map(|&(from, to)| [from, to]).collect();
+fn part(pattern: &Pattern, links: &[Link]) -> Pattern {
+    let items: BTreeSet<u32> = links.iter().flat_map(|&(from, to, _)| [from, to]).collect();
     let number = |item: u32| items.range(..item).count() as u32;
     Pattern {
         kinds: items.iter().map(|&item| pattern.kinds[item as usize]).collect(),
-        links: links.iter().map(|&(from, to)| (number(from), number(to))).collect(),
+        links: links.iter().map(|&(from, to, kind)| (number(from), number(to), kind)).collect(),
     }
 }
 
 /// Extracts for a question: parts of it, and patterns of their own. If it is to be covered, the parts have every link
-/// between them; if not, mostly one link is in none, and in some parts a kind is another.
+/// between them; if not, mostly one link is in none, and in some parts the kind of an item or of a link is another.
 pub fn draw_catalogue(draw: &mut Draw, kinds: &Kinds, question: &Pattern, covered: bool) -> Catalogue {
     let number = draw.low(usize::from(covered), 16);
     if number == 0 {
@@ -83,7 +118,15 @@ pub fn draw_catalogue(draw: &mut Draw, kinds: &Kinds, question: &Pattern, covere
         let mut extract = part(question, links);
         if !covered && draw.one_in(8) {
             let item = draw.below(extract.kinds.len());
-            extract.kinds[item] = kinds.one(draw);
+            extract.kinds[item] = kinds.item(draw);
+        }
+        if !covered && draw.one_in(8) {
+            let at = draw.below(extract.links.len());
+            let (from, to, _) = extract.links[at];
+            let link = (from, to, kinds.link(draw));
+            if !extract.links.contains(&link) {
+                extract.links[at] = link;
+            }
         }
         extract
     };
@@ -120,7 +163,7 @@ fn plant(draw: &mut Draw, pattern: &Pattern, record: &mut Record) -> Links {
     for (&kind, &place) in pattern.kinds.iter().zip(&places) {
         record.kinds[place as usize] |= 1 << kind;
     }
-    pattern.links.iter().map(|&(from, to)| (places[from as usize], places[to as usize])).collect()
+    pattern.links.iter().map(|&(from, to, kind)| (places[from as usize], places[to as usize], kind)).collect()
 }
 
 /// A record for some patterns: they are planted, and there are any links beside them. Its links ascend.
@@ -133,8 +176,8 @@ pub fn draw_record(draw: &mut Draw, kinds: &Kinds, size: Size, patterns: &[Patte
     };
     let mut record = Record { kinds: Vec::new(), links: Links::new() };
     for _ in 0..items {
-        let kind = 1 << kinds.one(draw);
-        record.kinds.push(if draw.one_in(4) { kind | 1 << kinds.one(draw) } else { kind });
+        let kind = 1 << kinds.item(draw);
+        record.kinds.push(if draw.one_in(4) { kind | 1 << kinds.item(draw) } else { kind });
     }
     if items == 0 {
         return record;
@@ -152,26 +195,38 @@ pub fn draw_record(draw: &mut Draw, kinds: &Kinds, size: Size, patterns: &[Patte
         }
     }
     for _ in 0..most {
-        put(&mut record, draw_link(draw, items));
+        let link = draw_link(draw, kinds, items, &record.links, 4);
+        put(&mut record, link);
     }
     record.links.sort();
     record
 }
 
-/// Links in another order, or one more than once: all turned round, two that change places, a neighbour or any other
-/// repeated.
+/// What becomes of a link that is to be like another: that one in all three, in its ends, or in one end and the kind.
+fn like(draw: &mut Draw, link: Link, other: Link) -> Link {
+    match draw.below(4) {
+        0 => other,
+        1 => (other.0, other.1, link.2),
+        2 => (other.0, link.1, other.2),
+        _ => (link.0, other.1, other.2),
+    }
+}
+
+/// Links in another order, or one like another: all turned round, two that change places or kinds, one like a neighbour or
+/// any other.
 pub fn disorder(draw: &mut Draw, links: &mut Links) {
     if links.len() < 2 {
         return;
     }
     let at = draw.within(1, links.len() - 1);
     let other = draw.below(links.len());
-    match draw.below(5) {
+    match draw.below(6) {
         0 => draw.shuffle(links),
         1 => links.swap(at - 1, at),
         2 => links.swap(at, other),
-        3 => links[at] = links[at - 1],
-        _ => links[at] = links[other],
+        3 => (links[at - 1].2, links[at].2) = (links[at].2, links[at - 1].2),
+        4 => links[at] = like(draw, links[at], links[at - 1]),
+        _ => links[at] = like(draw, links[at], links[other]),
     }
 }
 
@@ -206,7 +261,7 @@ fn draw_few(draw: &mut Draw, links: usize, items: usize, most: usize) -> Sheet {
         return vec![Vec::new(); links];
     }
     let mut list = |_| {
-        let pairs: BTreeSet<(u32, u32)> = (0..draw.within(1, most)).map(|_| draw_link(draw, items)).collect();
+        let pairs: BTreeSet<(u32, u32)> = (0..draw.within(1, most)).map(|_| draw_pair(draw, items)).collect();
         pairs.into_iter().collect()
     };
     (0..links).map(&mut list).collect()

@@ -2,11 +2,11 @@
 
 use crate::desk::{exactly, fitted, Asked, Desk, Difference, Lent, Notes};
 use crate::draw::{draw_size, Draw, Size};
-use crate::graphs::{disorder, draw_book, draw_catalogue, draw_charges, draw_index, draw_pattern, draw_record, Kinds};
-use crate::layout::{content, file, of_book, of_catalogue, of_pattern, of_record};
+use crate::graphs::*;
+use crate::layout::{content, file, of_book, of_catalogue, of_old_record, of_pattern, of_record};
 use crate::tally::Call;
 use model::cheapest::cheapest;
-use model::files::{record_fields, Catalogue, Pattern, Refusal, WORK_WORDS};
+use model::files::{graph_fields, Catalogue, Pattern, Refusal, OLD_RECORD_BYTES, WORK_WORDS};
 use model::{answering, files, indexing, matching, quoting};
 use std::fmt::Debug;
 use yuthaqim::{BOOK_BYTES, CATALOGUE_BYTES, INDEX_ENTRIES, PATTERN_BYTES, RECORD_BYTES};
@@ -37,8 +37,12 @@ struct Subject {
 }
 
 fn draw_subject(draw: &mut Draw, covered: bool) -> Subject {
-    let size = draw_size(draw);
     let kinds = Kinds::draw(draw);
+    draw_subject_of(draw, kinds, covered)
+}
+
+fn draw_subject_of(draw: &mut Draw, kinds: Kinds, covered: bool) -> Subject {
+    let size = draw_size(draw);
     let items = if size == Size::Small { 5 } else { 16 };
     let question = draw_pattern(draw, &kinds, items);
     let catalogue = draw_catalogue(draw, &kinds, &question, covered);
@@ -98,6 +102,13 @@ fn covers(question: &[u8], catalogue: &[u8], set: u16) -> bool {
     let mapping = quoting::quote(question, catalogue, WORK_WORDS).unwrap().mapping;
     let set: Vec<usize> = (0..16).filter(|a| set >> a & 1 == 1).collect();
     quoting::covers(&mapping, &set)
+}
+
+/// Whether the link that the second of two shown records lacks has a link beside it, of the same ends and another kind.
+fn keeps_pair(first: &[u8], second: &[u8]) -> bool {
+    let [first, second] = [first, second].map(|record| matching::record_of(record, WORK_WORDS).unwrap().links);
+    let lacking = first.iter().find(|link| !second.contains(link)).unwrap();
+    second.iter().any(|&(from, to, _)| (from, to) == (lacking.0, lacking.1))
 }
 
 impl Test {
@@ -172,17 +183,18 @@ impl Test {
         Ok(())
     }
 
-    /// A file of the old rules, its links in any order. What is written is accepted, has its items and its links, and the
-    /// sheets that it had.
+    /// A file of the old rules, its links in any order. What is written is accepted, has its items and its links, each of
+    /// kind 0, and the sheets that it had.
     fn sort_record(&mut self, draw: &mut Draw) -> Result<(), Difference> {
-        let subject = draw_subject(draw, false);
+        let kinds = Kinds::of_old_links(draw);
+        let subject = draw_subject_of(draw, kinds, false);
         let mut record = draw_record(draw, &subject.kinds, subject.size, std::slice::from_ref(&subject.question));
         let in_order = record.links.clone();
         if !draw.one_in(4) {
             draw.shuffle(&mut record.links);
         }
-        let whole = of_record(&record).bytes();
-        let old = file(draw, of_record(&record), 3, RECORD_BYTES);
+        let whole = of_old_record(&record).bytes();
+        let old = file(draw, of_old_record(&record), 3, OLD_RECORD_BYTES);
         let lent = Lent::draw(draw);
         let sorted = reply!(self.bytes, draw, fitted(lent), SortRecord, files::sort_record(old))?;
         let Ok(sorted) = sorted.outcome else {
@@ -194,7 +206,7 @@ impl Test {
             return Err(format!("sorted, and not accepted: {sorted:02x?}\n"));
         };
         if old == whole {
-            if read != record_fields(&record.kinds, &in_order) {
+            if read != graph_fields(&record.kinds, &in_order) {
                 return Err(format!("sorted, and not the same items and links: {read:?}\n"));
             }
             let pattern = of_pattern(&subject.question).bytes();
@@ -301,13 +313,27 @@ impl Test {
         self.bytes.quote(&mut self.notes, draw, lent, &question, &catalogue)
     }
 
+    /// What is shown: each extract's lists are the same on both records, and the question's sheets are not.
     fn show(&mut self, draw: &mut Draw) -> Result<(), Difference> {
         let covered = draw.one_in(8);
         let subject = draw_subject(draw, covered);
         let lent = Lent::draw(draw);
         let question = subject.question(draw, 16);
         let catalogue = subject.catalogue(draw, 16);
-        self.bytes.show(&mut self.notes, draw, lent, &question, &catalogue)
+        let Ok((first, second)) = self.bytes.show(&mut self.notes, draw, lent, &question, &catalogue)? else {
+            return Ok(());
+        };
+        let whole = Lent { room: BOOK_BYTES, work: WORK_WORDS };
+        let book = reply!(self.bytes, draw, exactly(whole), MakeBook, matching::make_book(catalogue, first))?;
+        let same = reply!(self.bytes, draw, exactly(whole), MakeBook, matching::make_book(catalogue, second))?;
+        let sheet = reply!(self.bytes, draw, exactly(whole), Search, matching::search(question, first))?;
+        let other = reply!(self.bytes, draw, exactly(whole), Search, matching::search(question, second))?;
+        if book.outcome != same.outcome || sheet.outcome == other.outcome {
+            return Err(format!("shown, and not shown by it: {first:02x?}\n{second:02x?}\n"));
+        }
+        self.notes.tally.shown += 1;
+        self.notes.tally.one_kind += u64::from(keeps_pair(&first, &second));
+        Ok(())
     }
 
     fn cheapest(&mut self, draw: &mut Draw) -> Result<(), Difference> {
@@ -381,6 +407,7 @@ impl Test {
         let subject = draw_subject(draw, true);
         let question = of_pattern(&subject.question).bytes();
         let catalogue = of_catalogue(&subject.catalogue).bytes();
+        let beside = has_links_beside(&subject.question);
         let record = draw_record(draw, &subject.kinds, subject.size, &[subject.question]);
         let record = of_record(&record).bytes();
         let whole = Lent { room: BOOK_BYTES, work: WORK_WORDS };
@@ -413,6 +440,7 @@ impl Test {
         }
         if answered.outcome.is_ok_and(|sheet| sheet != [0]) {
             self.notes.tally.with_pairs += 1;
+            self.notes.tally.beside += u64::from(beside);
         }
         Ok(())
     }

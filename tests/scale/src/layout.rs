@@ -1,13 +1,16 @@
 //! Files as lists of fields, right or wrong: their content, their bytes, and ways to damage them.
 
 use crate::draw::Draw;
-use model::files::{Pattern, Record, Sheet};
+use model::files::{Link, Pattern, Record, Sheet};
 
 #[derive(Clone, Copy)]
 enum Field {
     Of { width: u32, value: u32 },
     Padding,
 }
+
+/// The bits of a link's kind. No other field has so many.
+const KIND_WIDTH: u32 = 3;
 
 #[derive(Clone, Default)]
 pub struct Layout {
@@ -31,6 +34,13 @@ impl Layout {
         }
     }
 
+    fn links(&mut self, width: u32, links: &[Link]) {
+        for &(from, to, kind) in links {
+            self.pairs(width, &[(from, to)]);
+            self.field(KIND_WIDTH, kind);
+        }
+    }
+
     fn padding(&mut self) {
         self.fields.push(Field::Padding);
     }
@@ -40,7 +50,7 @@ impl Layout {
         for &kind in &pattern.kinds {
             self.field(5, kind);
         }
-        self.pairs(4, &pattern.links);
+        self.links(4, &pattern.links);
         self.padding();
     }
 
@@ -130,13 +140,29 @@ pub fn of_catalogue(extracts: &[Pattern]) -> Layout {
     layout
 }
 
-pub fn of_record(record: &Record) -> Layout {
+/// A record's counts and items.
+fn of_items(record: &Record) -> Layout {
     let mut layout = Layout::default();
     layout.counts((13, 14), record.kinds.len(), record.links.len());
     for &kinds in &record.kinds {
         layout.field(32, kinds);
     }
-    layout.pairs(12, &record.links);
+    layout
+}
+
+pub fn of_record(record: &Record) -> Layout {
+    let mut layout = of_items(record);
+    layout.links(12, &record.links);
+    layout.padding();
+    layout
+}
+
+/// A record as it was stored before links had kinds.
+pub fn of_old_record(record: &Record) -> Layout {
+    let mut layout = of_items(record);
+    for &(from, to, _) in &record.links {
+        layout.pairs(12, &[(from, to)]);
+    }
     layout.padding();
     layout
 }
@@ -177,6 +203,8 @@ fn draw_value(draw: &mut Draw, value: u32) -> u32 {
         1 => value.wrapping_sub(1),
         2 => 0,
         3 => draw.of(&[
+            7,
+            8,
             15,
             16,
             17,
@@ -200,11 +228,41 @@ fn draw_value(draw: &mut Draw, value: u32) -> u32 {
     }
 }
 
-/// One field changed, left out, put in twice, or made equal to another; or the end cut off.
+/// A link's kind changed, or changed with that of another; or a link that becomes another in all three fields or in two. Where
+/// there are no links, nothing.
+fn damage_links(draw: &mut Draw, fields: &mut [Field]) {
+    let is_kind = |field: &Field| matches!(field, Field::Of { width: KIND_WIDTH, .. });
+    let kinds: Vec<usize> = (0..fields.len()).filter(|&at| is_kind(&fields[at])).collect();
+    if kinds.is_empty() {
+        return;
+    }
+    let (at, other) = (draw.of(&kinds), draw.of(&kinds));
+    match draw.below(8) {
+        form @ 0..=2 => {
+            if let Field::Of { value, .. } = &mut fields[at] {
+                *value = if form == 0 { draw_value(draw, *value) } else { *value ^ 1 << draw.below(3) };
+            }
+        }
+        3 => fields.swap(at, other),
+        // A link's ends stand before its kind. All three fields, or all but one, become those of the other link.
+        form => {
+            for i in 0..3 {
+                if form - 4 != i {
+                    fields[at - i] = fields[other - i];
+                }
+            }
+        }
+    }
+}
+
+/// One field changed, left out, put in twice, or made equal to another; or the end cut off; or links damaged.
 fn damage_fields(draw: &mut Draw, layout: &mut Layout) {
     let fields = &mut layout.fields;
     if fields.is_empty() {
         return;
+    }
+    if draw.one_in(4) {
+        return damage_links(draw, fields);
     }
     let at = draw.below(fields.len());
     let other = draw.below(fields.len());

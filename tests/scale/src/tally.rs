@@ -47,8 +47,13 @@ pub struct Tally {
     counts: [Counts; CALLS.len()],
     /// Covered questions that were answered from the book of a record, and the record searched.
     pub answered: u64,
-    /// Those of them whose sheet has pairs.
+    /// Those of them whose sheet has pairs, and those of these whose question has links that differ in their kinds alone.
     pub with_pairs: u64,
+    pub beside: u64,
+    /// Showings by which the question's sheet changes and no extract's, and those of them whose second record keeps the ends of
+    /// the link that it lacks, in a link of another kind.
+    pub shown: u64,
+    pub one_kind: u64,
     /// Answers from a set that covers, of a book of a record, and the record searched.
     pub from_sets: u64,
     /// Searches by the record's own index, and without one.
@@ -85,15 +90,25 @@ impl fmt::Display for Tally {
             line(f, name, counts)?;
         }
         line(f, "all", &std::array::from_fn(|number| self.counts.iter().map(|counts| counts[number]).sum()))?;
-        let Tally { answered, with_pairs, from_sets, indexed, apart, cheapest, not_chosen, tied, sorted, disordered, .. } = self;
+        let Tally { answered, with_pairs, beside, shown, one_kind, from_sets, indexed, apart, .. } = self;
+        let Tally { cheapest, not_chosen, tied, sorted, disordered, .. } = self;
         writeln!(
             f,
-            "{answered} covered questions answered as the record is searched, {with_pairs} of them with pairs"
+            "{answered} covered questions answered as the record is searched, {with_pairs} of them with pairs, {beside} of \
+             these with links that differ in their kinds alone"
         )?;
         writeln!(f, "{from_sets} of them also by a set drawn apart that covers")?;
         writeln!(f, "{indexed} searches by the record's index that give what the search without one gives")?;
+        writeln!(
+            f,
+            "{shown} showings with the same lists of all extracts and another sheet of the question, {one_kind} of them with \
+             the pair that goes still there, in another kind"
+        )?;
         writeln!(f, "{apart} answers from books of no record that are not those of the chosen set")?;
         writeln!(f, "{cheapest} cheapest sets, {not_chosen} of them not the chosen one, {tied} tied with another up to the numbers")?;
-        writeln!(f, "{sorted} old files sorted, {disordered} of them out of order, each with the links and the sheets it had")
+        writeln!(
+            f,
+            "{sorted} old files sorted, {disordered} of them out of order, each with the links and the sheets it had"
+        )
     }
 }

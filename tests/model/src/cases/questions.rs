@@ -10,20 +10,20 @@ use crate::quoting::{quote, Quote};
 /// The most items of a question, whether question and catalogue are as large as can be, the most items of a record; how
 /// many questions, how many of them have a record, and how many a book of no record.
 const GROUPS: [(u32, bool, u32, u32, u32, u32); 9] = [
-    (2, false, 4, 40, 40, 0),
-    (4, false, 16, 50, 50, 50),
-    (4, false, 1_024, 30, 30, 30),
+    (2, false, 4, 36, 36, 0),
+    (4, false, 16, 44, 44, 44),
+    (4, false, 1_024, 26, 26, 26),
     (4, false, 4_096, 20, 20, 20),
-    (8, false, 64, 80, 60, 80),
-    (16, false, 256, 40, 40, 40),
+    (8, false, 64, 58, 50, 58),
+    (16, false, 256, 32, 32, 32),
     (16, false, 4_096, 20, 20, 20),
-    (16, false, 0, 40, 0, 40),
-    (16, true, 256, 40, 20, 30),
+    (16, false, 0, 26, 0, 26),
+    (16, true, 256, 26, 20, 20),
 ];
 
 /// More bytes than a question and a catalogue may have.
-const QUESTION_ROOM: usize = 48;
-const CATALOGUE_ROOM: usize = 720;
+const QUESTION_ROOM: usize = PATTERN_BYTES + 4;
+const CATALOGUE_ROOM: usize = CATALOGUE_BYTES + 15;
 
 struct Files {
     question: Vec<u8>,
@@ -116,6 +116,36 @@ fn lay_book(script: &mut Script, rule: &mut Rule, files: &Files) {
     files.lay_question(script);
 }
 
+/// One link of the question becomes like another, in all three fields or in two, before the question is laid.
+fn wrong_link(script: &mut Script, rule: &mut Rule, question: &[u8]) {
+    let Pattern { kinds, mut links } = judge_pattern(question).unwrap();
+    let [own, other] = [(); 2].map(|()| rule.draw(links.len() as u32) as usize);
+    let ((from, to, kind), like) = (links[own], links[other]);
+    links[own] = match rule.draw(4) {
+        0 => like,
+        1 => (like.0, like.1, kind),
+        2 => (like.0, to, like.2),
+        _ => (from, like.1, like.2),
+    };
+    script.bytes(QUESTION_PART, &pack_pattern(&graph_fields(&kinds, &links)));
+    script.once(READ_PATTERN);
+    script.once(QUOTE);
+    script.once(SHOW_UNCOVERED);
+}
+
+/// A bit of the kind of one link of the question is turned: what is said of that, and then it is as before.
+fn turned_kind(script: &mut Script, rule: &mut Rule, files: &Files, book: bool) {
+    let Pattern { kinds, links } = judge_pattern(&files.question).unwrap();
+    let bit = 11 + 5 * kinds.len() + 11 * rule.draw(links.len() as u32) as usize + 8 + rule.draw(3) as usize;
+    script.flip(QUESTION_PART, bit);
+    quotes(script);
+    if book {
+        script.once(ANSWER);
+        script.once(ANSWER_FROM);
+    }
+    script.flip(QUESTION_PART, bit);
+}
+
 fn damage(script: &mut Script, rule: &mut Rule, part: usize, room: usize) {
     let start = script.register(START + part);
     match draw_damage(rule, script.register(END + part) - start, room) {
@@ -125,11 +155,22 @@ fn damage(script: &mut Script, rule: &mut Rule, part: usize, room: usize) {
 }
 
 /// Good files, then with the book damaged, with the catalogue damaged too, and with all three damaged.
-fn case(script: &mut Script, rule: &mut Rule, size: u32, full: bool, record: Option<u32>, book: bool, sweep: bool) -> bool {
+fn case(
+    script: &mut Script,
+    rule: &mut Rule,
+    size: u32,
+    full: bool,
+    record: Option<u32>,
+    book: bool,
+    sweep: bool,
+) -> bool {
     let kinds = draw_kinds(rule);
     let files = Files::draw(rule, size, full, kinds);
-    script.bytes(QUESTION_PART, &files.question);
     script.bytes(CATALOGUE_PART, &files.catalogue);
+    if rule.draw(4) == 0 {
+        wrong_link(script, rule, &files.question);
+    }
+    script.bytes(QUESTION_PART, &files.question);
     if sweep {
         for (reader, stride) in [(READ_PATTERN, 5), (READ_CATALOGUE, 31)] {
             script.once(reader);
@@ -138,12 +179,18 @@ fn case(script: &mut Script, rule: &mut Rule, size: u32, full: bool, record: Opt
     }
     script.content(&draw_charges(rule, files.extracts.len()));
     quotes(script);
+    if !book {
+        turned_kind(script, rule, &files, false);
+    }
     if let Some(items) = record {
         answers(script, rule, &files, items, kinds);
     }
     if book {
         lay_book(script, rule, &files);
         both_answers(script, rule, &files);
+        if rule.draw(2) == 0 {
+            turned_kind(script, rule, &files, true);
+        }
         damage(script, rule, BOOK_PART, ROOM_MOST);
         both_answers(script, rule, &files);
     }

@@ -34,17 +34,19 @@ const PATTERNS: Faulty = &[
     (LONG, &[0; PATTERN_BYTES + 1]),
     (SHORT, &[]),
     (COUNT, &[0x88]),
-    (STRAY, &[0x08, 0x20, 0x01]),
-    (TWICE, &[0x08, 0x40, 0x00, 0x00]),
+    (STRAY, &[0x08, 0x20, 0x01, 0x00]),
+    (SHORT, &[0x08, 0x20, 0x00]),
+    (TWICE, &[0x10, 0x40, 0x08, 0x0b, 0x01, 0x60]),
     (LOOSE, &[0x10, 0x20, 0x00, 0x00]),
-    (TAIL, &[0x10, 0x20, 0x08, 0x09]),
+    (TAIL, &[0x08, 0x20, 0x00, 0x01]),
 ];
 const CATALOGUES: Faulty = &[
     (LONG, &[0; CATALOGUE_BYTES + 1]),
     (SHORT, &[]),
     (COUNT, &[0x88]),
-    (STRAY, &[0x08, 0x08, 0x20, 0x01]),
-    (TWICE, &[0x08, 0x08, 0x40, 0x00, 0x00]),
+    (STRAY, &[0x08, 0x08, 0x20, 0x01, 0x00]),
+    (SHORT, &[0x08, 0x08, 0x20, 0x00]),
+    (TWICE, &[0x08, 0x10, 0x40, 0x08, 0x0b, 0x01, 0x60]),
     (LOOSE, &[0x08, 0x10, 0x20, 0x00, 0x00]),
     (TAIL, &[0x09]),
 ];
@@ -53,12 +55,12 @@ const RECORDS: Faulty = &[
     (SHORT, &[]),
     (COUNT, &[0x80, 0x08]),
     (STRAY, &[0x00, 0x00, 0x00, 0x20, 0x00, 0x00, 0x00]),
-    (ORDER, &[0x00, 0x08, 0x00, 0x40, 0x00, 0x00, 0x00, 0x00, 0x00, 0x00, 0x00, 0x00, 0x00, 0x00]),
+    (ORDER, &[0x00, 0x08, 0x00, 0x40, 0x00, 0x00, 0x00, 0x00, 0x00, 0x00, 0x04, 0x00, 0x00, 0x00, 0x00]),
     (TAIL, &[0x00, 0x00, 0x00, 0x01]),
 ];
 /// By the old rules.
 const OLD_RECORDS: Faulty = &[
-    (LONG, &[0; RECORD_BYTES + 1]),
+    (LONG, &[0; OLD_RECORD_BYTES + 1]),
     (SHORT, &[]),
     (COUNT, &[0x80, 0x08]),
     (STRAY, &[0x00, 0x00, 0x00, 0x20, 0x00, 0x00, 0x00]),
@@ -134,31 +136,50 @@ impl Good {
 
 /// Files of the worked cases. A showing wants an uncovered question, the converter links out of order.
 fn small(call: usize) -> Good {
-    let links: &[u32] = if call == SORT_RECORD { &[1, 2, 0, 1] } else { &[0, 1, 1, 2] };
+    let record = |links: &[Link]| graph_fields(&[1, 6, 8], links);
     Good {
         question: D.to_vec(),
         catalogue: if call == SHOW_UNCOVERED { SLOW.to_vec() } else { C.to_vec() },
-        record: pack_record(&[&[3, 2, 1, 6, 8], links].concat()),
-        made: match call {
-            READ_SHEET => SEARCH,
-            CHECK_INDEX | SEARCH_INDEXED => MAKE_INDEX,
-            _ => MAKE_BOOK,
+        record: match call {
+            SORT_RECORD => pack_old_record(&record(&[(1, 2, 0), (0, 1, 0)])),
+            _ => pack_record(&record(&[(0, 1, 0), (1, 2, 0)])),
         },
+        made: made(call),
     }
 }
 
-/// The largest question, and a catalogue that has it as its only extract, on a record of every kind.
-fn large(made: usize) -> Good {
-    let pattern = super::table::pattern(16, 32);
+/// The call whose output a call takes as its sheet, book or index.
+fn made(call: usize) -> usize {
+    match call {
+        READ_SHEET => SEARCH,
+        CHECK_INDEX | SEARCH_INDEXED => MAKE_INDEX,
+        _ => MAKE_BOOK,
+    }
+}
+
+/// The largest question, of three kinds of links, and a catalogue that has it as its only extract, on a record of every kind
+/// of items and of links of the three kinds.
+fn large(made: usize, packed: impl Fn(&[u32]) -> Vec<u8>) -> Good {
+    let pattern = super::table::pattern(16, 32, 3);
     let catalogue = [vec![1], pattern.clone()].concat();
-    let mut links: Vec<(u32, u32)> = (0..64).map(|link| (link % 16, (link * 3 + link / 16) % 16)).collect();
+    let mut links: Vec<Link> = (0..64).map(|link| (link % 16, (link * 3 + link / 16) % 16, link / 16 % 3)).collect();
     links.sort();
-    let record = record_fields(&[u32::MAX; 16], &links);
     Good {
         question: write_pattern(&pattern, PATTERN_BYTES, WORK_WORDS).unwrap(),
         catalogue: write_catalogue(&catalogue, CATALOGUE_BYTES, WORK_WORDS).unwrap(),
-        record: write_record(&record, RECORD_BYTES, WORK_WORDS).unwrap(),
+        record: packed(&graph_fields(&[u32::MAX; 16], &links)),
         made,
+    }
+}
+
+/// Links of one pair that differ in their kinds alone: the question's, which the extracts cover or, for a showing, don't.
+fn of_kinds(call: usize) -> Good {
+    let extracts: &[&[u32]] = if call == SHOW_UNCOVERED { &[&[1]] } else { &[&[1], &[0], &[0, 1]] };
+    Good {
+        question: worked::pattern(&kinds::one(&[0, 1])),
+        catalogue: worked::catalogue(&kinds::each(extracts)),
+        record: kinds::of_links(),
+        made: made(call),
     }
 }
 
@@ -216,11 +237,24 @@ pub fn write(script: &mut Script) {
     }
     script.name("every call on files with one fault\n");
     script.group();
-    large(MAKE_BOOK).lay_all(script);
+    for (call, parts) in CALLS {
+        if call != SORT_RECORD {
+            of_kinds(call).lay_all(script);
+            for &part in parts {
+                lay_content(script, call);
+                sweep(script, call, part, 1);
+            }
+        }
+    }
+    script.name("every call on links with kinds with one fault\n");
+    script.group();
+    large(MAKE_BOOK, pack_record).lay_all(script);
     script.content(&[u32::MAX]);
-    sweep_all(script, &[SEARCH, MAKE_BOOK, QUOTE, ANSWER, CHEAPEST, ANSWER_FROM, SORT_RECORD], 101);
-    large(MAKE_INDEX).lay_book(script);
+    sweep_all(script, &[SEARCH, MAKE_BOOK, QUOTE, ANSWER, CHEAPEST, ANSWER_FROM], 101);
+    large(MAKE_INDEX, pack_record).lay_book(script);
     sweep_all(script, &[MAKE_INDEX, CHECK_INDEX, SEARCH_INDEXED], 1);
+    large(MAKE_BOOK, pack_old_record).lay(script, RECORD_PART);
+    sweep_all(script, &[SORT_RECORD], 1);
     script.name("calls on large files with one fault\n");
     script.group();
 }

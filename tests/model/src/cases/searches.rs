@@ -4,10 +4,11 @@
 use super::*;
 use crate::drawing::*;
 use crate::files::*;
+use crate::matching::record_of;
 
 /// How many items at most, and how many searches and records at least.
 const SIZES: [(u32, usize, usize); 7] =
-    [(0, 33, 4), (4, 180, 22), (16, 170, 22), (64, 160, 20), (256, 130, 14), (1_024, 92, 12), (4_096, 116, 16)];
+    [(0, 20, 3), (4, 140, 20), (16, 140, 20), (64, 140, 18), (256, 120, 14), (1_024, 88, 12), (4_096, 105, 16)];
 
 /// Where the extracts of a catalogue stand in its file.
 pub fn places(extracts: &[Vec<u8>]) -> Vec<(usize, usize)> {
@@ -20,14 +21,72 @@ pub fn places(extracts: &[Vec<u8>]) -> Vec<(usize, usize)> {
     places
 }
 
-/// A record that is drawn, written and kept; one time in four from a file whose links stand as they are drawn.
-pub fn lay_record(script: &mut Script, rule: &mut Rule, n: u32, kinds: Kinds) {
-    let drawn = draw_record(rule, n, kinds);
-    let is_old = rule.draw(4) == 0;
-    script.record(drawn, !is_old);
+/// One link of the content becomes like the one before it, in all three fields or in two; or the two change their kinds; or
+/// its kind is none. What the writer says of that, and what is said of the file.
+fn wrong_link(script: &mut Script, rule: &mut Rule, is_old: bool) {
+    let (items, links) = (script.content_now()[0], script.content_now()[1]);
+    if links < 2 {
+        return;
+    }
+    let at = (5 + items + 3 * rule.draw(links - 1)) as usize;
+    let before: [u32; 3] = std::array::from_fn(|i| script.content_now()[at - 3 + i]);
+    let own: [u32; 3] = std::array::from_fn(|i| script.content_now()[at + i]);
+    let form = rule.draw(6);
+    let [from, to, kind] = match form {
+        0 => before,
+        1 => [before[0], before[1], own[2]],
+        2 => [before[0], own[1], before[2]],
+        3 => [own[0], before[1], before[2]],
+        4 => {
+            script.change(at - 1, own[2]);
+            [own[0], own[1], before[2]]
+        }
+        _ => [own[0], own[1], 8 + own[2]],
+    };
+    for (i, field) in [from, to, kind].into_iter().enumerate() {
+        if field != own[i] {
+            script.change(at + i, field);
+        }
+    }
     script.once(WRITE_RECORD);
     if is_old {
+        script.pack_old(RECORD_PART);
+        script.once(SORT_RECORD);
+    } else {
         script.pack(RECORD_PART);
+        script.once(READ_RECORD);
+        script.once(SEARCH);
+        script.once(MAKE_INDEX);
+    }
+}
+
+/// A bit of the kind of one link is turned, where the record has links: what is said of that, and then it is as before.
+fn turned_kind(script: &mut Script, rule: &mut Rule, calls: &[usize]) {
+    let Ok(Record { kinds, links }) = record_of(script.part(RECORD_PART), WORK_WORDS) else { return };
+    if links.is_empty() {
+        return;
+    }
+    let bit = 27 + 32 * kinds.len() + 27 * rule.draw(links.len() as u32) as usize + 24 + rule.draw(3) as usize;
+    script.flip(RECORD_PART, bit);
+    for &call in calls {
+        script.once(call);
+    }
+    script.flip(RECORD_PART, bit);
+}
+
+/// A record that is drawn, written and kept; where all links have kind 0, three times in four from an old file whose links
+/// stand as they are drawn.
+pub fn lay_record(script: &mut Script, rule: &mut Rule, n: u32, kinds: Kinds) {
+    let drawn = draw_record(rule, n, kinds);
+    let is_old = kinds.are_old() && rule.draw(4) != 0;
+    script.record(drawn, !is_old);
+    if rule.draw(3) == 0 {
+        wrong_link(script, rule, is_old);
+        script.record(drawn, !is_old);
+    }
+    script.once(WRITE_RECORD);
+    if is_old {
+        script.pack_old(RECORD_PART);
         script.once(READ_RECORD);
         script.round(SORT_RECORD);
     }
@@ -70,6 +129,7 @@ fn case(script: &mut Script, rule: &mut Rule, n: u32) -> usize {
             if i == 0 {
                 script.short(QUESTION_PART);
                 script.short(RECORD_PART);
+                turned_kind(script, rule, &[search]);
                 script.once(search);
             }
         }
@@ -79,6 +139,7 @@ fn case(script: &mut Script, rule: &mut Rule, n: u32) -> usize {
     script.place(CATALOGUE_PART, PLACES[CATALOGUE_PART], PLACES[CATALOGUE_PART] + catalogue.len());
     script.round(MAKE_BOOK);
     script.matches(BOOK_PART);
+    turned_kind(script, rule, &[MAKE_BOOK]);
     script.short(CATALOGUE_PART);
     script.short(RECORD_PART);
     extracts.len()

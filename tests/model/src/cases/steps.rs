@@ -6,8 +6,8 @@ use crate::files::*;
 use crate::rule::Pairs;
 
 /// A question by the number of its items and by its links.
-fn lay(script: &mut Script, items: usize, links: &[(u32, u32)]) {
-    let fields = content(&vec![0; items], links);
+fn lay(script: &mut Script, items: usize, links: &[Link]) {
+    let fields = graph_fields(&vec![0; items], links);
     script.bytes(QUESTION_PART, &write_pattern(&fields, PATTERN_BYTES, WORK_WORDS).unwrap());
 }
 
@@ -17,9 +17,12 @@ fn say(script: &mut Script, name: &str) {
     script.outcome();
 }
 
+/// A link and its candidates.
+type Listed<'a> = (Link, &'a [(u32, u32)]);
+
 /// A question, and for each of its links the candidates.
-fn stepped(script: &mut Script, name: &str, items: usize, links: &[((u32, u32), &[(u32, u32)])]) {
-    lay(script, items, &links.iter().map(|(link, _)| *link).collect::<Vec<(u32, u32)>>());
+fn stepped(script: &mut Script, name: &str, items: usize, links: &[Listed]) {
+    lay(script, items, &links.iter().map(|(link, _)| *link).collect::<Vec<Link>>());
     let mut pairs: Vec<(u32, u32)> = links.iter().flat_map(|(_, pairs)| pairs.iter().copied()).collect();
     pairs.sort();
     pairs.dedup();
@@ -35,36 +38,42 @@ fn row(items: usize, count: usize) -> Pairs {
 }
 
 fn worked(script: &mut Script) {
-    let cycle: [((u32, u32), &[(u32, u32)]); 3] = [((0, 1), &[(0, 1)]), ((1, 2), &[(1, 2)]), ((2, 0), &[(2, 0)])];
-    let tail: [((u32, u32), &[(u32, u32)]); 2] = [((3, 4), &[(3, 4), (3, 6)]), ((4, 5), &[(4, 5)])];
+    let cycle: [Listed; 3] = [((0, 1, 0), &[(0, 1)]), ((1, 2, 0), &[(1, 2)]), ((2, 0, 0), &[(2, 0)])];
+    let tail: [Listed; 2] = [((3, 4, 0), &[(3, 4), (3, 6)]), ((4, 5, 0), &[(4, 5)])];
     let [a, b, c] = cycle;
     let [d, e] = tail;
-    stepped(script, "a cycle of three feeds a tail", 6, &[a, b, c, ((2, 3), &[(2, 3), (2, 7)]), d, e]);
-    stepped(script, "a cycle of three feeds a tail that is lost to it", 6, &[a, b, c, ((2, 3), &[(2, 7)]), d, e]);
-    stepped(script, "a tail feeds a cycle of three", 6, &[d, e, ((5, 0), &[(5, 0), (5, 1)]), a, b, c]);
+    stepped(script, "a cycle of three feeds a tail", 6, &[a, b, c, ((2, 3, 0), &[(2, 3), (2, 7)]), d, e]);
+    stepped(script, "a cycle of three feeds a tail that is lost to it", 6, &[a, b, c, ((2, 3, 0), &[(2, 7)]), d, e]);
+    stepped(script, "a tail feeds a cycle of three", 6, &[d, e, ((5, 0, 0), &[(5, 0), (5, 1)]), a, b, c]);
     stepped(
         script,
         "two components that are independent",
         4,
-        &[((2, 3), &[(5, 6)]), ((3, 2), &[(7, 5)]), ((0, 1), &[(0, 1)]), ((1, 0), &[(1, 0), (2, 0)])],
+        &[((2, 3, 0), &[(5, 6)]), ((3, 2, 0), &[(7, 5)]), ((0, 1, 0), &[(0, 1)]), ((1, 0, 0), &[(1, 0), (2, 0)])],
     );
-    stepped(script, "an item linked to itself", 2, &[((0, 1), &[(0, 1), (0, 3)]), ((1, 1), &[(1, 2), (2, 1), (3, 4)])]);
-    stepped(script, "an item that no link leaves", 3, &[((0, 2), &[(0, 5)]), ((1, 2), &[(1, 5), (1, 6)])]);
+    stepped(
+        script,
+        "an item linked to itself",
+        2,
+        &[((0, 1, 0), &[(0, 1), (0, 3)]), ((1, 1, 0), &[(1, 2), (2, 1), (3, 4)])],
+    );
+    stepped(script, "an item that no link leaves", 3, &[((0, 2, 0), &[(0, 5)]), ((1, 2, 0), &[(1, 5), (1, 6)])]);
     stepped(
         script,
         "a component that leads to one in two ways",
         5,
         &[
-            ((0, 1), &[(0, 1), (8, 1)]),
-            ((1, 0), &[(1, 0), (1, 8)]),
-            ((0, 2), &[(0, 2), (8, 9)]),
-            ((1, 3), &[(1, 3)]),
-            ((2, 3), &[(2, 3)]),
-            ((3, 2), &[(3, 2)]),
-            ((2, 4), &[(2, 4)]),
+            ((0, 1, 0), &[(0, 1), (8, 1)]),
+            ((1, 0, 0), &[(1, 0), (1, 8)]),
+            ((0, 2, 0), &[(0, 2), (8, 9)]),
+            ((1, 3, 0), &[(1, 3)]),
+            ((2, 3, 0), &[(2, 3)]),
+            ((3, 2, 0), &[(3, 2)]),
+            ((2, 4, 0), &[(2, 4)]),
         ],
     );
-    let ring: Vec<(u32, u32)> = (0..16).map(|item| (item, (item + 1) % 16)).collect();
+    of_kinds(script);
+    let ring: Vec<Link> = (0..16).map(|item| (item, (item + 1) % 16, 0)).collect();
     for (name, links) in [("sixteen items in one ring", &ring[..]), ("sixteen items in a chain", &ring[..15])] {
         lay(script, 16, links);
         for count in [15, 16, 64] {
@@ -81,9 +90,43 @@ fn worked(script: &mut Script) {
     script.group();
 }
 
+/// Links that differ in their kinds alone: each is settled by what it is left with, and both ends ask for all of them.
+fn of_kinds(script: &mut Script) {
+    stepped(
+        script,
+        "two kinds of one link",
+        2,
+        &[((0, 1, 0), &[(0, 1), (2, 3), (4, 5)]), ((0, 1, 1), &[(0, 1), (2, 6), (7, 5)])],
+    );
+    stepped(
+        script,
+        "two kinds to an item that goes on",
+        3,
+        &[((0, 1, 2), &[(0, 1), (0, 3)]), ((0, 1, 6), &[(0, 3), (0, 4)]), ((1, 2, 2), &[(1, 2), (4, 5)])],
+    );
+    stepped(
+        script,
+        "two kinds there and one back",
+        2,
+        &[((0, 1, 3), &[(0, 1), (2, 3)]), ((0, 1, 1), &[(0, 1), (2, 1)]), ((1, 0, 3), &[(1, 0), (3, 2), (1, 4)])],
+    );
+    stepped(
+        script,
+        "two kinds of a link to itself",
+        1,
+        &[((0, 0, 7), &[(0, 1), (1, 0), (2, 2)]), ((0, 0, 0), &[(0, 0), (1, 0), (2, 3)])],
+    );
+    stepped(
+        script,
+        "eight kinds of one link",
+        2,
+        &std::array::from_fn::<Listed, 8, _>(|kind| ((0, 1, kind as u32), &[(0, 1), (0, 2), (3, 1)][..1 + kind % 3])),
+    );
+}
+
 /// The links of components of a few items, each a ring or a single item, of which some lead to others further on, all under
-/// other numbers.
-fn draw_components(rule: &mut Rule, n: u32) -> Vec<(u32, u32)> {
+/// other numbers; some of them of two kinds.
+fn draw_components(rule: &mut Rule, n: u32) -> Vec<Link> {
     let mut numbers: Vec<u32> = (0..n).collect();
     for item in 0..n {
         numbers.swap(item as usize, rule.draw(n) as usize);
@@ -109,9 +152,13 @@ fn draw_components(rule: &mut Rule, n: u32) -> Vec<(u32, u32)> {
         let from = rule.draw(n);
         (from, from + rule.draw(n - from))
     }));
+    let kinds = [1, 2, 8][rule.draw(3) as usize];
+    for _ in 0..rule.draw(2) * rule.draw(6) {
+        links.push(links[rule.draw(links.len() as u32) as usize]);
+    }
     let mut seen = Vec::new();
     for (from, to) in links {
-        let link = (numbers[from as usize], numbers[to as usize]);
+        let link = (numbers[from as usize], numbers[to as usize], rule.draw(kinds));
         if !seen.contains(&link) {
             seen.push(link);
         }
@@ -130,7 +177,7 @@ fn draw_pairs(rule: &mut Rule) -> Pairs {
 }
 
 /// How many questions of each kind: of components that are drawn, and of any form.
-const QUESTIONS: [u32; 2] = [160, 160];
+const QUESTIONS: [u32; 2] = [120, 120];
 
 pub fn write(script: &mut Script) {
     worked(script);

@@ -27,7 +27,7 @@ fn kind(word: &str) -> Kind {
     let (read, beside) = match word {
         "pattern" => (READ_PATTERN, None),
         "catalogue" => (READ_CATALOGUE, None),
-        "record" => (READ_RECORD, None),
+        "record" | "kinds" => (READ_RECORD, None),
         "sheet" | "list" | "nothing" => (READ_SHEET, Some(QUESTION_PART)),
         "book" | "distinct" | "wide" | "words" | "none" | "joined" => (READ_BOOK, Some(CATALOGUE_PART)),
         _ => panic!("no kind: {word}"),
@@ -125,15 +125,15 @@ fn zeros_line(script: &mut Script, line: &str) {
 
 // The contents that are too long to write out, each by a plain rule, with what they stand beside.
 
-/// A pattern by its counts, right or not: link i from item i to the one i / items further on.
-pub fn pattern(items: u32, links: u32) -> Vec<u32> {
+/// A pattern by its counts, right or not: link i from item i to the one i / items further on, of so many kinds in turn.
+pub fn pattern(items: u32, links: u32, kinds: u32) -> Vec<u32> {
     let mut fields = vec![items, links];
     for i in 0..items {
         fields.push(i * 3 % 32);
     }
     let n = items.max(1);
     for i in 0..links {
-        fields.extend([i % n, (i + i / n) % n]);
+        fields.extend([i % n, (i + i / n) % n, i % kinds]);
     }
     fields
 }
@@ -142,7 +142,7 @@ pub fn pattern(items: u32, links: u32) -> Vec<u32> {
 fn catalogue(number: u32) -> Vec<u32> {
     let mut fields = vec![number];
     for _ in 0..number {
-        fields.extend(pattern(16, 32));
+        fields.extend(pattern(16, 32, 8));
     }
     fields
 }
@@ -151,20 +151,27 @@ fn full_catalogue() -> Vec<u8> {
     write_catalogue(&catalogue(16), CATALOGUE_BYTES, WORK_WORDS).unwrap()
 }
 
-/// A record by its counts, right or not; its links ascend, or stand in no order. One of 4,094 items has another link at its
-/// end once more: the one before it, or the first.
+/// A record by its counts, right or not, of links of every kind; its links ascend, or stand in no order. One of 4,094 items
+/// has another link at its end once more: the one before it, or the first.
 fn record(script: &mut Script, items: u32, links: u32, ascending: bool) {
     let (items, links) = (items as usize, links as usize);
-    script.record(Drawn { items, links, item_form: 4, link_form: 6, ..Drawn::default() }, ascending);
+    script.record(Drawn { items, links, item_form: 4, link_form: 6, link_kinds: 8, ..Drawn::default() }, ascending);
     script.change(1, links as u32);
     if items == 4_094 {
         let fields = script.content_now();
-        let last = fields.len() - 2;
-        let other = if ascending { last - 2 } else { 2 + items };
-        let ends = [fields[other], fields[other + 1]];
-        script.change(last, ends[0]);
-        script.change(last + 1, ends[1]);
+        let last = fields.len() - 3;
+        let other = if ascending { last - 3 } else { 2 + items };
+        let link = [fields[other], fields[other + 1], fields[other + 2]];
+        for (i, field) in link.into_iter().enumerate() {
+            script.change(last + i, field);
+        }
     }
+}
+
+/// A record by the number of its items and of pairs that have links, eight each.
+fn kinds(script: &mut Script, items: u32, pairs: u32) {
+    let (items, links) = (items as usize, pairs as usize);
+    script.record(Drawn { items, links, item_form: 4, link_form: 6, kind_form: 2, ..Drawn::default() }, true);
 }
 
 /// A list of a sheet: the numbers from `first` on, each by `step` more, as pairs.
@@ -197,9 +204,10 @@ fn content(script: &mut Script, name: &str, a: u32, b: u32) -> Kind {
     lay_beside(script, kind, &beside);
     script.set(CONTENT, 0);
     match name {
-        "pattern" => script.fields(&pattern(a, b)),
+        "pattern" => script.fields(&pattern(a, b, 8)),
         "catalogue" => script.fields(&catalogue(a)),
         "record" => record(script, a, b, true),
+        "kinds" => kinds(script, a, b),
         "nothing" => script.fields(&[0]),
         "list" => {
             script.fields(&[1]);
@@ -284,7 +292,7 @@ fn limit(script: &mut Script, line: &str, name: &str, a: u32, b: u32) {
 /// A file of the old rules, sorted, and the same with a byte more.
 fn old(script: &mut Script, line: &str, items: u32, links: u32) {
     record(script, items, links, false);
-    script.pack(RECORD_PART);
+    script.pack_old(RECORD_PART);
     script.name(&format!("{line}, sort: "));
     script.once(SORT_RECORD);
     script.outcome();

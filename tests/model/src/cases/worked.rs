@@ -1,31 +1,32 @@
 //! The worked cases of the requirements that are more than one file, and a few that are as large as can be.
 
+use super::kinds::{each, one};
 use super::*;
-use crate::drawing::content;
 use crate::files::*;
 use crate::rule::Lists;
 
 /// A call on what is laid, and its outcome.
-fn say(script: &mut Script, name: &str, call: usize) {
+pub fn say(script: &mut Script, name: &str, call: usize) {
     script.name(&format!("{name}: "));
     script.once(call);
     script.outcome();
 }
 
-fn catalogue(fields: &[u32]) -> Vec<u8> {
+pub fn catalogue(fields: &[u32]) -> Vec<u8> {
     write_catalogue(fields, CATALOGUE_BYTES, WORK_WORDS).unwrap()
 }
 
-fn pattern(fields: &[u32]) -> Vec<u8> {
+pub fn pattern(fields: &[u32]) -> Vec<u8> {
     write_pattern(fields, PATTERN_BYTES, WORK_WORDS).unwrap()
 }
 
-fn record(kinds: &[u32], links: &[(u32, u32)]) -> Vec<u8> {
-    write_record(&record_fields(kinds, links), RECORD_BYTES, WORK_WORDS).unwrap()
+/// A record by the kinds of its items and by its links.
+pub fn record(kinds: &[u32], links: &[Link]) -> Vec<u8> {
+    write_record(&graph_fields(kinds, links), RECORD_BYTES, WORK_WORDS).unwrap()
 }
 
 /// D with a catalogue: the quote and the showing.
-fn quoted(script: &mut Script, name: &str, fields: &[u32]) {
+pub fn quoted(script: &mut Script, name: &str, fields: &[u32]) {
     script.bytes(CATALOGUE_PART, &catalogue(fields));
     say(script, &format!("{name}, quote"), QUOTE);
     say(script, &format!("{name}, show"), SHOW_UNCOVERED);
@@ -52,7 +53,7 @@ fn shown(script: &mut Script, name: &str) {
 }
 
 /// The cheapest set with these charges.
-fn priced(script: &mut Script, name: &str, charges: &[u32]) {
+pub fn priced(script: &mut Script, name: &str, charges: &[u32]) {
     script.content(charges);
     say(script, &format!("{name}, cheapest"), CHEAPEST);
 }
@@ -64,8 +65,8 @@ fn lay_ring(script: &mut Script, n: u32, extracts: &[&[u32]]) {
         items.sort();
         items.dedup();
         let number = |item: u32| items.iter().position(|&other| other == item).unwrap() as u32;
-        let links: Vec<(u32, u32)> = links.iter().map(|&link| (number(link), number((link + 1) % n))).collect();
-        content(&items, &links)
+        let links: Vec<Link> = links.iter().map(|&link| (number(link), number((link + 1) % n), 0)).collect();
+        graph_fields(&items, &links)
     };
     let all: Vec<u32> = (0..n).collect();
     script.bytes(QUESTION_PART, &pattern(&part(&all)));
@@ -114,13 +115,13 @@ fn charged(script: &mut Script) {
 }
 
 /// A pattern on a record.
-fn searched(script: &mut Script, name: &str, pattern: &[u8], record: &[u8]) {
+pub fn searched(script: &mut Script, name: &str, pattern: &[u8], record: &[u8]) {
     script.bytes(QUESTION_PART, pattern);
     script.bytes(RECORD_PART, record);
     beside_plain(script, name);
 }
 
-fn beside_plain(script: &mut Script, name: &str) {
+pub fn beside_plain(script: &mut Script, name: &str) {
     script.once(PLAIN);
     script.hold();
     say(script, &format!("{name}, search"), SEARCH);
@@ -128,7 +129,7 @@ fn beside_plain(script: &mut Script, name: &str) {
 }
 
 /// An answer from a set.
-fn answered_from(script: &mut Script, name: &str, set: usize) {
+pub fn answered_from(script: &mut Script, name: &str, set: usize) {
     script.set(SET, set);
     say(script, &format!("{name}, answer from {set}"), ANSWER_FROM);
 }
@@ -150,7 +151,7 @@ fn chosen_by_the_client(script: &mut Script, name: &str) {
 }
 
 /// The book of a record, the answer from it, and the search.
-fn answered(script: &mut Script, name: &str) {
+pub fn answered(script: &mut Script, name: &str) {
     say(script, &format!("{name}, make_book"), MAKE_BOOK);
     keep_as(script, BOOK_PART);
     say(script, &format!("{name}, answer"), ANSWER);
@@ -163,12 +164,12 @@ fn lay_index(script: &mut Script, name: &str) {
     keep_as(script, BOOK_PART);
 }
 
-fn checked(script: &mut Script, name: &str) {
+pub fn checked(script: &mut Script, name: &str) {
     say(script, &format!("{name}, check_index"), CHECK_INDEX);
 }
 
 /// The record's own index, and searches with it and without.
-fn indexed(script: &mut Script, name: &str) {
+pub fn indexed(script: &mut Script, name: &str) {
     lay_index(script, name);
     checked(script, name);
     script.once(SEARCH);
@@ -229,11 +230,11 @@ fn indexes(script: &mut Script, k6: &[u8]) {
     script.round(MAKE_INDEX);
 
     // As many items, other links.
-    script.bytes(RECORD_PART, &record(&[1, 2, 8, 2], &[(0, 1), (1, 2), (3, 2)]));
+    script.bytes(RECORD_PART, &record(&[1, 2, 8, 2], &[(0, 1, 0), (1, 2, 0), (3, 2, 0)]));
     checked(script, "K6's index beside another record");
     say(script, "K6's index beside another record, search_indexed", SEARCH_INDEXED);
     // The same links from the same items, to others: it is its own too.
-    script.bytes(RECORD_PART, &record(&[1, 2, 8, 2], &[(0, 2), (0, 3), (1, 3)]));
+    script.bytes(RECORD_PART, &record(&[1, 2, 8, 2], &[(0, 2, 0), (0, 3, 0), (1, 3, 0)]));
     checked(script, "K6's index beside a record whose links begin alike");
     script.short(RECORD_PART);
     script.short(QUESTION_PART);
@@ -253,18 +254,21 @@ fn indexes(script: &mut Script, k6: &[u8]) {
 fn ring(n: u32, kinds: u32) -> Vec<u32> {
     let mut fields = vec![n, n];
     fields.extend(vec![kinds; n as usize]);
-    fields.extend((0..n).flat_map(|item| [item, (item + 1) % n]));
+    fields.extend((0..n).flat_map(|item| [item, (item + 1) % n, 0]));
     fields
 }
 
-/// An extract twice: the first sheet lists the most pairs that a book may have, the second, which isn't chosen, the
-/// pair of item 0 and another.
-fn crowd(script: &mut Script, name: &str, other: u32) {
-    script.bytes(QUESTION_PART, &ONE);
-    script.bytes(CATALOGUE_PART, &catalogue(&[2, 2, 1, 0, 1, 0, 1, 2, 1, 0, 1, 0, 1]));
+/// A list of the most pairs that a book may have.
+pub const MOST_PAIRS: Lists = Lists { least: BOOK_PAIRS, most: 0, first: 0, step: 2_048, gap: 0, items: 4_096 };
+
+/// Two extracts of a link each, of these kinds: the first sheet lists the most pairs that a book may have, the second the
+/// pair of item 0 and another. The question is the first extract, so the second isn't chosen.
+pub fn crowd(script: &mut Script, name: &str, kinds: [u32; 2], other: u32) {
+    script.bytes(QUESTION_PART, &pattern(&one(&kinds[..1])));
+    script.bytes(CATALOGUE_PART, &catalogue(&each(&[&kinds[..1], &kinds[1..]])));
     script.empty(BOOK_PART);
     script.content(&[1]);
-    script.lists(1, Lists { least: BOOK_PAIRS, most: 0, first: 0, step: 2_048, gap: 0, items: 4_096 });
+    script.lists(1, MOST_PAIRS);
     script.once(WRITE_SHEET);
     script.keep(BOOK_PART);
     script.content(&[1, 1, 0, other]);
@@ -278,27 +282,28 @@ fn crowd(script: &mut Script, name: &str, other: u32) {
     }
 }
 
-const C_FIELDS: [u32; 25] = [3, 2, 1, 0, 1, 0, 1, 3, 2, 0, 1, 3, 0, 1, 1, 2, 3, 2, 0, 2, 3, 0, 1, 1, 2];
+pub const C_FIELDS: [u32; 30] =
+    [3, 2, 1, 0, 1, 0, 1, 0, 3, 2, 0, 1, 3, 0, 1, 0, 1, 2, 0, 3, 2, 0, 2, 3, 0, 1, 0, 1, 2, 0];
 
 pub fn write(script: &mut Script) {
     script.bytes(QUESTION_PART, &D);
-    quoted(script, "K1: D by itself", &[1, 4, 4, 0, 1, 2, 3, 0, 1, 0, 2, 1, 3, 2, 3]);
+    quoted(script, "K1: D by itself", &[1, 4, 4, 0, 1, 2, 3, 0, 1, 0, 0, 2, 0, 1, 3, 0, 2, 3, 0]);
     quoted(script, "K2: C", &C_FIELDS);
-    quoted(script, "K3: extract 1 of C", &[1, 3, 2, 0, 1, 3, 0, 1, 1, 2]);
+    quoted(script, "K3: extract 1 of C", &[1, 3, 2, 0, 1, 3, 0, 1, 0, 1, 2, 0]);
     quoted(script, "K4: no extracts", &[0]);
-    quoted(script, "K5: slow run to fast run", &[1, 2, 1, 1, 2, 0, 1]);
-    script.bytes(QUESTION_PART, &pattern(&[4, 4, 0, 1, 2, 3, 2, 3, 1, 3, 0, 2, 0, 1]));
-    quoted(script, "K3: D's links turned", &[1, 3, 2, 0, 1, 3, 0, 1, 1, 2]);
+    quoted(script, "K5: slow run to fast run", &[1, 2, 1, 1, 2, 0, 1, 0]);
+    script.bytes(QUESTION_PART, &pattern(&[4, 4, 0, 1, 2, 3, 2, 3, 0, 1, 3, 0, 0, 2, 0, 0, 1, 0]));
+    quoted(script, "K3: D's links turned", &[1, 3, 2, 0, 1, 3, 0, 1, 0, 1, 2, 0]);
     script.bytes(QUESTION_PART, &D);
 
     charged(script);
 
-    let k6 = record(&[1, 2, 8, 2], &[(0, 1), (0, 3), (1, 2)]);
-    let k9 = record(&[1, 6, 8], &[(0, 1), (1, 2)]);
-    let to_itself = pattern(&[1, 1, 5, 0, 0]);
+    let k6 = record(&[1, 2, 8, 2], &[(0, 1, 0), (0, 3, 0), (1, 2, 0)]);
+    let k9 = record(&[1, 6, 8], &[(0, 1, 0), (1, 2, 0)]);
+    let to_itself = pattern(&[1, 1, 5, 0, 0, 0]);
     searched(script, "K6: extract 1 of C", &SLOW[1..], &k6);
-    searched(script, "K7: both ways", &to_itself, &record(&[32, 32], &[(0, 1), (1, 0)]));
-    searched(script, "K8: a chain", &to_itself, &record(&[32, 32, 32], &[(0, 1), (1, 2)]));
+    searched(script, "K7: both ways", &to_itself, &record(&[32, 32], &[(0, 1, 0), (1, 0, 0)]));
+    searched(script, "K8: a chain", &to_itself, &record(&[32, 32, 32], &[(0, 1, 0), (1, 2, 0)]));
     searched(script, "K9: D", &D, &k9);
     searched(script, "K10: an empty record", &ONE, &record(&[], &[]));
 
@@ -318,11 +323,11 @@ pub fn write(script: &mut Script) {
     indexes(script, &k6);
 
     script.bytes(QUESTION_PART, &pattern(&ring(8, 0)));
-    script.bytes(CATALOGUE_PART, &catalogue(&[1, 1, 1, 0, 0, 0]));
+    script.bytes(CATALOGUE_PART, &catalogue(&[1, 1, 1, 0, 0, 0, 0]));
     ring_record(script);
     answered(script, "a ring of 8 on a ring of 4096");
-    crowd(script, "8192 different pairs", 0);
-    crowd(script, "8193 different pairs", 2);
+    crowd(script, "8192 different pairs", [0, 0], 0);
+    crowd(script, "8193 different pairs", [0, 0], 2);
     script.name("the worked cases\n");
     script.group();
 }

@@ -2,14 +2,14 @@
 use native.Mathlib.Omega.{arith}
 use Prim.Native.Nat.{_+_, _≤_, _-_}
 use mathlib.Core.Path.{refl}
-use Rattle.containment.specs.Steps.{Present, Column, MaskOf, codeAt}
+use Rattle.containment.specs.Steps.{Present, Column, MaskOf, wordAt}
 use Rattle.containment.proofs.MappingLaws.{column-start, column-more, column-end, place-below, mask-found}
 use borrow.Author.Needs.{needs}
 use Rattle.containment.proofs.mapping.note_masks.Statement.{statement}
 use Rattle.containment.proofs.mapping.note_masks.Tie as tie
 
 abbrev Inv-loop : tie.InvT-loop
-Inv-loop table₀ a m work q n e₀ table e = (e ≤ n) × Column a e (λ d x. MaskOf work m (codeAt q d) x) table₀ table
+Inv-loop table₀ a m work q n e₀ table e = (e ≤ n) × Column a e (λ d x. MaskOf work m (wordAt q d) x) table₀ table
 
 abbrev μ-loop : tie.MeasureT-loop
 μ-loop table₀ a m work q n e₀ table e = n - e
@@ -17,23 +17,43 @@ abbrev μ-loop : tie.MeasureT-loop
 loop-holds : tie.Need-loop-holds Inv-loop μ-loop
 loop-holds c = (omega arith, column-start)
 
-mul-place-of : tie.Need-mul-place-of Inv-loop μ-loop
-mul-place-of c = search needs
+mul-word : tie.Need-mul-word Inv-loop μ-loop
+mul-word c = search needs
 
-element-copy-out-place-of : tie.Need-element-copy-out-place-of Inv-loop μ-loop
-element-copy-out-place-of c = search needs
+element-copy-out-word : tie.Need-element-copy-out-word Inv-loop μ-loop
+element-copy-out-word c = search needs
 
-mul-place-of-2 : tie.Need-mul-place-of-2 Inv-loop μ-loop
-mul-place-of-2 c = omega (arith, c .before .before .before .before .pre .0 .nodes, c .before .before .before .before .pre .0 .from (c .before .before .loop .e) (omega arith))
+mul-word-2 : tie.Need-mul-word-2 Inv-loop μ-loop
+mul-word-2 c = omega (arith, c .before .before .before .before .pre .0 .kind (c .before .before .loop .e) (omega arith))
 
-mul-place-of-3 : tie.Need-mul-place-of-3 Inv-loop μ-loop
-mul-place-of-3 c = search needs
+mul-word-3 : tie.Need-mul-word-3 Inv-loop μ-loop
+mul-word-3 c = search needs
 
-element-copy-out-place-of-2 : tie.Need-element-copy-out-place-of-2 Inv-loop μ-loop
-element-copy-out-place-of-2 c = search needs
+element-copy-out-word-2 : tie.Need-element-copy-out-word-2 Inv-loop μ-loop
+element-copy-out-word-2 c = search needs
 
-add-place-of : tie.Need-add-place-of Inv-loop μ-loop
-add-place-of c = omega (arith, c .before .before .before .before .before .pre .0 .nodes, c .before .before .before .before .before .pre .0 .from (c .before .before .before .loop .e) (omega arith), c .before .before .before .before .before .pre .0 .to (c .before .before .before .loop .e) (omega arith))
+mul-word-4 : tie.Need-mul-word-4 Inv-loop μ-loop
+mul-word-4 c =
+    let fair = c .before .before .before .before .before .pre .0 in
+    omega (arith, fair .nodes, fair .from (c .before .before .before .loop .e) (omega arith))
+
+mul-word-5 : tie.Need-mul-word-5 Inv-loop μ-loop
+mul-word-5 c = search needs
+
+element-copy-out-word-3 : tie.Need-element-copy-out-word-3 Inv-loop μ-loop
+element-copy-out-word-3 c = search needs
+
+add-word : tie.Need-add-word Inv-loop μ-loop
+add-word c =
+    let fair = c .before .before .before .before .before .before .pre .0 in
+    let e = c .before .before .before .before .loop .e in
+    omega (arith, fair .nodes, fair .from e (omega arith), fair .to e (omega arith))
+
+add-word-2 : tie.Need-add-word-2 Inv-loop μ-loop
+add-word-2 c =
+    let fair = c .before .before .before .before .before .before .pre .0 in
+    let e = c .before .before .before .before .loop .e in
+    omega (arith, fair .nodes, fair .from e (omega arith), fair .to e (omega arith), fair .kind e (omega arith))
 
 place-of-requires : tie.Need-place-of-requires Inv-loop μ-loop
 place-of-requires c κs = search needs
@@ -52,14 +72,14 @@ mul-table c = search needs
 
 shared-slice-read-table : tie.Need-shared-slice-read-table Inv-loop μ-loop
 unfolding Present
-shared-slice-read-table c = omega (arith, place-below (c .before .before .before .before .before .before .before .pre .5 (c .before .before .before .before .before .loop .e) (omega arith)) (c .before .place-of .ensures))
+shared-slice-read-table c = omega (arith, place-below (c .before .before .before .before .before .before .before .before .pre .5 (c .before .before .before .before .before .before .loop .e) (omega arith)) (c .before .place-of .ensures))
 
 mul-table-2 : tie.Need-mul-table-2 Inv-loop μ-loop
 mul-table-2 c = search needs
 
 element-write-table : tie.Need-element-write-table Inv-loop μ-loop
 element-write-table c =
-    let pre = c .before .before .before .before .before .before .before .pre in
+    let pre = c .before .before .before .before .before .before .before .before .pre in
     omega (arith, pre .0 .edges)
 
 add-e : tie.Need-add-e Inv-loop μ-loop
@@ -71,10 +91,10 @@ loop-less c = search needs
 loop-again : tie.Need-loop-again Inv-loop μ-loop
 unfolding Present
 loop-again c =
-    let f = c .before .before .before .before .before .before .before .pre .0 .edges in (
+    let f = c .before .before .before .before .before .before .before .before .pre .0 .edges in (
       omega arith,
-      column-more (c .before .before .before .before .before .loop .inv .1) (c .before .before .before .before .before .before .before .pre .1) (omega arith) (c .before .before .before .before .before .before .before .pre .3)
-          (mask-found (c .before .before .before .before .before .before .before .pre .5 (c .before .before .before .before .before .loop .e) (omega arith)) (c .before .place-of .ensures) refl (omega (arith, c .shared-slice-known2 .given (8192 + c .before .place-of .result)))),
+      column-more (c .before .before .before .before .before .before .loop .inv .1) (c .before .before .before .before .before .before .before .before .pre .1) (omega arith) (c .before .before .before .before .before .before .before .before .pre .3)
+          (mask-found (c .before .before .before .before .before .before .before .before .pre .5 (c .before .before .before .before .before .before .loop .e) (omega arith)) (c .before .place-of .ensures) refl (omega (arith, c .shared-slice-known2 .given (8192 + c .before .place-of .result)))),
     )
 
 returns : tie.Need-returns Inv-loop μ-loop
@@ -87,12 +107,16 @@ note-masks-spec =
     Inv-loop
     μ-loop
     loop-holds
-    mul-place-of
-    element-copy-out-place-of
-    mul-place-of-2
-    mul-place-of-3
-    element-copy-out-place-of-2
-    add-place-of
+    mul-word
+    element-copy-out-word
+    mul-word-2
+    mul-word-3
+    element-copy-out-word-2
+    mul-word-4
+    mul-word-5
+    element-copy-out-word-3
+    add-word
+    add-word-2
     place-of-requires
     add-mask
     mul-at

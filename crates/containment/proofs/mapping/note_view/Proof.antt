@@ -13,19 +13,19 @@ listed-requires c κs = search needs
 
 returns : tie.Need-returns
 returns c =
-    let pre = c .before .before .before .pre in
+    let pre = c .before .before .before .before .pre in
     let listed = c .before .listed in
-    column-none _ (λ e l. pre .9 e ∙ sym (unlisted (listed .ensures) (c .if1 .taken) _))
+    column-none _ (λ e l. pre .10 e ∙ sym (unlisted (c .before .before .before .before .args .p) (listed .ensures) (c .if1 .taken) _))
 
 note-masks-requires : tie.Need-note-masks-requires
 note-masks-requires c κs = search needs
 
 returns-2 : tie.Need-returns-2
 returns-2 c =
-    let pre = c .before .before .before .before .before .pre in
+    let pre = c .before .before .before .before .before .before .pre in
     let listed = c .before .before .before .listed in
     let if1 = c .before .before .if1 in
-    column-map (λ e x l o. listed-mask (listed .ensures) (pre .6) (pre .8) (if1 .left) (pre .2) o) (c .note-masks .ensures)
+    column-map (λ e x l o. listed-mask (c .before .before .before .before .before .before .args .p) (listed .ensures) (pre .0) (pre .1) (pre .6) (pre .7) (pre .9) e l o (if1 .left) (pre .3)) (c .note-masks .ensures)
 
 pub note-view-spec : {M : Type 1} → statement M
 note-view-spec =

@@ -6,9 +6,8 @@ use Rattle.matching.specs.Steps.{Edges}
 use Rattle.matching.proofs.MatchedLaws.{edges-twice}
 use Rattle.matching.proofs.PatternLaws.{fair-by, proper-by}
 use Rattle.matching.proofs.RecordLaws.{ready-by, rises-by, ready-again, rises-again}
-use Rattle.containment.specs.Steps.{Within}
 use Rattle.containment.proofs.QueryLaws.{fair}
-use Rattle.containment.proofs.NotingLaws.{Noted, noted-start, noted-end, noted-next, noted-long, noted-clear, noted-more, views-few, number-some, number-few, nodes-few, query-present}
+use Rattle.containment.proofs.NotingLaws.{Noted, noted-start, noted-end, noted-next, noted-long, noted-clear, noted-more, within-by, views-few, number-some, number-few, nodes-few, query-present}
 use borrow.Author.Needs.{needs}
 use Rattle.matching.specs.Starting.{NodeRoom}
 use lib.ListN.{length}
@@ -71,23 +70,24 @@ match-edges-requires c κs =
     )
 
 note-view-requires : tie.Need-note-view-requires Inv-loop μ-loop
-unfolding Within
 note-view-requires c κs =
     let l = c .before .before .before .before .before .before .before .before .before .before .before .before .before .before .before .loop .inv in
     let t = c .before .before .before .before .before .before .before .before .before .before .before .before .before .before .before .before .before .before .before .before .before .before .before .pre .0 in
     let h = c .before .before .before .before .before .before .before .before .before .before .before .before .before .before .before .before .before .before .before .before .before .before .before .pre .4 in
     let e = c .before .before .before .before .before .before .before .before .before .before .before .before .before .before .before .before .before .before .before .before .before .before .before .pre .5 t in
     let v = noted-next (l .2) (omega arith) (c .before .before .before .before .before .before .before .before .before .before .before .before .before .view-at .ensures) (c .before .before .before .before .before .before .before .before .before .before .before .before .before .before .before .before .before .before .before .before .before .before .before .pre .1) in
-    let d = c .before .before .before .before .before .before .before .match-edges .ensures .0 in (
+    let d = c .before .before .before .before .before .before .before .match-edges .ensures .0 in
+    let few : c .before .before .before .before .before .before .before .before .before .before .before .before .before .before .before .before .before .before .before .before .before .before .before .args .m ≤ 8192 = omega (arith, number-few t h e) in (
       fair t,
+      fair-by (v .plain) (v .holds),
       omega (arith, views-few (c .before .before .before .before .before .before .before .before .before .before .before .before .before .before .before .before .before .before .before .before .before .before .before .pre .1)),
       number-some t h e,
-      fair-by (v .plain) (v .holds) .edges,
       noted-long (l .2) (omega arith) t (c .before .before .before .before .before .before .before .before .before .before .before .before .before .before .before .before .before .before .before .before .before .before .before .pre .1),
       d .edges .long ∙ l .1 .long ∙ h .long,
       d .marked,
+      rises-again (edges-twice (l .1) (d .edges)) few (rises-by h),
       query-present t h e (edges-twice (l .1) (d .edges)),
-      d .only,
+      within-by d few,
       noted-clear (l .2) (omega arith) t (c .before .before .before .before .before .before .before .before .before .before .before .before .before .before .before .before .before .before .before .before .before .before .before .pre .1),
     )
 

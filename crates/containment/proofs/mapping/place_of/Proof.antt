@@ -9,10 +9,10 @@ use Rattle.containment.proofs.mapping.place_of.Statement.{statement}
 use Rattle.containment.proofs.mapping.place_of.Tie as tie
 
 abbrev Inv-loop : tie.InvT-loop
-Inv-loop work m code i₀ i = (i ≤ m) × ((j : ℕ) → j < i → getD work j 0 ≡ code → ⊥)
+Inv-loop work m word i₀ i = (i ≤ m) × ((j : ℕ) → j < i → getD work j 0 ≡ word → ⊥)
 
 abbrev μ-loop : tie.MeasureT-loop
-μ-loop work m code i₀ i = m - i
+μ-loop work m word i₀ i = m - i
 
 loop-holds : tie.Need-loop-holds Inv-loop μ-loop
 loop-holds c = (search needs, λ j l. absurd (omega arith))

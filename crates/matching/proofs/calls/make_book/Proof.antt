@@ -37,7 +37,7 @@ make-book-of-requires c κs =
     let accept-catalogue = c .before .before .before .before .before .before .accept-catalogue in
     let enum-told = c .before .before .enum-told in
     let q = rw (enum-told .given .1) at (accept-catalogue .ensures) in
-    let d = read-says 705 2 catalogue (args .catalogue .now) (q .fields) (q .is) in
+    let d = read-says 897 2 catalogue (args .catalogue .now) (q .fields) (q .is) in
     (accept-catalogue .kept .1 .0 ∙ pre, record { small = omega (arith, d .1); fields = q .fields; is = d .0; number = q .holds .number })
 
 same-length-2 : tie.Need-same-length-2
@@ -55,7 +55,7 @@ returns-2 c =
     let make-book-of = c .before .before .before .before .make-book-of in
     let a = args in
     let q = rw (enum-told .given .1) at (accept-catalogue .ensures) in
-    body-goes-on (λ cs. bookFor cs (a .«record» .now) (length (a .out .now))) (q .is) (make-book-of .ensures (q .fields) (read-says 705 2 catalogue (a .catalogue .now) (q .fields) (q .is) .0))
+    body-goes-on (λ cs. bookFor cs (a .«record» .now) (length (a .out .now))) (q .is) (make-book-of .ensures (q .fields) (read-says 897 2 catalogue (a .catalogue .now) (q .fields) (q .is) .0))
 
 pub make-book-spec : {M : Type 1} → statement M
 make-book-spec =

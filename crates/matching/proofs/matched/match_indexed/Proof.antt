@@ -1,41 +1,40 @@
 -- `matching::matched::match_indexed` meets its contract.
 use native.Mathlib.Omega.{arith}
 use mathlib.Core.Path.{_∙_}
-use Rattle.matching.proofs.FoundLaws.{started, found, room-again}
+use Rattle.matching.proofs.FoundLaws.{started, all-found}
 use Rattle.matching.proofs.IndexLaws.{firsts-again}
-use Rattle.matching.proofs.MatchedLaws.{matches}
 use Rattle.matching.proofs.matched.match_indexed.Statement.{statement}
 use Rattle.matching.proofs.matched.match_indexed.Tie as tie
 
 all-requires : tie.Need-all-requires
 all-requires c κs =
-    let pre = c .before .before .before .before .before .before .before .before .pre in
+    let pre = c .before .before .before .before .before .before .before .before .before .pre in
     pre .0 .edges
 
 hold-requires : tie.Need-hold-requires
 hold-requires c κs =
-    let pre = c .before .before .before .before .before .before .before .before .before .before .pre in
-    (pre .2 .edges, pre .2 .long)
+    let pre = c .before .before .before .before .before .before .before .before .before .before .before .before .pre in
+    (pre .2 .edges, pre .2 .long, pre .0 .edges, pre .0 .kind, pre .2 .kind)
 
 spread-requires : tie.Need-spread-requires
 spread-requires c κs =
-    let pre = c .before .before .before .before .before .before .before .before .before .before .before .before .before .before .before .before .pre in
+    let pre = c .before .before .before .before .before .before .before .before .before .before .before .before .before .before .before .before .before .before .pre in
     (pre .0, pre .2 .small, pre .2 .labels, pre .4)
 
 table-requires : tie.Need-table-requires
 table-requires c κs =
-    let pre = c .before .before .before .before .before .before .before .before .before .before .before .before .before .before .before .before .before .before .before .before .before .before .before .before .before .pre in
+    let pre = c .before .before .before .before .before .before .before .before .before .before .before .before .before .before .before .before .before .before .before .before .before .before .before .before .before .before .before .pre in
     pre .0 .edges
 
 table-requires-2 : tie.Need-table-requires-2
 table-requires-2 c κs =
-    let pre = c .before .before .before .before .before .before .before .before .before .before .before .before .before .before .before .before .before .before .before .before .before .before .before .before .before .before .before .before .pre in
+    let pre = c .before .before .before .before .before .before .before .before .before .before .before .before .before .before .before .before .before .before .before .before .before .before .before .before .before .before .before .before .before .before .pre in
     pre .0 .edges
 
 rest-by-requires : tie.Need-rest-by-requires
 rest-by-requires c κs =
-    let pre = c .before .before .before .before .before .before .before .before .before .before .before .before .before .before .before .before .before .before .before .before .before .before .before .before .before .before .before .before .before .before .before .before .before .before .before .pre in
-    let all = c .before .before .before .before .before .before .before .before .before .before .before .before .before .before .before .before .before .before .before .before .before .before .before .before .before .before .all in
+    let pre = c .before .before .before .before .before .before .before .before .before .before .before .before .before .before .before .before .before .before .before .before .before .before .before .before .before .before .before .before .before .before .before .before .before .before .before .before .before .pre in
+    let all = c .before .before .before .before .before .before .before .before .before .before .before .before .before .before .before .before .before .before .before .before .before .before .before .before .before .before .before .all in
     let hold = c .before .before .before .before .before .before .before .before .before .before .before .before .before .before .before .before .before .before .before .before .before .before .before .before .hold in
     let spread = c .before .before .before .before .before .before .before .before .before .before .before .before .before .before .before .before .before .before .spread in
     (started (pre .0) (pre .2) (pre .3) (all .ensures) (pre .4) (hold .ensures) (spread .ensures), pre .2 .nodes, pre .5, firsts-again (λ i l. hold .ensures .around .low i (omega (arith, pre .2 .edges))) (pre .6))
@@ -66,14 +65,14 @@ same-length-4 c =
 
 returns : tie.Need-returns
 returns c =
-    let pre = c .before .before .before .before .before .before .before .before .before .before .before .before .before .before .before .before .before .before .before .before .before .before .before .before .before .before .before .before .before .before .before .before .before .before .before .before .before .before .before .before .before .before .before .before .pre in
-    let all = c .before .before .before .before .before .before .before .before .before .before .before .before .before .before .before .before .before .before .before .before .before .before .before .before .before .before .before .before .before .before .before .before .before .before .before .all in
+    let pre = c .before .before .before .before .before .before .before .before .before .before .before .before .before .before .before .before .before .before .before .before .before .before .before .before .before .before .before .before .before .before .before .before .before .before .before .before .before .before .before .before .before .before .before .before .before .before .pre in
+    let all = c .before .before .before .before .before .before .before .before .before .before .before .before .before .before .before .before .before .before .before .before .before .before .before .before .before .before .before .before .before .before .before .before .before .before .before .before .all in
     let hold = c .before .before .before .before .before .before .before .before .before .before .before .before .before .before .before .before .before .before .before .before .before .before .before .before .before .before .before .before .before .before .before .before .before .hold in
     let spread = c .before .before .before .before .before .before .before .before .before .before .before .before .before .before .before .before .before .before .before .before .before .before .before .before .before .before .before .spread in
     let table = c .before .before .before .before .before .before .before .before .before .before .before .before .before .before .before .before .before .before .table in
     let table2 = c .before .before .before .before .before .before .before .before .before .before .before .before .before .before .before .table2 in
     let rest-by = c .before .before .before .before .before .before .before .before .rest-by in
-    (matches (pre .2) (found (pre .0) (pre .2) (pre .3) (all .ensures) (pre .4) (hold .ensures) (spread .ensures) (table .ensures) (table2 .ensures) (rest-by .ensures)) (pre .1) (pre .3), room-again (pre .0) (pre .2) (pre .3) (all .ensures) (pre .4) (hold .ensures) (spread .ensures) (table .ensures) (table2 .ensures) (rest-by .ensures))
+    all-found (pre .0) (pre .2) (pre .3) (all .ensures) (pre .4) (hold .ensures) (spread .ensures) (table .ensures) (table2 .ensures) (rest-by .ensures) (pre .1)
 
 pub match-indexed-spec : {M : Type 1} → statement M
 match-indexed-spec =

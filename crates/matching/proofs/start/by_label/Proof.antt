@@ -2,13 +2,13 @@
 use borrow.Author.Needs.{needs}
 use native.Mathlib.Omega.{arith}
 use Prim.Native.Nat.{_-_, _≤_}
-use Rattle.matching.specs.Starting.{ByLabel}
-use Rattle.matching.proofs.StartLaws.{label-start, label-more, label-end}
+use lib.ListN.{getD}
+use Rattle.matching.proofs.StartLaws.{Grouped, group-start, group-more, label-end}
 use Rattle.matching.proofs.start.by_label.Statement.{statement}
 use Rattle.matching.proofs.start.by_label.Tie as tie
 
 abbrev Inv-loop : tie.InvT-loop
-Inv-loop labels ends m t₀ e₀ t e = (e ≤ m) × ByLabel labels ends e t
+Inv-loop labels ends m t₀ e₀ t e = (e ≤ m) × Grouped 32 (λ k. getD labels (getD ends k 0) 0) e t
 
 abbrev μ-loop : tie.MeasureT-loop
 μ-loop labels ends m t₀ e₀ t e = m - e
@@ -17,7 +17,7 @@ no-links-requires : tie.Need-no-links-requires Inv-loop μ-loop
 no-links-requires c κs = search needs
 
 loop-holds : tie.Need-loop-holds Inv-loop μ-loop
-loop-holds c = (omega arith, label-start _ _ (c .no-links .ensures))
+loop-holds c = (omega arith, group-start _ _ (c .no-links .ensures))
 
 mul-u : tie.Need-mul-u Inv-loop μ-loop
 mul-u c = search needs
@@ -91,7 +91,7 @@ loop-less : tie.Need-loop-less Inv-loop μ-loop
 loop-less c = search needs
 
 loop-again : tie.Need-loop-again Inv-loop μ-loop
-loop-again c = (omega arith, label-more _ _ (c .before .before .before .before .loop .inv .1) (c .before .before .before .before .before .before .pre .2 (c .before .before .before .before .loop .e) (c .before .before .before .loop-test .taken)) _ (c .one .ensures))
+loop-again c = (omega arith, group-more _ _ (c .before .before .before .before .loop .inv .1) (c .before .before .before .before .before .before .pre .2 (c .before .before .before .before .loop .e) (c .before .before .before .loop-test .taken)) _ (c .one .ensures))
 
 returns : tie.Need-returns Inv-loop μ-loop
 returns c = (let l = c .before .loop .inv .0 in label-end _ _ _ (c .before .loop .inv .1) (omega arith))

@@ -14,7 +14,7 @@ returns : tie.Need-returns
 returns c =
     let args = c .before .before .before .before .args in
     let if1 = c .before .if1 in
-    rw (c .refused-catalogue .ensures) (read-long 705 2 catalogue (args .s .now) (if1 .taken))
+    rw (c .refused-catalogue .ensures) (read-long 897 2 catalogue (args .s .now) (if1 .taken))
 
 judge-catalogue-requires : tie.Need-judge-catalogue-requires
 judge-catalogue-requires c κs = search needs
@@ -65,7 +65,7 @@ returns-2 c =
     let word-at = c .before .word-at in
     let j = judge-catalogue in
     let q = rw (p .given .1) at (j .ensures) in
-    catalogue-held (args .s .now) (q .0) (omega (arith, q .1, pre)) (read-finds 705 2 catalogue (args .s .now) (if1 .left)) (j .kept .1 .0) (word-at .ensures) (c .edge-counts .ensures)
+    catalogue-held (args .s .now) (q .0) (omega (arith, q .1, pre)) (read-finds 897 2 catalogue (args .s .now) (if1 .left)) (j .kept .1 .0) (word-at .ensures) (c .edge-counts .ensures)
 
 same-length-2 : tie.Need-same-length-2
 same-length-2 c = search needs
@@ -77,7 +77,7 @@ returns-3 c =
     let judge-catalogue = c .before .before .before .before .before .before .judge-catalogue in
     let p2 = c .before .before .p2 in
     let x = p2 .given .0 .0 in
-    rw (c .refused-catalogue2 .ensures) (refused-by (read-finds 705 2 catalogue (args .s .now) (if1 .left)) x (rw (p2 .given .1) at (judge-catalogue .ensures)))
+    rw (c .refused-catalogue2 .ensures) (refused-by (read-finds 897 2 catalogue (args .s .now) (if1 .left)) x (rw (p2 .given .1) at (judge-catalogue .ensures)))
 
 pub accept-catalogue-spec : {M : Type 1} → statement M
 accept-catalogue-spec =

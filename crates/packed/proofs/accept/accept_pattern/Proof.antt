@@ -14,7 +14,7 @@ returns : tie.Need-returns
 returns c =
     let args = c .before .before .before .before .args in
     let if1 = c .before .if1 in
-    rw (c .refused-pattern .ensures) (read-long 44 1 pattern (args .s .now) (if1 .taken))
+    rw (c .refused-pattern .ensures) (read-long 56 1 pattern (args .s .now) (if1 .taken))
 
 judge-pattern-requires : tie.Need-judge-pattern-requires
 judge-pattern-requires c κs = search needs
@@ -64,7 +64,7 @@ returns-2 c =
     let p = c .before .before .before .before .p in
     let j = judge-pattern in
     let q = rw (p .given .1) at (j .ensures) in
-    pattern-held (args .s .now) (q .0) (omega (arith, q .1, pre)) (read-finds 44 1 pattern (args .s .now) (if1 .left)) (j .kept .1 .0) (c .pattern-of .ensures)
+    pattern-held (args .s .now) (q .0) (omega (arith, q .1, pre)) (read-finds 56 1 pattern (args .s .now) (if1 .left)) (j .kept .1 .0) (c .pattern-of .ensures)
 
 same-length-2 : tie.Need-same-length-2
 same-length-2 c = search needs
@@ -76,7 +76,7 @@ returns-3 c =
     let judge-pattern = c .before .before .before .before .before .before .judge-pattern in
     let p2 = c .before .before .p2 in
     let x = p2 .given .0 .0 in
-    rw (c .refused-pattern2 .ensures) (refused-by (read-finds 44 1 pattern (args .s .now) (if1 .left)) x (rw (p2 .given .1) at (judge-pattern .ensures)))
+    rw (c .refused-pattern2 .ensures) (refused-by (read-finds 56 1 pattern (args .s .now) (if1 .left)) x (rw (p2 .given .1) at (judge-pattern .ensures)))
 
 pub accept-pattern-spec : {M : Type 1} → statement M
 accept-pattern-spec =

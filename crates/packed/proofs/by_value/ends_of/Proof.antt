@@ -9,7 +9,7 @@ use Rattle.packed.proofs.by_value.ends_of.Statement.{statement}
 use Rattle.packed.proofs.by_value.ends_of.Tie as tie
 
 abbrev Inv-loop : tie.InvT-loop
-Inv-loop words first m l₀ e₀ l e = (e ≤ m) × Spread words first 2 e 32 l
+Inv-loop words first m l₀ e₀ l e = (e ≤ m) × Spread words first 3 e 32 l
 
 abbrev μ-loop : tie.MeasureT-loop
 μ-loop words first m l₀ e₀ l e = m - e

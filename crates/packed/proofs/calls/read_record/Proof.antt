@@ -33,7 +33,7 @@ returns : tie.Need-returns
 unfolding recordRead
 returns c =
     let h = rw (c .before .before .g .given .1) at (c .before .before .before .before .before .before .load-record .ensures) in
-    body-goes-on (fit (length (c .before .before .before .before .before .before .before .before .before .before .before .args .out .now))) (accepted-by (read-finds 40964 3 record′ (c .before .before .before .before .before .before .before .before .before .before .before .args .bytes .now) (h .1)) (h .0 .is)) (fitted-tight fit-fits (c .before .before .before .before .before .before .before .before .before .before .before .args .out .now) (h .0 .fields) refl refl (omega (arith, holds-bounds (h .0) .3)) (lt-ltb _ _ (c .if1 .taken)))
+    body-goes-on (fit (length (c .before .before .before .before .before .before .before .before .before .before .before .args .out .now))) (accepted-by (read-finds 44036 3 record′ (c .before .before .before .before .before .before .before .before .before .before .before .args .bytes .now) (h .1)) (h .0 .is)) (fitted-tight fit-fits (c .before .before .before .before .before .before .before .before .before .before .before .args .out .now) (h .0 .fields) refl refl (omega (arith, holds-bounds (h .0) .3)) (lt-ltb _ _ (c .if1 .taken)))
 
 store-record-requires : tie.Need-store-record-requires
 store-record-requires c κs =
@@ -53,7 +53,7 @@ returns-2 : tie.Need-returns-2
 unfolding recordRead
 returns-2 c =
     let h = rw (c .before .before .before .before .before .before .before .g .given .1) at (c .before .before .before .before .before .before .before .before .before .before .before .load-record .ensures) in
-    body-goes-on (fit (length (c .before .before .before .before .before .before .before .before .before .before .before .before .before .before .before .before .args .out .now))) (accepted-by (read-finds 40964 3 record′ (c .before .before .before .before .before .before .before .before .before .before .before .before .before .before .before .before .args .bytes .now) (h .1)) (h .0 .is)) (fitted-given fit-fits (c .before .before .before .before .before .before .before .before .before .before .before .before .before .before .before .before .args .out .now) (h .0 .fields) refl refl (omega (arith, holds-bounds (h .0) .3)) (le-ltb _ _ (c .before .before .before .before .before .if1 .left)) (c .before .before .store-record .ensures (h .0 .fields) (h .0 .is)))
+    body-goes-on (fit (length (c .before .before .before .before .before .before .before .before .before .before .before .before .before .before .before .before .args .out .now))) (accepted-by (read-finds 44036 3 record′ (c .before .before .before .before .before .before .before .before .before .before .before .before .before .before .before .before .args .bytes .now) (h .1)) (h .0 .is)) (fitted-given fit-fits (c .before .before .before .before .before .before .before .before .before .before .before .before .before .before .before .before .args .out .now) (h .0 .fields) refl refl (omega (arith, holds-bounds (h .0) .3)) (le-ltb _ _ (c .before .before .before .before .before .if1 .left)) (c .before .before .store-record .ensures (h .0 .fields) (h .0 .is)))
 
 same-length-4 : tie.Need-same-length-4
 same-length-4 c = search needs

@@ -42,7 +42,7 @@ cast-nodes : tie.Need-cast-nodes
 cast-nodes c =
     let d = rw (c .before .verdict .given .1) at (c .before .before .before .before .before .before .accept-old-record .ensures .0) in
     let o = rw (c .before .verdict .given .1) at (c .before .before .before .before .before .before .accept-old-record .ensures .1) in
-    let room = ap length (c .before .before .before .before .before .before .before .before .before .no-fields .ensures) ∙ length-replicate {A = ℕ} 20482 0 in
+    let room = ap length (c .before .before .before .before .before .before .before .before .before .no-fields .ensures) ∙ length-replicate {A = ℕ} 28674 0 in
     omega (arith, old-sizes (c .before .before .before .before .before .before .before .before .before .before .before .before .before .args .old .now) _ _ _ _ _ room d o .0)
 
 array-read-edges : tie.Need-array-read-edges
@@ -52,24 +52,24 @@ cast-edges : tie.Need-cast-edges
 cast-edges c =
     let d = rw (c .before .verdict .given .1) at (c .before .before .before .before .before .before .accept-old-record .ensures .0) in
     let o = rw (c .before .verdict .given .1) at (c .before .before .before .before .before .before .accept-old-record .ensures .1) in
-    let room = ap length (c .before .before .before .before .before .before .before .before .before .no-fields .ensures) ∙ length-replicate {A = ℕ} 20482 0 in
+    let room = ap length (c .before .before .before .before .before .before .before .before .before .no-fields .ensures) ∙ length-replicate {A = ℕ} 28674 0 in
     omega (arith, old-sizes (c .before .before .before .before .before .before .before .before .before .before .before .before .before .args .old .now) _ _ _ _ _ room d o .1)
 
-slice-aggregate-store-ends : tie.Need-slice-aggregate-store-ends
-slice-aggregate-store-ends c = search needs
+slice-aggregate-store-ranked : tie.Need-slice-aggregate-store-ranked
+slice-aggregate-store-ranked c = search needs
 
-add-store-ends : tie.Need-add-store-ends
-add-store-ends c =
+add-store-ranked : tie.Need-add-store-ranked
+add-store-ranked c =
     let d = rw (c .before .before .before .verdict .given .1) at (c .before .before .before .before .before .before .before .before .accept-old-record .ensures .0) in
     let o = rw (c .before .before .before .verdict .given .1) at (c .before .before .before .before .before .before .before .before .accept-old-record .ensures .1) in
-    let room = ap length (c .before .before .before .before .before .before .before .before .before .before .before .no-fields .ensures) ∙ length-replicate {A = ℕ} 20482 0 in
+    let room = ap length (c .before .before .before .before .before .before .before .before .before .before .before .no-fields .ensures) ∙ length-replicate {A = ℕ} 28674 0 in
     omega (arith, old-sizes (c .before .before .before .before .before .before .before .before .before .before .before .before .before .before .before .args .old .now) _ _ _ _ _ room d o .0)
 
-store-ends-requires : tie.Need-store-ends-requires
-store-ends-requires c κs =
+store-ranked-requires : tie.Need-store-ranked-requires
+store-ranked-requires c κs =
     let d = rw (c .before .before .before .verdict .given .1) at (c .before .before .before .before .before .before .before .before .accept-old-record .ensures .0) in
     let o = rw (c .before .before .before .verdict .given .1) at (c .before .before .before .before .before .before .before .before .accept-old-record .ensures .1) in
-    let room = ap length (c .before .before .before .before .before .before .before .before .before .before .before .no-fields .ensures) ∙ length-replicate {A = ℕ} 20482 0 in
+    let room = ap length (c .before .before .before .before .before .before .before .before .before .before .before .no-fields .ensures) ∙ length-replicate {A = ℕ} 28674 0 in
     (omega (arith, old-sizes (c .before .before .before .before .before .before .before .before .before .before .before .before .before .before .before .args .old .now) _ _ _ _ _ room d o .0, old-sizes (c .before .before .before .before .before .before .before .before .before .before .before .before .before .before .before .args .old .now) _ _ _ _ _ room d o .1, c .before .before .before .before .before .before .before .before .accept-old-record .kept .1 .1 .0, c .before .before .before .before .before .before .before .before .before .before .before .before .before .before .before .pre), omega (arith, old-sizes (c .before .before .before .before .before .before .before .before .before .before .before .before .before .before .before .args .old .now) _ _ _ _ _ room d o .0, old-sizes (c .before .before .before .before .before .before .before .before .before .before .before .before .before .before .before .args .old .now) _ _ _ _ _ room d o .1, c .before .before .before .before .before .before .before .before .accept-old-record .kept .1 .0, room))
 
 sub-write-record : tie.Need-sub-write-record
@@ -82,9 +82,9 @@ part-write-record-end : tie.Need-part-write-record-end
 part-write-record-end c =
     let d = rw (c .before .before .before .before .before .before .verdict .given .1) at (c .before .before .before .before .before .before .before .before .before .before .before .accept-old-record .ensures .0) in
     let o = rw (c .before .before .before .before .before .before .verdict .given .1) at (c .before .before .before .before .before .before .before .before .before .before .before .accept-old-record .ensures .1) in
-    let room = ap length (c .before .before .before .before .before .before .before .before .before .before .before .before .before .before .no-fields .ensures) ∙ length-replicate {A = ℕ} 20482 0 in
+    let room = ap length (c .before .before .before .before .before .before .before .before .before .before .before .before .before .before .no-fields .ensures) ∙ length-replicate {A = ℕ} 28674 0 in
     let z = old-sizes (c .before .before .before .before .before .before .before .before .before .before .before .before .before .before .before .before .before .before .args .old .now) _ _ _ _ _ room d o in
-    omega (arith, z .0, z .1, z .2, c .before .before .store-ends .kept .1 .1 .0, c .before .before .before .before .before .before .before .before .before .before .before .accept-old-record .kept .1 .0, room)
+    omega (arith, z .0, z .1, z .2, c .before .before .store-ranked .kept .1 .1 .0, c .before .before .before .before .before .before .before .before .before .before .before .accept-old-record .kept .1 .0, room)
 
 write-record-requires : tie.Need-write-record-requires
 write-record-requires c κs = search needs
@@ -100,9 +100,9 @@ unfolding recordSorted
 returns-2 c =
     let d = rw (c .before .before .before .before .before .before .before .before .before .before .before .verdict .given .1) at (c .before .before .before .before .before .before .before .before .before .before .before .before .before .before .before .before .accept-old-record .ensures .0) in
     let o = rw (c .before .before .before .before .before .before .before .before .before .before .before .verdict .given .1) at (c .before .before .before .before .before .before .before .before .before .before .before .before .before .before .before .before .accept-old-record .ensures .1) in
-    let room = ap length (c .before .before .before .before .before .before .before .before .before .before .before .before .before .before .before .before .before .before .before .no-fields .ensures) ∙ length-replicate {A = ℕ} 20482 0 in
+    let room = ap length (c .before .before .before .before .before .before .before .before .before .before .before .before .before .before .before .before .before .before .before .no-fields .ensures) ∙ length-replicate {A = ℕ} 28674 0 in
     body-goes-on (λ ws. recordWritten (sortedFields ws) (length (c .before .before .before .before .before .before .before .before .before .before .before .before .before .before .before .before .before .before .before .before .before .before .before .args .out .now))) (d .is)
-    (rw (old-sorted (c .before .before .before .before .before .before .before .before .before .before .before .before .before .before .before .before .before .before .before .before .before .before .before .args .old .now) _ _ _ _ _ room d o _ (omega (arith, old-few (c .before .before .before .before .before .before .before .before .before .before .before .before .before .before .before .before .before .before .before .before .before .before .before .args .old .now) _ _ _ _ _ room d o, c .before .before .before .before .before .before .before .before .before .before .before .before .before .before .before .before .accept-old-record .kept .1 .1 .0, c .before .before .before .before .before .before .before .before .before .before .before .before .before .before .before .before .before .before .before .before .before .before .before .pre)) (c .before .before .before .before .before .before .before .store-ends .ensures)) at (c .before .before .write-record .ensures))
+    (rw (old-sorted (c .before .before .before .before .before .before .before .before .before .before .before .before .before .before .before .before .before .before .before .before .before .before .before .args .old .now) _ _ _ _ _ room d o _ (omega (arith, old-few (c .before .before .before .before .before .before .before .before .before .before .before .before .before .before .before .before .before .before .before .before .before .before .before .args .old .now) _ _ _ _ _ room d o, c .before .before .before .before .before .before .before .before .before .before .before .before .before .before .before .before .accept-old-record .kept .1 .1 .0, c .before .before .before .before .before .before .before .before .before .before .before .before .before .before .before .before .before .before .before .before .before .before .before .pre)) (c .before .before .before .before .before .before .before .store-ranked .ensures)) at (c .before .before .write-record .ensures))
 
 pub sort-record-spec : {M : Type 1} → statement M
 sort-record-spec =
@@ -119,9 +119,9 @@ sort-record-spec =
     cast-nodes
     array-read-edges
     cast-edges
-    slice-aggregate-store-ends
-    add-store-ends
-    store-ends-requires
+    slice-aggregate-store-ranked
+    add-store-ranked
+    store-ranked-requires
     sub-write-record
     part-write-record-start
     part-write-record-end

@@ -11,7 +11,7 @@ use Rattle.packed.proofs.catalogue.edge_counts.Tie as tie
 
 abbrev Inv-loop : tie.InvT-loop
 Inv-loop words counts₀ number i₀ j₀ counts i j =
-    (j ≤ 16) × (j ≤ number) × (i ≤ 1 + 12884901888 * j) × Counting words number counts i j
+    (j ≤ 16) × (j ≤ number) × (i ≤ 1 + 17179869184 * j) × Counting words number counts i j
 
 abbrev μ-loop : tie.MeasureT-loop
 μ-loop words counts₀ number i₀ j₀ counts i j = 16 - j

@@ -15,7 +15,7 @@ use Rattle.packed.proofs.catalogue.read_patterns.Tie as tie
 
 abbrev Inv-loop : tie.InvT-loop
 Inv-loop s start number words₀ first byte₀ i₀ left₀ words byte i left =
-    (i + 82 * left ≤ first + 82 * number) × (length words ≡ length words₀)
+    (i + 114 * left ≤ first + 114 * number) × (length words ≡ length words₀)
     × Reading (times number (whole pattern)) s (8 * start) words₀ first (times left (whole pattern)) (8 * byte) words i
 
 abbrev μ-loop : tie.MeasureT-loop

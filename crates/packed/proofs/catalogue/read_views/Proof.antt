@@ -49,7 +49,7 @@ returns-2 c =
     let a = c .before .before .before .before .before .before .before .before .before .before .before .before .before .before .before .args in
     let p = rw (c .before .before .before .before .before .before .before .f .given .1) at (c .before .before .before .before .before .before .before .before .before .before .before .read-field .ensures) in
     let r = reads (catalogue-starts (a .s .now) 0 (a .words .now) 0 (omega arith)) p in
-    tails-bytes-up-to 0 1 (82 * c .before .before .before .before .before .before .before .f .given .0 .0) 1313 _ (c .before .before .read-patterns .result) _ refl
+    tails-bytes-up-to 0 1 (114 * c .before .before .before .before .before .before .before .f .given .0 .0) 1825 _ (c .before .before .read-patterns .result) _ refl
     (same-at (sym (next-byte 5)) refl (pads (sym (c .before .before .before .before .before .is-clear .ensures) ∙ c .before .before .before .before .if1 .taken) r)) (c .before .before .read-patterns .ensures) (omega (arith, p .most))
 
 same-length-3 : tie.Need-same-length-3

@@ -16,7 +16,7 @@ use Rattle.packed.proofs.catalogue.write_patterns.Tie as tie
 
 abbrev Inv-loop : tie.InvT-loop
 Inv-loop words first number out₀ start i₀ byte₀ left₀ out i byte left =
-    (byte + 44 * left ≤ start + 44 * number) × (length out ≡ length out₀)
+    (byte + 56 * left ≤ start + 56 * number) × (length out ≡ length out₀)
     × Writing (times number (whole pattern)) words first out₀ (8 * start) (times left (whole pattern)) i out (8 * byte)
 
 abbrev μ-loop : tie.MeasureT-loop

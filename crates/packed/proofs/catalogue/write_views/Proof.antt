@@ -47,7 +47,7 @@ returns-2 c =
     let p = rw (c .before .before .before .before .before .before .before .before .before .f .given .1) at (c .before .before .before .before .before .before .before .before .before .before .before .before .before .write-field .ensures) in
     let r = writes (catalogue-begins (a .words .now) 0 (a .out .now) 0 (omega arith)) p in
     let t = c .before .before .before .before .before .before .write-padding .ensures in
-    closes-bytes 0 (c .before .before .before .before .before .before .write-padding .result) (44 * c .before .before .before .before .before .before .before .before .before .f .given .0 .0) 705 _ (c .before .before .write-patterns .result) _ refl
+    closes-bytes 0 (c .before .before .before .before .before .before .write-padding .result) (56 * c .before .before .before .before .before .before .before .before .before .f .given .0 .0) 897 _ (c .before .before .write-patterns .result) _ refl
     (same-to refl (sym (t .0)) (fills (t .1) r)) (c .before .before .write-patterns .ensures) (omega (arith, p .most, next-byte 5, t .0))
 
 pub write-views-spec : {M : Type 1} → statement M

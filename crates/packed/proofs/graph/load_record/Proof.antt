@@ -16,7 +16,7 @@ enum-told c = search needs
 get-bits-requires : tie.Need-get-bits-requires
 get-bits-requires c κs =
     let d = rw (c .enum-told .given .1) at (c .before .before .before .before .accept-record .ensures .0) in
-    let l = read-says 40964 3 record′ (c .before .before .before .before .before .before .before .before .args .s .now) (d .fields) (d .is) in
+    let l = read-says 44036 3 record′ (c .before .before .before .before .before .before .before .before .args .s .now) (d .fields) (d .is) in
     let f = record-fits _ _ (l .0) in
     (omega arith, omega arith, omega (arith, l .1))
 
@@ -26,7 +26,7 @@ cast-t9 c = search needs
 get-bits-requires-2 : tie.Need-get-bits-requires-2
 get-bits-requires-2 c κs =
     let d = rw (c .before .enum-told .given .1) at (c .before .before .before .before .before .accept-record .ensures .0) in
-    let l = read-says 40964 3 record′ (c .before .before .before .before .before .before .before .before .before .args .s .now) (d .fields) (d .is) in
+    let l = read-says 44036 3 record′ (c .before .before .before .before .before .before .before .before .before .args .s .now) (d .fields) (d .is) in
     let f = record-fits _ _ (l .0) in
     (omega arith, omega arith, omega (arith, l .1))
 
@@ -43,7 +43,7 @@ returns : tie.Need-returns
 returns c =
     let d = rw (c .before .before .enum-told .given .1) at (c .before .before .before .before .before .before .accept-record .ensures .0) in
     let o = rw (c .before .before .enum-told .given .1) at (c .before .before .before .before .before .before .accept-record .ensures .1) in
-    let l = read-says 40964 3 record′ (c .before .before .before .before .before .before .before .before .before .before .args .s .now) (d .fields) (d .is) in
+    let l = read-says 44036 3 record′ (c .before .before .before .before .before .before .before .before .before .before .args .s .now) (d .fields) (d .is) in
     (holds-by _ _ (c .before .before .before .before .before .before .before .before .before .before .args .work .now) (l .0) (c .before .before .before .before .before .before .before .before .before .before .pre) o (c .before .get-bits .ensures) (c .get-bits2 .ensures), l .1)
 
 same-length-2 : tie.Need-same-length-2

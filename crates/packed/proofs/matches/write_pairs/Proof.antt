@@ -41,8 +41,7 @@ put-pair-requires : tie.Need-put-pair-requires Inv-loop μ-loop
 put-pair-requires c κs =
     let pre = c .before .before .before .before .before .before .before .before .before .pre in
     let loop = c .before .before .before .before .before .before .loop in
-    let loop-test = c .before .before .before .before .before .loop-test in
-    (pre .0 .small (loop .i) (loop-test .taken), loop .inv .1 .long, λ e l. omega (arith, loop .inv .1 .most e l, pre .0 .most))
+    (omega arith, loop .inv .1 .long, λ e l. omega (arith, loop .inv .1 .most e l, pre .0 .most))
 
 add-i : tie.Need-add-i Inv-loop μ-loop
 add-i c = search needs

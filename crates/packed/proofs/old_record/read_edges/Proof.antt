@@ -1,4 +1,4 @@
--- `packed::old_record::read_edges` meets its contract. The loop: the edges read so far, with their codes in the workspace.
+-- `packed::old_record::read_edges` meets its contract. The loop: the edges read so far, with their ranks in the workspace.
 use borrow.Author.Needs.{needs}
 use mathlib.Core.Path.{_≡_, refl}
 use mathlib.Core.List.{[]}
@@ -7,10 +7,9 @@ use Prim.Native.Nat.{_+_, _*_}
 use lib.ListN.{length}
 use Rattle.packed.specs.Formats.{edges}
 use Rattle.packed.specs.OldRecord.{nothing}
-use Rattle.packed.specs.LoadedGraph.{CodesAt}
+use Rattle.packed.specs.OldLoading.{RanksAt}
 use Rattle.packed.proofs.ReadingLaws.{starts}
-use Rattle.packed.proofs.GraphLaws.{codes-start}
-use Rattle.packed.proofs.OldGraphLaws.{load-more}
+use Rattle.packed.proofs.OldGraphLaws.{ranks-start, load-more}
 use Rattle.packed.proofs.OldLoadingLaws.{EdgesRead, edges-start, edges-read, edges-refused, edges-ended}
 use Rattle.packed.proofs.old_record.read_edges.Statement.{statement}
 use Rattle.packed.proofs.old_record.read_edges.Tie as tie
@@ -18,15 +17,15 @@ use Rattle.packed.proofs.old_record.read_edges.Tie as tie
 abbrev Inv-loop : tie.InvT-loop
 Inv-loop s start nodes number words₀ first work₀ at₀ i₀ k₀ left₀ words work at i k left =
     (length words ≡ length words₀)
-    × EdgesRead (edges 12 nodes nothing number []) s start words₀ first 3 nodes number work₀ words work at i k left
+    × EdgesRead (edges 12 0 nodes nothing number []) s start words₀ first 3 nodes number work₀ words work at i k left
     × (at ≡ start + 24 * k)
-    × CodesAt s start k work₀ work
+    × RanksAt s start k work₀ work
 
 abbrev μ-loop : tie.MeasureT-loop
 μ-loop s start nodes number words₀ first work₀ at₀ i₀ k₀ left₀ words work at i k left = left
 
 loop-holds : tie.Need-loop-holds Inv-loop μ-loop
-loop-holds c = (refl, edges-start (c .before .before .before .args .number) (starts (c .before .before .before .pre .0 .inside)) (c .before .before .before .pre .0 .few), search needs, codes-start _ _ _)
+loop-holds c = (refl, edges-start (c .before .before .before .args .number) (starts (c .before .before .before .pre .0 .inside)) (c .before .before .before .pre .0 .few), search needs, ranks-start _ _ _)
 
 read-two-requires : tie.Need-read-two-requires Inv-loop μ-loop
 read-two-requires c κs = search needs
@@ -49,10 +48,23 @@ add-work c =
     omega (arith, p .first .most, p .second .most)
 
 mul-work-2 : tie.Need-mul-work-2 Inv-loop μ-loop
-mul-work-2 c = search needs
+mul-work-2 c =
+    let read-two = c .before .before .before .before .before .read-two in
+    let f = c .before .f in
+    let p = rw (f .given .1) at (read-two .ensures) in
+    omega (arith, p .first .most, p .second .most)
+
+mul-work-3 : tie.Need-mul-work-3 Inv-loop μ-loop
+mul-work-3 c = search needs
 
 slice-write-work : tie.Need-slice-write-work Inv-loop μ-loop
 slice-write-work c = search needs
+
+add-store : tie.Need-add-store Inv-loop μ-loop
+add-store c = search needs
+
+store-requires : tie.Need-store-requires Inv-loop μ-loop
+store-requires c κs = search needs
 
 add-at : tie.Need-add-at Inv-loop μ-loop
 add-at c = search needs
@@ -71,8 +83,14 @@ loop-less c = search needs
 
 loop-again : tie.Need-loop-again Inv-loop μ-loop
 loop-again c =
-    let p = rw (c .before .f .given .1) at (c .before .before .before .before .before .read-two .ensures) in
-    (search needs, edges-read (c .before .before .before .before .before .before .before .before .before .before .before .before .pre .2) (c .before .before .before .before .before .before .before .before .before .before .before .before .pre .1) (c .before .before .before .before .before .before .before .loop-test .taken) (c .before .before .before .before .before .before .before .before .loop .inv .1) p, search needs, load-more (omega arith) (c .before .before .before .before .before .before .before .before .loop .inv .2) p (c .before .before .before .before .before .before .before .before .loop .inv .3))
+    let pre = c .before .before .before .before .before .before .before .before .before .before .before .before .before .before .before .before .pre in
+    let at-loop = c .before .before .before .before .before .before .before .before .before .before .before .before .loop in
+    let p = rw (c .before .before .before .before .before .f .given .1) at (c .before .before .before .before .before .before .before .before .before .read-two .ensures) in (
+      search needs,
+      edges-read (pre .2) (pre .1) (c .before .before .before .before .before .before .before .before .before .before .before .loop-test .taken) (at-loop .inv .1) p (c .before .before .store .ensures) (omega arith),
+      search needs,
+      load-more (omega arith) (at-loop .inv .2) p (omega arith) (at-loop .inv .3),
+    )
 
 enum-known-f-2 : tie.Need-enum-known-f-2 Inv-loop μ-loop
 enum-known-f-2 c = search needs
@@ -118,7 +136,10 @@ read-edges-spec =
     mul-work
     add-work
     mul-work-2
+    mul-work-3
     slice-write-work
+    add-store
+    store-requires
     add-at
     add-i
     add-k

@@ -9,10 +9,10 @@ use Rattle.packed.proofs.pattern.are_ends.Statement.{statement}
 use Rattle.packed.proofs.pattern.are_ends.Tie as tie
 
 abbrev Inv-loop : tie.InvT-loop
-Inv-loop ends n all₀ x₀ all x = (x ≤ n) × (all ≡ allEnds x ends)
+Inv-loop edges n all₀ x₀ all x = (x ≤ n) × (all ≡ allEnds x edges)
 
 abbrev μ-loop : tie.MeasureT-loop
-μ-loop ends n all₀ x₀ all x = n - x
+μ-loop edges n all₀ x₀ all x = n - x
 
 loop-holds : tie.Need-loop-holds Inv-loop μ-loop
 loop-holds c = (omega arith, sym (all-none _))

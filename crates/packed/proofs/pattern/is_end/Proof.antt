@@ -10,13 +10,16 @@ use Rattle.packed.proofs.pattern.is_end.Statement.{statement}
 use Rattle.packed.proofs.pattern.is_end.Tie as tie
 
 abbrev Inv-loop : tie.InvT-loop
-Inv-loop ends x i₀ i = (i ≤ length ends) × (isEnd x ends ≡ isEnd x (drop i ends))
+Inv-loop edges x i₀ i = (i ≤ length edges) × (isEnd x edges ≡ isEnd x (drop i edges))
 
 abbrev μ-loop : tie.MeasureT-loop
-μ-loop ends x i₀ i = length ends - i
+μ-loop edges x i₀ i = length edges - i
 
 loop-holds : tie.Need-loop-holds Inv-loop μ-loop
 loop-holds c = (omega arith, refl)
+
+sub-loop : tie.Need-sub-loop Inv-loop μ-loop
+sub-loop c = search needs
 
 mul-if1 : tie.Need-mul-if1 Inv-loop μ-loop
 mul-if1 c = search needs
@@ -24,11 +27,20 @@ mul-if1 c = search needs
 shared-slice-read-if1 : tie.Need-shared-slice-read-if1 Inv-loop μ-loop
 shared-slice-read-if1 c = search needs
 
+add-if1 : tie.Need-add-if1 Inv-loop μ-loop
+add-if1 c = search needs
+
+mul-if1-2 : tie.Need-mul-if1-2 Inv-loop μ-loop
+mul-if1-2 c = search needs
+
+shared-slice-read-if1-2 : tie.Need-shared-slice-read-if1-2 Inv-loop μ-loop
+shared-slice-read-if1-2 c = search needs
+
 returns : tie.Need-returns Inv-loop μ-loop
 returns c =
-    let a = c .before .before .before .before .args in
-    let l = c .before .before .before .loop in
-    sym (l .inv .1 ∙ end-yes (a .x) (a .ends .now) (l .i) (omega arith) (c .if1 .taken))
+    let a = c .before .before .before .before .before .args in
+    let l = c .before .before .before .before .loop in
+    sym (l .inv .1 ∙ end-yes (a .x) (a .edges .now) (l .i) (omega arith) (c .if1 .taken))
 
 add-i : tie.Need-add-i Inv-loop μ-loop
 add-i c = search needs
@@ -38,15 +50,15 @@ loop-less c = search needs
 
 loop-again : tie.Need-loop-again Inv-loop μ-loop
 loop-again c =
-    let a = c .before .before .before .before .args in
-    let l = c .before .before .before .loop in
-    (omega arith, l .inv .1 ∙ end-no (a .x) (a .ends .now) (l .i) (omega arith) (c .if1 .left))
+    let a = c .before .before .before .before .before .args in
+    let l = c .before .before .before .before .loop in
+    (omega arith, l .inv .1 ∙ end-no (a .x) (a .edges .now) (l .i) (omega arith) (c .if1 .left))
 
 returns-2 : tie.Need-returns-2 Inv-loop μ-loop
 returns-2 c =
     let a = c .before .before .args in
     let l = c .before .loop in
-    sym (l .inv .1 ∙ end-end (a .x) (a .ends .now) (l .i) (omega arith))
+    sym (l .inv .1 ∙ end-end (a .x) (a .edges .now) (l .i) (omega arith))
 
 pub is-end-spec : {M : Type 1} → statement M
 is-end-spec =
@@ -55,8 +67,12 @@ is-end-spec =
     Inv-loop
     μ-loop
     loop-holds
+    sub-loop
     mul-if1
     shared-slice-read-if1
+    add-if1
+    mul-if1-2
+    shared-slice-read-if1-2
     returns
     add-i
     loop-less

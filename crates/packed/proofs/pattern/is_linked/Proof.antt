@@ -10,10 +10,10 @@ use Rattle.packed.proofs.pattern.is_linked.Statement.{statement}
 use Rattle.packed.proofs.pattern.is_linked.Tie as tie
 
 abbrev Inv-loop : tie.InvT-loop
-Inv-loop ends a b i₀ i = (i ≤ length ends) × (linked a b ends ≡ linked a b (drop i ends))
+Inv-loop edges a b k i₀ i = (i ≤ length edges) × (linked a b k edges ≡ linked a b k (drop i edges))
 
 abbrev μ-loop : tie.MeasureT-loop
-μ-loop ends a b i₀ i = length ends - i
+μ-loop edges a b k i₀ i = length edges - i
 
 loop-holds : tie.Need-loop-holds Inv-loop μ-loop
 loop-holds c = (omega arith, refl)
@@ -36,11 +36,20 @@ mul-if1-2 c = search needs
 shared-slice-read-if1-2 : tie.Need-shared-slice-read-if1-2 Inv-loop μ-loop
 shared-slice-read-if1-2 c = search needs
 
+add-if1-2 : tie.Need-add-if1-2 Inv-loop μ-loop
+add-if1-2 c = search needs
+
+mul-if1-3 : tie.Need-mul-if1-3 Inv-loop μ-loop
+mul-if1-3 c = search needs
+
+shared-slice-read-if1-3 : tie.Need-shared-slice-read-if1-3 Inv-loop μ-loop
+shared-slice-read-if1-3 c = search needs
+
 returns : tie.Need-returns Inv-loop μ-loop
 returns c =
-    let a = c .before .before .before .before .before .args in
-    let l = c .before .before .before .before .loop in
-    sym (l .inv .1 ∙ linked-yes (a .a) (a .b) (a .ends .now) (l .i) (omega arith) (c .if1 .taken))
+    let a = c .before .before .before .before .before .before .args in
+    let l = c .before .before .before .before .before .loop in
+    sym (l .inv .1 ∙ linked-yes (a .a) (a .b) (a .k) (a .edges .now) (l .i) (omega arith) (c .if1 .taken))
 
 add-i : tie.Need-add-i Inv-loop μ-loop
 add-i c = search needs
@@ -50,15 +59,15 @@ loop-less c = search needs
 
 loop-again : tie.Need-loop-again Inv-loop μ-loop
 loop-again c =
-    let a = c .before .before .before .before .before .args in
-    let l = c .before .before .before .before .loop in
-    (omega arith, l .inv .1 ∙ linked-no (a .a) (a .b) (a .ends .now) (l .i) (omega arith) (c .if1 .left))
+    let a = c .before .before .before .before .before .before .args in
+    let l = c .before .before .before .before .before .loop in
+    (omega arith, l .inv .1 ∙ linked-no (a .a) (a .b) (a .k) (a .edges .now) (l .i) (omega arith) (c .if1 .left))
 
 returns-2 : tie.Need-returns-2 Inv-loop μ-loop
 returns-2 c =
     let a = c .before .before .args in
     let l = c .before .loop in
-    sym (l .inv .1 ∙ linked-end (a .a) (a .b) (a .ends .now) (l .i) (omega arith))
+    sym (l .inv .1 ∙ linked-end (a .a) (a .b) (a .k) (a .edges .now) (l .i) (omega arith))
 
 pub is-linked-spec : {M : Type 1} → statement M
 is-linked-spec =
@@ -73,6 +82,9 @@ is-linked-spec =
     add-if1
     mul-if1-2
     shared-slice-read-if1-2
+    add-if1-2
+    mul-if1-3
+    shared-slice-read-if1-3
     returns
     add-i
     loop-less

@@ -10,15 +10,15 @@ use Rattle.packed.specs.Formats.{linked, edges, joined}
 use Rattle.packed.specs.Reading.{Reading}
 use Rattle.packed.specs.declared.reply.Refusal.the-variants.{IsolatedNode}
 use Rattle.packed.proofs.ReadingLaws.{starts, left-is, passes, fails}
-use Rattle.packed.proofs.Edges.{part-before, part-two, edges-none, reads-edge, reads-twice, ends-refused}
+use Rattle.packed.proofs.Edges.{part-before, part-edge, edges-none, reads-edge, reads-twice, edge-refused}
 use Rattle.packed.proofs.Patterns.{joined-is}
 use Rattle.packed.proofs.pattern.read_edges.Statement.{statement}
 use Rattle.packed.proofs.pattern.read_edges.Tie as tie
 
 abbrev Inv-loop : tie.InvT-loop
 Inv-loop s start nodes number file words₀ first at₀ i₀ left₀ words at i left =
-    (first ≤ i) × (i + 2 * left ≡ first + 2 * number) × (length words ≡ length words₀)
-    × Reading (edges 4 nodes (joined nodes) number []) s start words₀ first (edges 4 nodes (joined nodes) left (take (i - first) (drop first words))) at words i
+    (first ≤ i) × (i + 3 * left ≡ first + 3 * number) × (length words ≡ length words₀)
+    × Reading (edges 4 3 nodes (joined nodes) number []) s start words₀ first (edges 4 3 nodes (joined nodes) left (take (i - first) (drop first words))) at words i
 
 abbrev μ-loop : tie.MeasureT-loop
 μ-loop s start nodes number file words₀ first at₀ i₀ left₀ words at i left = left
@@ -26,8 +26,8 @@ abbrev μ-loop : tie.MeasureT-loop
 loop-holds : tie.Need-loop-holds Inv-loop μ-loop
 loop-holds c = (omega arith, omega arith, refl, rw sub-self (starts (omega arith)))
 
-read-two-requires : tie.Need-read-two-requires Inv-loop μ-loop
-read-two-requires c κs = search needs
+read-edge-requires : tie.Need-read-edge-requires Inv-loop μ-loop
+read-edge-requires c κs = search needs
 
 enum-known-f : tie.Need-enum-known-f Inv-loop μ-loop
 enum-known-f c = search needs
@@ -53,9 +53,9 @@ same-length c = search needs
 returns : tie.Need-returns Inv-loop μ-loop
 returns c =
     let l = c .before .before .before .before .before .before .before .before .before .before .before .before .loop in
-    let p = rw (c .before .before .before .before .before .f .given .1) at (c .before .before .before .before .before .before .before .before .before .read-two .ensures) in
+    let p = rw (c .before .before .before .before .before .f .given .1) at (c .before .before .before .before .before .before .before .before .before .read-edge .ensures) in
     let e = part-before p (c .before .before .before .before .before .before .before .before .before .before .before .before .before .before .before .args .first) (omega arith) in
-    reads-twice 4 _ _ (l .left) _ (omega arith) (l .inv .3) (c .before .before .before .before .before .before .before .before .before .before .before .before .before .before .before .args .file) p (ap (linked _ _) (sym e) ∙ sym (c .before .is-linked .ensures) ∙ c .if1 .taken)
+    reads-twice 4 _ _ (l .left) _ (omega arith) (l .inv .3) (c .before .before .before .before .before .before .before .before .before .before .before .before .before .before .before .args .file) p (ap (linked _ _ _) (sym e) ∙ sym (c .before .is-linked .ensures) ∙ c .if1 .taken)
 
 add-at : tie.Need-add-at Inv-loop μ-loop
 add-at c = search needs
@@ -72,10 +72,10 @@ loop-less c = search needs
 loop-again : tie.Need-loop-again Inv-loop μ-loop
 loop-again c =
     let l = c .before .before .before .before .before .before .before .before .before .before .before .before .loop in
-    let p = rw (c .before .before .before .before .before .f .given .1) at (c .before .before .before .before .before .before .before .before .before .read-two .ensures) in
+    let p = rw (c .before .before .before .before .before .f .given .1) at (c .before .before .before .before .before .before .before .before .before .read-edge .ensures) in
     let e = part-before p (c .before .before .before .before .before .before .before .before .before .before .before .before .before .before .before .args .first) (omega arith) in
-    let t = part-two p (c .before .before .before .before .before .before .before .before .before .before .before .before .before .before .before .args .first) (omega arith) (omega arith) in
-    let r = reads-edge 4 _ _ (l .left) _ (omega arith) (l .inv .3) p (ap (linked _ _) (sym e) ∙ sym (c .before .is-linked .ensures) ∙ c .if1 .left) in
+    let t = part-edge p (c .before .before .before .before .before .before .before .before .before .before .before .before .before .before .before .args .first) (omega arith) (omega arith) in
+    let r = reads-edge 4 _ _ (l .left) _ (omega arith) (l .inv .3) p (ap (linked _ _ _) (sym e) ∙ sym (c .before .is-linked .ensures) ∙ c .if1 .left) in
     (omega arith, omega arith, search needs, rw t r)
 
 enum-known-f-2 : tie.Need-enum-known-f-2 Inv-loop μ-loop
@@ -87,8 +87,8 @@ same-length-2 c = search needs
 returns-2 : tie.Need-returns-2 Inv-loop μ-loop
 returns-2 c =
     let l = c .before .before .before .before .before .before .before .before .loop in
-    let p = rw (c .before .f2 .given .1) at (c .before .before .before .before .before .read-two .ensures) in
-    ends-refused 4 _ _ (l .left) _ (omega arith) (l .inv .3) p
+    let p = rw (c .before .f2 .given .1) at (c .before .before .before .before .before .read-edge .ensures) in
+    edge-refused 4 _ _ (l .left) _ (omega arith) (l .inv .3) p
 
 mul-are-ends : tie.Need-mul-are-ends Inv-loop μ-loop
 mul-are-ends c = search needs
@@ -112,7 +112,7 @@ returns-3 : tie.Need-returns-3 Inv-loop μ-loop
 returns-3 c =
     let l = c .before .before .before .before .before .loop in
     let q : l .left ≡ 0 = omega arith in
-    (passes (sym (c .before .are-ends .ensures) ∙ c .if2 .taken) (left-is (edges-none 4 _ _ _ ∙ joined-is _ _) (rw q at (l .inv .3))), omega arith)
+    (passes (sym (c .before .are-ends .ensures) ∙ c .if2 .taken) (left-is (edges-none 4 3 _ _ _ ∙ joined-is _ _) (rw q at (l .inv .3))), omega arith)
 
 same-length-4 : tie.Need-same-length-4 Inv-loop μ-loop
 same-length-4 c = search needs
@@ -121,7 +121,7 @@ returns-4 : tie.Need-returns-4 Inv-loop μ-loop
 returns-4 c =
     let l = c .before .before .before .before .before .loop in
     let q : l .left ≡ 0 = omega arith in
-    fails (IsolatedNode (c .before .before .before .before .before .before .before .before .args .file)) (sym (c .before .are-ends .ensures) ∙ c .if2 .left) refl (left-is (edges-none 4 _ _ _ ∙ joined-is _ _) (rw q at (l .inv .3)))
+    fails (IsolatedNode (c .before .before .before .before .before .before .before .before .args .file)) (sym (c .before .are-ends .ensures) ∙ c .if2 .left) refl (left-is (edges-none 4 3 _ _ _ ∙ joined-is _ _) (rw q at (l .inv .3)))
 
 pub read-edges-spec : {M : Type 1} → statement M
 read-edges-spec =
@@ -130,7 +130,7 @@ read-edges-spec =
     Inv-loop
     μ-loop
     loop-holds
-    read-two-requires
+    read-edge-requires
     enum-known-f
     mul-is-linked
     sub-is-linked

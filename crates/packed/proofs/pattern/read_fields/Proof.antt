@@ -102,7 +102,7 @@ returns-3 c =
     let number = g .given .0 .0 in
     let e = c .enum-told .given .1 in
     let r = pattern-counts (a .s .now) (a .start) (a .words .now) (a .first) (pre .0 .inside) p q in
-    rw e (calls-refused (times nodes label) (edges 4 nodes (joined nodes) number []) r (rw e at (read-labels .ensures)))
+    rw e (calls-refused (times nodes label) (edges 4 3 nodes (joined nodes) number []) r (rw e at (read-labels .ensures)))
 
 read-edges-requires : tie.Need-read-edges-requires
 read-edges-requires c κs =
@@ -145,7 +145,7 @@ returns-4 c =
     let nodes = f .given .0 .0 in
     let number = g .given .0 .0 in
     let r = pattern-counts (a .s .now) (a .start) (a .words .now) (a .first) (pre .0 .inside) p q in
-    tails-up-to (2 * number) 82 _ (read-edges .result) _ (calls (times nodes label) (edges 4 nodes (joined nodes) number []) r (t .0)) (read-edges .ensures)
+    tails-up-to (3 * number) 114 _ (read-edges .result) _ (calls (times nodes label) (edges 4 3 nodes (joined nodes) number []) r (t .0)) (read-edges .ensures)
     (omega (arith, t .1, p .most, q .most))
 
 pub read-fields-spec : {M : Type 1} → statement M

@@ -11,15 +11,15 @@ use Rattle.packed.specs.Formats.{edges, joined}
 use Rattle.packed.specs.Writing.{Writing}
 use Rattle.packed.specs.declared.reply.Refusal.the-variants.{IsolatedNode}
 use Rattle.packed.proofs.WritingLaws.{begins, left-to, accepts, denies}
-use Rattle.packed.proofs.Edges.{words-two, edges-none, writes-edge, writes-twice, ends-rejected}
+use Rattle.packed.proofs.Edges.{words-edge, edges-none, writes-edge, writes-twice, edge-rejected}
 use Rattle.packed.proofs.Patterns.{joined-is}
 use Rattle.packed.proofs.pattern.write_edges.Statement.{statement}
 use Rattle.packed.proofs.pattern.write_edges.Tie as tie
 
 abbrev Inv-loop : tie.InvT-loop
 Inv-loop words first nodes number file out₀ start i₀ at₀ left₀ out i at left =
-    (first ≤ i) × (at + 8 * left ≡ start + 8 * number) × (length out ≡ length out₀)
-    × Writing (edges 4 nodes (joined nodes) number []) words first out₀ start (edges 4 nodes (joined nodes) left (take (i - first) (drop first words))) i out at
+    (first ≤ i) × (at + 11 * left ≡ start + 11 * number) × (length out ≡ length out₀)
+    × Writing (edges 4 3 nodes (joined nodes) number []) words first out₀ start (edges 4 3 nodes (joined nodes) left (take (i - first) (drop first words))) i out at
 
 abbrev μ-loop : tie.MeasureT-loop
 μ-loop words first nodes number file out₀ start i₀ at₀ left₀ out i at left = left
@@ -27,8 +27,8 @@ abbrev μ-loop : tie.MeasureT-loop
 loop-holds : tie.Need-loop-holds Inv-loop μ-loop
 loop-holds c = (omega arith, omega arith, refl, rw sub-self (begins (omega arith)))
 
-write-two-requires : tie.Need-write-two-requires Inv-loop μ-loop
-write-two-requires c κs = (omega arith, omega arith, lit≤ tt, omega arith, refl)
+write-edge-requires : tie.Need-write-edge-requires Inv-loop μ-loop
+write-edge-requires c κs = (omega arith, omega arith, lit≤ tt, omega arith)
 
 enum-known-f : tie.Need-enum-known-f Inv-loop μ-loop
 enum-known-f c = search needs
@@ -54,7 +54,7 @@ same-length c = search needs
 returns : tie.Need-returns Inv-loop μ-loop
 returns c =
     let l = c .before .before .before .before .before .before .before .before .before .before .before .loop in
-    let p = rw (c .before .before .before .before .f .given .1) at (c .before .before .before .before .before .before .before .before .write-two .ensures) in
+    let p = rw (c .before .before .before .before .f .given .1) at (c .before .before .before .before .before .before .before .before .write-edge .ensures) in
     writes-twice 4 _ _ (l .left) _ (omega arith) (l .inv .3) (c .before .before .before .before .before .before .before .before .before .before .before .before .before .before .args .file) p (sym (c .before .is-linked .ensures) ∙ c .if1 .taken)
 
 add-i : tie.Need-add-i Inv-loop μ-loop
@@ -72,8 +72,8 @@ loop-less c = search needs
 loop-again : tie.Need-loop-again Inv-loop μ-loop
 loop-again c =
     let l = c .before .before .before .before .before .before .before .before .before .before .before .loop in
-    let p = rw (c .before .before .before .before .f .given .1) at (c .before .before .before .before .before .before .before .before .write-two .ensures) in
-    let t = words-two p (c .before .before .before .before .before .before .before .before .before .before .before .before .before .before .args .first) (omega arith) in
+    let p = rw (c .before .before .before .before .f .given .1) at (c .before .before .before .before .before .before .before .before .write-edge .ensures) in
+    let t = words-edge p (c .before .before .before .before .before .before .before .before .before .before .before .before .before .before .args .first) (omega arith) in
     let r = writes-edge 4 _ _ (l .left) _ (omega arith) (l .inv .3) p (sym (c .before .is-linked .ensures) ∙ c .if1 .left) in
     (omega arith, omega arith, search needs, rw t r)
 
@@ -86,8 +86,8 @@ same-length-2 c = search needs
 returns-2 : tie.Need-returns-2 Inv-loop μ-loop
 returns-2 c =
     let l = c .before .before .before .before .before .before .before .before .loop in
-    let p = rw (c .before .f2 .given .1) at (c .before .before .before .before .before .write-two .ensures) in
-    ends-rejected 4 _ _ (l .left) _ (omega arith) (l .inv .3) p
+    let p = rw (c .before .f2 .given .1) at (c .before .before .before .before .before .write-edge .ensures) in
+    edge-rejected 4 _ _ (l .left) _ (omega arith) (l .inv .3) p
 
 mul-are-ends : tie.Need-mul-are-ends Inv-loop μ-loop
 mul-are-ends c = search needs
@@ -111,7 +111,7 @@ returns-3 : tie.Need-returns-3 Inv-loop μ-loop
 returns-3 c =
     let l = c .before .before .before .before .loop in
     let q : l .left ≡ 0 = omega arith in
-    (accepts (sym (c .before .are-ends .ensures) ∙ c .if2 .taken) (left-to (edges-none 4 _ _ _ ∙ joined-is _ _) (rw q at (l .inv .3))), omega arith)
+    (accepts (sym (c .before .are-ends .ensures) ∙ c .if2 .taken) (left-to (edges-none 4 3 _ _ _ ∙ joined-is _ _) (rw q at (l .inv .3))), omega arith)
 
 same-length-4 : tie.Need-same-length-4 Inv-loop μ-loop
 same-length-4 c = search needs
@@ -120,7 +120,7 @@ returns-4 : tie.Need-returns-4 Inv-loop μ-loop
 returns-4 c =
     let l = c .before .before .before .before .loop in
     let q : l .left ≡ 0 = omega arith in
-    denies (IsolatedNode (c .before .before .before .before .before .before .before .args .file)) (sym (c .before .are-ends .ensures) ∙ c .if2 .left) refl (left-to (edges-none 4 _ _ _ ∙ joined-is _ _) (rw q at (l .inv .3)))
+    denies (IsolatedNode (c .before .before .before .before .before .before .before .args .file)) (sym (c .before .are-ends .ensures) ∙ c .if2 .left) refl (left-to (edges-none 4 3 _ _ _ ∙ joined-is _ _) (rw q at (l .inv .3)))
 
 pub write-edges-spec : {M : Type 1} → statement M
 write-edges-spec =
@@ -129,7 +129,7 @@ write-edges-spec =
     Inv-loop
     μ-loop
     loop-holds
-    write-two-requires
+    write-edge-requires
     enum-known-f
     mul-is-linked
     sub-is-linked

@@ -105,7 +105,7 @@ returns-3 c =
     let number = g .given .0 .0 in
     let e = c .enum-told .given .1 in
     let r = pattern-counts-put (a .words .now) (a .first) (a .out .now) (a .start) (pre .0) p q in
-    rw e (parts-rejected (times nodes label) (edges 4 nodes (joined nodes) number []) r (rw e at (write-labels .ensures)))
+    rw e (parts-rejected (times nodes label) (edges 4 3 nodes (joined nodes) number []) r (rw e at (write-labels .ensures)))
 
 write-edges-requires : tie.Need-write-edges-requires
 write-edges-requires c κs =
@@ -142,7 +142,7 @@ returns-4 c =
     let nodes = f .given .0 .0 in
     let number = g .given .0 .0 in
     let r = pattern-counts-put (a .words .now) (a .first) (a .out .now) (a .start) (pre .0) p q in
-    closes (8 * number) 347 _ (write-edges .result) _ (parts (times nodes label) (edges 4 nodes (joined nodes) number []) r (t .0)) (write-edges .ensures)
+    closes (11 * number) 443 _ (write-edges .result) _ (parts (times nodes label) (edges 4 3 nodes (joined nodes) number []) r (t .0)) (write-edges .ensures)
     (omega (arith, t .1, p .most, q .most))
 
 pub write-fields-spec : {M : Type 1} → statement M

@@ -1,11 +1,9 @@
 -- `packed::record::judge_parts` meets its contract.
-use mathlib.Core.Path.{_≡_}
 use mathlib.Core.List.{[]}
-use Prim.Native.Nat.{_+_, _*_}
 use native.Mathlib.Omega.{arith}
 use Rattle.packed.specs.Formats.{record′}
 use Rattle.packed.proofs.Files.{judged-bad}
-use Rattle.packed.proofs.Records.{record-short, record-read, record-refused, codes-loaded}
+use Rattle.packed.proofs.Records.{record-short, record-read, record-refused, words-loaded}
 use borrow.Author.Needs.{needs}
 use Rattle.packed.proofs.record.judge_parts.Statement.{statement}
 use Rattle.packed.proofs.record.judge_parts.Tie as tie
@@ -42,8 +40,7 @@ same-length c = search needs
 
 returns-2 : tie.Need-returns-2
 returns-2 c =
-    let z : 8 * (3 + 4 * c .before .before .before .before .before .before .before .before .before .args .nodes) + 3 ≡ 27 + 32 * c .before .before .before .before .before .before .before .before .before .args .nodes = omega arith in
-    let p = rw z at (rw (c .enum-told .given .1) at (c .before .before .before .before .load-edges .ensures)) in
+    let p = rw (c .enum-told .given .1) at (c .before .before .before .before .load-edges .ensures) in
     (rw (c .enum-told .given .1) (judged-bad (record-refused (c .before .before .before .before .before .before .before .before .before .pre .2) (c .before .before .before .before .before .before .before .before .before .pre .3) (omega (arith, c .before .before .before .before .before .before .if1 .left)) p)), rw (c .enum-told .given .1) tt)
 
 add-close-file : tie.Need-add-close-file
@@ -56,8 +53,7 @@ add-close-file-2 c =
 
 close-file-requires : tie.Need-close-file-requires
 close-file-requires c κs =
-    let z : 8 * (3 + 4 * c .before .before .before .before .before .before .before .before .before .before .args .nodes) + 3 ≡ 27 + 32 * c .before .before .before .before .before .before .before .before .before .before .args .nodes = omega arith in
-    let p = rw z at (rw (c .before .p .given .1) at (c .before .before .before .before .before .load-edges .ensures)) in
+    let p = rw (c .before .p .given .1) at (c .before .before .before .before .before .load-edges .ensures) in
     let r = record-read (c .before .before .before .before .before .before .before .before .before .before .pre .2) (c .before .before .before .before .before .before .before .before .before .before .pre .3) (omega (arith, c .before .before .before .before .before .before .before .if1 .left)) (p .0) in
     record { small = c .before .before .before .before .before .before .before .before .before .before .pre .0; inside = r .inside; few = omega (arith, r .paced) }
 
@@ -66,9 +62,8 @@ same-length-2 c = search needs
 
 returns-3 : tie.Need-returns-3
 returns-3 c =
-    let z : 8 * (3 + 4 * c .before .before .before .before .before .before .before .before .before .before .before .args .nodes) + 3 ≡ 27 + 32 * c .before .before .before .before .before .before .before .before .before .before .before .args .nodes = omega arith in
-    let p = rw z at (rw (c .before .before .p .given .1) at (c .before .before .before .before .before .before .load-edges .ensures)) in
-    (c .close-file .ensures record′ [] [] (record-read (c .before .before .before .before .before .before .before .before .before .before .before .pre .2) (c .before .before .before .before .before .before .before .before .before .before .before .pre .3) (omega (arith, c .before .before .before .before .before .before .before .before .if1 .left)) (p .0)), codes-loaded (c .close-file .result) (c .before .before .before .before .before .before .before .before .before .before .before .pre .2 .is) (c .before .before .before .before .before .before .before .before .before .before .before .pre .3 .is) (p .1))
+    let p = rw (c .before .before .p .given .1) at (c .before .before .before .before .before .before .load-edges .ensures) in
+    (c .close-file .ensures record′ [] [] (record-read (c .before .before .before .before .before .before .before .before .before .before .before .pre .2) (c .before .before .before .before .before .before .before .before .before .before .before .pre .3) (omega (arith, c .before .before .before .before .before .before .before .before .if1 .left)) (p .0)), words-loaded (c .close-file .result) (c .before .before .before .before .before .before .before .before .before .before .before .pre .2 .is) (c .before .before .before .before .before .before .before .before .before .before .before .pre .3 .is) (p .1))
 
 pub judge-parts-spec : {M : Type 1} → statement M
 judge-parts-spec =

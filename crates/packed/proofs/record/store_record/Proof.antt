@@ -23,15 +23,15 @@ slice-write-out-2 c = simp length-set (omega (arith, c .before .before .before .
 store-labels-requires : tie.Need-store-labels-requires
 store-labels-requires c κs = (c .before .before .before .before .pre .1, holds-bounds (c .before .before .before .before .pre .0) .2, simp length-set (omega (arith, c .before .before .before .before .pre .2)))
 
-add-store-ends : tie.Need-add-store-ends
-add-store-ends c = search needs
+add-store-edges : tie.Need-add-store-edges
+add-store-edges c = search needs
 
-store-ends-requires : tie.Need-store-ends-requires
-store-ends-requires c κs = (omega (arith, c .before .before .before .before .before .before .before .before .pre .0 .long, holds-bounds (c .before .before .before .before .before .before .before .before .pre .0) .1), omega (arith, labels-long (c .before .before .before .before .before .before .before .before .args .nodes) (c .before .before .before .before .before .before .before .before .args .edges) (c .before .before .before .before .before .before .before .before .args .out .now) (c .before .before .before .store-labels .ensures), c .before .before .before .before .before .before .before .before .pre .2))
+store-edges-requires : tie.Need-store-edges-requires
+store-edges-requires c κs = (omega (arith, c .before .before .before .before .before .before .before .before .pre .0 .long, holds-bounds (c .before .before .before .before .before .before .before .before .pre .0) .1), omega (arith, labels-long (c .before .before .before .before .before .before .before .before .args .nodes) (c .before .before .before .before .before .before .before .before .args .edges) (c .before .before .before .before .before .before .before .before .args .out .now) (c .before .before .before .store-labels .ensures), c .before .before .before .before .before .before .before .before .pre .2))
 
 returns : tie.Need-returns
 returns c = λ ws e.
-    c .before .before .store-ends .ensures ∙ content-stored (c .before .before .before .before .before .before .before .before .before .before .before .args .out .now) (c .before .before .before .before .before .before .before .before .before .before .before .pre .0) (c .before .before .before .before .before .before .before .before .before .before .before .pre .2) (c .before .before .before .before .before .before .store-labels .ensures) ∙ ap (sets (c .before .before .before .before .before .before .before .before .before .before .before .args .out .now) 0) (let z : c .before .before .before .before .before .before .before .before .before .before .before .pre .0 .fields ≡ ws = cc (c .before .before .before .before .before .before .before .before .before .before .before .pre .0 .is) in z)
+    c .before .before .store-edges .ensures ∙ content-stored (c .before .before .before .before .before .before .before .before .before .before .before .args .out .now) (c .before .before .before .before .before .before .before .before .before .before .before .pre .0) (c .before .before .before .before .before .before .before .before .before .before .before .pre .2) (c .before .before .before .before .before .before .store-labels .ensures) ∙ ap (sets (c .before .before .before .before .before .before .before .before .before .before .before .args .out .now) 0) (let z : c .before .before .before .before .before .before .before .before .before .before .before .pre .0 .fields ≡ ws = cc (c .before .before .before .before .before .before .before .before .before .before .before .pre .0 .is) in z)
 
 same-length : tie.Need-same-length
 same-length c = ap length (returns c (c .before .before .before .before .before .before .before .before .before .before .before .pre .0 .fields) (c .before .before .before .before .before .before .before .before .before .before .before .pre .0 .is)) ∙ length-sets (c .before .before .before .before .before .before .before .before .before .before .before .args .out .now) 0 (c .before .before .before .before .before .before .before .before .before .before .before .pre .0 .fields)
@@ -45,7 +45,7 @@ store-record-spec =
     cast-out-2
     slice-write-out-2
     store-labels-requires
-    add-store-ends
-    store-ends-requires
+    add-store-edges
+    store-edges-requires
     same-length
     returns)

@@ -1,5 +1,4 @@
 -- `packed::record::write_fields` meets its contract.
-use mathlib.Core.Path.{refl}
 use native.Mathlib.Omega.{arith}
 use Rattle.packed.proofs.WritingLaws.{rejected, parts-rejected, closes}
 use Rattle.packed.proofs.Records.{record-is, nodes-written, number-written, labels-written}
@@ -64,12 +63,12 @@ returns-3 c =
     let r = rw (c .enum-told .given .1) at (c .before .before .before .before .write-labels .ensures) in
     rw (c .enum-told .given .1) (parts-rejected _ _ (number-written p q) r)
 
-write-pairs-requires : tie.Need-write-pairs-requires
-write-pairs-requires c κs =
+write-edges-requires : tie.Need-write-edges-requires
+write-edges-requires c κs =
     let p = rw (c .before .before .before .before .before .before .before .before .before .before .before .before .before .before .before .before .f .given .1) at (c .before .before .before .before .before .before .before .before .before .before .before .before .before .before .before .before .before .before .before .before .write-field .ensures) in
     let q = rw (c .before .before .before .before .before .before .before .before .before .g .given .1) at (c .before .before .before .before .before .before .before .before .before .before .before .before .before .write-field2 .ensures) in
     let r = rw (c .before .before .p .given .1) at (c .before .before .before .before .before .before .write-labels .ensures) in
-    (r .0 .inside, omega (arith, q .most), omega (arith, p .most), refl, omega (arith, r .1, p .most))
+    (r .0 .inside, omega (arith, q .most), omega (arith, p .most), omega (arith, r .1, p .most))
 
 same-length-4 : tie.Need-same-length-4
 same-length-4 c = search needs
@@ -79,7 +78,7 @@ returns-4 c =
     let p = rw (c .before .before .before .before .before .before .before .before .before .before .before .before .before .before .before .before .before .before .before .f .given .1) at (c .before .before .before .before .before .before .before .before .before .before .before .before .before .before .before .before .before .before .before .before .before .before .before .write-field .ensures) in
     let q = rw (c .before .before .before .before .before .before .before .before .before .before .before .before .g .given .1) at (c .before .before .before .before .before .before .before .before .before .before .before .before .before .before .before .before .write-field2 .ensures) in
     let r = rw (c .before .before .before .before .before .p .given .1) at (c .before .before .before .before .before .before .before .before .before .write-labels .ensures) in
-    closes _ _ 3 (c .before .before .write-pairs .result) _ (labels-written p q (r .0)) (c .before .before .write-pairs .ensures) (omega (arith, r .1, p .most, q .most))
+    closes _ _ 3 (c .before .before .write-edges .result) _ (labels-written p q (r .0)) (c .before .before .write-edges .ensures) (omega (arith, r .1, p .most, q .most))
 
 pub write-fields-spec : {M : Type 1} → statement M
 write-fields-spec =
@@ -100,6 +99,6 @@ write-fields-spec =
     enum-told
     same-length-3
     returns-3
-    write-pairs-requires
+    write-edges-requires
     same-length-4
     returns-4)

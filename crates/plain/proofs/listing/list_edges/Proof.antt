@@ -27,6 +27,9 @@ from-requires c κs = search needs
 to-requires : tie.Need-to-requires Inv-loop μ-loop
 to-requires c κs = search needs
 
+kind-requires : tie.Need-kind-requires Inv-loop μ-loop
+kind-requires c κs = search needs
+
 list-edge-requires : tie.Need-list-edge-requires Inv-loop μ-loop
 list-edge-requires c κs = search needs
 
@@ -56,6 +59,7 @@ list-edges-spec =
     loop-holds
     from-requires
     to-requires
+    kind-requires
     list-edge-requires
     add-e
     loop-less

@@ -7,10 +7,10 @@ use Rattle.plain.proofs.listing.list_pairs.Statement.{statement}
 use Rattle.plain.proofs.listing.list_pairs.Tie as tie
 
 abbrev Inv-loop : tie.InvT-loop
-Inv-loop u next codes m related out₀ start at₀ i₀ out at i = (length out ≡ length out₀) × (i ≤ m) × (start ≤ at) × (at ≤ start + 2 * i)
+Inv-loop u next kind codes m related out₀ start at₀ i₀ out at i = (length out ≡ length out₀) × (i ≤ m) × (start ≤ at) × (at ≤ start + 2 * i)
 
 abbrev μ-loop : tie.MeasureT-loop
-μ-loop u next codes m related out₀ start at₀ i₀ out at i = m - i
+μ-loop u next kind codes m related out₀ start at₀ i₀ out at i = m - i
 
 loop-holds : tie.Need-loop-holds Inv-loop μ-loop
 loop-holds c = search needs

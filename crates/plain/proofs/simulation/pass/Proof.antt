@@ -27,6 +27,9 @@ from-requires c κs = search needs
 to-requires : tie.Need-to-requires Inv-loop μ-loop
 to-requires c κs = search needs
 
+kind-requires : tie.Need-kind-requires Inv-loop μ-loop
+kind-requires c κs = search needs
+
 support-requires : tie.Need-support-requires Inv-loop μ-loop
 support-requires c κs = search needs
 
@@ -59,6 +62,7 @@ pass-spec =
     loop-holds
     from-requires
     to-requires
+    kind-requires
     support-requires
     add-e
     loop-less

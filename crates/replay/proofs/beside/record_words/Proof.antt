@@ -6,7 +6,7 @@ use Rattle.replay.proofs.beside.record_words.Statement.{statement}
 use Rattle.replay.proofs.beside.record_words.Tie as tie
 
 returns : tie.Need-returns
-returns c = sym (length-replicate {A = ℕ} 20482 0)
+returns c = sym (length-replicate {A = ℕ} 28674 0)
 
 pub record-words-spec : {M : Type 1} → statement M
 record-words-spec = tie.close (tie.spec returns)

@@ -7,10 +7,10 @@ use Rattle.replay.proofs.pack.put_fields.Statement.{statement}
 use Rattle.replay.proofs.pack.put_fields.Tie as tie
 
 abbrev Inv-loop : tie.InvT-loop
-Inv-loop words n count place memory₀ at₀ i₀ memory at i = length memory ≡ length memory₀
+Inv-loop words n kind count place memory₀ at₀ i₀ memory at i = length memory ≡ length memory₀
 
 abbrev μ-loop : tie.MeasureT-loop
-μ-loop words n count place memory₀ at₀ i₀ memory at i = count - i
+μ-loop words n kind count place memory₀ at₀ i₀ memory at i = count - i
 
 loop-holds : tie.Need-loop-holds Inv-loop μ-loop
 loop-holds c = search needs
