@@ -4,20 +4,20 @@ use mathlib.Core.Path.{_≡_, refl, ap, ap₂, sym, _∙_}
 use mathlib.Core.List.{List, []}
 use mathlib.Core.Bool.{Bool, true, false, _||_}
 use mathlib.Core.Logic.{_⊎_, inl, inr, ⊎-elim}
-use lib.ListN.{length, set}
-use lib.Seq.{sets, length-sets}
-use lib.Dec.{leb}
+use lib.ListN.{length, getD, set, length-set}
+use lib.Seq.{sets, length-sets, getD-set-other}
+use lib.Dec.{leb, ltb}
 use native.Mathlib.Omega.{arith}
 use native.Mathlib.Nat.{sub-zero}
 use native.Mathlib.Numerals.{add-one}
-use borrow.Author.Tests.{leb-true, leb-false, le-leb, lt-leb}
+use borrow.Author.Tests.{leb-true, leb-false, le-leb, lt-leb, ltb-false}
 use Rattle.packed.specs.Bits.{bits, bitsOf, field, gap}
 use Rattle.packed.specs.Format.{Format, done, ask, test, pad, then, times, whole, bad, encode}
 use Rattle.packed.specs.Formats.{countField, rank, rising, labels, record′}
 use Rattle.packed.specs.Reading.{from, Reading, Refuses, Value, EdgeValues, Content}
 use Rattle.packed.specs.Writing.{Writing, Rejects, Put, EdgePut}
 use Rattle.packed.specs.Accepting.{replyOf}
-use Rattle.packed.specs.LoadedGraph.{Cut, WordsAt, LoadsWords, WordsLoaded}
+use Rattle.packed.specs.LoadedGraph.{Cut, WordsAt, EdgesJudged, JudgesMore, LoadsWords, WordsLoaded}
 use Rattle.packed.specs.declared.reply.Refusal.{Refusal}
 use Rattle.packed.specs.declared.reply.Refusal.the-variants.{Truncated, NoSuchNode, NotAscending}
 use Rattle.packed.specs.declared.reply.Part.{Part}
@@ -199,6 +199,9 @@ module _ (s : List ℕ) (at r : ℕ) (there : at + 27 ≤ 8 * length s) (is : r 
         (λ (h : nodes ≤ r / 8 / 4096). from-stray (λ a. ask 12 0 nodes 4 (λ b. ask 3 0 8 3 (λ k. f a b k))) h)
         (lt-or-ge (r / 8 / 4096) nodes)
 
+pub rank-lt : (s : List ℕ) (at r : ℕ) → r ≡ field s at 27 → r < 2 ^ 27
+rank-lt s at r e = omega (arith, e, field-lt s at 27 27 (omega arith))
+
 -- whether an end of the edge with this code is no node
 abbrev strays : ℕ → ℕ → Bool
 strays nodes code = leb nodes (code / 4096) || leb nodes (code % 4096)
@@ -208,10 +211,9 @@ strays-no nodes code e =
     let q = or-neither (leb nodes (code / 4096)) (leb nodes (code % 4096)) e in
     (leb-false nodes (code / 4096) (q .0), leb-false nodes (code % 4096) (q .1))
 
--- k of the edges were read, with their words at the front of the workspace
-pub record EdgesJudged (s : List ℕ) (start nodes number : ℕ) (w₀ w : List ℕ) (least k : ℕ) : Type 0 where
-  pub reading : Reading (rising nodes number 0) s start [] 0 (rising nodes (number - k) least) (start + 27 * k) [] (3 * k)
-  pub words : WordsAt s start k w₀ w
+same-count : {s : List ℕ} {start nodes number : ℕ} {w₀ w : List ℕ} {least k k′ : ℕ} → k ≡ k′ → EdgesJudged s start nodes number w₀ w least k
+    → EdgesJudged s start nodes number w₀ w least k′
+same-count e j = rw e at j
 
 pub judged-start : (s : List ℕ) (start nodes number : ℕ) (w : List ℕ) → start ≤ 8 * length s → EdgesJudged s start nodes number w w 0 0
 judged-start s start nodes number w h =
@@ -258,6 +260,51 @@ module _ {s : List ℕ} {start nodes number : ℕ} {w₀ w : List ℕ} {least k 
                 (edge-passes nodes (number - k) least (omega arith) (j .reading) values (omega (arith, again))));
             words = words-more (j .words) m (e ∙ word-is s (start + 27 * k) r there is);
           }
+
+-- ---- several edges more
+module _ (s : List ℕ) (at nodes least : ℕ) (w : List ℕ) (k : ℕ) where
+  pub more-refused : JudgesMore s at nodes 1 least w k 0 w
+  more-refused = record { long = refl; low = λ j h. refl; judged = λ h. absurd (omega arith) }
+
+  pub more-one : (c r : ℕ) → at + 27 ≤ 8 * length s → k < length w → r ≡ field s at 27 → c ≡ r % 8 * 2 ^ 24 + r / 8 → (strays nodes (r / 8) || ltb r least) ≡ false
+      → JudgesMore s at nodes 1 least w k (r + 1) (set w k c)
+  more-one c r there m read e fine =
+      let q = or-neither (strays nodes (r / 8)) (ltb r least) fine in
+      let l = ltb-false r least (q .1) in
+      record {
+        long = length-set w k c;
+        low = λ j h. getD-set-other w k j c 0 (λ e. omega arith);
+        judged = λ h start number w₀ place n j. judged-more j at r (omega arith) place (omega arith) read (q .0) l m e;
+      }
+
+module _ {s : List ℕ} {at nodes n least : ℕ} {w : List ℕ} {k a : ℕ} {w′ : List ℕ} (p : JudgesMore s at nodes n least w k a w′) where
+  same-place : {at′ k′ : ℕ} → at ≡ at′ → k ≡ k′ → JudgesMore s at′ nodes n least w k′ a w′
+  same-place e d = rw (e, d) at p
+
+  pub more-next : {r : ℕ} {w″ : List ℕ} → 0 < a → JudgesMore s (at + 27 * n) nodes 1 a w′ (k + n) r w″ → JudgesMore s at nodes (n + 1) least w k r w″
+  more-next g q =
+      record {
+        long = q .long ∙ p .long;
+        low = λ j h. q .low j (omega arith) ∙ p .low j h;
+        judged =
+            λ h start number w₀ place m j.
+            same-count (omega arith) (q .judged h start number w₀ (omega arith) (omega arith) (p .judged g start number w₀ place (omega arith) j));
+      }
+
+  pub more-stopped : (m : ℕ) → JudgesMore s at nodes m least w k 0 w′
+  more-stopped m = record { long = p .long; low = p .low; judged = λ h. absurd (omega arith) }
+
+  -- the edges before them stay
+  pub judged-kept : {start number : ℕ} {w₀ : List ℕ} {l : ℕ} → EdgesJudged s start nodes number w₀ w l k → EdgesJudged s start nodes number w₀ w′ l k
+  judged-kept j =
+      record {
+        reading = j .reading;
+        words = record { long = p .long ∙ j .words .long; each = λ i h. p .low i h ∙ j .words .each i h };
+      }
+
+pub more-first : (at k : ℕ) {s : List ℕ} {nodes least : ℕ} {w : List ℕ} {r : ℕ} {w′ : List ℕ} → JudgesMore s (at + 27 * 0) nodes 1 least w (k + 0) r w′
+    → JudgesMore s at nodes 1 least w k r w′
+more-first at k p = same-place p (omega arith) (omega arith)
 
 -- of a record that is not refused
 pub words-loaded : {s w w′ : List ℕ} {nodes number : ℕ} (r : Part) → nodes ≡ field s 0 13 → number ≡ field s 13 14 → WordsAt s (27 + 32 * nodes) number w w′

@@ -1,5 +1,5 @@
 -- inner: a record's edges in the workspace, as they are judged.
-use Prim.Native.Nat.{ℕ, _+_, _*_, _/_, _%_, _^_, _<_, _≤_}
+use Prim.Native.Nat.{ℕ, _+_, _-_, _*_, _/_, _%_, _^_, _<_, _≤_}
 use mathlib.Core.Path.{_≡_}
 use mathlib.Core.List.{List, []}
 use lib.ListN.{length, take, drop, getD}
@@ -35,6 +35,18 @@ Cut s at nodes x = (f : ℕ → ℕ → ℕ → Format) → Refuses (ask 12 0 no
 pub record WordsAt (s : List ℕ) (start m : ℕ) (w w′ : List ℕ) : Type 0 where
   pub long : length w′ ≡ length w
   pub each : (j : ℕ) → j < m → getD w′ j 0 ≡ edgeWord (field s (start + 27 * j) 12) (field s (start + 27 * j + 12) 12) (field s (start + 27 * j + 24) 3)
+
+-- k of the edges were read, with their words at the front of the workspace
+pub record EdgesJudged (s : List ℕ) (start nodes number : ℕ) (w₀ w : List ℕ) (least k : ℕ) : Type 0 where
+  pub reading : Reading (rising nodes number 0) s start [] 0 (rising nodes (number - k) least) (start + 27 * k) [] (3 * k)
+  pub words : WordsAt s start k w₀ w
+
+-- n edges more, from the bit offset at on, with their words from the place k on; the rank of the next is at least r, which is 0 if one of them is refused
+pub record JudgesMore (s : List ℕ) (at nodes n least : ℕ) (w : List ℕ) (k r : ℕ) (w′ : List ℕ) : Type 0 where
+  pub long : length w′ ≡ length w
+  pub low : (j : ℕ) → j < k → getD w′ j 0 ≡ getD w j 0
+  pub judged : 0 < r → (start number : ℕ) (w₀ : List ℕ) → at ≡ start + 27 * k → k + n ≤ number
+      → EdgesJudged s start nodes number w₀ w least k → EdgesJudged s start nodes number w₀ w′ r (k + n)
 
 -- m edges were read into the workspace, or refused
 abbrev pub LoadsWords : List ℕ → ℕ → ℕ → ℕ → List ℕ → Part → List ℕ → Type 0

@@ -1,7 +1,7 @@
 // Records. The words of the edges go to the workspace as they are judged, where they stand in order.
 ghost use mathlib.Core.Path.{_≡_};
 ghost use mathlib.Core.List.{List, []};
-ghost use Prim.Native.Nat.{ℕ, _+_, _*_, _/_, _%_, _^_, _<_, _≤_};
+ghost use Prim.Native.Nat.{ℕ, _+_, _-_, _*_, _/_, _%_, _^_, _<_, _≤_, min};
 ghost use lib.ListN.{length, take};
 ghost use lib.Seq.{sets};
 ghost use Rattle.packed.specs.Format.{ok, times, decode, encode};
@@ -10,7 +10,7 @@ ghost use Rattle.packed.specs.Contents.{fromWords, fromRanks};
 ghost use Rattle.packed.specs.Reading.{Value, Judges};
 ghost use Rattle.packed.specs.Writing.{WritesPart, JudgesFields};
 ghost use Rattle.packed.specs.Accepting.{replyOf};
-ghost use Rattle.packed.specs.LoadedGraph.{ReadsCounts, Cut, LoadsWords, WordsLoaded, LabelsStored, Holds};
+ghost use Rattle.packed.specs.LoadedGraph.{ReadsCounts, Cut, EdgesJudged, JudgesMore, LoadsWords, WordsLoaded, LabelsStored, Holds};
 use crate::bits;
 use crate::field;
 use crate::limits;
@@ -88,17 +88,90 @@ fn word_of(rank: u32) -> u32
     rank % limits::KINDS * limits::PAIRS + rank / limits::KINDS
 }
 
-// So many edges between so many nodes, the first at the bit offset start: those whose bits are all there are taken whole, by their ranks, and their
-// words go to the front of the workspace.
-fn load_edges(s: &[u8], start: usize, nodes: u32, number: usize, work: &mut [u32]) -> Part
-    requires { ⌜ (length (now s) ≤ 65536) × (start ≤ 8 * length (now s)) × (nodes ≤ 4096) × (number ≤ 8192) × (8192 ≤ length (now work)) ⌝ }
-    ensures { λ r. ⌜ LoadsWords (now (s .entry)) start nodes number (now (work .entry)) r (now (work .exit)) ⌝ }
+// The edge j of the eight that begin in the byte, whose word goes to the place k + j: its rank and one more, which is the least rank of the next, or 0 if
+// it is refused.
+fn load_one(
+    s: &[u8],
+    byte: usize,
+    j: usize,
+    nodes: u32,
+    least: u32,
+    work: &mut [u32],
+    k: usize,
+) -> u32
+    requires { ⌜ (length (now s) ≤ 65536) × (j < 8) × (8 * byte + 3 + 27 * j + 27 ≤ 8 * length (now s)) × (k + j < length (now work)) ⌝ }
+    ensures { λ r. ⌜ JudgesMore (now (s .entry)) (8 * byte + 3 + 27 * j) nodes 1 least (now (work .entry)) (k + j) r (now (work .exit)) ⌝ }
 {
-    let there = (8 * s.len() - start) / limits::EDGE_BITS;
-    let whole = field::within(number, there);
-    let mut at = start;
-    let mut least: u32 = 0;
-    let mut k: usize = 0;
+    let rank = bits::get_bits(
+        s,
+        8 * byte + LABELS_BIT + limits::EDGE_BITS * j,
+        limits::EDGE_WIDTH,
+    );
+    let code = rank / limits::KINDS;
+    if (nodes <= code / limits::NODES) | (nodes <= code % limits::NODES) | (rank < least) {
+        return 0;
+    }
+    let at = k + j;
+    work[at] = word_of(rank);
+    rank + 1
+}
+
+// Eight edges take whole bytes, so that in every eight each stands from the same bit of a byte on. The least rank of the next edge, or 0 if one of them is
+// refused.
+fn load_eight(s: &[u8], byte: usize, nodes: u32, least: u32, work: &mut [u32], k: usize) -> u32
+    requires { ⌜ (length (now s) ≤ 65536) × (8 * byte + 3 + 27 * 8 ≤ 8 * length (now s)) × (k + 8 ≤ length (now work)) ⌝ }
+    ensures { λ r. ⌜ JudgesMore (now (s .entry)) (8 * byte + 3) nodes 8 least (now (work .entry)) k r (now (work .exit)) ⌝ }
+{
+    let a = load_one(s, byte, 0, nodes, least, work, k);
+    if a == 0 {
+        return 0;
+    }
+    let b = load_one(s, byte, 1, nodes, a, work, k);
+    if b == 0 {
+        return 0;
+    }
+    let c = load_one(s, byte, 2, nodes, b, work, k);
+    if c == 0 {
+        return 0;
+    }
+    let d = load_one(s, byte, 3, nodes, c, work, k);
+    if d == 0 {
+        return 0;
+    }
+    let e = load_one(s, byte, 4, nodes, d, work, k);
+    if e == 0 {
+        return 0;
+    }
+    let f = load_one(s, byte, 5, nodes, e, work, k);
+    if f == 0 {
+        return 0;
+    }
+    let g = load_one(s, byte, 6, nodes, f, work, k);
+    if g == 0 {
+        return 0;
+    }
+    load_one(s, byte, 7, nodes, g, work, k)
+}
+
+// The edges behind the first ones, one by one.
+fn load_rest(
+    s: &[u8],
+    start: usize,
+    nodes: u32,
+    number: usize,
+    whole: usize,
+    work: &mut [u32],
+    first: usize,
+    bound: u32,
+) -> Part
+    requires { ⌜ (length (now s) ≤ 65536) × (start ≤ 8 * length (now s)) × (number ≤ 8192) × (8192 ≤ length (now work)) × (first ≤ whole)
+        × (whole ≡ min number ((8 * length (now s) - start) / 27)) ⌝ }
+    ensures { λ r. ⌜ ((w₀ : List ℕ) → EdgesJudged (now (s .entry)) start nodes number w₀ (now (work .entry)) bound first
+        → LoadsWords (now (s .entry)) start nodes number w₀ r (now (work .exit))) ⌝ }
+{
+    let mut at = start + limits::EDGE_BITS * first;
+    let mut least = bound;
+    let mut k = first;
     while k < whole {
         let rank = bits::get_bits(s, at, limits::EDGE_WIDTH);
         let code = rank / limits::KINDS;
@@ -117,6 +190,29 @@ fn load_edges(s: &[u8], start: usize, nodes: u32, number: usize, work: &mut [u32
         return Part::Refused(cut_edge(s, at, nodes));
     }
     Part::Upto(at, 3 * number)
+}
+
+// So many edges between so many nodes, the first at the bit offset start: those whose bits are all there are taken whole, by their ranks, and their
+// words go to the front of the workspace. They go by eight as long as all is well.
+fn load_edges(s: &[u8], start: usize, nodes: u32, number: usize, work: &mut [u32]) -> Part
+    requires { ⌜ (length (now s) ≤ 65536) × (start ≤ 8 * length (now s)) × (start % 8 ≡ 3) × (number ≤ 8192) × (8192 ≤ length (now work)) ⌝ }
+    ensures { λ r. ⌜ LoadsWords (now (s .entry)) start nodes number (now (work .entry)) r (now (work .exit)) ⌝ }
+{
+    let there = (8 * s.len() - start) / limits::EDGE_BITS;
+    let whole = field::within(number, there);
+    let mut byte = start / 8;
+    let mut least: u32 = 0;
+    let mut k: usize = 0;
+    while k + 8 <= whole {
+        let next = load_eight(s, byte, nodes, least, work, k);
+        if next == 0 {
+            return load_rest(s, start, nodes, number, whole, work, k, least);
+        }
+        least = next;
+        byte += limits::EDGE_BITS;
+        k += 8;
+    }
+    load_rest(s, start, nodes, number, whole, work, k, least)
 }
 
 // The labels and the edges, behind the counts, and the end of the record. Any 32 bits are right for the labels of a node, so that these only have
