@@ -14,8 +14,10 @@ use Rattle.packed.specs.Calls.{accepted, readRecord, recordWritten, fit}
 use Rattle.packed.proofs.CallLaws.{read-says, write-finds, accepted-by, judged-accepted}
 use Rattle.packed.proofs.Accepted.{old-accepted, record-accepted, record-read}
 use Rattle.packed.proofs.SortedEdges.{sorted-plain}
-use Rattle.matching.specs.Simulation.{edgesIn, graphOf}
+use Rattle.matching.specs.Lists.{In}
+use Rattle.matching.specs.Simulation.{Edge, Graph, edgesIn, graphOf}
 use Rattle.matching.specs.Search.{sheetBytes}
+use Rattle.matching.proofs.EdgeLaws.{edgesIn-at}
 use Rattle.matching.proofs.SortedGraphs.{Alike, ends-narrow, sorted-in, alike-sets, alike-views}
 use Rattle.containment.specs.Show.{recordBytes}
 use Rattle.containment.specs.Demands.{OldFile, Sorting}
@@ -71,6 +73,12 @@ module _ (s ws : List ℕ) (old : OldFile s ws) where
   alike : Alike (graphOf (sortedFields ws)) (graphOf ws)
   alike = sorted-alike plain
 
+  old-kind : (f : Edge) → In f (graphOf ws .edges) → f .kind ≡ 0
+  old-kind f i =
+      let e = plain .edges .among in
+      let r = edgesIn-at (plain .es) (plain .number) (e .three-each) (subst (λ (G : Graph). In f (G .edges)) (graph-old plain) i) in
+      subst (λ (g : Edge). g .kind ≡ 0) (sym (r .holds)) (omega (arith, e .is-kind (r .at) (r .below)))
+
   gives : (room : ℕ) → recordSorted s room ≡ fit room (recordBytes (sortedFields ws))
   unfolding recordSorted recordWritten
   gives room =
@@ -86,6 +94,7 @@ sorting = record {
   is-record = is-record;
   items = λ s ws o. alike s ws o .0 .same-labels;
   links = λ s ws o f. (alike s ws o .0 .more f, alike s ws o .1 .more f);
+  kinds = λ s ws o f i. old-kind s ws o f (alike s ws o .0 .more f i);
   sheets = λ s ws o P. ap sheetBytes (alike-sets P (graphOf (sortedFields ws)) (graphOf ws) (alike s ws o));
   extract-sheets = λ s ws o P. ap sheetBytes (alike-views P (graphOf (sortedFields ws)) (graphOf ws) (alike s ws o));
 }

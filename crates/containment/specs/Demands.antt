@@ -419,7 +419,9 @@ pub record Sorting : Type 0 where
   -- with the same items, and the same links
   pub items : (s ws : List ℕ) → OldFile s ws → graphOf (sortedFields ws) .labels ≡ graphOf ws .labels
   pub links : (s ws : List ℕ) → OldFile s ws → (f : Edge) → In f (graphOf (sortedFields ws) .edges) ↔ In f (graphOf ws .edges)
-  -- and every pattern has the same sheet on both, as a question and as an extract
+  -- "and writes each link with kind 0"
+  pub kinds : (s ws : List ℕ) → OldFile s ws → (f : Edge) → In f (graphOf (sortedFields ws) .edges) → f .kind ≡ 0
+  -- and every pattern has the same sheet on both, as a question and as an extract; one with a link of another kind finds nothing on either
   pub sheets : (s ws : List ℕ) → OldFile s ws → (P : Pattern) → sheetOf P (sortedFields ws) ≡ sheetOf P ws
   pub extract-sheets : (s ws : List ℕ) → OldFile s ws → (P : Pattern) → extractSheetOf P (sortedFields ws) ≡ extractSheetOf P ws
 

@@ -1,4 +1,5 @@
-// Sweeps over the pairs and settling of the nodes: the codes of the d pairs stand from word 0 on, from 8192 on for each the links that it is held for.
+// Sweeps over the pairs and settling of the nodes: the words of the d pairs stand from word 0 on, with their codes in the low 24 bits, and from 8192 on for each the links that
+// it is held for.
 // `due` are the links whose items are being settled, `free` those that are not settled yet.
 ghost use mathlib.Core.Path.{_≡_};
 ghost use Prim.Native.Nat.{_+_, _<_, _≤_};

@@ -103,7 +103,7 @@ distinct (x ∷ xs) = insert x (distinct xs)
 
 -- ---- edges by their fields: from, to, kind, from, to, kind, ..
 
--- the word of an edge in the workspace: the code of its ends, and its kind above the 24 bits of the code
+-- inner: the word of an edge in the workspace: the code of its ends, and its kind above the 24 bits of the code
 abbrev pub edgeWord : ℕ → ℕ → ℕ → ℕ
 edgeWord a b k = k * 2 ^ pairWidth + code a b
 
@@ -114,18 +114,20 @@ eachEdge f (a ∷ []) = []
 eachEdge f (a ∷ b ∷ []) = []
 eachEdge f (a ∷ b ∷ k ∷ es) = f a b k ∷ eachEdge f es
 
--- their words, and their ranks
+-- inner: their words
 abbrev pub edgeWords : List ℕ → List ℕ
 edgeWords es = eachEdge edgeWord es
 
+-- their ranks
 abbrev pub ranks : List ℕ → List ℕ
 ranks es = eachEdge rank es
 
--- the fields of the edges that stand in these words, and of those with these ranks
+-- inner: the fields of the edges that stand in these words
 unfoldable pub fromWords : List ℕ → List ℕ
 fromWords [] = []
 fromWords (c ∷ cs) = c / nodesMost % nodesMost ∷ c % nodesMost ∷ c / 2 ^ pairWidth ∷ fromWords cs
 
+-- the fields of the edges with these ranks
 unfoldable pub fromRanks : List ℕ → List ℕ
 fromRanks [] = []
 fromRanks (r ∷ rs) = r / kindsMost / nodesMost ∷ r / kindsMost % nodesMost ∷ r % kindsMost ∷ fromRanks rs

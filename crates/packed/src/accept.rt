@@ -116,7 +116,7 @@ pub(crate) fn accept_record(s: &[u8], work: &mut [u32]) -> Reply
     reply_of(record::judge_record(s, work))
 }
 
-// An old record: its content goes to the front of the words as far as they go, and the codes of its edges, ascending, to the front of the
+// An old record: its content goes to the front of the words as far as they go, and the ranks of its edges, ascending, to the front of the
 // workspace.
 pub(crate) fn accept_old_record(s: &[u8], words: &mut [u32], work: &mut [u32]) -> Reply
     requires { ⌜ length (now work) ≡ 16384 ⌝ }
