@@ -8,11 +8,12 @@ use lib.ListN.{length, take, drop, getD, set, replicate, length-append, length-s
 use lib.Seq.{getD-set-same, getD-set-other, getD-take, getD-drop, getD-at, drop-cons, length-take-le, ext-getD}
 use lib.Dec.{T, ltb, eqb}
 use native.Mathlib.Omega.{arith}
-use native.Mathlib.Nat.{div-one, div-eq-of-lt}
+use native.Mathlib.Nat.{div-one, div-eq-of-lt, lt-irrefl}
 use lib.Pow.{shr-shr}
 use borrow.Author.Tests.{lt-ltb, le-ltb}
 use Rattle.packed.specs.Format.{pick}
 use Rattle.packed.specs.Formats.{code}
+use Rattle.packed.specs.Contents.{wordRank}
 use Rattle.packed.specs.Matches.{marks, marked, markedFrom, anyEmpty, emptied, allOrNone, pairIn, codesOf, masksOf, matchesOf, Marked, Listed}
 use Rattle.packed.specs.declared.by_value.Pattern.{Pattern as Given}
 use Rattle.packed.proofs.OrderCases.{lt-or-ge, trichotomy}
@@ -202,7 +203,11 @@ module _ (p : Given) {m : ℕ} {w : List ℕ} {r : ℕ} (g : Listed m (p .edges)
     -- each edge stands there once
     alone : (i j : ℕ) → i < m → j < m → getD w j 0 ≡ getD w i 0 → j ≡ i
     alone i j h l e =
-        trichotomy j i (λ p. absurd (let z = rises j i p h in omega arith)) (λ q. q) (λ p. absurd (let z = rises i j p l in omega arith))
+        let r = ap wordRank e in
+        trichotomy j i
+        (λ p. absurd (lt-irrefl _ (subst (λ (x : ℕ). x < wordRank (getD w i 0)) r (rises j i p h))))
+        (λ q. q)
+        (λ p. absurd (lt-irrefl _ (subst (λ (x : ℕ). wordRank (getD w i 0) < x) r (rises i j p l))))
 
     edges-long : length edges ≡ p .edges
     unfolding patternIn

@@ -167,7 +167,7 @@ old-faults =
     asks three (λ nodes. asks three (λ number.
     then-faults (times-faults nodes (asks three (λ v. ends))) (edges-faults 12 0 nodes (λ es. done) (λ es. ends) number [])))
 
-pairs-faults : (k least : ℕ) → Faults (pairs 4096 3 k least)
+pairs-faults : (k least : ℕ) → Faults (pairs k least)
 unfolding pairs
 pairs-faults zero least = ends
 pairs-faults (suc k) least = asks three (λ a. asks three (λ b. tests (numbered 6 refl refl) (pairs-faults k (suc (code a b)))))

@@ -421,7 +421,7 @@ pub record Sorting : Type 0 where
   pub links : (s ws : List ℕ) → OldFile s ws → (f : Edge) → In f (graphOf (sortedFields ws) .edges) ↔ In f (graphOf ws .edges)
   -- "and writes each link with kind 0"
   pub kinds : (s ws : List ℕ) → OldFile s ws → (f : Edge) → In f (graphOf (sortedFields ws) .edges) → f .kind ≡ 0
-  -- and every pattern has the same sheet on both, as a question and as an extract; one with a link of another kind finds nothing on either
+  -- and every pattern has the same sheet on both, as a question and as an extract
   pub sheets : (s ws : List ℕ) → OldFile s ws → (P : Pattern) → sheetOf P (sortedFields ws) ≡ sheetOf P ws
   pub extract-sheets : (s ws : List ℕ) → OldFile s ws → (P : Pattern) → extractSheetOf P (sortedFields ws) ≡ extractSheetOf P ws
 

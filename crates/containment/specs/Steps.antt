@@ -8,7 +8,7 @@ use lib.Seq.{sets}
 use lib.Dec.{eqb, ltb}
 use Rattle.packed.specs.Format.{ok, pick, decode}
 use Rattle.packed.specs.Formats.{pattern, catalogue}
-use Rattle.packed.specs.Contents.{edgesOf, edgeCounts, edgeWord, sortedEdges}
+use Rattle.packed.specs.Contents.{edgesOf, edgeCounts, edgeWord, wordKind, sortedEdges}
 use Rattle.packed.specs.ByValue.{HoldsPattern, Small}
 use Rattle.packed.specs.Calls.{Outcome, toldOf, outputsOf}
 use Rattle.packed.specs.Refusals.{Told}
@@ -112,7 +112,7 @@ Present q m w = (e : ℕ) → e < q .edges → OneOf m (λ i. getD w i 0 ≡ wor
 
 -- the masks name edges of the view p alone, each of the kind of the word
 unfoldable pub Within : Given → ℕ → List ℕ → Type 0
-Within p m w = (i e : ℕ) → i < m → e < 32 → Has (getD w (8192 + i) 0) e → (e < p .edges) × (getD (p .kind) e 0 ≡ getD w i 0 / 2 ^ 24)
+Within p m w = (i e : ℕ) → i < m → e < 32 → Has (getD w (8192 + i) 0) e → (e < p .edges) × (getD (p .kind) e 0 ≡ wordKind (getD w i 0))
 
 -- only the first n of column a may differ, in a table with 16 columns
 pub record Column (a n : ℕ) (g : ℕ → ℕ → Type 0) (t t′ : List ℕ) : Type 0 where

@@ -8,7 +8,7 @@ use native.Mathlib.Omega.{arith}
 use Rattle.packed.specs.Bits.{field}
 use Rattle.packed.specs.Format.{ok, decode}
 use Rattle.packed.specs.Formats.{record′, rank}
-use Rattle.packed.specs.Contents.{nodesOf, edgesOf, edgeWord, ranks}
+use Rattle.packed.specs.Contents.{nodesOf, edgesOf, edgeWord, wordRank, ranks}
 use Rattle.packed.specs.Plain.{fromAt, toAt, kindAt, EdgesAmong}
 use Rattle.packed.specs.LoadedGraph.{Holds}
 use Rattle.packed.proofs.DistinctMerge.{increasing-at}
@@ -18,7 +18,7 @@ use Rattle.packed.proofs.SortedEdges.{record-rises}
 use Rattle.matching.specs.Lists.{In, upTo}
 use Rattle.matching.specs.Simulation.{Edge, between, Pattern, Graph, edgesIn, graphOf, matchSets}
 use Rattle.matching.specs.Steps.{edgeOfWord, graphIn, Ready, Edges}
-use Rattle.matching.specs.Matched.{rankOf, Rises}
+use Rattle.matching.specs.Matched.{Rises}
 use Rattle.matching.specs.Index.{indexFor, indexOf}
 use Rattle.matching.specs.Sweeping.{Ends}
 use Rattle.matching.specs.Late.{ByStart, edgesAt}
@@ -97,16 +97,10 @@ module _ {s : List ℕ} {n m : ℕ} {w : List ℕ} (h : Holds s n m w) where
       (omega arith, omega arith, omega arith)
 
   -- the rank of a word is that of its edge
-  rank-at : (i : ℕ) → i < m → getD (ranks (fieldsOf ws)) i 0 ≡ rankOf (getD w i 0)
+  rank-at : (i : ℕ) → i < m → getD (ranks (fieldsOf ws)) i 0 ≡ wordRank (getD w i 0)
   rank-at i l =
-      let c = word-at i l in
-      let b = edge-in i l in
-      let x = b .0 in
-      let y = b .1 in
-      let k = h .nodes in
-      let f = record-bounds s ws (h .is) .0 in
       each-at rank (fieldsOf ws) i (omega (arith, each-length rank m (fieldsOf ws) three-each))
-      ∙ omega (arith, c)
+      ∙ omega (arith, parts i l .0, parts i l .1, parts i l .2)
 
   pub ready-by : length s ≤ 65536 → Ready s n m w
   ready-by l =

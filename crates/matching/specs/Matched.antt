@@ -1,5 +1,5 @@
 -- inner: what matching a pattern leaves in the workspace, and a view of an accepted catalogue by value.
-use Prim.Native.Nat.{ℕ, _+_, _*_, _/_, _%_, _^_, _<_, _≤_}
+use Prim.Native.Nat.{ℕ, _+_, _*_, _<_, _≤_}
 use mathlib.Core.Path.{_≡_}
 use mathlib.Core.List.{List}
 use lib.ListN.{length, drop, getD}
@@ -7,6 +7,7 @@ use lib.Dec.{T}
 use Rattle.packed.specs.Bits.{bits}
 use Rattle.packed.specs.Format.{whole, got}
 use Rattle.packed.specs.Formats.{pattern}
+use Rattle.packed.specs.Contents.{wordKind, wordRank}
 use Rattle.packed.specs.ByValue.{HoldsPattern}
 use Rattle.packed.specs.Reading.{from}
 use Rattle.packed.specs.Matches.{matchesOf}
@@ -21,20 +22,16 @@ pub record Proper (p : Given) : Type 0 where
   pub some : 1 ≤ p .edges
   pub sound : T (sound (patternIn p))
 
--- where the edge in a word stands in the order by from, to and kind
-abbrev pub rankOf : ℕ → ℕ
-rankOf c = 8 * (c % 2 ^ 24) + c / 2 ^ 24
-
 -- the m edges ascend, each once
 abbrev pub Rises : ℕ → List ℕ → Type 0
-Rises m w = (i j : ℕ) → i < j → j < m → rankOf (getD w i 0) < rankOf (getD w j 0)
+Rises m w = (i j : ℕ) → i < j → j < m → wordRank (getD w i 0) < wordRank (getD w j 0)
 
 -- the m edges of the record s, at the front of the workspace, are marked with the edges of the pattern that list them
 pub record EdgesMatched (p : Given) (s : List ℕ) (n m : ℕ) (w w′ : List ℕ) : Type 0 where
   pub edges : Edges w w′
   pub marked : MarkedPairs m w′
   pub sets : matchesOf m (p .edges) w′ ≡ matchSets (patternIn p) (graphIn s n m w)
-  pub only : (i e : ℕ) → i < m → e < 32 → T (bit (getD w′ (8192 + i) 0) e) → (e < p .edges) × (getD (p .kind) e 0 ≡ getD w i 0 / 2 ^ 24)
+  pub only : (i e : ℕ) → i < m → e < 32 → T (bit (getD w′ (8192 + i) 0) e) → (e < p .edges) × (getD (p .kind) e 0 ≡ wordKind (getD w i 0))
 
 -- the first d pairs of the workspace make the pattern's sheet
 pub record SheetSized (p : Given) (s : List ℕ) (n m : ℕ) (w : List ℕ) (d : ℕ) (w′ : List ℕ) : Type 0 where

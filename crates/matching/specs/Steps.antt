@@ -1,9 +1,10 @@
 -- inner: what matching finds in the workspace: the words of m edges from word 0 on, each the code of its ends in the low 24 bits and its kind above them.
-use Prim.Native.Nat.{ℕ, _+_, _*_, _/_, _%_, _^_, _<_, _≤_}
+use Prim.Native.Nat.{ℕ, _+_, _*_, _<_, _≤_}
 use mathlib.Core.Path.{_≡_}
 use mathlib.Core.List.{List}
 use lib.ListN.{length, getD, take}
 use Rattle.packed.specs.Bits.{field}
+use Rattle.packed.specs.Contents.{wordFrom, wordTo, wordKind}
 use Rattle.packed.specs.declared.by_value.Pattern.{Pattern as Given}
 use Rattle.matching.specs.Lists.{upTo}
 use Rattle.matching.specs.Simulation.{Edge, between, Pattern, Graph}
@@ -13,7 +14,7 @@ abbrev pub givenEdge : Given → ℕ → Edge
 givenEdge p e = between (getD (p .from) e 0) (getD (p .to) e 0) (getD (p .kind) e 0)
 
 abbrev pub edgeOfWord : ℕ → Edge
-edgeOfWord c = between (c / 4096 % 4096) (c % 4096) (c / 2 ^ 24)
+edgeOfWord c = between (wordFrom c) (wordTo c) (wordKind c)
 
 -- the pattern that is given by value
 unfoldable pub patternIn : Given → Pattern
@@ -43,9 +44,9 @@ pub record Ready (s : List ℕ) (n m : ℕ) (w : List ℕ) : Type 0 where
   pub nodes : n ≤ 4096
   pub edges : m ≤ 8192
   pub long : length w ≡ 16384
-  pub from : (i : ℕ) → i < m → getD w i 0 / 4096 % 4096 < n
-  pub to : (i : ℕ) → i < m → getD w i 0 % 4096 < n
-  pub kind : (i : ℕ) → i < m → getD w i 0 / 2 ^ 24 < 8
+  pub from : (i : ℕ) → i < m → wordFrom (getD w i 0) < n
+  pub to : (i : ℕ) → i < m → wordTo (getD w i 0) < n
+  pub kind : (i : ℕ) → i < m → wordKind (getD w i 0) < 8
 
 -- the words below 8192 are as they were
 pub record Edges (w w′ : List ℕ) : Type 0 where

@@ -1,22 +1,23 @@
 -- inner: what a sweep over the pairs and the settling of the nodes do to the words, bit by bit.
-use Prim.Native.Nat.{ℕ, zero, suc, _+_, _-_, _/_, _%_, _^_, _<_, _≤_}
+use Prim.Native.Nat.{ℕ, zero, suc, _+_, _-_, _^_, _<_, _≤_}
 use mathlib.Core.Path.{_≡_}
 use mathlib.Core.List.{List}
 use mathlib.Core.Logic.{_⊎_}
 use lib.ListN.{length, getD}
 use lib.Bits.{bitAnd, bitOr}
+use Rattle.packed.specs.Contents.{wordFrom, wordTo, wordKind}
 use Rattle.packed.specs.Order.{Outside}
 use Rattle.matching.specs.Sweeps.{Has, Mask, OneOf, Names}
 
--- the ends of the pair i, in the low 24 bits of its word, and the kind above them
+-- the ends and the kind of the pair i
 abbrev pub fromOf : List ℕ → ℕ → ℕ
-fromOf w i = getD w i 0 / 4096 % 4096
+fromOf w i = wordFrom (getD w i 0)
 
 abbrev pub toOf : List ℕ → ℕ → ℕ
-toOf w i = getD w i 0 % 4096
+toOf w i = wordTo (getD w i 0)
 
 abbrev pub kindOf : List ℕ → ℕ → ℕ
-kindOf w i = getD w i 0 / 2 ^ 24
+kindOf w i = wordKind (getD w i 0)
 
 -- the workspace has room for d pairs, whose ends are below n
 pub record Ends (n d : ℕ) (w : List ℕ) : Type 0 where

@@ -5,7 +5,7 @@ use mathlib.Core.List.{List, [], _∷_, _++_, append-assoc}
 use mathlib.Core.Bool.{Bool, true, not}
 use mathlib.Core.Logic.{_⊎_, inl, inr, ⊎-elim, _↔_}
 use lib.ListN.{length, getD}
-use lib.Dec.{eqb, lit≤}
+use lib.Dec.{eqb}
 use native.Mathlib.Omega.{arith}
 use borrow.Author.Tests.{ne-eqb}
 use Rattle.packed.specs.Bits.{bitsOf}
@@ -20,7 +20,7 @@ use Rattle.packed.proofs.AcceptedTurns.{no-turns, more-turns, row, acce
 
 -- the pairs of a list
 abbrev Pairs : ℕ → Laid
-Pairs n ws bs = PlainPairs 4096 n ws × (bs ≡ fieldBits 12 ws)
+Pairs n ws bs = PlainPairs n ws × (bs ≡ fieldBits 12 ws)
 
 list-to : (n : ℕ) (ends : List ℕ) (bs : List Bool) → 1 ≤ n → n ≤ 8192 → Pairs n ends bs → PlainList (n ∷ ends) (bitsOf 14 n ++ bs)
 list-to n ends bs some most q =
@@ -96,7 +96,7 @@ accepts-lists (suc m) at =
     accepts-same (λ ws bs. (list-more m ws bs, more-list m ws bs))
     (accepts-ask 14 0 8193 3 _ at _ (λ n l h.
     accepts-test (not (eqb n 0)) 8
-    (accepts-then (pairs 4096 3 n 0) (lists m) (at + 14) (accepts-pairs 4096 3 (lit≤ tt) n (at + 14)) (λ ws bs q.
+    (accepts-then (pairs n 0) (lists m) (at + 14) (accepts-pairs n (at + 14)) (λ ws bs q.
     accepts-lists m (at + 14 + length bs)))))
 
 -- ---- a sheet

@@ -10,19 +10,20 @@ use lib.Dec.{leb, ltb}
 use native.Mathlib.Omega.{arith}
 use native.Mathlib.Nat.{sub-zero}
 use native.Mathlib.Numerals.{add-one}
-use borrow.Author.Tests.{leb-true, leb-false, le-leb, lt-leb, ltb-false}
+use borrow.Author.Tests.{leb-true, leb-false, le-leb, lt-leb, ltb-true, ltb-false}
 use Rattle.packed.specs.Bits.{bits, bitsOf, field, gap}
 use Rattle.packed.specs.Format.{Format, done, ask, test, pad, then, times, whole, bad, encode}
 use Rattle.packed.specs.Formats.{countField, rank, rising, labels, record′}
 use Rattle.packed.specs.Reading.{from, Reading, Refuses, Value, EdgeValues, Content}
 use Rattle.packed.specs.Writing.{Writing, Rejects, Put, EdgePut}
 use Rattle.packed.specs.Accepting.{replyOf}
-use Rattle.packed.specs.LoadedGraph.{Cut, WordsAt, EdgesJudged, JudgesMore, LoadsWords, WordsLoaded}
+use Rattle.packed.specs.LoadedGraph.{Cut, WordsAt, EdgesJudged, MoreJudged, JudgesMore, LoadsWords, WordsLoaded}
 use Rattle.packed.specs.declared.reply.Refusal.{Refusal}
 use Rattle.packed.specs.declared.reply.Refusal.the-variants.{Truncated, NoSuchNode, NotAscending}
 use Rattle.packed.specs.declared.reply.Part.{Part}
 use Rattle.packed.specs.declared.reply.Part.the-variants as part-is
 use Rattle.packed.proofs.BitsLaws.{length-bits, field-lt, field-add}
+use Rattle.packed.specs.Order.{Outside}
 use Rattle.packed.proofs.OrderCases.{lt-or-ge, or-cases, or-neither}
 use Rattle.packed.proofs.Sets.{sets-beyond}
 use Rattle.packed.proofs.RoundTrip.{Bytes, bits-bytesOf, whole-is}
@@ -262,49 +263,80 @@ module _ {s : List ℕ} {start nodes number : ℕ} {w₀ w : List ℕ} {least k 
           }
 
 -- ---- several edges more
+pub more-all : {s : List ℕ} {at nodes n least : ℕ} {w : List ℕ} {k r : ℕ} {w′ : List ℕ} → 0 < r → MoreJudged s at nodes n least w k r w′
+    → JudgesMore s at nodes n least w k r w′
+more-all h p = record { around = p .around; read = λ l. p; refused = λ e. absurd (omega arith) }
+
 module _ (s : List ℕ) (at nodes least : ℕ) (w : List ℕ) (k : ℕ) where
-  pub more-refused : JudgesMore s at nodes 1 least w k 0 w
-  more-refused = record { long = refl; low = λ j h. refl; judged = λ h. absurd (omega arith) }
+  pub more-refused : (r : ℕ) → at + 27 ≤ 8 * length s → r ≡ field s at 27 → (strays nodes (r / 8) || ltb r least) ≡ true → JudgesMore s at nodes 1 least w k 0 w
+  more-refused r there read wrong =
+      record {
+        around = record { long = refl; low = λ j h. refl; high = λ j h. refl };
+        read = λ h. absurd (omega arith);
+        refused = λ h start number w₀ place n j. why start number w₀ place n j (strays nodes (r / 8)) refl wrong;
+      }
+    where
+      why : (start number : ℕ) (w₀ : List ℕ) → at ≡ start + 27 * k → k + 1 ≤ number → EdgesJudged s start nodes number w₀ w least k
+          → (b : Bool) → strays nodes (r / 8) ≡ b → (b || ltb r least) ≡ true → (x : Refusal) × Refuses (rising nodes number 0) s start 3 x
+      why start number w₀ place n j true e t = (NoSuchNode 3, judged-stray j at r (omega arith) place (omega arith) read e)
+      why start number w₀ place n j false e t = (NotAscending 3, judged-falls j at r (omega arith) place (omega arith) read e (ltb-true r least t))
 
   pub more-one : (c r : ℕ) → at + 27 ≤ 8 * length s → k < length w → r ≡ field s at 27 → c ≡ r % 8 * 2 ^ 24 + r / 8 → (strays nodes (r / 8) || ltb r least) ≡ false
       → JudgesMore s at nodes 1 least w k (r + 1) (set w k c)
-  more-one c r there m read e fine =
-      let q = or-neither (strays nodes (r / 8)) (ltb r least) fine in
-      let l = ltb-false r least (q .1) in
+  more-one c r there m read e fine = more-all (omega arith) (record {
+    around = record {
+      long = length-set w k c;
+      low = λ j h. getD-set-other w k j c 0 (λ e. omega arith);
+      high = λ j h. getD-set-other w k j c 0 (λ e. omega arith);
+    };
+    judged =
+        λ start number w₀ place n j.
+        let q = or-neither (strays nodes (r / 8)) (ltb r least) fine in
+        judged-more j at r (omega arith) place (omega arith) read (q .0) (ltb-false r least (q .1)) m e;
+  })
+
+  pub more-none : MoreJudged s at nodes 0 least w k least w
+  more-none =
       record {
-        long = length-set w k c;
-        low = λ j h. getD-set-other w k j c 0 (λ e. omega arith);
-        judged = λ h start number w₀ place n j. judged-more j at r (omega arith) place (omega arith) read (q .0) l m e;
+        around = record { long = refl; low = λ j h. refl; high = λ j h. refl };
+        judged = λ start number w₀ place n j. same-count (omega arith) j;
       }
 
-module _ {s : List ℕ} {at nodes n least : ℕ} {w : List ℕ} {k a : ℕ} {w′ : List ℕ} (p : JudgesMore s at nodes n least w k a w′) where
-  same-place : {at′ k′ : ℕ} → at ≡ at′ → k ≡ k′ → JudgesMore s at′ nodes n least w k′ a w′
-  same-place e d = rw (e, d) at p
-
-  pub more-next : {r : ℕ} {w″ : List ℕ} → 0 < a → JudgesMore s (at + 27 * n) nodes 1 a w′ (k + n) r w″ → JudgesMore s at nodes (n + 1) least w k r w″
-  more-next g q =
+module _ {s : List ℕ} {at nodes n least : ℕ} {w : List ℕ} {k a : ℕ} {w′ : List ℕ} (p : MoreJudged s at nodes n least w k a w′) {r : ℕ} {w″ : List ℕ}
+    (q : JudgesMore s (at + 27 * n) nodes 1 a w′ (k + n) r w″) where
+  both : Outside k (n + 1) w w″
+  both =
       record {
-        long = q .long ∙ p .long;
-        low = λ j h. q .low j (omega arith) ∙ p .low j h;
+        long = q .around .long ∙ p .around .long;
+        low = λ j h. q .around .low j (omega arith) ∙ p .around .low j h;
+        high = λ j h. q .around .high j (omega arith) ∙ p .around .high j (omega arith);
+      }
+
+  pub more-next : 0 < r → MoreJudged s at nodes (n + 1) least w k r w″
+  more-next h =
+      record {
+        around = both;
         judged =
-            λ h start number w₀ place m j.
-            same-count (omega arith) (q .judged h start number w₀ (omega arith) (omega arith) (p .judged g start number w₀ place (omega arith) j));
+            λ start number w₀ place m j.
+            same-count (omega arith) (q .read h .judged start number w₀ (omega arith) (omega arith) (p .judged start number w₀ place (omega arith) j));
       }
 
-  pub more-stopped : (m : ℕ) → JudgesMore s at nodes m least w k 0 w′
-  more-stopped m = record { long = p .long; low = p .low; judged = λ h. absurd (omega arith) }
-
-  -- the edges before them stay
-  pub judged-kept : {start number : ℕ} {w₀ : List ℕ} {l : ℕ} → EdgesJudged s start nodes number w₀ w l k → EdgesJudged s start nodes number w₀ w′ l k
-  judged-kept j =
+  pub more-stopped : r ≡ 0 → (m : ℕ) → n < m → JudgesMore s at nodes m least w k 0 w″
+  more-stopped z m l =
       record {
-        reading = j .reading;
-        words = record { long = p .long ∙ j .words .long; each = λ i h. p .low i h ∙ j .words .each i h };
+        around = record { long = both .long; low = both .low; high = λ j h. both .high j (omega arith) };
+        read = λ h. absurd (omega arith);
+        refused = λ h start number w₀ place d j. q .refused z start number w₀ (omega arith) (omega arith) (p .judged start number w₀ place (omega arith) j);
       }
 
-pub more-first : (at k : ℕ) {s : List ℕ} {nodes least : ℕ} {w : List ℕ} {r : ℕ} {w′ : List ℕ} → JudgesMore s (at + 27 * 0) nodes 1 least w (k + 0) r w′
-    → JudgesMore s at nodes 1 least w k r w′
-more-first at k p = same-place p (omega arith) (omega arith)
+-- the edges before them stay
+pub judged-kept : {s : List ℕ} {at nodes n least : ℕ} {w : List ℕ} {k r : ℕ} {w′ : List ℕ} → JudgesMore s at nodes n least w k r w′
+    → {start number : ℕ} {w₀ : List ℕ} {l : ℕ} → EdgesJudged s start nodes number w₀ w l k → EdgesJudged s start nodes number w₀ w′ l k
+judged-kept p j =
+    record {
+      reading = j .reading;
+      words = record { long = p .around .long ∙ j .words .long; each = λ i h. p .around .low i h ∙ j .words .each i h };
+    }
 
 -- of a record that is not refused
 pub words-loaded : {s w w′ : List ℕ} {nodes number : ℕ} (r : Part) → nodes ≡ field s 0 13 → number ≡ field s 13 14 → WordsAt s (27 + 32 * nodes) number w w′

@@ -171,18 +171,18 @@ lay-pair f at c ws h =
     ∙ push-push (bitsOf 12 a) (bitsOf 12 b) (lay (f a b) (at + 12 + 12) ws)
     ∙ ap (λ (l : List Bool). push l (lay (f a b) (at + 12 + 12) ws)) (pair-bits c)
 
-lay-pairs : (least at : ℕ) (l tail : List ℕ) → Rising least l → lay (pairs 4096 3 (length l) least) at (ends l ++ tail) ≡ got (pairBits l) tail
+lay-pairs : (least at : ℕ) (l tail : List ℕ) → Rising least l → lay (pairs (length l) least) at (ends l ++ tail) ≡ got (pairBits l) tail
 unfolding pairs ends pairBits
 lay-pairs least at l tail rising-none = lay-done at tail
 lay-pairs least at l tail (rising-next {c = c} {cs = cs} h s r) =
     let k : ℕ = code (c / 4096) (c % 4096) in
     let e : k ≡ c = omega arith in
     let ws : List ℕ = ends cs ++ tail in
-    lay-pair (λ a b. test (leb least (code a b)) 6 (pairs 4096 3 (length cs) (suc (code a b)))) at c ws s
+    lay-pair (λ a b. test (leb least (code a b)) 6 (pairs (length cs) (suc (code a b)))) at c ws s
     ∙ ap (push (bitsOf 24 c))
-    (lay-test (leb least k) 6 (pairs 4096 3 (length cs) (suc k)) (at + 12 + 12) ws
-    ∙ pick-yes (leb least k) (lay (pairs 4096 3 (length cs) (suc k)) (at + 12 + 12) ws) (fault 6) (le-leb least k (omega arith))
-    ∙ ap (λ (n : ℕ). lay (pairs 4096 3 (length cs) (suc n)) (at + 12 + 12) ws) e
+    (lay-test (leb least k) 6 (pairs (length cs) (suc k)) (at + 12 + 12) ws
+    ∙ pick-yes (leb least k) (lay (pairs (length cs) (suc k)) (at + 12 + 12) ws) (fault 6) (le-leb least k (omega arith))
+    ∙ ap (λ (n : ℕ). lay (pairs (length cs) (suc n)) (at + 12 + 12) ws) e
     ∙ lay-pairs (suc c) (at + 12 + 12) cs tail r)
 
 lay-lists : (at : ℕ) (ls : List (List ℕ)) → Fit ls → anyEmpty ls ≡ false → lay (lists (length ls)) at (fieldsOf ls) ≡ got (codedList ls) []
@@ -193,11 +193,11 @@ lay-lists at ls (fit-next {l = l} {ls = rest} r s f) h =
     let ws : List ℕ = ends l ++ fieldsOf rest in
     let g : Format = lists (length rest) in
     let e = or-neither (eqb n 0) (anyEmpty rest) h in
-    lay-ask 14 0 8193 3 (λ k. test (not (eqb k 0)) 8 (then (pairs 4096 3 k 0) g)) at n ws (in-range 0 8193 n (omega arith) (omega arith)) (omega arith)
+    lay-ask 14 0 8193 3 (λ k. test (not (eqb k 0)) 8 (then (pairs k 0) g)) at n ws (in-range 0 8193 n (omega arith) (omega arith)) (omega arith)
     ∙ ap (push (bitsOf 14 n))
-    (lay-test (not (eqb n 0)) 8 (then (pairs 4096 3 n 0) g) (at + 14) ws
-    ∙ pick-yes (not (eqb n 0)) (lay (then (pairs 4096 3 n 0) g) (at + 14) ws) (fault 8) (ap not (e .0))
-    ∙ lay-then (pairs 4096 3 n 0) g (at + 14) ws
+    (lay-test (not (eqb n 0)) 8 (then (pairs n 0) g) (at + 14) ws
+    ∙ pick-yes (not (eqb n 0)) (lay (then (pairs n 0) g) (at + 14) ws) (fault 8) (ap not (e .0))
+    ∙ lay-then (pairs n 0) g (at + 14) ws
     ∙ ap (λ (x : Got Bool ℕ). onward x (λ bs t. lay g (at + 14 + length bs) t)) (lay-pairs 0 (at + 14) l (fieldsOf rest) r)
     ∙ ap (push (pairBits l)) (lay-lists (at + 14 + length (pairBits l)) rest f (e .1)))
 

@@ -27,21 +27,21 @@ one-less : (n : ℕ) → 0 < n → n ≡ suc (n - 1)
 one-less n h = omega arith
 
 -- after the pair a, b
-abbrev afterPair : ℕ → ℕ → ℕ → ℕ → ℕ → ℕ → Format
-afterPair bound e left least a b = test (leb least (code a b)) 6 (pairs bound e (left - 1) (suc (code a b)))
+abbrev afterPair : ℕ → ℕ → ℕ → ℕ → Format
+afterPair left least a b = test (leb least (code a b)) 6 (pairs (left - 1) (suc (code a b)))
 
-pub pairs-more : (bound e left least : ℕ) → 0 < left → pairs bound e left least ≡ ask 12 0 bound e (λ a. ask 12 0 bound e (λ b. afterPair bound e left least a b))
+pub pairs-more : (left least : ℕ) → 0 < left → pairs left least ≡ ask 12 0 4096 3 (λ a. ask 12 0 4096 3 (λ b. afterPair left least a b))
 unfolding pairs
-pairs-more bound e left least h = ap (λ (k : ℕ). pairs bound e k least) (one-less left h)
+pairs-more left least h = ap (λ (k : ℕ). pairs k least) (one-less left h)
 
-pub pairs-end : (bound e left least : ℕ) → left ≤ 0 → pairs bound e left least ≡ done
+pub pairs-end : (left least : ℕ) → left ≤ 0 → pairs left least ≡ done
 unfolding pairs
-pairs-end bound e zero least h = refl
-pairs-end bound e (suc k) least h = absurd (omega arith)
+pairs-end zero least h = refl
+pairs-end (suc k) least h = absurd (omega arith)
 
 -- after a list's count n
 abbrev afterCount : ℕ → ℕ → Format
-afterCount left n = test (not (eqb n 0)) 8 (then (pairs 4096 3 n 0) (lists (left - 1)))
+afterCount left n = test (not (eqb n 0)) 8 (then (pairs n 0) (lists (left - 1)))
 
 lists-more : (left : ℕ) → 0 < left → lists left ≡ ask 14 0 8193 3 (λ n. afterCount left n)
 unfolding lists
@@ -76,22 +76,22 @@ book-end counts k j h = ap book (drop-of-length-le (take k counts) {i = j} (omeg
 -- ---- reading
 module _ {F : Format} {s : List ℕ} {at₀ : ℕ} {w₀ : List ℕ} {i₀ : ℕ} where
   -- one pair more
-  module _ (bound e left least : ℕ) {at : ℕ} {w : List ℕ} {i : ℕ} (h : 0 < left) (r : Reading F s at₀ w₀ i₀ (pairs bound e left least) at w i) where
-    pair-read : {a b : ℕ} {w′ : List ℕ} → TwoValues 12 bound s at w i a b w′
-        → Reading F s at₀ w₀ i₀ (afterPair bound e left least a b) (at + 24) w′ (i + 2)
-    pair-read p = same-at (omega arith) (omega arith) (reads (reads (left-is (pairs-more bound e left least h) r) (p .first)) (p .second))
+  module _ (left least : ℕ) {at : ℕ} {w : List ℕ} {i : ℕ} (h : 0 < left) (r : Reading F s at₀ w₀ i₀ (pairs left least) at w i) where
+    pair-read : {a b : ℕ} {w′ : List ℕ} → TwoValues 12 4096 s at w i a b w′
+        → Reading F s at₀ w₀ i₀ (afterPair left least a b) (at + 24) w′ (i + 2)
+    pair-read p = same-at (omega arith) (omega arith) (reads (reads (left-is (pairs-more left least h) r) (p .first)) (p .second))
 
-    pub pair-passes : {a b : ℕ} {w′ : List ℕ} → TwoValues 12 bound s at w i a b w′ → least ≤ code a b
-        → Reading F s at₀ w₀ i₀ (pairs bound e (left - 1) (code a b + 1)) (at + 24) w′ (i + 2)
-    pair-passes {a} {b} p g = left-is (ap (pairs bound e (left - 1)) (sym (add-one (code a b)))) (passes (le-leb least (code a b) g) (pair-read p))
+    pub pair-passes : {a b : ℕ} {w′ : List ℕ} → TwoValues 12 4096 s at w i a b w′ → least ≤ code a b
+        → Reading F s at₀ w₀ i₀ (pairs (left - 1) (code a b + 1)) (at + 24) w′ (i + 2)
+    pair-passes {a} {b} p g = left-is (ap (pairs (left - 1)) (sym (add-one (code a b)))) (passes (le-leb least (code a b) g) (pair-read p))
 
     -- it doesn't exceed the one before
-    pub pair-falls : {file a b : ℕ} {w′ : List ℕ} → TwoValues 12 bound s at w i a b w′ → code a b < least → Refuses F s at₀ file (NotAscending file)
+    pub pair-falls : {file a b : ℕ} {w′ : List ℕ} → TwoValues 12 4096 s at w i a b w′ → code a b < least → Refuses F s at₀ file (NotAscending file)
     pair-falls {file} {a} {b} p g = fails (NotAscending file) (lt-leb least (code a b) g) refl (pair-read p)
 
-    pub pair-refused : {file : ℕ} {x : Refusal} → ((f : ℕ → ℕ → Format) → Refuses (ask 12 0 bound e (λ a. ask 12 0 bound e (λ b. f a b))) s at file x)
+    pub pair-refused : {file : ℕ} {x : Refusal} → ((f : ℕ → ℕ → Format) → Refuses (ask 12 0 4096 3 (λ a. ask 12 0 4096 3 (λ b. f a b))) s at file x)
         → Refuses F s at₀ file x
-    pair-refused p = refused (left-is (pairs-more bound e left least h) r) (p (afterPair bound e left least))
+    pair-refused p = refused (left-is (pairs-more left least h) r) (p (afterPair left least))
 
   -- one list more
   module _ (left : ℕ) {at : ℕ} {w : List ℕ} {i : ℕ} (h : 0 < left) (r : Reading F s at₀ w₀ i₀ (lists left) at w i) where
@@ -106,14 +106,14 @@ module _ {F : Format} {s : List ℕ} {at₀ : ℕ} {w₀ : List ℕ} {i₀ : ℕ
     count-falls {n} p z = fails (ZeroCount 4) (ap not (eq-eqb n 0 z)) refl (count-read p)
 
     module _ {n : ℕ} {w′ : List ℕ} (p : Value 14 0 8193 s at w i n w′) (z : n ≡ 0 → ⊥) where
-      count-passes : Reading F s at₀ w₀ i₀ (then (pairs 4096 3 n 0) (lists (left - 1))) (at + 14) w′ (i + 1)
+      count-passes : Reading F s at₀ w₀ i₀ (then (pairs n 0) (lists (left - 1))) (at + 14) w′ (i + 1)
       count-passes = passes (ap not (ne-eqb n 0 z)) (count-read p)
 
-      pub list-passes : {at′ : ℕ} {w″ : List ℕ} {i′ : ℕ} → Reading (pairs 4096 3 n 0) s (at + 14) w′ (i + 1) done at′ w″ i′ → Reading F s at₀ w₀ i₀ (lists (left - 1)) at′ w″ i′
-      list-passes q = calls (pairs 4096 3 n 0) (lists (left - 1)) count-passes q
+      pub list-passes : {at′ : ℕ} {w″ : List ℕ} {i′ : ℕ} → Reading (pairs n 0) s (at + 14) w′ (i + 1) done at′ w″ i′ → Reading F s at₀ w₀ i₀ (lists (left - 1)) at′ w″ i′
+      list-passes q = calls (pairs n 0) (lists (left - 1)) count-passes q
 
-      pub list-refused : {file : ℕ} {x : Refusal} → Refuses (pairs 4096 3 n 0) s (at + 14) file x → Refuses F s at₀ file x
-      list-refused q = calls-refused (pairs 4096 3 n 0) (lists (left - 1)) count-passes q
+      pub list-refused : {file : ℕ} {x : Refusal} → Refuses (pairs n 0) s (at + 14) file x → Refuses F s at₀ file x
+      list-refused q = calls-refused (pairs n 0) (lists (left - 1)) count-passes q
 
   -- one sheet more
   module _ (counts : List ℕ) (k j : ℕ) {at : ℕ} {w : List ℕ} {i : ℕ} (l : k ≤ length counts) (h : j < k) (r : Reading F s at₀ w₀ i₀ (bookFrom counts k j) at w i) where
@@ -148,22 +148,22 @@ whole-refused f h p = calls-refused f (pad done) (left-is (whole-is f) (starts {
 -- ---- writing
 module _ {F : Format} {ws : List ℕ} {i₀ : ℕ} {b₀ : List ℕ} {at₀ : ℕ} where
   -- one pair more
-  module _ (bound e left least : ℕ) {i : ℕ} {b : List ℕ} {at : ℕ} (h : 0 < left) (r : Writing F ws i₀ b₀ at₀ (pairs bound e left least) i b at) where
-    pair-put : {x y : ℕ} {b′ : List ℕ} → TwoPut 12 bound ws i b at x y b′
-        → Writing F ws i₀ b₀ at₀ (afterPair bound e left least x y) (i + 2) b′ (at + 24)
-    pair-put p = same-to (omega arith) (omega arith) (writes (writes (left-to (pairs-more bound e left least h) r) (p .first)) (p .second))
+  module _ (left least : ℕ) {i : ℕ} {b : List ℕ} {at : ℕ} (h : 0 < left) (r : Writing F ws i₀ b₀ at₀ (pairs left least) i b at) where
+    pair-put : {x y : ℕ} {b′ : List ℕ} → TwoPut 12 4096 ws i b at x y b′
+        → Writing F ws i₀ b₀ at₀ (afterPair left least x y) (i + 2) b′ (at + 24)
+    pair-put p = same-to (omega arith) (omega arith) (writes (writes (left-to (pairs-more left least h) r) (p .first)) (p .second))
 
-    pub pair-accepted : {x y : ℕ} {b′ : List ℕ} → TwoPut 12 bound ws i b at x y b′ → least ≤ code x y
-        → Writing F ws i₀ b₀ at₀ (pairs bound e (left - 1) (code x y + 1)) (i + 2) b′ (at + 24)
-    pair-accepted {x} {y} p g = left-to (ap (pairs bound e (left - 1)) (sym (add-one (code x y)))) (accepts (le-leb least (code x y) g) (pair-put p))
+    pub pair-accepted : {x y : ℕ} {b′ : List ℕ} → TwoPut 12 4096 ws i b at x y b′ → least ≤ code x y
+        → Writing F ws i₀ b₀ at₀ (pairs (left - 1) (code x y + 1)) (i + 2) b′ (at + 24)
+    pair-accepted {x} {y} p g = left-to (ap (pairs (left - 1)) (sym (add-one (code x y)))) (accepts (le-leb least (code x y) g) (pair-put p))
 
     -- it doesn't exceed the one before
-    pub pair-denied : {file x y : ℕ} {b′ : List ℕ} → TwoPut 12 bound ws i b at x y b′ → code x y < least → Rejects F ws i₀ at₀ file (NotAscending file)
+    pub pair-denied : {file x y : ℕ} {b′ : List ℕ} → TwoPut 12 4096 ws i b at x y b′ → code x y < least → Rejects F ws i₀ at₀ file (NotAscending file)
     pair-denied {file} {x} {y} p g = denies (NotAscending file) (lt-leb least (code x y) g) refl (pair-put p)
 
-    pub pair-rejected : {file : ℕ} {x : Refusal} → ((f : ℕ → ℕ → Format) → Rejects (ask 12 0 bound e (λ a. ask 12 0 bound e (λ b. f a b))) ws i at file x)
+    pub pair-rejected : {file : ℕ} {x : Refusal} → ((f : ℕ → ℕ → Format) → Rejects (ask 12 0 4096 3 (λ a. ask 12 0 4096 3 (λ b. f a b))) ws i at file x)
         → Rejects F ws i₀ at₀ file x
-    pair-rejected p = rejected (left-to (pairs-more bound e left least h) r) (p (afterPair bound e left least))
+    pair-rejected p = rejected (left-to (pairs-more left least h) r) (p (afterPair left least))
 
   -- one list more
   module _ (left : ℕ) {i : ℕ} {b : List ℕ} {at : ℕ} (h : 0 < left) (r : Writing F ws i₀ b₀ at₀ (lists left) i b at) where
@@ -178,14 +178,14 @@ module _ {F : Format} {ws : List ℕ} {i₀ : ℕ} {b₀ : List ℕ} {at₀ : �
     count-denied {n} p z = denies (ZeroCount 4) (ap not (eq-eqb n 0 z)) refl (count-put p)
 
     module _ {n : ℕ} {b′ : List ℕ} (p : Put 14 0 8193 ws i b at n b′) (z : n ≡ 0 → ⊥) where
-      count-accepted : Writing F ws i₀ b₀ at₀ (then (pairs 4096 3 n 0) (lists (left - 1))) (i + 1) b′ (at + 14)
+      count-accepted : Writing F ws i₀ b₀ at₀ (then (pairs n 0) (lists (left - 1))) (i + 1) b′ (at + 14)
       count-accepted = accepts (ap not (ne-eqb n 0 z)) (count-put p)
 
-      pub list-accepted : {i′ : ℕ} {b″ : List ℕ} {at′ : ℕ} → Writing (pairs 4096 3 n 0) ws (i + 1) b′ (at + 14) done i′ b″ at′ → Writing F ws i₀ b₀ at₀ (lists (left - 1)) i′ b″ at′
-      list-accepted q = parts (pairs 4096 3 n 0) (lists (left - 1)) count-accepted q
+      pub list-accepted : {i′ : ℕ} {b″ : List ℕ} {at′ : ℕ} → Writing (pairs n 0) ws (i + 1) b′ (at + 14) done i′ b″ at′ → Writing F ws i₀ b₀ at₀ (lists (left - 1)) i′ b″ at′
+      list-accepted q = parts (pairs n 0) (lists (left - 1)) count-accepted q
 
-      pub list-rejected : {file : ℕ} {x : Refusal} → Rejects (pairs 4096 3 n 0) ws (i + 1) (at + 14) file x → Rejects F ws i₀ at₀ file x
-      list-rejected q = parts-rejected (pairs 4096 3 n 0) (lists (left - 1)) count-accepted q
+      pub list-rejected : {file : ℕ} {x : Refusal} → Rejects (pairs n 0) ws (i + 1) (at + 14) file x → Rejects F ws i₀ at₀ file x
+      list-rejected q = parts-rejected (pairs n 0) (lists (left - 1)) count-accepted q
 
   -- one sheet more
   module _ (counts : List ℕ) (k j : ℕ) {i : ℕ} {b : List ℕ} {at : ℕ} (l : k ≤ length counts) (h : j < k) (r : Writing F ws i₀ b₀ at₀ (bookFrom counts k j) i b at) where

@@ -193,7 +193,7 @@ pair-code s at h =
     ∙ field-add s at 12 12 h
     ∙ ap₂ code (sym (field-or-in s at 12 (omega arith))) (sym (field-or-in s (at + 12) 12 h))
 
-read-pairs : (s : List ℕ) (k least at : ℕ) (ps : List ℕ) (rest : List Bool) → at ≤ 8 * length s → scan (pairs 4096 3 k least) (drop at (bits s)) ≡ got ps rest
+read-pairs : (s : List ℕ) (k least at : ℕ) (ps : List ℕ) (rest : List Bool) → at ≤ 8 * length s → scan (pairs k least) (drop at (bits s)) ≡ got ps rest
     → PairsRead s at k least ps rest
 unfolding pairs codesAt BelowHead Increasing
 read-pairs s zero least at ps rest h e =
@@ -261,7 +261,7 @@ read-lists s (suc m) at ws rest h e =
     let n : ℕ = fieldOr s at 14 in
     let a = took s at 14 0 8193 3 _ ws rest h e in
     let c = pick-got (not (eqb n 0)) _ 8 (a .next) rest (sym (scan-test _ _ _ _) ∙ a .goes) in
-    let q = parts (pairs 4096 3 n 0) (lists m) (drop (at + 14) (bits s)) (a .next) rest (c .1) in
+    let q = parts (pairs n 0) (lists m) (drop (at + 14) (bits s)) (a .next) rest (c .1) in
     let p = read-pairs s n 0 (at + 14) (q .front) (q .left) (a .fits) (q .first) in
     let z : at + 14 + 24 * n ≡ listEnd s at = list-end s at in
     let r = read-lists s m (listEnd s at) (q .back) rest

@@ -122,10 +122,23 @@ edgeWords es = eachEdge edgeWord es
 abbrev pub ranks : List ℕ → List ℕ
 ranks es = eachEdge rank es
 
+-- inner: the ends of the edge in such a word, its kind, and where it stands in the order by from, to, kind
+abbrev pub wordFrom : ℕ → ℕ
+wordFrom c = c / nodesMost % nodesMost
+
+abbrev pub wordTo : ℕ → ℕ
+wordTo c = c % nodesMost
+
+abbrev pub wordKind : ℕ → ℕ
+wordKind c = c / 2 ^ pairWidth
+
+abbrev pub wordRank : ℕ → ℕ
+wordRank c = rank (wordFrom c) (wordTo c) (wordKind c)
+
 -- inner: the fields of the edges that stand in these words
 unfoldable pub fromWords : List ℕ → List ℕ
 fromWords [] = []
-fromWords (c ∷ cs) = c / nodesMost % nodesMost ∷ c % nodesMost ∷ c / 2 ^ pairWidth ∷ fromWords cs
+fromWords (c ∷ cs) = wordFrom c ∷ wordTo c ∷ wordKind c ∷ fromWords cs
 
 -- the fields of the edges with these ranks
 unfoldable pub fromRanks : List ℕ → List ℕ

@@ -72,12 +72,12 @@ catalogue = countField viewsWidth 0 viewsMost (λ number. pad (times number (who
 abbrev pub code : ℕ → ℕ → ℕ
 code a b = a * nodesMost + b
 
--- so many pairs, each node below bound, else the fault e, and each pair with a code of at least least (6)
-unfoldable pub pairs : ℕ → ℕ → ℕ → ℕ → Format
-pairs bound e zero least = done
-pairs bound e (suc k) least =
-    ask nodeWidth 0 bound e (λ a. ask nodeWidth 0 bound e (λ b.
-    test (leb least (code a b)) 6 (pairs bound e k (suc (code a b)))))
+-- so many pairs, each with a code of at least least (6): a sheet says nothing of the record's nodes, so that any number is right for one
+unfoldable pub pairs : ℕ → ℕ → Format
+pairs zero least = done
+pairs (suc k) least =
+    ask nodeWidth 0 nodesMost 3 (λ a. ask nodeWidth 0 nodesMost 3 (λ b.
+    test (leb least (code a b)) 6 (pairs k (suc (code a b)))))
 
 -- ---- a record
 
@@ -107,7 +107,7 @@ record′ =
 -- so many lists, each a count that is not zero (8) and so many pairs
 unfoldable pub lists : ℕ → Format
 lists zero = done
-lists (suc m) = countField countWidth 0 countMost (λ n. test (not (eqb n 0)) 8 (then (pairs nodesMost 3 n 0) (lists m)))
+lists (suc m) = countField countWidth 0 countMost (λ n. test (not (eqb n 0)) 8 (then (pairs n 0) (lists m)))
 
 -- how many of the m lists stand, by the lead ("one bit") of the sheet: none after a 0, which says that nothing was found, and all after a 1
 unfoldable pub standing : ℕ → ℕ → ℕ

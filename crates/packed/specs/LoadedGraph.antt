@@ -41,12 +41,18 @@ pub record EdgesJudged (s : List ℕ) (start nodes number : ℕ) (w₀ w : List 
   pub reading : Reading (rising nodes number 0) s start [] 0 (rising nodes (number - k) least) (start + 27 * k) [] (3 * k)
   pub words : WordsAt s start k w₀ w
 
--- n edges more, from the bit offset at on, with their words from the place k on; the rank of the next is at least r, which is 0 if one of them is refused
-pub record JudgesMore (s : List ℕ) (at nodes n least : ℕ) (w : List ℕ) (k r : ℕ) (w′ : List ℕ) : Type 0 where
-  pub long : length w′ ≡ length w
-  pub low : (j : ℕ) → j < k → getD w′ j 0 ≡ getD w j 0
-  pub judged : 0 < r → (start number : ℕ) (w₀ : List ℕ) → at ≡ start + 27 * k → k + n ≤ number
+-- n edges more were read, from the bit offset at on, with their words from the place k on; the rank of the next is at least r
+pub record MoreJudged (s : List ℕ) (at nodes n least : ℕ) (w : List ℕ) (k r : ℕ) (w′ : List ℕ) : Type 0 where
+  pub around : Outside k n w w′
+  pub judged : (start number : ℕ) (w₀ : List ℕ) → at ≡ start + 27 * k → k + n ≤ number
       → EdgesJudged s start nodes number w₀ w least k → EdgesJudged s start nodes number w₀ w′ r (k + n)
+
+-- n edges more were read, or r is 0, and one of them is refused
+pub record JudgesMore (s : List ℕ) (at nodes n least : ℕ) (w : List ℕ) (k r : ℕ) (w′ : List ℕ) : Type 0 where
+  pub around : Outside k n w w′
+  pub read : 0 < r → MoreJudged s at nodes n least w k r w′
+  pub refused : r ≡ 0 → (start number : ℕ) (w₀ : List ℕ) → at ≡ start + 27 * k → k + n ≤ number
+      → EdgesJudged s start nodes number w₀ w least k → (x : Refusal) × Refuses (rising nodes number 0) s start 3 x
 
 -- m edges were read into the workspace, or refused
 abbrev pub LoadsWords : List ℕ → ℕ → ℕ → ℕ → List ℕ → Part → List ℕ → Type 0

@@ -90,10 +90,10 @@ abbrev pub Before : List ℕ → ℕ → ℕ → Type 0
 Before ends i j =
     (getD ends (2 * i) 0 < getD ends (2 * j) 0) ⊎ ((getD ends (2 * i) 0 ≡ getD ends (2 * j) 0) × (getD ends (2 * i + 1) 0 < getD ends (2 * j + 1) 0))
 
--- so many pairs of numbers below bound, strictly ascending (6)
-pub record PlainPairs (bound number : ℕ) (ends : List ℕ) : Type 0 where
+-- so many pairs of numbers below 4,096, strictly ascending (6)
+pub record PlainPairs (number : ℕ) (ends : List ℕ) : Type 0 where
   pub two-each : length ends ≡ 2 * number
-  pub small : Below bound ends
+  pub small : Below 4096 ends
   pub ascend : (i : ℕ) → suc i < number → Before ends i (suc i)
 
 -- ---- a pattern: 1 to 16 nodes, each with a label 0 to 31, and 1 to 32 edges, each with a kind 0 to 7; each node is an end of some edge (7)
@@ -161,7 +161,7 @@ pub record PlainList (ws : List ℕ) (bs : List Bool) : Type 0 where
   pub layout : bs ≡ bitsOf 14 number ++ fieldBits 12 ends
   pub some : 1 ≤ number
   pub most : number ≤ 8192
-  pub pairs : PlainPairs 4096 number ends
+  pub pairs : PlainPairs number ends
 
 -- one bit: 0 and nothing more, or 1 and m lists
 pub record PlainSheet (m : ℕ) (ws : List ℕ) (bs : List Bool) : Type 0 where

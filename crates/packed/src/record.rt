@@ -116,41 +116,22 @@ fn load_one(
     rank + 1
 }
 
-// Eight edges take whole bytes, so that in every eight each stands from the same bit of a byte on. The least rank of the next edge, or 0 if one of them is
-// refused.
+// Eight edges take whole bytes, so that in every eight each stands from the same bit of a byte on: written out by the compiler, the loop has no place to
+// compute. The least rank of the next edge, or 0 if one of them is refused.
 fn load_eight(s: &[u8], byte: usize, nodes: u32, least: u32, work: &mut [u32], k: usize) -> u32
     requires { ⌜ (length (now s) ≤ 65536) × (8 * byte + 3 + 27 * 8 ≤ 8 * length (now s)) × (k + 8 ≤ length (now work)) ⌝ }
     ensures { λ r. ⌜ JudgesMore (now (s .entry)) (8 * byte + 3) nodes 8 least (now (work .entry)) k r (now (work .exit)) ⌝ }
 {
-    let a = load_one(s, byte, 0, nodes, least, work, k);
-    if a == 0 {
-        return 0;
+    let mut next = least;
+    let mut j: usize = 0;
+    while j < 8 {
+        next = load_one(s, byte, j, nodes, next, work, k);
+        if next == 0 {
+            return 0;
+        }
+        j += 1;
     }
-    let b = load_one(s, byte, 1, nodes, a, work, k);
-    if b == 0 {
-        return 0;
-    }
-    let c = load_one(s, byte, 2, nodes, b, work, k);
-    if c == 0 {
-        return 0;
-    }
-    let d = load_one(s, byte, 3, nodes, c, work, k);
-    if d == 0 {
-        return 0;
-    }
-    let e = load_one(s, byte, 4, nodes, d, work, k);
-    if e == 0 {
-        return 0;
-    }
-    let f = load_one(s, byte, 5, nodes, e, work, k);
-    if f == 0 {
-        return 0;
-    }
-    let g = load_one(s, byte, 6, nodes, f, work, k);
-    if g == 0 {
-        return 0;
-    }
-    load_one(s, byte, 7, nodes, g, work, k)
+    next
 }
 
 // The edges behind the first ones, one by one.

@@ -3,11 +3,10 @@
 ghost use mathlib.Core.Path.{_≡_};
 ghost use Prim.Native.Nat.{_+_, _*_, _^_, _<_, _≤_};
 ghost use lib.ListN.{length, take};
-ghost use Rattle.packed.specs.Limits.{bookMost, countMost, nodesMost, leadWidth, countWidth, pairWidth};
+ghost use Rattle.packed.specs.Limits.{bookMost, countMost, leadWidth, countWidth, pairWidth};
 ghost use Rattle.packed.specs.Format.{whole, decode, encode};
 ghost use Rattle.packed.specs.Formats.{pairs, lists, sheet, book};
 ghost use Rattle.packed.specs.ByValue.{Small};
-ghost use Rattle.packed.specs.Refusals.{numberOf, detailOf};
 ghost use Rattle.packed.specs.Reading.{Stands, ReadsPart, ReadsBytes, Judges};
 ghost use Rattle.packed.specs.Writing.{WritesPart, WritesBytes, JudgesFields};
 use crate::bits;
@@ -22,7 +21,7 @@ use crate::reply::Two;
 // So many pairs, ascending.
 fn read_pairs(s: &[u8], start: usize, n: u32, words: &mut [u32], first: usize) -> Part
     requires { ⌜ Stands (now s) start first ⌝ }
-    ensures { λ r. ⌜ ReadsPart (pairs nodesMost 3 n 0) (now (s .entry)) start (now (words .entry)) first 4 r (now (words .exit)) ⌝ }
+    ensures { λ r. ⌜ ReadsPart (pairs n 0) (now (s .entry)) start (now (words .entry)) first 4 r (now (words .exit)) ⌝ }
 {
     let mut at = start;
     let mut i = first;
@@ -189,19 +188,10 @@ pub fn judge_book(s: &[u8], counts: [u32; 16], k: usize, words: &mut [u32]) -> P
     p
 }
 
-// So many pairs of nodes below bound, ascending.
-pub(crate) fn write_pairs(
-    words: &[u32],
-    first: usize,
-    n: u32,
-    bound: u32,
-    wrong: Refusal,
-    file: u32,
-    out: &mut [u8],
-    start: usize,
-) -> Part
-    requires { ⌜ (first ≤ length (now words)) × (n ≤ countMost) × (bound ≤ nodesMost) × (detailOf wrong ≡ file) × (start ≤ 2 ^ 40) ⌝ }
-    ensures { λ r. ⌜ WritesPart (pairs bound (numberOf wrong) n 0) (now (words .entry)) first (now (out .entry)) start (pairWidth * n) file r (now (out .exit)) ⌝ }
+// So many pairs, ascending.
+fn write_pairs(words: &[u32], first: usize, n: u32, out: &mut [u8], start: usize) -> Part
+    requires { ⌜ (first ≤ length (now words)) × (n ≤ countMost) × (start ≤ 2 ^ 40) ⌝ }
+    ensures { λ r. ⌜ WritesPart (pairs n 0) (now (words .entry)) first (now (out .entry)) start (pairWidth * n) 4 r (now (out .exit)) ⌝ }
 {
     let mut i = first;
     let mut at = start;
@@ -212,9 +202,9 @@ pub(crate) fn write_pairs(
             words,
             i,
             limits::NODE_WIDTH,
-            bound as u64,
-            wrong,
-            file,
+            limits::NODE_BOUND,
+            Refusal::OutOfRange(4),
+            4,
             out,
             at,
         );
@@ -222,7 +212,7 @@ pub(crate) fn write_pairs(
             Two::Values(a, b) => {
                 let code = a * limits::NODES + b;
                 if code < least {
-                    return Part::Refused(Refusal::NotAscending(file));
+                    return Part::Refused(Refusal::NotAscending(4));
                 }
                 least = code + 1;
                 i += 2;
@@ -266,16 +256,7 @@ fn write_lists(words: &[u32], first: usize, m: u32, out: &mut [u8]) -> Part
         if n == 0 {
             return Part::Refused(Refusal::ZeroCount(4));
         }
-        let p = write_pairs(
-            words,
-            i + 1,
-            n,
-            limits::NODES,
-            Refusal::OutOfRange(4),
-            4,
-            out,
-            at + limits::COUNT_BITS,
-        );
+        let p = write_pairs(words, i + 1, n, out, at + limits::COUNT_BITS);
         let Part::Upto(next, word) = p else {
             return p;
         };

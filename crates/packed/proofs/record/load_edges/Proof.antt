@@ -41,7 +41,7 @@ load-rest-requires : tie.Need-load-rest-requires Inv-loop μ-loop
 load-rest-requires c κs =
     let pre = c .before .before .before .before .before .before .before .before .before .before .before .pre in
     let i = c .before .before .before .before .before .before .before .loop .inv in
-    (pre .0, pre .1, pre .3, omega (arith, i .0, c .before .before .before .before .load-eight .ensures .long, pre .4), i .2, c .before .before .before .before .before .before .before .before .within .ensures)
+    (pre .0, pre .1, pre .3, omega (arith, i .0, c .before .before .before .before .load-eight .ensures .around .long, pre .4), i .2, c .before .before .before .before .before .before .before .before .within .ensures)
 
 same-length : tie.Need-same-length Inv-loop μ-loop
 same-length c = search needs
@@ -62,10 +62,10 @@ loop-again : tie.Need-loop-again Inv-loop μ-loop
 loop-again c =
     let pre = c .before .before .before .before .before .before .before .before .before .before .pre in
     let i = c .before .before .before .before .before .before .loop .inv in (
-      omega (arith, i .0, c .before .before .before .load-eight .ensures .long),
+      omega (arith, i .0, c .before .before .before .load-eight .ensures .around .long),
       omega (arith, i .1),
       omega (arith, c .before .before .before .before .before .loop-test .taken),
-      c .before .before .before .load-eight .ensures .judged (omega (arith, c .if1 .left)) _ _ _ (i .1) (omega (arith, c .before .before .before .before .before .before .before .within .ensures, c .before .before .before .before .before .loop-test .taken)) (i .3),
+      c .before .before .before .load-eight .ensures .read (omega (arith, c .if1 .left)) .judged _ _ _ (i .1) (omega (arith, c .before .before .before .before .before .before .before .within .ensures, c .before .before .before .before .before .loop-test .taken)) (i .3),
     )
 
 load-rest-requires-2 : tie.Need-load-rest-requires-2 Inv-loop μ-loop

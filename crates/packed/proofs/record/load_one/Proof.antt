@@ -21,7 +21,9 @@ get-bits-requires : tie.Need-get-bits-requires
 get-bits-requires c κs = search needs
 
 returns : tie.Need-returns
-returns c = more-refused _ _ _ _ _ _
+returns c =
+    let pre = c .before .before .before .before .pre in
+    more-refused _ _ _ _ _ _ _ (pre .2) (c .before .get-bits .ensures) (c .if1 .taken)
 
 add-at : tie.Need-add-at
 add-at c = search needs

@@ -12,7 +12,7 @@ use Rattle.packed.proofs.sheet.read_pairs.Tie as tie
 
 abbrev Inv-loop : tie.InvT-loop
 Inv-loop s start n words₀ first at₀ i₀ least₀ left₀ words at i least left =
-    (length words ≡ length words₀) × Reading (pairs 4096 3 n 0) s start words₀ first (pairs 4096 3 left least) at words i
+    (length words ≡ length words₀) × Reading (pairs n 0) s start words₀ first (pairs left least) at words i
 
 abbrev μ-loop : tie.MeasureT-loop
 μ-loop s start n words₀ first at₀ i₀ least₀ left₀ words at i least left = left
@@ -54,7 +54,7 @@ returns c =
     let f = c .before .before .f in
     let l = loop in
     let p = rw (f .given .1) at (read-two .ensures) in
-    pair-falls 4096 3 (l .left) (l .least) (omega (arith, loop-test)) (l .inv .1) p (omega (arith, c .if1))
+    pair-falls (l .left) (l .least) (omega (arith, loop-test)) (l .inv .1) p (omega (arith, c .if1))
 
 add-least : tie.Need-add-least Inv-loop μ-loop
 add-least c =
@@ -88,7 +88,7 @@ loop-again : tie.Need-loop-again Inv-loop μ-loop
 loop-again c =
     let l = c .before .before .before .before .before .before .before .before .before .loop in
     let p = rw (c .before .before .f .given .1) at (c .before .before .before .before .before .before .read-two .ensures) in
-    (search needs, pair-passes 4096 3 (l .left) (l .least) (omega (arith, c .before .before .before .before .before .before .before .before .loop-test)) (l .inv .1) p (omega (arith, c .if1)))
+    (search needs, pair-passes (l .left) (l .least) (omega (arith, c .before .before .before .before .before .before .before .before .loop-test)) (l .inv .1) p (omega (arith, c .if1)))
 
 enum-known-f-2 : tie.Need-enum-known-f-2 Inv-loop μ-loop
 enum-known-f-2 c = search needs
@@ -104,7 +104,7 @@ returns-2 c =
     let f2 = c .before .f2 in
     let l = loop in
     let p = rw (f2 .given .1) at (read-two .ensures) in
-    pair-refused 4096 3 (l .left) (l .least) (omega (arith, loop-test)) (l .inv .1) p
+    pair-refused (l .left) (l .least) (omega (arith, loop-test)) (l .inv .1) p
 
 same-length-3 : tie.Need-same-length-3 Inv-loop μ-loop
 same-length-3 c = search needs
@@ -112,7 +112,7 @@ same-length-3 c = search needs
 returns-3 : tie.Need-returns-3 Inv-loop μ-loop
 returns-3 c =
     let l = c .before .loop in
-    left-is (pairs-end 4096 3 (l .left) (l .least) (omega (arith, c .loop-test))) (l .inv .1)
+    left-is (pairs-end (l .left) (l .least) (omega (arith, c .loop-test))) (l .inv .1)
 
 pub read-pairs-spec : {M : Type 1} → statement M
 read-pairs-spec =

@@ -83,7 +83,7 @@ write-pairs-requires c κs =
     let f = c .before .before .before .f in
     let l = loop in
     let p = rw (f .given .1) at (write-field .ensures) in
-    (omega (arith, p .there), omega (arith, p .most), omega arith, refl, omega (arith, l .inv .0, pre))
+    (omega (arith, p .there), omega (arith, p .most), omega (arith, l .inv .0, pre))
 
 enum-known-p : tie.Need-enum-known-p Inv-loop μ-loop
 enum-known-p c = search needs
