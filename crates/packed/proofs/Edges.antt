@@ -4,7 +4,7 @@ use mathlib.Core.Path.{_≡_, refl, ap, sym, _∙_}
 use mathlib.Core.List.{List, [], _∷_, _++_, append-assoc}
 use mathlib.Core.Bool.{true, false, not, _&&_, _||_}
 use lib.ListN.{length, getD, take, drop, set, length-set, length-drop}
-use lib.Seq.{drop-cons, drop-set-add, take-suc-set, take-set-le, take-add, drop-drop}
+use lib.Seq.{drop-cons, drop-set-add, take-suc-set, take-add, drop-drop}
 use lib.Dec.{eqb}
 use native.Mathlib.Omega.{arith}
 use native.Mathlib.Numerals.{add-one}
@@ -34,26 +34,6 @@ three l i h =
     ∙ ap (λ (t : List ℕ). getD l (i + 1) 0 ∷ t) (next l (i + 2) h ∙ ap (λ (n : ℕ). getD l (i + 2) 0 ∷ drop n l) f)
     )
 
-module _ (a b k : ℕ) (l : List ℕ) (i : ℕ) where
-  pub linked-yes : i + 2 < length l → (eqb (getD l i 0) a && (eqb (getD l (i + 1) 0) b && eqb (getD l (i + 2) 0) k)) ≡ true → linked a b k (drop i l) ≡ true
-  unfolding linked
-  linked-yes h e = rw (three l i h, e)
-
-  pub linked-no : i + 2 < length l → (eqb (getD l i 0) a && (eqb (getD l (i + 1) 0) b && eqb (getD l (i + 2) 0) k)) ≡ false
-      → linked a b k (drop i l) ≡ linked a b k (drop (i + 3) l)
-  unfolding linked
-  linked-no h e = rw (three l i h, e)
-
-linked-short : (a b k : ℕ) (l : List ℕ) → length l ≤ 2 → linked a b k l ≡ false
-unfolding linked
-linked-short a b k [] h = refl
-linked-short a b k (x ∷ []) h = refl
-linked-short a b k (x ∷ y ∷ []) h = refl
-linked-short a b k (x ∷ y ∷ z ∷ l) h = absurd (omega arith)
-
-pub linked-end : (a b k : ℕ) (l : List ℕ) (i : ℕ) → length l - i ≤ 2 → linked a b k (drop i l) ≡ false
-linked-end a b k l i h = linked-short a b k (drop i l) (omega (arith, length-drop i l))
-
 module _ (x : ℕ) (l : List ℕ) (i : ℕ) where
   pub end-yes : i + 2 < length l → (eqb (getD l i 0) x || eqb (getD l (i + 1) 0) x) ≡ true → isEnd x (drop i l) ≡ true
   unfolding isEnd
@@ -81,7 +61,7 @@ pub all-more : (n : ℕ) (l : List ℕ) → allEnds (n + 1) l ≡ allEnds n l &&
 unfolding allEnds
 all-more n l = rw (add-one n)
 
--- ---- the part of a list from f to i, as more is stored at or after i
+-- ---- the part of a list from f to i, as more is stored at i
 
 module _ (w : List ℕ) (f i : ℕ) (le : f ≤ i) where
   part-snoc : (v : ℕ) → i < length w → take (i + 1 - f) (drop f (set w i v)) ≡ take (i - f) (drop f w) ++ (v ∷ [])
@@ -94,25 +74,8 @@ module _ (w : List ℕ) (f i : ℕ) (le : f ≤ i) where
       ∙ ap (take (suc j)) (drop-set-add f w j v)
       ∙ take-suc-set (drop f w) j v (omega (arith, length-drop f w))
 
-  part-kept : (k v : ℕ) → i ≤ k → take (i - f) (drop f (set w k v)) ≡ take (i - f) (drop f w)
-  part-kept k v h =
-      let e : k ≡ f + (k - f) = omega arith in
-      ap (λ (n : ℕ). take (i - f) (drop f (set w n v))) e
-      ∙ ap (take (i - f)) (drop-set-add f w (k - f) v)
-      ∙ take-set-le (i - f) (drop f w) (k - f) v (omega arith)
-
 module _ {wide nodes : ℕ} {s : List ℕ} {at : ℕ} {w : List ℕ} {i a b k : ℕ} {w′ : List ℕ} (p : EdgeValues wide nodes s at w i a b k w′) (f : ℕ) (h : f ≤ i) where
-  -- what stood before the edge
-  pub part-before : take (i - f) (drop f w′) ≡ take (i - f) (drop f w)
-  part-before =
-      ap (λ (l : List ℕ). take (i - f) (drop f l)) (p .kind .stored)
-      ∙ part-kept (p .between) f i h (i + 2) k (omega arith)
-      ∙ ap (λ (l : List ℕ). take (i - f) (drop f l)) (p .ends .second .stored)
-      ∙ part-kept (p .ends .between) f i h (i + 1) b (omega arith)
-      ∙ ap (λ (l : List ℕ). take (i - f) (drop f l)) (p .ends .first .stored)
-      ∙ part-kept w f i h i a (omega arith)
-
-  -- and with it
+  -- what stood before the edge, and the edge
   pub part-edge : i + 3 ≤ length w → take (i + 3 - f) (drop f w′) ≡ take (i - f) (drop f w) ++ (a ∷ b ∷ k ∷ [])
   part-edge g =
       let t : List ℕ = take (i - f) (drop f w) in

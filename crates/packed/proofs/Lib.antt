@@ -37,6 +37,7 @@ pub mod DistinctMerge
 pub mod DistinctAbsorb
 -- patterns and catalogues
 pub mod Edges
+pub mod NotedLaws
 pub mod Patterns
 pub mod EdgeCounts
 -- records

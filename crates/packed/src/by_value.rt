@@ -1,7 +1,7 @@
 // A pattern's fields by value, and the labels of a record's nodes.
 ghost use mathlib.Core.Path.{_≡_};
-ghost use Prim.Native.Nat.{ℕ, _+_, _*_, _<_, _≤_};
-ghost use lib.ListN.{length, getD, replicate};
+ghost use Prim.Native.Nat.{_+_, _*_, _≤_};
+ghost use lib.ListN.{length, replicate};
 ghost use Rattle.packed.specs.Bits.{field};
 ghost use Rattle.packed.specs.Contents.{nodesOf, edgesOf};
 ghost use Rattle.packed.specs.ByValue.{Spread, HoldsPattern};

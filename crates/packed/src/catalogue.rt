@@ -1,8 +1,7 @@
 // Catalogues: the number of views, and the views, each on a byte.
 ghost use mathlib.Core.Path.{_≡_};
-ghost use mathlib.Core.List.{List};
-ghost use Prim.Native.Nat.{ℕ, _+_, _*_, _^_, _<_, _≤_};
-ghost use lib.ListN.{length, take, getD, replicate};
+ghost use Prim.Native.Nat.{_*_, _≤_};
+ghost use lib.ListN.{length, getD, replicate};
 ghost use Rattle.packed.specs.Format.{times, whole, decode, encode};
 ghost use Rattle.packed.specs.Formats.{pattern, catalogue};
 ghost use Rattle.packed.specs.ByValue.{CountTable};

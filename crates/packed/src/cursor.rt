@@ -2,7 +2,7 @@
 // and where that is not 0 a list for each edge of its pattern, a list is a count and so many pairs, and each sheet of a book begins on a byte.
 // Nothing is refused here: what the bits end before is taken for zero, so that books are walked which were judged already.
 ghost use mathlib.Core.Path.{_≡_};
-ghost use Prim.Native.Nat.{_+_, _*_, _/_, _^_, _<_, _≤_};
+ghost use Prim.Native.Nat.{_+_, _/_, _^_, _<_, _≤_};
 ghost use lib.ListN.{length};
 ghost use Rattle.packed.specs.Bits.{gap};
 ghost use Rattle.packed.specs.Limits.{bookMost, pairWidth};

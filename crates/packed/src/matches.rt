@@ -1,7 +1,7 @@
 // A sheet made from pairs: n words at the front of the workspace, in whose low 24 bits stand their codes, and from word 8192 on for each a mask of
 // the pattern's edges that list it.
 ghost use mathlib.Core.Path.{_≡_};
-ghost use Prim.Native.Nat.{ℕ, _+_, _*_, _/_, _%_, _^_, _<_, _≤_};
+ghost use Prim.Native.Nat.{ℕ, _*_, _%_, _^_, _<_, _≤_};
 ghost use lib.ListN.{length, getD, replicate};
 ghost use mathlib.Core.List.{List};
 ghost use Rattle.packed.specs.Bits.{bits};

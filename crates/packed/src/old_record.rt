@@ -1,8 +1,8 @@
 // Records as they were stored before their edges stood in order and had kinds. The ranks of the edges are loaded into the workspace on the way, where
 // they are sorted: to find a repeat, and to write the record anew.
 ghost use mathlib.Core.Path.{_≡_};
-ghost use mathlib.Core.List.{List, []};
-ghost use Prim.Native.Nat.{ℕ, _+_, _*_, _^_, _<_, _≤_};
+ghost use mathlib.Core.List.{[]};
+ghost use Prim.Native.Nat.{_+_, _*_, _≤_};
 ghost use lib.ListN.{length};
 ghost use Rattle.packed.specs.Bits.{field};
 ghost use Rattle.packed.specs.Format.{times, decode};

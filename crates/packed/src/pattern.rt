@@ -1,12 +1,14 @@
-// Patterns and catalogues. Their content is small: it is read into words with room for it, which serve to look back at the edges.
+// Patterns. Their content is small: it is read into words with room for it, which serve to see after the last edge whether each node is an end. Each edge
+// is noted in a table, so that one that stands twice is found at once.
 ghost use mathlib.Core.Path.{_≡_};
-ghost use mathlib.Core.List.{List, []};
-ghost use Prim.Native.Nat.{ℕ, _+_, _*_, _^_, _<_, _≤_};
-ghost use lib.ListN.{length, take, getD};
+ghost use mathlib.Core.List.{[]};
+ghost use Prim.Native.Nat.{_+_, _*_, _^_, _<_, _≤_};
+ghost use lib.ListN.{length, getD, set, replicate};
+ghost use lib.Bits.{bitOr};
 ghost use Rattle.packed.specs.Format.{times, whole, decode, encode};
-ghost use Rattle.packed.specs.Formats.{linked, isEnd, allEnds, label, edges, joined, pattern, catalogue};
-ghost use Rattle.packed.specs.Contents.{edgeCounts};
+ghost use Rattle.packed.specs.Formats.{isEnd, allEnds, label, edges, joined, pattern};
 ghost use Rattle.packed.specs.Reading.{Stands, Room, ReadsUpTo, ReadsBytesUpTo, JudgesUpTo};
+ghost use Rattle.packed.specs.Matches.{marks};
 ghost use Rattle.packed.specs.Writing.{WritesPart, WritesBytes, JudgesFields};
 use crate::bits;
 use crate::field;
@@ -50,20 +52,6 @@ fn read_labels(s: &[u8], start: usize, n: u32, file: u32, words: &mut [u32], fir
     Part::Upto(at, i)
 }
 
-// Whether the edge from a to b of the kind k is among those with these fields.
-fn is_linked(edges: &[u32], a: u32, b: u32, k: u32) -> bool
-    ensures { λ r. ⌜ r ≡ linked a b k (now (edges .entry)) ⌝ }
-{
-    let mut i = 0;
-    while 2 < edges.len() - i {
-        if (edges[i] == a) & ((edges[i + 1] == b) & (edges[i + 2] == k)) {
-            return true;
-        }
-        i += 3;
-    }
-    false
-}
-
 // Whether x is an end of an edge with these fields.
 fn is_end(edges: &[u32], x: u32) -> bool
     ensures { λ r. ⌜ r ≡ isEnd x (now (edges .entry)) ⌝ }
@@ -91,6 +79,39 @@ fn are_ends(edges: &[u32], n: u32) -> bool
     all
 }
 
+// No edge is noted. For each two nodes a table has a byte, with a bit for each kind of the edges from the one to the other.
+fn no_kinds() -> [u8; 256]
+    ensures { λ r. ⌜ r ≡ replicate 256 0 ⌝ }
+{
+    [0u8; 256]
+}
+
+// Where the byte for the nodes a and b stands.
+fn place(a: u32, b: u32) -> usize
+    requires { ⌜ (a < 16) × (b < 16) ⌝ }
+    ensures { λ r. ⌜ (r ≡ 16 * a + b) × (r < 256) ⌝ }
+{
+    limits::PATTERN_NODES_MOST * a as usize + b as usize
+}
+
+// Whether the edge from a to b of the kind k was noted: the edges need not be looked through for it.
+fn is_noted(kinds: &[u8; 256], a: u32, b: u32, k: u32) -> bool
+    requires { ⌜ (a < 16) × (b < 16) × (k < 8) ⌝ }
+    ensures { λ r. ⌜ r ≡ marks k (getD (now (kinds .entry)) (16 * a + b) 0) ⌝ }
+{
+    let at = place(a, b);
+    (kinds[at] >> k) % 2 == 1
+}
+
+// The edge from a to b of the kind k is noted.
+fn note(kinds: &mut [u8; 256], a: u32, b: u32, k: u32)
+    requires { ⌜ (a < 16) × (b < 16) × (k < 8) ⌝ }
+    ensures { λ r. ⌜ now (kinds .exit) ≡ set (now (kinds .entry)) (16 * a + b) (bitOr (getD (now (kinds .entry)) (16 * a + b) 0) (2 ^ k)) ⌝ }
+{
+    let at = place(a, b);
+    kinds[at] = kinds[at] | (1u8 << k);
+}
+
 // So many edges between so many nodes.
 fn read_edges(
     s: &[u8],
@@ -101,19 +122,21 @@ fn read_edges(
     words: &mut [u32],
     first: usize,
 ) -> Part
-    requires { ⌜ Stands (now s) start first × Room (now words) first (3 * number) ⌝ }
+    requires { ⌜ Stands (now s) start first × Room (now words) first (3 * number) × (nodes ≤ 16) ⌝ }
     ensures { λ r. ⌜ ReadsUpTo (3 * number) (edges 4 3 nodes (joined nodes) number []) (now (s .entry)) start (now (words .entry)) first file r (now (words .exit)) ⌝ }
 {
     let mut at = start;
     let mut i = first;
     let mut left = number;
+    let mut kinds = no_kinds();
     while 0 < left {
         let f = field::read_edge(s, at, limits::END_WIDTH, nodes, file, words, i);
         match f {
             Three::Values(a, b, k) => {
-                if is_linked(&words[first..i], a, b, k) {
+                if is_noted(&kinds, a, b, k) {
                     return Part::Refused(Refusal::DuplicateEdge(file));
                 }
+                note(&mut kinds, a, b, k);
                 at += limits::PATTERN_EDGE_BITS;
                 i += 3;
                 left -= 1;
@@ -271,13 +294,15 @@ fn write_edges(
     let mut i = first;
     let mut at = start;
     let mut left = number;
+    let mut kinds = no_kinds();
     while 0 < left {
         let f = field::write_edge(words, i, limits::END_WIDTH, nodes, file, out, at);
         match f {
             Three::Values(a, b, k) => {
-                if is_linked(&words[first..i], a, b, k) {
+                if is_noted(&kinds, a, b, k) {
                     return Part::Refused(Refusal::DuplicateEdge(file));
                 }
+                note(&mut kinds, a, b, k);
                 i += 3;
                 at += limits::PATTERN_EDGE_BITS;
                 left -= 1;

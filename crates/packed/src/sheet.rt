@@ -1,7 +1,6 @@
 // Sheets and books. Judging refuses at the field that is wrong, so it takes field after field and can't go by the cursor, for which what is
 // missing is zero: it shares the widths with it, and the way to the next sheet.
-ghost use mathlib.Core.Path.{_≡_};
-ghost use Prim.Native.Nat.{_+_, _*_, _^_, _<_, _≤_};
+ghost use Prim.Native.Nat.{_+_, _*_, _^_, _≤_};
 ghost use lib.ListN.{length, take};
 ghost use Rattle.packed.specs.Limits.{bookMost, countMost, leadWidth, countWidth, pairWidth};
 ghost use Rattle.packed.specs.Format.{whole, decode, encode};

@@ -122,6 +122,7 @@ read-edges-requires c κs =
         fits = omega (arith, t .1, p .most, q .most, read-labels .kept, read-field2 .kept, read-field .kept, h .1 .fits);
         small = omega (arith, read-labels .kept, read-field2 .kept, read-field .kept, h .1 .small);
       },
+      omega (arith, p .most),
     )
 
 same-length-4 : tie.Need-same-length-4

@@ -3,7 +3,7 @@ use borrow.Author.Needs.{needs}
 use mathlib.Core.Path.{_≡_, refl, sym, _∙_}
 use mathlib.Core.List.{[]}
 use native.Mathlib.Omega.{arith}
-use native.Mathlib.Nat.{sub-self}
+use native.Mathlib.Nat.{sub-self, lt-of-lt-of-le}
 use Prim.Native.Nat.{_+_, _-_, _*_, _≤_}
 use lib.Dec.{lit≤}
 use lib.ListN.{length, take, drop}
@@ -12,20 +12,25 @@ use Rattle.packed.specs.Writing.{Writing}
 use Rattle.packed.specs.declared.reply.Refusal.the-variants.{IsolatedNode}
 use Rattle.packed.proofs.WritingLaws.{begins, left-to, accepts, denies}
 use Rattle.packed.proofs.Edges.{words-edge, edges-none, writes-edge, writes-twice, edge-rejected}
+use Rattle.packed.proofs.NotedLaws.{Noted, noted-none, noted-more}
 use Rattle.packed.proofs.Patterns.{joined-is}
 use Rattle.packed.proofs.pattern.write_edges.Statement.{statement}
 use Rattle.packed.proofs.pattern.write_edges.Tie as tie
 
 abbrev Inv-loop : tie.InvT-loop
-Inv-loop words first nodes number file out₀ start i₀ at₀ left₀ out i at left =
+Inv-loop words first nodes number file out₀ start i₀ at₀ left₀ kinds₀ out i at left kinds =
     (first ≤ i) × (at + 11 * left ≡ start + 11 * number) × (length out ≡ length out₀)
     × Writing (edges 4 3 nodes (joined nodes) number []) words first out₀ start (edges 4 3 nodes (joined nodes) left (take (i - first) (drop first words))) i out at
+    × Noted (take (i - first) (drop first words)) kinds
 
 abbrev μ-loop : tie.MeasureT-loop
-μ-loop words first nodes number file out₀ start i₀ at₀ left₀ out i at left = left
+μ-loop words first nodes number file out₀ start i₀ at₀ left₀ kinds₀ out i at left kinds = left
+
+no-kinds-requires : tie.Need-no-kinds-requires Inv-loop μ-loop
+no-kinds-requires c κs = search needs
 
 loop-holds : tie.Need-loop-holds Inv-loop μ-loop
-loop-holds c = (omega arith, omega arith, refl, rw sub-self (begins (omega arith)))
+loop-holds c = (omega arith, omega arith, refl, rw sub-self (begins (omega arith)), rw sub-self (noted-none (c .no-kinds .ensures)))
 
 write-edge-requires : tie.Need-write-edge-requires Inv-loop μ-loop
 write-edge-requires c κs = (omega arith, omega arith, lit≤ tt, omega arith)
@@ -33,20 +38,11 @@ write-edge-requires c κs = (omega arith, omega arith, lit≤ tt, omega arith)
 enum-known-f : tie.Need-enum-known-f Inv-loop μ-loop
 enum-known-f c = search needs
 
-mul-is-linked : tie.Need-mul-is-linked Inv-loop μ-loop
-mul-is-linked c = search needs
-
-sub-is-linked : tie.Need-sub-is-linked Inv-loop μ-loop
-sub-is-linked c = search needs
-
-part-is-linked-start : tie.Need-part-is-linked-start Inv-loop μ-loop
-part-is-linked-start c = search needs
-
-part-is-linked-end : tie.Need-part-is-linked-end Inv-loop μ-loop
-part-is-linked-end c = search needs
-
-is-linked-requires : tie.Need-is-linked-requires Inv-loop μ-loop
-is-linked-requires c κs = search needs
+is-noted-requires : tie.Need-is-noted-requires Inv-loop μ-loop
+is-noted-requires c κs =
+    let m = c .before .before .before .before .before .before .before .before .before .before .before .before .before .pre .1 in
+    let p = rw (c .before .before .f .given .1) at (c .before .before .before .before .before .before .write-edge .ensures) in
+    (lt-of-lt-of-le (p .ends .first .most) m, lt-of-lt-of-le (p .ends .second .most) m, p .kind .most)
 
 same-length : tie.Need-same-length Inv-loop μ-loop
 same-length c = search needs
@@ -54,8 +50,16 @@ same-length c = search needs
 returns : tie.Need-returns Inv-loop μ-loop
 returns c =
     let l = c .before .before .before .before .before .before .before .before .before .before .before .loop in
+    let m = c .before .before .before .before .before .before .before .before .before .before .before .before .before .before .before .pre .1 in
     let p = rw (c .before .before .before .before .f .given .1) at (c .before .before .before .before .before .before .before .before .write-edge .ensures) in
-    writes-twice 4 _ _ (l .left) _ (omega arith) (l .inv .3) (c .before .before .before .before .before .before .before .before .before .before .before .before .before .before .args .file) p (sym (c .before .is-linked .ensures) ∙ c .if1 .taken)
+    let n = l .inv .4 .each _ _ _ (lt-of-lt-of-le (p .ends .first .most) m) (lt-of-lt-of-le (p .ends .second .most) m) in
+    writes-twice 4 _ _ (l .left) _ (omega arith) (l .inv .3) (c .before .before .before .before .before .before .before .before .before .before .before .before .before .before .before .args .file) p (sym n ∙ sym (c .before .is-noted .ensures) ∙ c .if1 .taken)
+
+note-requires : tie.Need-note-requires Inv-loop μ-loop
+note-requires c κs =
+    let m = c .before .before .before .before .before .before .before .before .before .before .before .before .before .before .before .before .pre .1 in
+    let p = rw (c .before .before .before .before .before .f .given .1) at (c .before .before .before .before .before .before .before .before .before .write-edge .ensures) in
+    (lt-of-lt-of-le (p .ends .first .most) m, lt-of-lt-of-le (p .ends .second .most) m, p .kind .most)
 
 add-i : tie.Need-add-i Inv-loop μ-loop
 add-i c = search needs
@@ -71,11 +75,15 @@ loop-less c = search needs
 
 loop-again : tie.Need-loop-again Inv-loop μ-loop
 loop-again c =
-    let l = c .before .before .before .before .before .before .before .before .before .before .before .loop in
-    let p = rw (c .before .before .before .before .f .given .1) at (c .before .before .before .before .before .before .before .before .write-edge .ensures) in
-    let t = words-edge p (c .before .before .before .before .before .before .before .before .before .before .before .before .before .before .args .first) (omega arith) in
-    let r = writes-edge 4 _ _ (l .left) _ (omega arith) (l .inv .3) p (sym (c .before .is-linked .ensures) ∙ c .if1 .left) in
-    (omega arith, omega arith, search needs, rw t r)
+    let l = c .before .before .before .before .before .before .before .before .before .before .before .before .before .loop in
+    let m = c .before .before .before .before .before .before .before .before .before .before .before .before .before .before .before .before .before .pre .1 in
+    let p = rw (c .before .before .before .before .before .before .f .given .1) at (c .before .before .before .before .before .before .before .before .before .before .write-edge .ensures) in
+    let x = lt-of-lt-of-le (p .ends .first .most) m in
+    let y = lt-of-lt-of-le (p .ends .second .most) m in
+    let t = words-edge p (c .before .before .before .before .before .before .before .before .before .before .before .before .before .before .before .before .before .args .first) (omega arith) in
+    let n = l .inv .4 .each _ _ _ x y in
+    let r = writes-edge 4 _ _ (l .left) _ (omega arith) (l .inv .3) p (sym n ∙ sym (c .before .before .before .is-noted .ensures) ∙ c .before .before .if1 .left) in
+    (omega arith, omega arith, search needs, rw t r, rw t (noted-more _ _ _ (l .inv .4) x y (c .note .ensures)))
 
 enum-known-f-2 : tie.Need-enum-known-f-2 Inv-loop μ-loop
 enum-known-f-2 c = search needs
@@ -120,7 +128,7 @@ returns-4 : tie.Need-returns-4 Inv-loop μ-loop
 returns-4 c =
     let l = c .before .before .before .before .loop in
     let q : l .left ≡ 0 = omega arith in
-    denies (IsolatedNode (c .before .before .before .before .before .before .before .args .file)) (sym (c .before .are-ends .ensures) ∙ c .if2 .left) refl (left-to (edges-none 4 3 _ _ _ ∙ joined-is _ _) (rw q at (l .inv .3)))
+    denies (IsolatedNode (c .before .before .before .before .before .before .before .before .args .file)) (sym (c .before .are-ends .ensures) ∙ c .if2 .left) refl (left-to (edges-none 4 3 _ _ _ ∙ joined-is _ _) (rw q at (l .inv .3)))
 
 pub write-edges-spec : {M : Type 1} → statement M
 write-edges-spec =
@@ -128,16 +136,14 @@ write-edges-spec =
     (tie.spec
     Inv-loop
     μ-loop
+    no-kinds-requires
     loop-holds
     write-edge-requires
     enum-known-f
-    mul-is-linked
-    sub-is-linked
-    part-is-linked-start
-    part-is-linked-end
-    is-linked-requires
+    is-noted-requires
     same-length
     returns
+    note-requires
     add-i
     add-at
     sub-left
