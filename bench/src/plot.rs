@@ -1,6 +1,8 @@
-//! The plot: time against size, both by their logarithms, a panel for each call and a line for each workload.
+//! The plot: time against size, both by their logarithms, a panel for each call on the workloads and a line for each of these.
+//! Calls on inputs of their own, as the cheapest set, stand in the table alone.
 
 use crate::measure::Case;
+use crate::workloads;
 use std::fmt::Write;
 
 const COLUMNS: usize = 4;
@@ -91,20 +93,21 @@ fn grid(svg: &mut String, scale: &Scale) {
     text(svg, (width / 2.0, height + 32.0), "text-anchor=\"middle\"", "size");
 }
 
-/// What differs among cases, in the order in which it comes.
-fn names<'a>(cases: &[Case<'a>], name: impl Fn(&Case<'a>) -> &'static str) -> Vec<&'static str> {
-    let mut names = Vec::new();
-    for case in cases {
-        if !names.contains(&name(case)) {
-            names.push(name(case));
+/// The calls that are measured on the workloads, in the order in which they come.
+fn calls_on(workloads: &[&str], cases: &[Case]) -> Vec<&'static str> {
+    let mut calls = Vec::new();
+    for case in cases.iter().filter(|case| workloads.contains(&case.workload)) {
+        if !calls.contains(&case.call) {
+            calls.push(case.call);
         }
     }
-    names
+    calls
 }
 
 pub fn draw(cases: &[Case]) -> String {
-    let calls = names(cases, |case| case.call);
-    let workloads = names(cases, |case| case.workload);
+    let workloads = workloads::all(1).iter().map(|workload| workload.name).collect::<Vec<_>>();
+    assert_eq!(workloads.len(), COLOURS.len(), "a colour for each workload");
+    let calls = calls_on(&workloads, cases);
     let rows = calls.len().div_ceil(COLUMNS) as f64;
     let (width, height) = (PANEL.0 * COLUMNS as f64, PANEL.1 * rows + LEGEND);
     let mut svg = format!(
@@ -144,7 +147,6 @@ fn legend(svg: &mut String, workloads: &[&str], width: f64, top: f64) {
         curve(svg, &[(x, y - 4.0), (x + 30.0, y - 4.0)], colour, is_product);
         text(svg, (x + 38.0, y), "", name);
     }
-    let note =
-        "Medians of all turns. The size of a quote is the number of extracts; of different pairs, the pairs of a book.";
+    let note = "Medians of all turns. The size of a quote is the number of extracts.";
     text(svg, (CORNER.0, top + 50.0), "fill=\"#555555\"", note);
 }
