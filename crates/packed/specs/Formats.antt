@@ -72,7 +72,7 @@ catalogue = countField viewsWidth 0 viewsMost (λ number. pad (times number (who
 abbrev pub code : ℕ → ℕ → ℕ
 code a b = a * nodesMost + b
 
--- so many pairs, each with a code of at least least (6): a sheet says nothing of the record's nodes, so that any number is right for one
+-- so many pairs of numbers that a node can have (3), each pair with a code of at least least (6)
 unfoldable pub pairs : ℕ → ℕ → Format
 pairs zero least = done
 pairs (suc k) least =
