@@ -5,7 +5,7 @@ use mathlib.Core.Bool.{Bool}
 use mathlib.Core.Logic.{⊎-elim}
 use mathlib.Core.List.{List, [], _∷_, _++_, map, append-nil, append-assoc}
 use lib.ListN.{length, take, drop, getD, set, replicate, length-append, length-drop, length-set}
-use lib.Seq.{sets, sets-eq, length-sets, take-at, take-suc, take-suc-set, take-all, getD-take, getD-drop, getD-set-same, getD-set-other, length-take-le}
+use lib.Seq.{sets, sets-eq, length-sets, take-at, take-suc, take-suc-set, take-all, getD-take, getD-drop, length-take-le}
 use native.Mathlib.Omega.{arith}
 use native.Mathlib.Numerals.{add-one}
 use borrow.Author.Tests.{eq-eqb, ne-eqb, lt-ltb, le-ltb}
@@ -123,15 +123,14 @@ module _ (from to kind : List ℕ) (skip : ℕ) where
   -- the ranks of the first e edges, as they are loaded
   pub ranks-none : (w : List ℕ) → length w ≡ 16384 → RanksFront (ranks (but 0)) 0 w
   unfolding edgesBut eachEdge
-  ranks-none w l = record { long = l; few = omega arith; is = refl; small = λ j h. absurd (omega arith) }
+  ranks-none w l = record { long = l; few = omega arith; is = refl }
 
   module _ {e k : ℕ} {w : List ℕ} (x : RanksFront (ranks (but e)) k w) where
     pub ranks-skip : e ≡ skip → RanksFront (ranks (but (e + 1))) k w
     ranks-skip q = rw (but-none e q) x
 
-    pub ranks-one : (e ≡ skip → ⊥) → k < 32 → getD from e 0 < 4096 → getD to e 0 < 4096 → getD kind e 0 < 8
-        → RanksFront (ranks (but (e + 1))) (k + 1) (set w k (rankOf e))
-    ranks-one q h f g d =
+    pub ranks-one : (e ≡ skip → ⊥) → k < 32 → RanksFront (ranks (but (e + 1))) (k + 1) (set w k (rankOf e))
+    ranks-one q h =
         let c : ℕ = rankOf e in
         let b = but-threes e in
         let z : ranks (but (e + 1)) ≡ ranks (but e) ++ (c ∷ []) =
@@ -140,12 +139,6 @@ module _ (from to kind : List ℕ) (skip : ℕ) where
           long = length-set w k c ∙ x .long;
           few = omega arith;
           is = rw add-one (take-suc-set w k c (omega (arith, x .long)) ∙ ap (λ (l : List ℕ). l ++ (c ∷ [])) (x .is)) ∙ sym z;
-          small = λ j l. ⊎-elim
-              (λ (p : j < k). rw (getD-set-other w k j c 0 (λ (y : j ≡ k). omega arith)) (x .small j p))
-              (λ (p : k ≤ j).
-              let y : j ≡ k = omega arith in
-              rw (y, getD-set-same w k c 0 (omega (arith, x .long))) (let z : c < 134217728 = omega arith in z))
-              (lt-or-ge j k);
         }
 
   -- ---- from the fields in order

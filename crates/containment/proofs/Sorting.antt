@@ -2,6 +2,7 @@
 use Prim.Native.Nat.{ℕ, suc, _+_}
 use mathlib.Core.Path.{_≡_, refl, sym, ap, ap₂, subst, _∙_}
 use mathlib.Core.Bool.{Bool}
+use mathlib.Core.Logic.{_↔_}
 use mathlib.Core.List.{List, _∷_, _++_}
 use lib.ListN.{take, drop, getD}
 use lib.Seq.{take-at, drop-at}
@@ -15,12 +16,12 @@ use Rattle.packed.proofs.CallLaws.{read-says, write-finds, accepted-by, judged-
 use Rattle.packed.proofs.Accepted.{old-accepted, record-accepted, record-read}
 use Rattle.packed.proofs.SortedEdges.{sorted-plain}
 use Rattle.matching.specs.Lists.{In}
-use Rattle.matching.specs.Simulation.{Edge, Graph, edgesIn, graphOf}
+use Rattle.matching.specs.Simulation.{Edge, Pattern, Graph, edgesIn, graphOf, IsSim}
 use Rattle.matching.specs.Search.{sheetBytes}
 use Rattle.matching.proofs.EdgeLaws.{edgesIn-at}
 use Rattle.matching.proofs.SortedGraphs.{Alike, ends-narrow, sorted-in, alike-sets, alike-views}
 use Rattle.containment.specs.Show.{recordBytes}
-use Rattle.containment.specs.Demands.{OldFile, Sorting}
+use Rattle.containment.specs.Demands.{OldFile, EndsSim, Sorting}
 use Rattle.containment.proofs.QueryGraph.{Made, record-made, made-within, graph, graph-is}
 
 -- the content of an old record by its parts
@@ -88,6 +89,17 @@ module _ (s ws : List ℕ) (old : OldFile s ws) where
   is-record : readRecord (recordBytes (sortedFields ws)) ≡ accepted (sortedFields ws)
   is-record = record-read (recordBytes (sortedFields ws)) (sortedFields ws) .1 (made .size, record-accepted (recordBytes (sortedFields ws)) (sortedFields ws) .0 (made .back))
 
+-- where all kinds are 0, links are told apart by their ends alone
+ends-sim : (P : Pattern) (G : Graph) → ((e : Edge) → In e (P .edges) → e .kind ≡ 0) → ((f : Edge) → In f (G .edges) → f .kind ≡ 0)
+    → (R : ℕ → ℕ → Type 0) → IsSim P G R ↔ EndsSim P G R
+ends-sim P G p g R = (
+  λ s. record { fit = s .fit; follow = λ u v r e i l. let q = s .follow u v r e i l in (q .0, q .1, q .2, q .4) },
+  λ s. record {
+    fit = s .fit;
+    follow = λ u v r e i l. let q = s .follow u v r e i l in (q .0, q .1, q .2, g (q .0) (q .1) ∙ sym (p e i), q .3);
+  },
+)
+
 pub sorting : Sorting
 sorting = record {
   gives = gives;
@@ -97,4 +109,5 @@ sorting = record {
   kinds = λ s ws o f i. old-kind s ws o f (alike s ws o .0 .more f i);
   sheets = λ s ws o P. ap sheetBytes (alike-sets P (graphOf (sortedFields ws)) (graphOf ws) (alike s ws o));
   extract-sheets = λ s ws o P. ap sheetBytes (alike-views P (graphOf (sortedFields ws)) (graphOf ws) (alike s ws o));
+  as-before = λ s ws o P p. ends-sim P (graphOf (sortedFields ws)) p (λ f i. old-kind s ws o f (alike s ws o .0 .more f i));
 }

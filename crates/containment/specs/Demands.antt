@@ -20,7 +20,7 @@ use Rattle.packed.specs.Refusals.{Told, told}
 use Rattle.packed.specs.OldRecord.{readOldRecord, sortedFields, recordSorted}
 use Rattle.packed.specs.Calls.{Outcome, give, refuse, fronts, Settled, Fulfils, withWorkspace, accepted, readPattern, readCatalogue, readRecord, readSheet, readBook, pairsOf, fit, fitFile, patternRead, catalogueRead, recordRead, sheetRead, bookRead, patternWritten, catalogueWritten, recordWritten, sheetWritten, bookWritten}
 use Rattle.matching.specs.Lists.{In}
-use Rattle.matching.specs.Simulation.{Pair, Edge, asPair, noEdge, Pattern, Graph, patternOf, graphOf, asGraph, bit, IsSim, sim, sound, matchSets, viewSheet}
+use Rattle.matching.specs.Simulation.{Pair, Edge, asPair, noEdge, Pattern, Graph, patternOf, graphOf, asGraph, bit, fits, IsSim, sim, sound, matchSets, viewSheet}
 use Rattle.matching.specs.Join.{without, answerSets}
 use Rattle.matching.specs.Search.{sheetBytes, bookBytes, viewSheets, searchOutcome, makeBookOutcome}
 use Rattle.matching.specs.Index.{indexOf, makeIndexOutcome, checkIndexOutcome, searchIndexedOutcome}
@@ -411,7 +411,12 @@ pub record Demand2 : Type 1 where
 abbrev pub OldFile : List ℕ → List ℕ → Type 0
 OldFile s ws = readOldRecord s ≡ accepted ws
 
-pub record Sorting : Type 0 where
+-- R is a simulation as it was before links had kinds: by the ends of links alone
+pub record EndsSim (P : Pattern) (G : Graph) (R : ℕ → ℕ → Type 0) : Type 0 where
+  pub fit : (u v : ℕ) → R u v → T (fits P G (u, v))
+  pub follow : (u v : ℕ) → R u v → (e : Edge) → In e (P .edges) → e .from ≡ u → (f : Edge) × In f (G .edges) × (f .from ≡ v) × R (e .to) (f .to)
+
+pub record Sorting : Type 1 where
   -- the converter writes the record with the sorted content, or gives 12
   pub gives : (s ws : List ℕ) → OldFile s ws → (room : ℕ) → recordSorted s room ≡ fit room (recordBytes (sortedFields ws))
   -- which is accepted
@@ -424,6 +429,9 @@ pub record Sorting : Type 0 where
   -- and every pattern has the same sheet on both, as a question and as an extract
   pub sheets : (s ws : List ℕ) → OldFile s ws → (P : Pattern) → sheetOf P (sortedFields ws) ≡ sheetOf P ws
   pub extract-sheets : (s ws : List ℕ) → OldFile s ws → (P : Pattern) → extractSheetOf P (sortedFields ws) ≡ extractSheetOf P ws
+  -- "its sheets stay the same for patterns whose links all have kind 0": these are matched as before links had kinds
+  pub as-before : (s ws : List ℕ) → OldFile s ws → (P : Pattern) → ((e : Edge) → In e (P .edges) → e .kind ≡ 0)
+      → (R : ℕ → ℕ → Type 0) → IsSim P (graphOf (sortedFields ws)) R ↔ EndsSim P (graphOf (sortedFields ws)) R
 
 -- ---- Demand 3. "For every accepted question and catalogue and every accepted record: if covered, and the extract lists made from the record
 -- fit in a book, answering from that book alone equals, byte for byte, searching the record, refusals included, alike in number and detail. If

@@ -67,7 +67,6 @@ pub record RanksFront (rs : List ℕ) (n : ℕ) (w : List ℕ) : Type 0 where
   pub long : length w ≡ 16384
   pub few : n ≤ 32
   pub is : take n w ≡ rs
-  pub small : (j : ℕ) → j < n → getD w j 0 < 2 ^ 27
 
 -- the first n words are these
 pub record Front (words : List ℕ) (n : ℕ) (fs : List ℕ) : Type 0 where

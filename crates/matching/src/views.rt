@@ -17,17 +17,6 @@ fn no_words() -> [u32; 114] {
     [0u32; 114]
 }
 
-fn no_pattern() -> Pattern {
-    Pattern {
-        labels: [0u32; 16],
-        from: [0u32; 32],
-        to: [0u32; 32],
-        kind: [0u32; 32],
-        nodes: 0,
-        edges: 0,
-    }
-}
-
 // The view that begins on a byte of a catalogue.
 pub fn view_at(s: &[u8], byte: usize) -> View
     requires { ⌜ Stands (now s) (8 * byte) 0 ⌝ }
@@ -41,7 +30,7 @@ pub fn view_at(s: &[u8], byte: usize) -> View
             View { pattern, next }
         }
         Part::Refused(_) => {
-            let pattern = no_pattern();
+            let pattern = by_value::no_pattern();
             View {
                 pattern,
                 next: byte,

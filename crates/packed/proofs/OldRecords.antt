@@ -1,12 +1,12 @@
 -- The edges of an old record by their ranks: the ranks of one edge more, an edge among others, and the ranks at the front of the workspace.
-use Prim.Native.Nat.{ℕ, zero, suc, _+_, _-_, _^_, _<_, _≤_}
+use Prim.Native.Nat.{ℕ, _+_, _-_, _<_, _≤_}
 use mathlib.Core.Path.{_≡_, refl, ap, sym, _∙_}
 use mathlib.Core.List.{List, [], _∷_, _++_}
 use mathlib.Core.Bool.{Bool, true, false, not, _&&_}
 use mathlib.Core.Logic.{⊎-elim}
 use lib.ListN.{length, drop, getD, set, length-append, length-set, List·getD-append}
 use lib.Seq.{sets}
-use lib.Dec.{eqb, lit<}
+use lib.Dec.{eqb}
 use native.Mathlib.Omega.{arith}
 use borrow.Author.Tests.{eq-eqb, ne-eqb, not-true, not-false}
 use Rattle.packed.specs.Formats.{rank, linked}
@@ -64,12 +64,6 @@ unfolding eachEdge allDifferent
 once-none = refl
 
 -- ---- the ranks in the workspace
-ranks-small : {es : List ℕ} → RecordEdges es → (j : ℕ) → getD (ranks es) j 0 < 2 ^ 27
-unfolding eachEdge
-ranks-small none j = lit< tt
-ranks-small (edge h g f e) zero = omega arith
-ranks-small (edge h g f e) (suc j) = ranks-small e j
-
 -- k edges are loaded, and left more come
 pub record RecordHeld (number : ℕ) (work₀ : List ℕ) (es : List ℕ) (work : List ℕ) (k left : ℕ) : Type 0 where
   pub fine : RecordEdges es
@@ -82,7 +76,7 @@ unfolding eachEdge
 held-none number work =
     record {
       fine = none;
-      kept = record { held = refl; number = refl; few = omega arith; small = ranks-small none };
+      kept = record { held = refl; number = refl; few = omega arith };
       long = refl;
       rest = omega arith;
     }
@@ -105,7 +99,6 @@ held-more {number} {work₀} {es} {work} {k} {left} {a} {b} m l p q h =
             ∙ ap (sets work₀ 0) (sym e);
         number = omega (arith, ap length e, length-append (ranks es) (c ∷ []));
         few = omega (arith, h .rest);
-        small = ranks-small fine;
       };
       long = length-set work k c ∙ h .long;
       rest = omega (arith, h .rest);
@@ -118,9 +111,6 @@ module _ {es : List ℕ} {k : ℕ} {work work′ : List ℕ} (fits : 8192 ≤ le
       word-front work′ j
       ∙ ap (λ (w : List ℕ). getD w j 0) (h .held ∙ sets-front work (ranks es) (omega (arith, h .number, h .few)))
       ∙ List·getD-append (ranks es) (drop (length (ranks es)) work) 0 j l
-
-  pub kept-small : (j : ℕ) → j < k → word work′ 0 j < 2 ^ 32
-  kept-small j l = rw (kept-word j (omega (arith, h .number))) (let u = h .small j in omega arith)
 
   kept-told : {r : Bool} → TellsRepeat k (word work′ 0) r → r ≡ not (once es)
   kept-told {r} t = repeats-told work′ (ranks es) k r (h .number) kept-word t

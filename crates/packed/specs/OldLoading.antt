@@ -1,5 +1,5 @@
 -- inner: the edges of an old record, which are read first and judged for repeats afterwards, all at once, from their ranks in the workspace.
-use Prim.Native.Nat.{ℕ, _+_, _*_, _^_, _<_, _≤_}
+use Prim.Native.Nat.{ℕ, _+_, _*_, _<_, _≤_}
 use mathlib.Core.Path.{_≡_}
 use mathlib.Core.List.{List, [], _∷_}
 use mathlib.Core.Bool.{Bool, true, false}
@@ -28,7 +28,6 @@ pub record RanksKept (es : List ℕ) (k : ℕ) (work work′ : List ℕ) : Type 
   pub held : work′ ≡ sets work 0 (ranks es)
   pub number : k ≡ length (ranks es)
   pub few : k ≤ 8192
-  pub small : (j : ℕ) → getD (ranks es) j 0 < 2 ^ 27
 
 -- a reader of F that stands before m edges more, or would, if none of those read so far stood twice; else F is refused by 5
 pub record Lazily (F : Format) (s : List ℕ) (at₀ : ℕ) (w₀ : List ℕ) (i₀ file nodes m : ℕ) (ends : List ℕ) (at : ℕ) (w : List ℕ) (i : ℕ) : Type 0 where

@@ -31,7 +31,7 @@ fn no_ends() -> [u32; 32]
     [0u32; 32]
 }
 
-pub(crate) fn no_pattern() -> Pattern {
+pub fn no_pattern() -> Pattern {
     Pattern {
         labels: no_labels(),
         from: no_ends(),

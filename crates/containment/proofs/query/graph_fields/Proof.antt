@@ -1,8 +1,6 @@
 -- `containment::query::graph_fields` meets its contract.
-use mathlib.Core.Path.{refl, sym, subst}
-use Prim.Native.Nat.{ℕ, _^_, _<_}
+use mathlib.Core.Path.{refl}
 use native.Mathlib.Omega.{arith}
-use Rattle.packed.proofs.Sorts.{word-front}
 use Rattle.containment.proofs.QueryLaws.{plain, fair}
 use Rattle.containment.proofs.FieldLaws.{kept-fields}
 use borrow.Author.Needs.{needs}
@@ -15,7 +13,7 @@ load-ranks-requires c κs = let pre = c .before .before .pre in (fair (pre .0), 
 sort-requires : tie.Need-sort-requires
 sort-requires c κs =
     let ranks = c .before .before .before .load-ranks .ensures in
-    (omega (arith, ranks .few), omega (arith, ranks .long), λ j h. let b = ranks .small j h in subst (λ (x : ℕ). x < 2 ^ 32) (sym (word-front _ j)) (omega arith))
+    (omega (arith, ranks .few), omega (arith, ranks .long))
 
 label-fields-requires : tie.Need-label-fields-requires
 label-fields-requires c κs = (fair (c .before .before .before .before .before .before .before .before .before .pre .0), c .before .before .before .before .before .before .load-ranks .ensures .few)

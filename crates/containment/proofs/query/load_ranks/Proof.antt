@@ -88,8 +88,7 @@ loop-again c =
       ⊎-elim
           (λ w.
           rw (w .4, w .5)
-          (ranks-one _ _ _ _ (i .2) (w .0 .taken) (omega (arith, i .1, taken, fair .edges)) (omega (arith, fair .from _ taken, fair .nodes))
-          (omega (arith, fair .to _ taken, fair .nodes)) (fair .kind _ taken)))
+          (ranks-one _ _ _ _ (i .2) (w .0 .taken) (omega (arith, i .1, taken, fair .edges))))
           (λ w. rw (w .1, w .2) (ranks-skip _ _ _ _ (i .2) (w .0 .left)))
           (c .if1 .came),
     )

@@ -1,7 +1,7 @@
 -- `packed::old_record::judge_old_record` meets its contract.
 use native.Mathlib.Omega.{arith}
 use Rattle.packed.specs.OldRecord.{oldRecord}
-use Rattle.packed.proofs.OldRecords.{kept-small, kept-once, kept-twice}
+use Rattle.packed.proofs.OldRecords.{kept-once, kept-twice}
 use Rattle.packed.proofs.OldGraphLaws.{orders-by}
 use Rattle.packed.proofs.OldLoadingLaws.{loads-repeat, loads-wrong, lazy-ends}
 use borrow.Author.Needs.{needs}
@@ -14,7 +14,7 @@ read-fields-requires c κs = search needs
 repeats-requires : tie.Need-repeats-requires
 repeats-requires c κs =
     let l = c .before .before .before .before .before .read-fields .ensures .0 in
-    (l .kept .few, search needs, kept-small (omega (arith, c .before .before .before .before .before .before .before .before .before .before .before .pre .1)) (l .kept))
+    (l .kept .few, search needs)
 
 same-length : tie.Need-same-length
 same-length c = search needs
