@@ -1,23 +1,19 @@
 -- Edges: the tests on their fields, and the moves of a reader and of a writer over one edge.
-use Prim.Native.Nat.{ℕ, suc, _+_, _-_, _*_, _/_, _%_, _^_, _<_, _≤_}
+use Prim.Native.Nat.{ℕ, suc, _+_, _-_, _*_, _^_, _<_, _≤_}
 use mathlib.Core.Path.{_≡_, refl, ap, sym, _∙_}
 use mathlib.Core.List.{List, [], _∷_, _++_, append-assoc}
 use mathlib.Core.Bool.{true, false, not, _&&_, _||_}
 use lib.ListN.{length, getD, take, drop, set, length-set, length-drop}
 use lib.Seq.{drop-cons, drop-set-add, take-suc-set, take-add, drop-drop}
-use lib.Dec.{eqb, ltb}
+use lib.Dec.{eqb}
 use native.Mathlib.Omega.{arith}
 use native.Mathlib.Numerals.{add-one}
-use borrow.Author.Tests.{ltb-true}
-use Rattle.packed.specs.Bits.{field}
 use Rattle.packed.specs.Format.{Format, ask, test}
 use Rattle.packed.specs.Formats.{linked, isEnd, allEnds, edges}
 use Rattle.packed.specs.Reading.{Reading, Refuses, TwoValues, EdgeValues}
 use Rattle.packed.specs.Writing.{Writing, Rejects, TwoPut, EdgePut}
 use Rattle.packed.specs.declared.reply.Refusal.{Refusal}
 use Rattle.packed.specs.declared.reply.Refusal.the-variants.{DuplicateEdge}
-use Rattle.packed.proofs.OrderCases.{and-both}
-use Rattle.packed.proofs.BitsLaws.{field-lt, field-add}
 use Rattle.packed.proofs.ReadingLaws.{starts, left-is, same-at, reads, reads-none, refused, passes, fails}
 use Rattle.packed.proofs.WritingLaws.{begins, left-to, same-to, writes, rejected, accepts, denies}
 
@@ -183,28 +179,6 @@ module _ {w nodes at i a b file : ℕ} {x : Refusal} where
   pub kind-rejected : {ws o o′ : List ℕ} → i ≤ length ws → TwoPut w nodes ws i o at a b o′ → ((f : ℕ → Format) → Rejects (ask 3 0 8 3 f) ws (i + 2) (at + 2 * w) file x)
       → (f : ℕ → ℕ → ℕ → Format) → Rejects (ask w 0 nodes 4 (λ a. ask w 0 nodes 4 (λ b. ask 3 0 8 3 (λ k. f a b k)))) ws i at file x
   kind-rejected h p q f = rejected (same-to {i′ = i + 2} {at′ = at + 2 * w} (omega arith) (omega arith) (writes (writes (begins h) (p .first)) (p .second))) (q (f a b))
-
--- the fields of a pattern's edge whose bits are all there, from their number
-module _ (s : List ℕ) (at v : ℕ) (there : at + 11 ≤ 8 * length s) (is : v ≡ field s at 11) where
-  parts : v ≡ (field s at 4 * 16 + field s (at + 4) 4) * 8 + field s (at + 8) 3
-  parts = is ∙ field-add s at 8 3 (omega arith) ∙ ap (λ (c : ℕ). c * 8 + field s (at + 8) 3) (field-add s at 4 4 (omega arith))
-
-  pub whole-edge : (nodes : ℕ) (w : List ℕ) (i : ℕ) (w₁ w₂ w₃ : List ℕ) → (ltb (v / 128) nodes && ltb (v / 8 % 16) nodes) ≡ true
-      → w₁ ≡ set w i (v / 128) → w₂ ≡ set w₁ (i + 1) (v / 8 % 16) → w₃ ≡ set w₂ (i + 2) (v % 8)
-      → EdgeValues 4 nodes s at w i (v / 128) (v / 8 % 16) (v % 8) w₃
-  whole-edge nodes w i w₁ w₂ w₃ below e f g =
-      let l = field-lt s (at + 4) 4 4 (omega arith) in
-      let m = field-lt s (at + 8) 3 3 (omega arith) in
-      let h = and-both (ltb (v / 128) nodes) (ltb (v / 8 % 16) nodes) below in
-      record {
-        between = w₂;
-        ends = record {
-          between = w₁;
-          first = record { some = omega arith; fits = omega arith; is = omega (arith, parts, l, m); least = omega arith; most = ltb-true (v / 128) nodes (h .0); stored = e };
-          second = record { some = omega arith; fits = omega arith; is = omega (arith, parts, l, m); least = omega arith; most = ltb-true (v / 8 % 16) nodes (h .1); stored = f };
-        };
-        kind = record { some = omega arith; fits = omega arith; is = omega (arith, parts, m); least = omega arith; most = omega arith; stored = g };
-      }
 
 -- ---- an edge whose kind takes no bits and is 0
 

@@ -69,12 +69,7 @@ pub const LABEL_BOUND: u64 = 1 << LABEL_WIDTH;
 
 pub const END_WIDTH: u32 = 4;
 
-// The numbers of a pattern's nodes, as its edges have them, are below this.
-pub const ENDS: u32 = 1 << END_WIDTH;
-
-pub const PATTERN_EDGE_WIDTH: u32 = 2 * END_WIDTH + KIND_WIDTH;
-
-pub const PATTERN_EDGE_BITS: usize = PATTERN_EDGE_WIDTH as usize;
+pub const PATTERN_EDGE_BITS: usize = 2 * END_WIDTH as usize + KIND_BITS;
 
 // Where the labels of a pattern begin: behind its two numbers.
 pub const PATTERN_LABELS: usize = PATTERN_NODES_BITS + PATTERN_EDGES_WIDTH as usize;

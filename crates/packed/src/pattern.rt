@@ -7,7 +7,7 @@ ghost use lib.ListN.{length, getD, set, replicate};
 ghost use lib.Bits.{bitOr};
 ghost use Rattle.packed.specs.Format.{times, whole, decode, encode};
 ghost use Rattle.packed.specs.Formats.{isEnd, allEnds, label, edges, joined, pattern};
-ghost use Rattle.packed.specs.Reading.{Stands, Room, ReadsEdge, ReadsUpTo, ReadsBytesUpTo, JudgesUpTo};
+ghost use Rattle.packed.specs.Reading.{Stands, Room, ReadsUpTo, ReadsBytesUpTo, JudgesUpTo};
 ghost use Rattle.packed.specs.Matches.{marks};
 ghost use Rattle.packed.specs.Writing.{WritesPart, WritesBytes, JudgesFields};
 use crate::bits;
@@ -17,7 +17,6 @@ use crate::reply::Field;
 use crate::reply::Part;
 use crate::reply::Refusal;
 use crate::reply::Three;
-use crate::workspace;
 
 // So many labels.
 fn read_labels(s: &[u8], start: usize, n: u32, file: u32, words: &mut [u32], first: usize) -> Part
@@ -113,27 +112,6 @@ fn note(kinds: &mut [u8; 256], a: u32, b: u32, k: u32)
     kinds[at] = kinds[at] | (1u8 << k);
 }
 
-// An edge between so many nodes, into the words from i on. Where all is well its eleven bits are taken at once; else it is read field by field, which
-// finds what is wrong.
-fn read_edge(s: &[u8], at: usize, nodes: u32, file: u32, words: &mut [u32], i: usize) -> Three
-    requires { ⌜ Stands (now s) at i ⌝ }
-    ensures { λ r. ⌜ ReadsEdge 4 nodes (now (s .entry)) at (now (words .entry)) i file r (now (words .exit)) ⌝ }
-{
-    if limits::PATTERN_EDGE_BITS <= 8 * s.len() - at {
-        let v = bits::get_bits(s, at, limits::PATTERN_EDGE_WIDTH);
-        let a = v / (limits::ENDS * limits::KINDS);
-        let b = v / limits::KINDS % limits::ENDS;
-        let k = v % limits::KINDS;
-        if (a < nodes) & (b < nodes) {
-            workspace::store(words, i, a);
-            workspace::store(words, i + 1, b);
-            workspace::store(words, i + 2, k);
-            return Three::Values(a, b, k);
-        }
-    }
-    field::read_edge(s, at, limits::END_WIDTH, nodes, file, words, i)
-}
-
 // So many edges between so many nodes.
 fn read_edges(
     s: &[u8],
@@ -152,7 +130,7 @@ fn read_edges(
     let mut left = number;
     let mut kinds = no_kinds();
     while 0 < left {
-        let f = read_edge(s, at, nodes, file, words, i);
+        let f = field::read_edge(s, at, limits::END_WIDTH, nodes, file, words, i);
         match f {
             Three::Values(a, b, k) => {
                 if is_noted(&kinds, a, b, k) {
