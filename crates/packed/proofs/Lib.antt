@@ -31,6 +31,7 @@ pub mod Files
 pub mod Places
 pub mod Tables
 pub mod Sorts
+pub mod Insertion
 pub mod Repeats
 pub mod DistinctLaws
 pub mod DistinctMerge
