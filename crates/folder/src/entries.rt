@@ -1,13 +1,19 @@
 // An index as a file: each entry has 16 bits, most significant byte first.
 ghost use mathlib.Core.Path.{_≡_};
+ghost use Prim.Native.Nat.{_+_, _*_};
 ghost use lib.ListN.{length};
+ghost use Rattle.folder.specs.Entries.{entryBytes, entriesOf, byteOf};
 
-fn joined(high: u8, low: u8) -> u16 {
+fn joined(high: u8, low: u8) -> u16
+    ensures { λ r. ⌜ r ≡ 256 * high + low ⌝ }
+{
     256 * high as u16 + low as u16
 }
 
 // The first or the second byte of an entry.
-fn byte_of(x: u16, second: usize) -> u8 {
+fn byte_of(x: u16, second: usize) -> u8
+    ensures { λ r. ⌜ r ≡ byteOf x second ⌝ }
+{
     if second == 0 {
         return (x / 256) as u8;
     }
@@ -17,6 +23,7 @@ fn byte_of(x: u16, second: usize) -> u8 {
 // The entries of a file, as far as they go; zeros after them.
 pub fn unpack(bytes: &[u8], entries: &mut [u16])
     requires { ⌜ (length (now bytes) ≡ 8196) × (length (now entries) ≡ 4098) ⌝ }
+    ensures { λ r. ⌜ now (entries .exit) ≡ entriesOf (now (bytes .entry)) ⌝ }
 {
     let mut i: usize = 0;
     while i < 4098 {
@@ -30,6 +37,7 @@ pub fn unpack(bytes: &[u8], entries: &mut [u16])
 // The bytes of entries in a file.
 pub fn pack(entries: &[u16], bytes: &mut [u8])
     requires { ⌜ (length (now entries) ≡ 4098) × (length (now bytes) ≡ 8196) ⌝ }
+    ensures { λ r. ⌜ now (bytes .exit) ≡ entryBytes (now (entries .entry)) ⌝ }
 {
     let mut at: usize = 0;
     while at < 8196 {

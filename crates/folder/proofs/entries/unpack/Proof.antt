@@ -1,19 +1,19 @@
--- `folder::entries::unpack` is safe and ends.
+-- `folder::entries::unpack` meets its contract.
 use Prim.Native.Nat.{_-_}
-use mathlib.Core.Path.{_≡_}
-use lib.ListN.{length}
 use borrow.Author.Needs.{needs}
+use Rattle.folder.specs.Entries.{entriesOf}
+use Rattle.folder.proofs.EntryLaws.{Written, written-none, unpack-more, unpack-end}
 use Rattle.folder.proofs.entries.unpack.Statement.{statement}
 use Rattle.folder.proofs.entries.unpack.Tie as tie
 
 abbrev Inv-loop : tie.InvT-loop
-Inv-loop bytes entries₀ i₀ entries i = length entries ≡ 4098
+Inv-loop bytes entries₀ i₀ entries i = Written 4098 (entriesOf bytes) entries i
 
 abbrev μ-loop : tie.MeasureT-loop
 μ-loop bytes entries₀ i₀ entries i = 4098 - i
 
 loop-holds : tie.Need-loop-holds Inv-loop μ-loop
-loop-holds c = search needs
+loop-holds c = written-none _ _ _ (c .before .before .pre .1)
 
 mul-high : tie.Need-mul-high Inv-loop μ-loop
 mul-high c = search needs
@@ -43,13 +43,18 @@ loop-less : tie.Need-loop-less Inv-loop μ-loop
 loop-less c = search needs
 
 loop-again : tie.Need-loop-again Inv-loop μ-loop
-loop-again c = search needs
+loop-again c =
+    let loop = c .before .before .before .before .loop in
+    let start = c .before .before .before .before .before .before .before in
+    unpack-more 4098 (start .args .bytes .now) _ _ _ (start .pre .0) (loop .inv) (c .before .before .before .loop-test .taken) (c .joined .ensures)
 
 same-length : tie.Need-same-length Inv-loop μ-loop
 same-length c = search needs
 
 returns : tie.Need-returns Inv-loop μ-loop
-returns c = search needs
+returns c =
+    let start = c .before .before .before .before in
+    unpack-end 4098 (start .args .bytes .now) _ _ (start .pre .0) (c .before .loop .inv) (c .loop-test .left)
 
 pub unpack-spec : {M : Type 1} → statement M
 unpack-spec =
