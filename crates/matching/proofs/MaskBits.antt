@@ -7,9 +7,10 @@ use native.Mathlib.Omega.{arith}
 use lib.Arith.{digits-mod, bin-ind}
 use lib.Pow.{shr-shr, pow-mono, pow-pos, lt-of-le-ones}
 use lib.Count.{trailingZeros, under}
-use lib.Bits.{bitAnd, bitOr, bitXor, differ, and-shr, or-shr, xor-shr, and-step, or-step, xor-step}
+use lib.Bits.{bitAnd, bitOr, bitXor, differ, and-shr, xor-shr, and-step, xor-step}
 use lib.Dec.{eqb→eq}
 use Rattle.packed.proofs.OrderCases.{lt-or-ge, eq-or-ne}
+use Rattle.packed.proofs.NotedLaws.{bit-or}
 use Rattle.matching.specs.Simulation.{bit}
 use Rattle.matching.specs.Sweeps.{Has, Mask, OneOf}
 use Rattle.matching.proofs.Masks.{bit-self, bit-one}
@@ -51,10 +52,7 @@ bin-and a b k =
 
 bin-or : (a b k : ℕ) → bin (bitOr a b) k ≡ max (bin a k) (bin b k)
 unfolding bin
-bin-or a b k =
-    let u = bin-lt a k in
-    let v = bin-lt b k in
-    ap (λ (x : ℕ). x % 2) (or-shr a b k ∙ or-step (a / 2 ^ k) (b / 2 ^ k)) ∙ digits-mod (bitOr (a / 2 ^ k / 2) (b / 2 ^ k / 2)) (omega arith)
+bin-or a b k = bit-or a b k
 
 differ-bits : (x y : ℕ) → x < 2 → y < 2 → differ x y ≡ (x + y) % 2
 differ-bits zero zero p q = refl
@@ -198,6 +196,17 @@ lowest-has (suc d) x p l = let q = pow-suc 2 d in go (x % 2) refl (λ e. lowest-
         let i = h .0 in
         ((let z : suc (trailingZeros d (x / 2)) < suc d = omega arith in z), by x _ (sym (bin-half x (trailingZeros d (x / 2))) ∙ say _ _ (h .1)))
     go (suc r) e f = (zero-lt-suc d, by x 0 (bin-low x ∙ (let l = mod-lt x (zero-lt-suc 1) in let y : x % 2 ≡ 1 = omega arith in y)))
+
+-- and nothing below it
+pub lowest-least : (d x k : ℕ) → k < trailingZeros d x → Has x k → ⊥
+unfolding trailingZeros
+lowest-least zero x k l h = omega arith
+lowest-least (suc d) x k l h = go (x % 2) refl (lowest-least d (x / 2)) k l h
+  where
+    go : (r : ℕ) → x % 2 ≡ r → ((k : ℕ) → k < trailingZeros d (x / 2) → Has (x / 2) k → ⊥) → (k : ℕ) → k < under r (trailingZeros d (x / 2)) → Has x k → ⊥
+    go zero e f zero l h = let y = say x 0 h in let z = bin-low x in omega arith
+    go zero e f (suc k) l h = f k (omega arith) (by (x / 2) k (bin-half x k ∙ say x (suc k) h))
+    go (suc r) e f k l h = omega arith
 
 -- ---- order
 imp-le : (x y : ℕ) → x < 2 → (x ≡ 1 → y ≡ 1) → x ≤ y

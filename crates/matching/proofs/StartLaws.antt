@@ -17,13 +17,15 @@ use Rattle.matching.specs.Sweeps.{Has, Mask, OneOf}
 use Rattle.matching.specs.Sweeping.{kindOf}
 use Rattle.matching.specs.Starting.{NodeRoom, OfKind, ByKind, KindsHeld, ByLabel, OfLabels, Allowed, LinksSpread}
 use Rattle.matching.proofs.Masks.{bit-self, bit-one}
-use Rattle.matching.proofs.MaskBits.{none-has, or-left, or-right, and-say, and-by, minus-say, minus-by, lowest-has, mask-cast, mask-or, mask-one, mask-self, mask-none}
+use Rattle.matching.proofs.MaskBits.{none-has, and-say, and-by, minus-say, minus-by, lowest-has, lowest-least, mask-cast, mask-or, mask-one, mask-self, mask-none}
 use Rattle.matching.proofs.Filling.{Filling, filling-start, filling-more, filling-around, filling-each, filling-front}
 use Rattle.matching.proofs.RowLaws.{blank-long}
 
--- a member of x
-pub lowest-of : (x : ℕ) → (x ≡ 0 → ⊥) → x < 2 ^ 32 → (trailingZeros 32 x < 32) × Has x (trailingZeros 32 x)
-lowest-of x n l = lowest-has 32 x (⊎-elim (λ (z : 0 < x). z) (λ (z : x ≤ 0). absurd (n (omega arith))) (lt-or-ge 0 x)) l
+-- the lowest member of x
+pub lowest-of : (x : ℕ) → (x ≡ 0 → ⊥) → x < 2 ^ 32 → (trailingZeros 32 x < 32) × Has x (trailingZeros 32 x) × ((k : ℕ) → k < trailingZeros 32 x → Has x k → ⊥)
+lowest-of x n l =
+    let h = lowest-has 32 x (⊎-elim (λ (z : 0 < x). z) (λ (z : x ≤ 0). absurd (n (omega arith))) (lt-or-ge 0 x)) l in
+    (h .0, h .1, lowest-least 32 x)
 
 -- arrays of nothing-at
 pub room-blank : (k n : ℕ) {leave arrive out : List ℕ} → n ≤ k → leave ≡ replicate k 0 → arrive ≡ replicate k 0 → out ≡ replicate k 0 → NodeRoom n leave arrive out
@@ -130,13 +132,8 @@ module _ (labels ends : List ℕ) where
       (λ e p. record { at = at e; below = lt e (p .0); holds = (and-by x used (at e) (p .1) (us e (p .0)), B .each (at e) (lt e (p .0)) .hit e (p .0, refl)) })
 
 -- the labels in use
-pub used-more : (labels : List ℕ) (u r : ℕ) → ((j : ℕ) → j < u → Has r (getD labels j 0)) → (b : ℕ) → b ≡ 2 ^ getD labels u 0 → (j : ℕ) → j < u + 1 → Has (bitOr r b) (getD labels j 0)
-used-more labels u r h b e j l =
-    ⊎-elim (λ (p : j < u). or-left r b _ (h j p))
-    (λ (p : u ≤ j).
-    let q : j ≡ u = omega arith in
-    or-right r b _ (subst (λ (y : ℕ). Has y (getD labels j 0)) (sym e) (subst (λ (y : ℕ). Has (2 ^ getD labels u 0) (getD labels y 0)) (sym q) (bit-self (getD labels u 0)))))
-    (lt-or-ge j u)
+pub label-mask : (l b : ℕ) → b ≡ 2 ^ l → Mask (λ k. l ≡ k) b
+label-mask l b e = mask-cast (λ k p. p .0) (λ k q. (q, refl)) (mask-one l b {S = l ≡ l} e refl)
 
 -- ---- label by label: those of x that are not left are taken
 abbrev pub TakenOf : List ℕ → ℕ → ℕ → ℕ → Type 0

@@ -3,7 +3,7 @@ ghost use mathlib.Core.Path.{_≡_};
 ghost use Prim.Native.Nat.{ℕ, _+_, _*_, _^_, _<_, _≤_};
 ghost use lib.ListN.{length, getD, replicate};
 ghost use Rattle.matching.specs.Steps.{Fair};
-ghost use Rattle.matching.specs.Sweeps.{Has};
+ghost use Rattle.matching.specs.Sweeps.{Has, Mask, OneOf};
 ghost use Rattle.matching.specs.Sweeping.{kindOf};
 ghost use Rattle.matching.specs.Starting.{NodeRoom, ByKind, KindsHeld, ByLabel, OfLabels, LinksSpread};
 use packed::by_value;
@@ -81,7 +81,7 @@ fn by_label(labels: &[u32; 16], ends: &[u32; 32], m: usize) -> [u32; 32]
 // The labels of the pattern's nodes.
 fn labels_used(labels: &[u32; 16], n: usize) -> u32
     requires { ⌜ (n ≤ 16) × ((u : ℕ) → u < n → getD (now labels) u 0 < 32) ⌝ }
-    ensures { λ r. ⌜ ((u : ℕ) → u < n → Has r (getD (now (labels .entry)) u 0)) ⌝ }
+    ensures { λ r. ⌜ Mask (λ l. OneOf n (λ u. getD (now (labels .entry)) u 0 ≡ l)) r ⌝ }
 {
     let mut r: u32 = 0;
     let mut u: usize = 0;
@@ -95,7 +95,7 @@ fn labels_used(labels: &[u32; 16], n: usize) -> u32
 // The lowest member of x.
 pub fn lowest(x: u32) -> usize
     requires { ⌜ (x ≡ 0 → ⊥) ⌝ }
-    ensures { λ r. ⌜ (r < 32) × Has x r ⌝ }
+    ensures { λ r. ⌜ (r < 32) × Has x r × ((k : ℕ) → k < r → Has x k → ⊥) ⌝ }
 {
     u32::trailing_zeros(x) as usize
 }

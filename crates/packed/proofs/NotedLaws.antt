@@ -31,7 +31,7 @@ or-assoc true b c = refl
 or-assoc false b c = refl
 
 -- ---- one kind more in a mask
-bit-or : (x y k : ℕ) → bitOr x y / 2 ^ k % 2 ≡ max (x / 2 ^ k % 2) (y / 2 ^ k % 2)
+pub bit-or : (x y k : ℕ) → bitOr x y / 2 ^ k % 2 ≡ max (x / 2 ^ k % 2) (y / 2 ^ k % 2)
 bit-or x y k =
     ap (λ (n : ℕ). n % 2) (or-shr x y k ∙ or-step (x / 2 ^ k) (y / 2 ^ k)) ∙ digits-mod (bitOr (x / 2 ^ k / 2) (y / 2 ^ k / 2)) (omega arith)
 

@@ -116,8 +116,8 @@ fn load_one(
     rank + 1
 }
 
-// Eight edges take whole bytes, so that in every eight each stands from the same bit of a byte on: written out by the compiler, the loop has no place to
-// compute. The least rank of the next edge, or 0 if one of them is refused.
+// Eight edges take whole bytes, so that in every eight each stands from the same bit of a byte on: once the compiler has written the loop out, the shifts
+// are constants. The least rank of the next edge, or 0 if one of them is refused.
 fn load_eight(s: &[u8], byte: usize, nodes: u32, least: u32, work: &mut [u32], k: usize) -> u32
     requires { ⌜ (length (now s) ≤ 65536) × (8 * byte + 3 + 27 * 8 ≤ 8 * length (now s)) × (k + 8 ≤ length (now work)) ⌝ }
     ensures { λ r. ⌜ JudgesMore (now (s .entry)) (8 * byte + 3) nodes 8 least (now (work .entry)) k r (now (work .exit)) ⌝ }

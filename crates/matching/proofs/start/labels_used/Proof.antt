@@ -1,22 +1,24 @@
 -- `matching::start::labels_used` meets its contract.
 use borrow.Author.Needs.{needs}
 use native.Mathlib.Omega.{arith}
-use Prim.Native.Nat.{ℕ, _-_, _≤_, _<_}
+use mathlib.Core.Path.{_≡_}
+use Prim.Native.Nat.{_-_, _≤_}
 use denote.Ref.{now}
 use lib.ListN.{getD}
-use Rattle.matching.specs.Sweeps.{Has}
-use Rattle.matching.proofs.StartLaws.{used-more}
+use Rattle.matching.specs.Sweeps.{Mask, OneOf}
+use Rattle.matching.proofs.MaskBits.{union-start, union-more, union-end}
+use Rattle.matching.proofs.StartLaws.{label-mask}
 use Rattle.matching.proofs.start.labels_used.Statement.{statement}
 use Rattle.matching.proofs.start.labels_used.Tie as tie
 
 abbrev Inv-loop : tie.InvT-loop
-Inv-loop labels n r₀ u₀ r u = (u ≤ n) × ((j : ℕ) → j < u → Has r (getD labels j 0))
+Inv-loop labels n r₀ u₀ r u = (u ≤ n) × Mask (λ l. OneOf u (λ j. getD labels j 0 ≡ l)) r
 
 abbrev μ-loop : tie.MeasureT-loop
 μ-loop labels n r₀ u₀ r u = n - u
 
 loop-holds : tie.Need-loop-holds Inv-loop μ-loop
-loop-holds c = (omega arith, λ j l. absurd (omega arith))
+loop-holds c = (omega arith, union-start _)
 
 mul-one : tie.Need-mul-one Inv-loop μ-loop
 mul-one c = search needs
@@ -45,10 +47,13 @@ loop-less : tie.Need-loop-less Inv-loop μ-loop
 loop-less c = search needs
 
 loop-again : tie.Need-loop-again Inv-loop μ-loop
-loop-again c = (omega arith, used-more (now (c .before .before .before .before .args .labels)) _ (c .before .before .before .loop .r) (c .before .before .before .loop .inv .1) (c .one .result) (c .one .ensures))
+loop-again c =
+    let labels = now (c .before .before .before .before .args .labels) in
+    let loop = c .before .before .before .loop in
+    (omega arith, union-more (λ j l. getD labels j 0 ≡ l) _ (loop .inv .1) (label-mask _ _ (c .one .ensures)))
 
 returns : tie.Need-returns Inv-loop μ-loop
-returns c = λ j l. c .before .loop .inv .1 j (omega arith)
+returns c = union-end (λ j l. getD (now (c .before .before .args .labels)) j 0 ≡ l) _ _ (c .before .loop .inv .1) (omega arith)
 
 pub labels-used-spec : {M : Type 1} → statement M
 labels-used-spec =

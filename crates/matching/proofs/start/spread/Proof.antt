@@ -1,5 +1,6 @@
 -- `matching::start::spread` meets its contract.
 use borrow.Author.Needs.{needs}
+use mathlib.Core.Path.{refl}
 use native.Mathlib.Omega.{arith}
 use Prim.Native.Nat.{_-_}
 use Rattle.matching.proofs.StartLaws.{Spreading, spreading-start, spreading-more, spreading-end, ends-few, labels-few}
@@ -106,7 +107,7 @@ returns c =
     let by-label2 = c .before .before .before .before .by-label2 in
     let labels-used = c .before .before .labels-used in
     let loop = c .before .loop in
-    spreading-end _ _ _ _ _ (loop .inv) (pre .0) (by-label .ensures) (by-label2 .ensures) (labels-used .ensures) (c .loop-test .left)
+    spreading-end _ _ _ _ _ (loop .inv) (pre .0) (by-label .ensures) (by-label2 .ensures) (λ u l. labels-used .ensures .hit _ (record { at = u; below = l; holds = refl })) (c .loop-test .left)
 
 pub spread-spec : {M : Type 1} → statement M
 spread-spec = tie.close (tie.spec Inv-loop μ-loop by-label-requires by-label-requires-2 labels-used-requires loop-holds labels-at-requires links-of-requires mul-leave slice-write-leave mul-arrive slice-write-arrive mul-out slice-write-out add-v loop-less loop-again same-length same-length-2 same-length-3 returns)
