@@ -174,7 +174,7 @@ demand-1 = record {
 
 -- ---- demand 2
 
-lists-exactly : (r rs : List ℕ) → Record r rs → (P : Pattern) (i : ℕ) → i < length (P .edges) → (f : Pair) → f .1 < 4096
+pub lists-exactly : (r rs : List ℕ) → Record r rs → (P : Pattern) (i : ℕ) → i < length (P .edges) → (f : Pair) → f .1 < 4096
     → In (code (f .0) (f .1)) (getD (matchSets P (graphOf rs)) i []) ↔ Matching P (graphOf rs) (getD (P .edges) i noEdge) f
 lists-exactly r rs e P i h f k =
     let d = record-is r rs e in

@@ -1,13 +1,13 @@
 -- The converter: what it writes is accepted, and means the same record.
-use Prim.Native.Nat.{ℕ, suc, _+_}
+use Prim.Native.Nat.{ℕ, suc, _+_, _<_}
 use mathlib.Core.Path.{_≡_, refl, sym, ap, ap₂, subst, _∙_}
 use mathlib.Core.Bool.{Bool}
 use mathlib.Core.Logic.{_↔_}
-use mathlib.Core.List.{List, _∷_, _++_}
-use lib.ListN.{take, drop, getD}
+use mathlib.Core.List.{List, [], _∷_, _++_}
+use lib.ListN.{length, take, drop, getD}
 use lib.Seq.{take-at, drop-at}
 use native.Mathlib.Omega.{arith}
-use Rattle.packed.specs.Formats.{record′}
+use Rattle.packed.specs.Formats.{code, record′}
 use Rattle.packed.specs.Contents.{sortedEdges}
 use Rattle.packed.specs.Plain.{PlainEdges, PlainGraph}
 use Rattle.packed.specs.OldRecord.{oldRecord, sortedFields, recordSorted}
@@ -16,13 +16,15 @@ use Rattle.packed.proofs.CallLaws.{read-says, write-finds, accepted-by, judged-
 use Rattle.packed.proofs.Accepted.{old-accepted, record-accepted, record-read}
 use Rattle.packed.proofs.SortedEdges.{sorted-plain}
 use Rattle.matching.specs.Lists.{In}
-use Rattle.matching.specs.Simulation.{Edge, Pattern, Graph, edgesIn, graphOf, IsSim}
+use Rattle.matching.specs.Simulation.{Pair, Edge, noEdge, Pattern, Graph, edgesIn, graphOf, IsSim, matchSets}
 use Rattle.matching.specs.Search.{sheetBytes}
 use Rattle.matching.proofs.EdgeLaws.{edgesIn-at}
+use Rattle.matching.proofs.ListLaws.{in-at}
 use Rattle.matching.proofs.SortedGraphs.{Alike, ends-narrow, sorted-in, alike-sets, alike-views}
 use Rattle.containment.specs.Show.{recordBytes}
-use Rattle.containment.specs.Demands.{OldFile, EndsSim, Sorting}
+use Rattle.containment.specs.Demands.{Matching, OldFile, EndsSim, EndsMatching, AllKind0, Sorting}
 use Rattle.containment.proofs.QueryGraph.{Made, record-made, made-within, graph, graph-is}
+use Rattle.containment.proofs.DemandsOneTwo.{lists-exactly}
 
 -- the content of an old record by its parts
 module _ {ws : List ℕ} {bs : List Bool} (p : PlainGraph 0 (PlainEdges 1) ws bs) where
@@ -80,6 +82,9 @@ module _ (s ws : List ℕ) (old : OldFile s ws) where
       let r = edgesIn-at (plain .es) (plain .number) (e .three-each) (subst (λ (G : Graph). In f (G .edges)) (graph-old plain) i) in
       subst (λ (g : Edge). g .kind ≡ 0) (sym (r .holds)) (omega (arith, e .is-kind (r .at) (r .below)))
 
+  sorted-kind : (f : Edge) → In f (graphOf (sortedFields ws) .edges) → f .kind ≡ 0
+  sorted-kind f i = old-kind f (alike .0 .more f i)
+
   gives : (room : ℕ) → recordSorted s room ≡ fit room (recordBytes (sortedFields ws))
   unfolding recordSorted recordWritten
   gives room =
@@ -90,7 +95,7 @@ module _ (s ws : List ℕ) (old : OldFile s ws) where
   is-record = record-read (recordBytes (sortedFields ws)) (sortedFields ws) .1 (made .size, record-accepted (recordBytes (sortedFields ws)) (sortedFields ws) .0 (made .back))
 
 -- where all kinds are 0, links are told apart by their ends alone
-ends-sim : (P : Pattern) (G : Graph) → ((e : Edge) → In e (P .edges) → e .kind ≡ 0) → ((f : Edge) → In f (G .edges) → f .kind ≡ 0)
+ends-sim : (P : Pattern) (G : Graph) → AllKind0 P → ((f : Edge) → In f (G .edges) → f .kind ≡ 0)
     → (R : ℕ → ℕ → Type 0) → IsSim P G R ↔ EndsSim P G R
 ends-sim P G p g R = (
   λ s. record { fit = s .fit; follow = λ u v r e i l. let q = s .follow u v r e i l in (q .0, q .1, q .2, q .4) },
@@ -100,14 +105,28 @@ ends-sim P G p g R = (
   },
 )
 
+ends-matching : (P : Pattern) (G : Graph) → ((f : Edge) → In f (G .edges) → f .kind ≡ 0) → (e : Edge) → e .kind ≡ 0 → (f : Pair) → Matching P G e f ↔ EndsMatching P G e f
+ends-matching P G g e k f = (
+  λ m. record { whole = m .whole; link = m .link; edge = m .edge; ends = m .ends; tail = m .tail; head = m .head },
+  λ m. record { whole = m .whole; link = m .link; edge = m .edge; kind = g (m .link) (m .edge) ∙ sym k; ends = m .ends; tail = m .tail; head = m .head },
+)
+
+lists-before : (s ws : List ℕ) → OldFile s ws → (P : Pattern) → AllKind0 P → (i : ℕ) → i < length (P .edges) → (f : Pair) → f .1 < 4096
+    → In (code (f .0) (f .1)) (getD (matchSets P (graphOf (sortedFields ws))) i []) ↔ EndsMatching P (graphOf (sortedFields ws)) (getD (P .edges) i noEdge) f
+lists-before s ws o P p i l f k =
+    let x = lists-exactly (recordBytes (sortedFields ws)) (sortedFields ws) (is-record s ws o) P i l f k in
+    let y = ends-matching P (graphOf (sortedFields ws)) (sorted-kind s ws o) (getD (P .edges) i noEdge) (p _ (in-at (P .edges) i noEdge l)) f in
+    (λ j. y .0 (x .0 j), λ m. x .1 (y .1 m))
+
 pub sorting : Sorting
 sorting = record {
   gives = gives;
   is-record = is-record;
   items = λ s ws o. alike s ws o .0 .same-labels;
   links = λ s ws o f. (alike s ws o .0 .more f, alike s ws o .1 .more f);
-  kinds = λ s ws o f i. old-kind s ws o f (alike s ws o .0 .more f i);
+  kinds = sorted-kind;
   sheets = λ s ws o P. ap sheetBytes (alike-sets P (graphOf (sortedFields ws)) (graphOf ws) (alike s ws o));
   extract-sheets = λ s ws o P. ap sheetBytes (alike-views P (graphOf (sortedFields ws)) (graphOf ws) (alike s ws o));
-  as-before = λ s ws o P p. ends-sim P (graphOf (sortedFields ws)) p (λ f i. old-kind s ws o f (alike s ws o .0 .more f i));
+  as-before = λ s ws o P p. ends-sim P (graphOf (sortedFields ws)) p (sorted-kind s ws o);
+  lists-before = lists-before;
 }

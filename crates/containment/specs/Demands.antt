@@ -404,7 +404,7 @@ pub record Demand2 : Type 1 where
   pub sheets : (p : List ℕ) → RoundTrip (sheetRead p) (sheetWritten p)
   pub all-books : (c : List ℕ) → RoundTrip (bookRead c) (bookWritten c)
 
--- ---- Records that were stored before their links stood in order. "A converter sorts the files already stored, read by the old rules: the sorted
+-- ---- Records that were stored before their links had kinds, or even an order. "A converter sorts the files already stored, read by the old rules: the sorted
 -- record has the same links and the same sheets."
 
 -- a file that the old rules accept
@@ -415,6 +415,19 @@ OldFile s ws = readOldRecord s ≡ accepted ws
 pub record EndsSim (P : Pattern) (G : Graph) (R : ℕ → ℕ → Type 0) : Type 0 where
   pub fit : (u v : ℕ) → R u v → T (fits P G (u, v))
   pub follow : (u v : ℕ) → R u v → (e : Edge) → In e (P .edges) → e .from ≡ u → (f : Edge) × In f (G .edges) × (f .from ≡ v) × R (e .to) (f .to)
+
+-- a pair is listed under an edge as it was then
+pub record EndsMatching (P : Pattern) (G : Graph) (e : Edge) (f : Pair) : Type 0 where
+  pub whole : (u : ℕ) → u < length (P .labels) → (v : ℕ) × In (u, v) (sim P G)
+  pub link : Edge
+  pub edge : In link (G .edges)
+  pub ends : f ≡ asPair link
+  pub tail : In (e .from, f .0) (sim P G)
+  pub head : In (e .to, f .1) (sim P G)
+
+-- a pattern whose links all have kind 0
+abbrev pub AllKind0 : Pattern → Type 0
+AllKind0 P = (e : Edge) → In e (P .edges) → e .kind ≡ 0
 
 pub record Sorting : Type 1 where
   -- the converter writes the record with the sorted content, or gives 12
@@ -429,9 +442,10 @@ pub record Sorting : Type 1 where
   -- and every pattern has the same sheet on both, as a question and as an extract
   pub sheets : (s ws : List ℕ) → OldFile s ws → (P : Pattern) → sheetOf P (sortedFields ws) ≡ sheetOf P ws
   pub extract-sheets : (s ws : List ℕ) → OldFile s ws → (P : Pattern) → extractSheetOf P (sortedFields ws) ≡ extractSheetOf P ws
-  -- "its sheets stay the same for patterns whose links all have kind 0": these are matched as before links had kinds
-  pub as-before : (s ws : List ℕ) → OldFile s ws → (P : Pattern) → ((e : Edge) → In e (P .edges) → e .kind ≡ 0)
-      → (R : ℕ → ℕ → Type 0) → IsSim P (graphOf (sortedFields ws)) R ↔ EndsSim P (graphOf (sortedFields ws)) R
+  -- "its sheets stay the same for patterns whose links all have kind 0": these are matched as before links had kinds, and list the same pairs
+  pub as-before : (s ws : List ℕ) → OldFile s ws → (P : Pattern) → AllKind0 P → (R : ℕ → ℕ → Type 0) → IsSim P (graphOf (sortedFields ws)) R ↔ EndsSim P (graphOf (sortedFields ws)) R
+  pub lists-before : (s ws : List ℕ) → OldFile s ws → (P : Pattern) → AllKind0 P → (i : ℕ) → i < length (P .edges) → (f : Pair) → f .1 < 4096
+      → In (code (f .0) (f .1)) (getD (matchSets P (graphOf (sortedFields ws))) i []) ↔ EndsMatching P (graphOf (sortedFields ws)) (getD (P .edges) i noEdge) f
 
 -- ---- Demand 3. "For every accepted question and catalogue and every accepted record: if covered, and the extract lists made from the record
 -- fit in a book, answering from that book alone equals, byte for byte, searching the record, refusals included, alike in number and detail. If
