@@ -20,7 +20,7 @@ fn byte_of(x: u16, second: usize) -> u8
     (x % 256) as u8
 }
 
-// The entries of a file, as far as they go; zeros after them.
+// The entries of bytes, two for each.
 pub fn unpack(bytes: &[u8], entries: &mut [u16])
     requires { ⌜ (length (now bytes) ≡ 8196) × (length (now entries) ≡ 4098) ⌝ }
     ensures { λ r. ⌜ now (entries .exit) ≡ entriesOf (now (bytes .entry)) ⌝ }

@@ -1,4 +1,4 @@
--- Edges by their codes: what stands in `ascending l`, and what settles it.
+-- Pairs by their codes: what stands in `ascending l`, and what settles it.
 use mathlib.Core.Path.{_≡_, refl, sym, ap, subst, _∙_}
 use mathlib.Core.Logic.{_⊎_, inl, inr, ⊎-elim}
 use mathlib.Core.Bool.{Bool, true, false, _||_, or-true}
@@ -36,7 +36,7 @@ code-same {f} {g} p q e = pair-same (omega arith) (omega arith)
     pair-same : f .0 ≡ g .0 → f .1 ≡ g .1 → f ≡ g
     pair-same a b = λ i. (a i, b i)
 
--- ---- the codes of edges, ascending
+-- ---- the codes of pairs, ascending
 pub ascending-say : (l : List Pair) {c : ℕ} → In c (ascending l) → (f : Pair) × In f l × (c ≡ code (f .0) (f .1))
 unfolding ascending
 ascending-say l {c} i = each-in _ l (member-in _ (sym (member-distinct c _) ∙ in-member i))

@@ -17,7 +17,7 @@ use Rattle.matching.proofs.CodeLaws.{ascending-same}
 use Rattle.matching.proofs.MatchSetLaws.{Narrow, matches-narrow, sets-each, view-each}
 use Rattle.matching.proofs.JoinLaws.{JoinedPair, join-candidate, join-supported, join-most, complete-say, complete-by, answer-say, answer-by, answer-each, listed-pair, match-say, some-match-each, Found, candidates-say, candidates-by}
 
--- the codes of a query's edges tell them apart
+-- a query's edges have ends of 12 bits
 pub narrow-query : (Q : Pattern) → SoundPattern Q → length (Q .labels) ≤ 4096 → Narrow (asGraph Q)
 unfolding asGraph
 narrow-query Q ok h f i = let r = ok .ends f i in (omega arith, omega arith)

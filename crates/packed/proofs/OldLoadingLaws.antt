@@ -40,16 +40,16 @@ never h = absurd (let z : _≡_ {A = Bool} true false = sym once-none ∙ h in l
 -- ---- reading
 -- a reader amid the edges, with k of them loaded and left more to come
 pub record EdgesRead (F : Format) (s : List ℕ) (at₀ : ℕ) (w₀ : List ℕ) (i₀ file nodes number : ℕ) (work₀ w work : List ℕ) (at i k left : ℕ) : Type 0 where
-  pub ends : List ℕ
-  pub held : RecordHeld number work₀ ends work k left
-  pub lazy : Lazily F s at₀ w₀ i₀ file nodes left ends at w i
+  pub es : List ℕ
+  pub held : RecordHeld number work₀ es work k left
+  pub lazy : Lazily F s at₀ w₀ i₀ file nodes left es at w i
 
 module _ {F : Format} {s : List ℕ} {at₀ : ℕ} {w₀ : List ℕ} {i₀ file : ℕ} where
   -- a part that was refused, whatever was loaded
-  loads-refused : {k : ℕ} {ends work₀ w work : List ℕ} {x : Refusal} (r : Loaded) → r .edges ≡ k → r .part ≡ part-is.Refused x → RanksKept ends k work₀ work
-      → (once ends ≡ true → Refuses F s at₀ file x) → (once ends ≡ false → Refuses F s at₀ file (DuplicateEdge file))
+  loads-refused : {k : ℕ} {es work₀ w work : List ℕ} {x : Refusal} (r : Loaded) → r .edges ≡ k → r .part ≡ part-is.Refused x → RanksKept es k work₀ work
+      → (once es ≡ true → Refuses F s at₀ file x) → (once es ≡ false → Refuses F s at₀ file (DuplicateEdge file))
       → Loads F s at₀ w₀ i₀ file work₀ r w work
-  loads-refused {k} {ends} r e q h f g = record { nodes = 0; ends = ends; kept = rw e h; part = rw q (f, g) }
+  loads-refused {k} {es} r e q h f g = record { nodes = 0; es = es; kept = rw e h; part = rw q (f, g) }
 
   -- a refusal before the edges
   pub loads-stopped : {w work : List ℕ} {x : Refusal} (r : Loaded) → r .edges ≡ 0 → r .part ≡ part-is.Refused x → Refuses F s at₀ file x
@@ -61,7 +61,7 @@ module _ {F : Format} {s : List ℕ} {at₀ : ℕ} {w₀ : List ℕ} {i₀ file 
       → EdgesRead F s at₀ w₀ i₀ file nodes number work w work at i 0 number
   edges-start number {w} {work} r h =
       record {
-        ends = [];
+        es = [];
         held = held-none number work;
         lazy = record { clean = λ e. r; dirty = never; inside = r .inside; few = h };
       }
@@ -72,16 +72,16 @@ module _ {F : Format} {s : List ℕ} {at₀ : ℕ} {w₀ : List ℕ} {i₀ file 
   edges-read {number} {work₀} {w} {work} {at} {i} {k} {left} {a} {b} {w′ = w′} m n l r p put is =
       let x : a < 4096 = omega (arith, p .first .most) in
       let y : b < 4096 = omega (arith, p .second .most) in
-      let ends : List ℕ = r .ends in
+      let es : List ℕ = r .es in
       let e = once-more a b 0 y (omega arith) (r .held .fine) in
-      let step : once ends ≡ true → Reading F s at₀ w₀ i₀ (after 12 0 nodes nothing left ends a b 0) (at + 24) (set w′ (i + 2) 0) (i + 3) =
-      λ h. reads-old 12 nodes nothing left ends l (r .lazy .clean h) (omega arith) p in
+      let step : once es ≡ true → Reading F s at₀ w₀ i₀ (after 12 0 nodes nothing left es a b 0) (at + 24) (set w′ (i + 2) 0) (i + 3) =
+      λ h. reads-old 12 nodes nothing left es l (r .lazy .clean h) (omega arith) p in
       rw (put, is) (record {
-        ends = ends ++ (a ∷ b ∷ 0 ∷ []);
+        es = es ++ (a ∷ b ∷ 0 ∷ []);
         held = held-more m l x y (r .held);
         lazy = record {
-          clean = once-cases (once ends) (linked a b 0 ends) e (λ h g. passes g (step h));
-          dirty = once-fails (once ends) (linked a b 0 ends) e (λ h g. fails (DuplicateEdge file) g refl (step h)) (r .lazy .dirty);
+          clean = once-cases (once es) (linked a b 0 es) e (λ h g. passes g (step h));
+          dirty = once-fails (once es) (linked a b 0 es) e (λ h g. fails (DuplicateEdge file) g refl (step h)) (r .lazy .dirty);
           inside = omega (arith, p .second .fits);
           few = omega (arith, r .lazy .few);
         };
@@ -93,42 +93,42 @@ module _ {F : Format} {s : List ℕ} {at₀ : ℕ} {w₀ : List ℕ} {i₀ file 
       → ((f : ℕ → ℕ → Format) → Refuses (end 12 nodes (λ a. end 12 nodes (λ b. f a b))) s at file x)
       → Loads F s at₀ w₀ i₀ file work₀ r w′ work
   edges-refused {left = left} r e q l t p =
-      loads-refused r e q (t .held .kept) (λ h. old-refused 12 nodes nothing left (t .ends) l (t .lazy .clean h) p) (t .lazy .dirty)
+      loads-refused r e q (t .held .kept) (λ h. old-refused 12 nodes nothing left (t .es) l (t .lazy .clean h) p) (t .lazy .dirty)
 
   pub edges-ended : {number : ℕ} {work₀ w work : List ℕ} {at i k left : ℕ} (r : Loaded) → r .edges ≡ k → r .part ≡ part-is.Upto at i
       → left ≤ 0 → EdgesRead F s at₀ w₀ i₀ file nodes number work₀ w work at i k left → Loads F s at₀ w₀ i₀ file work₀ r w work
   edges-ended {left = left} r e q l t =
       let z : left ≡ 0 = omega arith in
-      record { nodes = nodes; ends = t .ends; kept = rw e (t .held .kept); part = rw q (rw z at (t .lazy)) }
+      record { nodes = nodes; es = t .es; kept = rw e (t .held .kept); part = rw q (rw z at (t .lazy)) }
 
 module _ {F : Format} {s : List ℕ} {at₀ : ℕ} {w₀ : List ℕ} {i₀ : ℕ} where
   -- the edges were the last part of F
   pub loads-tail : {f : Format} {at : ℕ} {w : List ℕ} {i file : ℕ} {work : List ℕ} {l : Loaded} {w′ work′ : List ℕ} → Reading F s at₀ w₀ i₀ f at w i
       → Loads f s at w i file work l w′ work′ → Loads F s at₀ w₀ i₀ file work l w′ work′
-  loads-tail {f} {at} {w} {i} {file} {l = l} {w′} r q = record { nodes = q .nodes; ends = q .ends; kept = q .kept; part = tail (l .part) (q .part) }
+  loads-tail {f} {at} {w} {i} {file} {l = l} {w′} r q = record { nodes = q .nodes; es = q .es; kept = q .kept; part = tail (l .part) (q .part) }
     where
-      tail : (p : Part) → LazyPart f s at w i file (q .nodes) (q .ends) p w′ → LazyPart F s at₀ w₀ i₀ file (q .nodes) (q .ends) p w′
+      tail : (p : Part) → LazyPart f s at w i file (q .nodes) (q .es) p w′ → LazyPart F s at₀ w₀ i₀ file (q .nodes) (q .es) p w′
       tail (part-is.Upto at′ i′) p =
           record { clean = λ h. goes-on r (p .clean h); dirty = λ h. refused r (p .dirty h); inside = p .inside; few = p .few }
       tail (part-is.Refused x) p = (λ h. refused r (p .0 h), λ h. refused r (p .1 h))
 
   -- what was loaded, where no edge stands twice
-  pub lazy-ends : {file nodes : ℕ} {ends : List ℕ} {at i : ℕ} {w : List ℕ} → once ends ≡ true → Lazily F s at₀ w₀ i₀ file nodes 0 ends at w i
+  pub lazy-end : {file nodes : ℕ} {es : List ℕ} {at i : ℕ} {w : List ℕ} → once es ≡ true → Lazily F s at₀ w₀ i₀ file nodes 0 es at w i
       → Reading F s at₀ w₀ i₀ done at w i
-  lazy-ends {nodes = nodes} {ends} h q = left-is (edges-none 12 0 nodes nothing ends) (q .clean h)
+  lazy-end {nodes = nodes} {es} h q = left-is (edges-none 12 0 nodes nothing es) (q .clean h)
 
 -- and where one does
-pub loads-repeat : {F : Format} {s w₀ : List ℕ} {file : ℕ} {work : List ℕ} {l : Loaded} {w work′ : List ℕ} (q : Loads F s 0 w₀ 0 file work l w work′) → once (q .ends) ≡ false
+pub loads-repeat : {F : Format} {s w₀ : List ℕ} {file : ℕ} {work : List ℕ} {l : Loaded} {w work′ : List ℕ} (q : Loads F s 0 w₀ 0 file work l w work′) → once (q .es) ≡ false
     → (decode F s ≡ bad 5) × (file ≡ file)
 loads-repeat {F} {s} {w₀} {file} {l = l} {w} q h = judged-bad (settle (l .part) (q .part))
   where
-    settle : (p : Part) → LazyPart F s 0 w₀ 0 file (q .nodes) (q .ends) p w → Refuses F s 0 file (DuplicateEdge file)
+    settle : (p : Part) → LazyPart F s 0 w₀ 0 file (q .nodes) (q .es) p w → Refuses F s 0 file (DuplicateEdge file)
     settle (part-is.Upto at i) p = p .dirty h
     settle (part-is.Refused x) p = p .1 h
 
 -- a refusal that stands where no edge stands twice
 pub loads-wrong : {F : Format} {s w₀ : List ℕ} {file : ℕ} {work : List ℕ} {l : Loaded} {w work′ : List ℕ} {x : Refusal} (q : Loads F s 0 w₀ 0 file work l w work′)
-    → once (q .ends) ≡ true → l .part ≡ part-is.Refused x → Judges (decode F s) file (l .part) w₀ w
+    → once (q .es) ≡ true → l .part ≡ part-is.Refused x → Judges (decode F s) file (l .part) w₀ w
 loads-wrong q h e = let p = rw e at (q .part) in rw e (judged-bad (p .0 h))
 
 -- a record up to its labels, its edges, and the end of its labels

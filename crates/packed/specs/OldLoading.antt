@@ -30,23 +30,23 @@ pub record RanksKept (es : List ℕ) (k : ℕ) (work work′ : List ℕ) : Type 
   pub few : k ≤ 8192
 
 -- a reader of F that stands before m edges more, or would, if none of those read so far stood twice; else F is refused by 5
-pub record Lazily (F : Format) (s : List ℕ) (at₀ : ℕ) (w₀ : List ℕ) (i₀ file nodes m : ℕ) (ends : List ℕ) (at : ℕ) (w : List ℕ) (i : ℕ) : Type 0 where
-  pub clean : once ends ≡ true → Reading F s at₀ w₀ i₀ (edges 12 0 nodes nothing m ends) at w i
-  pub dirty : once ends ≡ false → Refuses F s at₀ file (DuplicateEdge file)
+pub record Lazily (F : Format) (s : List ℕ) (at₀ : ℕ) (w₀ : List ℕ) (i₀ file nodes m : ℕ) (es : List ℕ) (at : ℕ) (w : List ℕ) (i : ℕ) : Type 0 where
+  pub clean : once es ≡ true → Reading F s at₀ w₀ i₀ (edges 12 0 nodes nothing m es) at w i
+  pub dirty : once es ≡ false → Refuses F s at₀ file (DuplicateEdge file)
   pub inside : at ≤ 8 * length s
   pub few : i ≤ at
 
 abbrev pub LazyPart : Format → List ℕ → ℕ → List ℕ → ℕ → ℕ → ℕ → List ℕ → Part → List ℕ → Type 0
-LazyPart F s at₀ w₀ i₀ file nodes ends (part-is.Upto at i) w = Lazily F s at₀ w₀ i₀ file nodes 0 ends at w i
-LazyPart F s at₀ w₀ i₀ file nodes ends (part-is.Refused x) w =
-    (once ends ≡ true → Refuses F s at₀ file x) × (once ends ≡ false → Refuses F s at₀ file (DuplicateEdge file))
+LazyPart F s at₀ w₀ i₀ file nodes es (part-is.Upto at i) w = Lazily F s at₀ w₀ i₀ file nodes 0 es at w i
+LazyPart F s at₀ w₀ i₀ file nodes es (part-is.Refused x) w =
+    (once es ≡ true → Refuses F s at₀ file x) × (once es ≡ false → Refuses F s at₀ file (DuplicateEdge file))
 
 -- what a reader of F, which ends with the edges of a record, leaves
 pub record Loads (F : Format) (s : List ℕ) (at₀ : ℕ) (w₀ : List ℕ) (i₀ file : ℕ) (work : List ℕ) (r : Loaded) (w work′ : List ℕ) : Type 0 where
   pub nodes : ℕ
-  pub ends : List ℕ
-  pub kept : RanksKept ends (r .edges) work work′
-  pub part : LazyPart F s at₀ w₀ i₀ file nodes ends (r .part) w
+  pub es : List ℕ
+  pub kept : RanksKept es (r .edges) work work′
+  pub part : LazyPart F s at₀ w₀ i₀ file nodes es (r .part) w
 
 -- the ranks of m edges whose ends stand from the bit offset start on are at the front of the workspace
 pub record RanksAt (s : List ℕ) (start m : ℕ) (w w′ : List ℕ) : Type 0 where

@@ -109,7 +109,7 @@ fn gather_sheet(s: &[u8], start: usize, m: u32, work: &mut [u32], g: Gather) -> 
     }
 }
 
-// The different pairs of a book whose views have so many edges, ascending at the front of the workspace, and their number.
+// The different pairs of a book whose views have so many edges, ascending at the front of the workspace, and their number; past 8,192 only that it is more.
 pub fn gather_book(s: &[u8], counts: [u32; 16], k: usize, work: &mut [u32]) -> usize
     requires { ⌜ (length (now s) ≤ bookMost) × (k ≤ 16) × Small counts × (length (now work) ≡ workspace) ⌝ }
     ensures { λ r. ⌜ Different (bookPairs (now (s .entry)) 0 (take k counts)) r (now (work .exit)) ⌝ }
@@ -169,7 +169,7 @@ fn gather_list_fields(words: &[u32], first: usize, m: u32, work: &mut [u32], g: 
     Walk { at, gather: sofar }
 }
 
-// The different pairs of a book among fields, whose views have so many edges, ascending at the front of the workspace, and their number.
+// The same of a book among fields.
 pub(crate) fn gather_fields(words: &[u32], counts: [u32; 16], k: usize, work: &mut [u32]) -> usize
     requires { ⌜ (k ≤ 16) × Small counts × (length (now work) ≡ workspace) ⌝ }
     ensures { λ r. ⌜ Different (bookPairsFrom (now (words .entry)) 0 (take k counts)) r (now (work .exit)) ⌝ }

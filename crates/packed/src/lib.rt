@@ -148,7 +148,7 @@ pub fn write_book(catalogue: &[u8], fields: &[u32], out: &mut [u8], work: &mut [
     r
 }
 
-// Sorts the edges of a record that was stored before they stood in order: writes the record.
+// Sorts the edges of a record that was stored before they had kinds, or even an order: writes the record.
 pub fn sort_record(old: &[u8], out: &mut [u8], work: &mut [u32]) -> Reply
     ensures { λ r. ⌜ OneOutput (recordSorted (now (old .entry))) (replyTold r) (now (out .entry)) (now (out .exit)) (now (work .entry)) (now (work .exit)) ⌝ }
 {

@@ -39,7 +39,9 @@ pub const NODES: u32 = NODES_MOST;
 pub const PAIRS: u32 = NODES * NODES;
 
 // The kind of an edge, in patterns and in records: how many there are, and the bits of one.
-pub const KINDS: u32 = 8;
+pub const KINDS_MOST: u32 = 8;
+
+pub const KINDS: u32 = KINDS_MOST;
 
 pub const KIND_WIDTH: u32 = 3;
 

@@ -12,7 +12,7 @@ pub enum Refusal {
     OutOfRange(u32),
     // 4, stray: an edge's end is not a node
     NoSuchNode(u32),
-    // 5, twice: an edge of a pattern repeats an earlier one; so does one of a record that was stored before its edges stood in order
+    // 5, twice: an edge of a pattern repeats an earlier one; so does one of a record that was stored before its edges had kinds, or even an order
     DuplicateEdge(u32),
     // 6, order: a pair of a sheet or an edge of a record doesn't exceed the one before
     NotAscending(u32),

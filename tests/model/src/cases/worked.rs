@@ -341,7 +341,7 @@ fn ring_record(script: &mut Script) {
     keep_as(script, RECORD_PART);
 }
 
-/// The most items and links, of every kind.
+/// The most items and links, items of every kind.
 fn full_record(script: &mut Script) {
     let drawn = crate::rule::Drawn { items: 4_096, links: 8_192, item_form: 4, link_form: 6, ..Default::default() };
     script.record(drawn, true);

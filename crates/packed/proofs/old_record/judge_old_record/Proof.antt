@@ -3,7 +3,7 @@ use native.Mathlib.Omega.{arith}
 use Rattle.packed.specs.OldRecord.{oldRecord}
 use Rattle.packed.proofs.OldRecords.{kept-once, kept-twice}
 use Rattle.packed.proofs.OldGraphLaws.{orders-by}
-use Rattle.packed.proofs.OldLoadingLaws.{loads-repeat, loads-wrong, lazy-ends}
+use Rattle.packed.proofs.OldLoadingLaws.{loads-repeat, loads-wrong, lazy-end}
 use borrow.Author.Needs.{needs}
 use Rattle.packed.proofs.old_record.judge_old_record.Statement.{statement}
 use Rattle.packed.proofs.old_record.judge_old_record.Tie as tie
@@ -81,7 +81,7 @@ returns-3 c =
     let d = rw (p .given .1) at (e .1) in
     let t = repeats .ensures in
     let j = c .close-file .ensures oldRecord _ _
-    (lazy-ends (kept-once (omega (arith, pre .1)) (l .kept) (t .0) (if1 .left)) q) in
+    (lazy-end (kept-once (omega (arith, pre .1)) (l .kept) (t .0) (if1 .left)) q) in
     (j, orders-by (c .close-file .result) (a .s .now) (a .words .now) (read-fields .last .1 .0) 3 j (omega (arith, pre .1)) d (t .1))
 
 pub judge-old-record-spec : {M : Type 1} → statement M
