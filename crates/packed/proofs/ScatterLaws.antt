@@ -4,7 +4,7 @@ use mathlib.Core.Path.{_≡_, refl, ap, ap₂, sym, _∙_}
 use mathlib.Core.Logic.{⊎-elim}
 use mathlib.Core.List.{List, [], _++_, append-assoc, append-nil}
 use mathlib.Core.Bool.{Bool, true, false}
-use lib.ListN.{length, getD, set, replicate, length-append, length-set, length-replicate, getD-replicate}
+use lib.ListN.{length, getD, set, replicate, length-append, length-set, length-replicate}
 use lib.Seq.{sets, getD-set-same, getD-set-other}
 use native.Mathlib.Omega.{arith}
 use native.Mathlib.Nat.{add-zero, add-suc, div-one}
@@ -17,6 +17,7 @@ use Rattle.packed.proofs.BitsLaws.{length-bitsOf}
 use Rattle.packed.proofs.SetBits.{Next, no-bits, bit-low, bit-high}
 use Rattle.packed.proofs.OrderCases.{lt-or-ge, eq-or-ne}
 use Rattle.packed.proofs.Sets.{sets-append, sets-swap}
+use Rattle.packed.proofs.ByValueLaws.{nothing-at}
 use Rattle.packed.proofs.SheetLaws.{length-pairBits}
 use Rattle.packed.proofs.MatchLaws.{under as listed, listsOf, pickOne, under-more, length-more, lists-next, bits-next, pairs-next, names, names-not, counts-few}
 
@@ -154,10 +155,12 @@ start-most (suc e) c h = omega (arith, start-most e c h, h e)
 pub counts-begin : (c b ps : List ℕ) → ps ≡ replicate 32 0 → CountsWritten 0 c b ps 1 b
 unfolding listStart laid
 counts-begin c b ps h =
+    let z : (e : ℕ) → getD ps e 0 ≡ 0 = λ e. ap (λ (x : List ℕ). getD x e 0) h ∙ nothing-at 32 e in
     record {
       long = ap length h ∙ length-replicate {A = ℕ} 32 0;
-      most = λ e l. omega (arith, ap (λ (x : List ℕ). getD x e 0) h ∙ getD-replicate 32 e 0 0 l);
+      most = λ e l. omega (arith, z e);
       places = λ e l. absurd (omega arith);
+      rest = λ e l. z e;
       holds = refl;
       next = refl;
     }
@@ -186,6 +189,7 @@ counts-put {e} {c} {b₀} {ps} {at} {b} b′ t l h q =
       places = below-more (λ j. getD (set ps e (at + 14)) j 0 ≡ listStart j c + 14) e
           (λ j r. getD-set-other ps e j (at + 14) 0 (λ u. omega arith) ∙ t .places j r)
           (getD-set-same ps e (at + 14) 0 (omega (arith, t .long)) ∙ omega (arith, t .next));
+      rest = λ j r. getD-set-other ps e j (at + 14) 0 (λ u. omega arith) ∙ t .rest j (omega arith);
       holds =
           q
           ∙ ap₂ (λ (x : List Bool) (k : ℕ). sets x k (bitsOf 14 (getD c e 0))) (t .holds) (t .next)

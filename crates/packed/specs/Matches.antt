@@ -125,11 +125,12 @@ scatters zero m w to b = b
 scatters (suc i) m w to b =
     scatter m (λ e. to e + 24 * length (marked e (codesOf i w) (masksOf i w))) (getD w (8192 + i) 0) (pairIn (getD w i 0)) (scatters i m w to b)
 
--- the counts stand, and each list has a place behind its own
+-- the counts stand, and each list has a place behind its own; the other places are zero
 pub record CountsWritten (m : ℕ) (c out ps : List ℕ) (r : ℕ) (out′ : List ℕ) : Type 0 where
   pub long : length ps ≡ 32
   pub most : (e : ℕ) → e < 32 → getD ps e 0 ≤ 2 ^ 39
   pub places : (e : ℕ) → e < m → getD ps e 0 ≡ listStart e c + 14
+  pub rest : (e : ℕ) → m ≤ e → getD ps e 0 ≡ 0
   pub holds : bits out′ ≡ laid m (λ e. []) c (bits out)
   pub next : r ≡ listStart m c
 

@@ -152,8 +152,8 @@ fn no_places() -> [usize; 32]
     [0usize; 32]
 }
 
-// The counts of the first m lists, each where its list begins; a list's place is then behind its count. The result is the bit offset
-// after the lists.
+// The counts of the first m lists, each where its list begins; a list's place is then behind its count, and the other places
+// stay zero. The result is the bit offset after the lists.
 fn write_counts(c: [u32; 32], m: u32, places: &mut [usize; 32], out: &mut [u8]) -> usize
     requires { ⌜ (m ≤ 32) × ((e : ℕ) → getD c e 0 ≤ 8192) × (now places ≡ replicate 32 0) ⌝ }
     ensures { λ r. ⌜ CountsWritten m c (now (out .entry)) (now (places .exit)) r (now (out .exit)) ⌝ }
