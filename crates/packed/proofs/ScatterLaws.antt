@@ -12,7 +12,7 @@ use native.Mathlib.Numerals.{add-one}
 use borrow.Author.Count.{below-more}
 use Rattle.packed.specs.Bits.{bits, bitsOf}
 use Rattle.packed.specs.Format.{pick}
-use Rattle.packed.specs.Matches.{marks, marked, markedFrom, pairIn, Marked, Counts, pairBits, codedList, listStart, laid, scatter, scatters, CountsWritten, PairPut, ListsWritten}
+use Rattle.packed.specs.Matches.{marks, marked, markedFrom, pairIn, Marked, Counts, pairBits, codedList, listStart, laid, scatter, scatters, CountsWritten, PairPut, PairsWritten, ListsWritten}
 use Rattle.packed.proofs.BitsLaws.{length-bitsOf}
 use Rattle.packed.proofs.SetBits.{Next, no-bits, bit-low, bit-high}
 use Rattle.packed.proofs.OrderCases.{lt-or-ge, eq-or-ne}
@@ -104,15 +104,13 @@ putting-end {x} {v} {ps₀} {b₀} {ps} {b} {k} {left} t z =
 
 -- the pairs before i stand in the lists of the first m edges
 pub record Scattering (i m : ℕ) (w ps₀ b₀ ps b : List ℕ) : Type 0 where
-  pub long : length ps ≡ 32
   pub size : length b ≡ length b₀
   pub most : (e : ℕ) → e < 32 → getD ps e 0 ≤ 2 ^ 39 + 24 * i
-  pub places : (e : ℕ) → e < m → getD ps e 0 ≡ getD ps₀ e 0 + 24 * length (listed e i w)
-  pub holds : bits b ≡ scatters i m w (λ e. getD ps₀ e 0) (bits b₀)
+  pub written : PairsWritten i m w ps₀ b₀ ps b
 
 pub scattering-start : (m : ℕ) (w ps b : List ℕ) → length ps ≡ 32 → ((e : ℕ) → e < 32 → getD ps e 0 ≤ 2 ^ 39) → Scattering 0 m w ps b ps b
 unfolding scatters marked
-scattering-start m w ps b l h = record { long = l; size = refl; most = λ e q. omega (arith, h e q); places = λ e q. omega arith; holds = refl }
+scattering-start m w ps b l h = record { size = refl; most = λ e q. omega (arith, h e q); written = record { long = l; moved = λ e q. omega arith; rest = λ e q z. refl; holds = refl } }
 
 marks-low : (x m e : ℕ) → e < m → marks e (x % 2 ^ m) ≡ marks e x
 unfolding marks
@@ -132,17 +130,21 @@ unfolding scatters
 scattering-next {i} {m} {w} {ps₀} {b₀} {ps} {b} {ps′} {b′} t h l s r p =
     let x : ℕ = getD w (8192 + i) 0 in
     let v : ℕ = pairIn (getD w i 0) in
+    let u = t .written in
     record {
-      long = p .long ∙ t .long;
       size = s ∙ t .size;
       most = λ e q. omega (arith, p .moved e q, t .most e q);
-      places = λ e q. omega (arith, p .moved e (omega arith), t .places e q, length-more e i w l, bit-low x m e q);
-      holds =
-          p .holds
-          ∙ scatter-low m (λ e. getD ps e 0) x v (bits b) h r
-          ∙ scatter-same m (λ e. getD ps e 0) (λ e. getD ps₀ e 0 + 24 * length (listed e i w)) x x v (bits b) (t .places) (λ e q. refl)
-          ∙ ap (scatter m (λ e. getD ps₀ e 0 + 24 * length (listed e i w)) x v) (t .holds)
-          ∙ ap (λ (k : ℕ). scatters k m w (λ e. getD ps₀ e 0) (bits b₀)) (sym (add-one i));
+      written = record {
+        long = p .long ∙ u .long;
+        moved = λ e q. omega (arith, p .moved e (omega arith), u .moved e q, length-more e i w l, bit-low x m e q);
+        rest = λ e q z. omega (arith, p .moved e z, u .rest e q z, bit-high (x % 2 ^ m) m e r q);
+        holds =
+            p .holds
+            ∙ scatter-low m (λ e. getD ps e 0) x v (bits b) h r
+            ∙ scatter-same m (λ e. getD ps e 0) (λ e. getD ps₀ e 0 + 24 * length (listed e i w)) x x v (bits b) (u .moved) (λ e q. refl)
+            ∙ ap (scatter m (λ e. getD ps₀ e 0 + 24 * length (listed e i w)) x v) (u .holds)
+            ∙ ap (λ (k : ℕ). scatters k m w (λ e. getD ps₀ e 0) (bits b₀)) (sym (add-one i));
+      };
     }
 
 -- ---- the counts

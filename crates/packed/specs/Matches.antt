@@ -140,6 +140,13 @@ pub record PairPut (x v : ℕ) (ps out ps′ out′ : List ℕ) : Type 0 where
   pub moved : (e : ℕ) → e < 32 → getD ps′ e 0 ≡ getD ps e 0 + 24 * (x / 2 ^ e % 2)
   pub holds : bits out′ ≡ scatter 32 (λ e. getD ps e 0) x v (bits out)
 
+-- the first n pairs stand in the lists of the first m edges, whose places have moved on by them; the other places are as they were
+pub record PairsWritten (n m : ℕ) (w ps out ps′ out′ : List ℕ) : Type 0 where
+  pub long : length ps′ ≡ 32
+  pub moved : (e : ℕ) → e < m → getD ps′ e 0 ≡ getD ps e 0 + 24 * length (marked e (codesOf n w) (masksOf n w))
+  pub rest : (e : ℕ) → m ≤ e → e < 32 → getD ps′ e 0 ≡ getD ps e 0
+  pub holds : bits out′ ≡ scatters n m w (λ e. getD ps e 0) (bits out)
+
 -- the lists stand behind the lead
 pub record ListsWritten (n m : ℕ) (w out : List ℕ) (r : ℕ) (out′ : List ℕ) : Type 0 where
   pub holds : bits out′ ≡ sets (bits out) 1 (codedList (markedFrom 0 m (codesOf n w) (masksOf n w)))

@@ -4,10 +4,9 @@ ghost use mathlib.Core.Path.{_≡_};
 ghost use Prim.Native.Nat.{ℕ, _*_, _%_, _^_, _<_, _≤_};
 ghost use lib.ListN.{length, getD, replicate};
 ghost use mathlib.Core.List.{List};
-ghost use Rattle.packed.specs.Bits.{bits};
 ghost use Rattle.packed.specs.Format.{encode, ok};
 ghost use Rattle.packed.specs.Formats.{sheet};
-ghost use Rattle.packed.specs.Matches.{matchesOf, Marked, Counts, SheetWritten, Added, CountsWritten, PairPut, scatters, ListsWritten, ListingWritten, Listed, anyZero, sumOf};
+ghost use Rattle.packed.specs.Matches.{matchesOf, Marked, Counts, SheetWritten, Added, CountsWritten, PairPut, PairsWritten, ListsWritten, ListingWritten, Listed, anyZero, sumOf};
 ghost use Rattle.packed.specs.Contents.{pairCount, sheetFields, sheetLength};
 ghost use Rattle.packed.specs.Refusals.{replyTold};
 ghost use Rattle.packed.specs.Calls.{Fulfils, fitFile};
@@ -187,10 +186,10 @@ fn put_pair(x: u32, v: u32, places: &mut [usize; 32], out: &mut [u8])
     }
 }
 
-// The n pairs go to the places of the first m lists.
+// The n pairs go to the places of the first m lists, which move on.
 fn write_pairs(work: &[u32], n: usize, m: u32, places: &mut [usize; 32], out: &mut [u8])
     requires { ⌜ Marked n (now work) × (m ≤ 32) × (length (now places) ≡ 32) × ((e : ℕ) → e < 32 → getD (now places) e 0 ≤ 2 ^ 39) ⌝ }
-    ensures { λ r. ⌜ bits (now (out .exit)) ≡ scatters n m (now (work .entry)) (λ e. getD (now (places .entry)) e 0) (bits (now (out .entry))) ⌝ }
+    ensures { λ r. ⌜ PairsWritten n m (now (work .entry)) (now (places .entry)) (now (out .entry)) (now (places .exit)) (now (out .exit)) ⌝ }
 {
     let mut i: usize = 0;
     while i < n {

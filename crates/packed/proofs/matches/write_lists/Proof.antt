@@ -25,7 +25,7 @@ returns c =
     let pre = c .before .before .before .before .before .before .before .before .before .before .before .before .before .pre in
     let write-counts = c .before .before .before .before .before .before .before .write-counts in
     let write-pairs = c .before .before .write-pairs in
-    lists-written _ _ _ (pre .1) (pre .0) (pre .2) (write-counts .ensures) (write-pairs .ensures)
+    lists-written _ _ _ (pre .1) (pre .0) (pre .2) (write-counts .ensures) (write-pairs .ensures .holds)
 
 pub write-lists-spec : {M : Type 1} → statement M
 write-lists-spec =

@@ -41,7 +41,7 @@ put-pair-requires : tie.Need-put-pair-requires Inv-loop μ-loop
 put-pair-requires c κs =
     let pre = c .before .before .before .before .before .before .before .before .before .pre in
     let loop = c .before .before .before .before .before .before .loop in
-    (omega arith, loop .inv .1 .long, λ e l. omega (arith, loop .inv .1 .most e l, pre .0 .most))
+    (omega arith, loop .inv .1 .written .long, λ e l. omega (arith, loop .inv .1 .most e l, pre .0 .most))
 
 add-i : tie.Need-add-i Inv-loop μ-loop
 add-i c = search needs
@@ -63,7 +63,7 @@ same-length c = search needs
 returns : tie.Need-returns Inv-loop μ-loop
 returns c =
     let e : c .before .loop .i ≡ c .before .before .before .before .args .n = omega arith in
-    rw (← e) (c .before .loop .inv .1 .holds)
+    rw (← e) (c .before .loop .inv .1 .written)
 
 pub write-pairs-spec : {M : Type 1} → statement M
 write-pairs-spec =
