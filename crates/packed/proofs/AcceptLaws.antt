@@ -14,7 +14,7 @@ use Rattle.packed.specs.Calls.{Verdict, readPattern}
 use Rattle.packed.specs.Accepting.{Held, HoldsViews}
 use Rattle.packed.specs.declared.by_value.Pattern.{Pattern}
 use Rattle.packed.proofs.AcceptedBounds.{pattern-bounds, catalogue-bounds}
-use Rattle.packed.proofs.CallLaws.{Finds, accepted-by, read-says, front-is, counts-are, counts-small}
+use Rattle.packed.proofs.CallLaws.{Finds, accepted-by, read-says, front-is, counts-are, counts-rest, counts-small}
 
 -- the content stands in the words that it was read into
 held-by : {H : List ℕ → Type 0} {v : Verdict} {r : Result ℕ} {file n : ℕ} {w w′ : List ℕ} (c : Content r n w w′) → n ≤ length w → Finds v file r → length w′ ≡ length w
@@ -48,7 +48,13 @@ views-held s {k = k} c room e m =
     let b = catalogue-bounds s (c .fields) (c .is) in
     let f = rw (front-is c room) at m in
     let g = rw (front-is c room) at e in
-    record { number = g; few = omega (arith, g, b .0); are = counts-are f (b .0) k (b .1) g; small = counts-small f (b .0) (b .2) }
+    record {
+      number = g;
+      few = omega (arith, g, b .0);
+      are = counts-are f (b .0) k (b .1) g;
+      rest = λ j h. counts-rest f (b .0) (b .1) j (omega (arith, g));
+      small = counts-small f (b .0) (b .2);
+    }
 
 pub catalogue-held : (s : List ℕ) {v : Verdict} {file n k : ℕ} {w w′ counts : List ℕ} (c : Content (decode catalogue s) n w w′) → n ≤ length w
     → Finds v file (decode catalogue s) → length w′ ≡ length w → k ≡ getD (take (n - 0) (drop 0 w′)) 0 0 → CountTable (take (n - 0) (drop 0 w′)) counts

@@ -25,6 +25,7 @@ use Rattle.packed.specs.declared.reply.Reply.{Reply}
 use Rattle.packed.specs.declared.reply.Reply.the-variants as reply-is
 use Rattle.packed.specs.declared.reply.Part.{Part}
 use Rattle.packed.specs.declared.reply.Part.the-variants as part-is
+use Rattle.packed.proofs.ByValueLaws.{nothing-at}
 use Rattle.packed.proofs.Sets.{sets-front}
 
 -- ---- verdicts
@@ -203,16 +204,19 @@ module _ {ws counts : List ℕ} (c : CountTable ws counts) (few : getD ws 0 0 �
   pub counts-are : (k : ℕ) → length (edgeCounts ws) ≡ getD ws 0 0 → k ≡ getD ws 0 0 → take k counts ≡ edgeCounts ws
   counts-are k l e = ap (take k) (c .is few) ∙ take-at (edgeCounts ws) (replicate (16 - getD ws 0 0) 0) k (omega arith)
 
+  pub counts-rest : length (edgeCounts ws) ≡ getD ws 0 0 → (j : ℕ) → getD ws 0 0 ≤ j → getD counts j 0 ≡ 0
+  counts-rest l j h = rw (c .is few) (behind (edgeCounts ws) (16 - getD ws 0 0) j (omega arith))
+    where
+      behind : (ms : List ℕ) (n j : ℕ) → length ms ≤ j → getD (ms ++ replicate n 0) j 0 ≡ 0
+      behind [] n j h = nothing-at n j
+      behind (m ∷ ms) n zero h = absurd (omega arith)
+      behind (m ∷ ms) n (suc j) h = behind ms n j (omega arith)
+
   pub counts-small : ((j : ℕ) → getD (edgeCounts ws) j 0 ≤ 32) → Small counts
   counts-small h j = rw (c .is few) (padded (edgeCounts ws) (16 - getD ws 0 0) j h)
     where
-      zero-at : (n j : ℕ) → getD (replicate n 0) j 0 ≤ 32
-      zero-at zero j = omega arith
-      zero-at (suc n) zero = omega arith
-      zero-at (suc n) (suc j) = zero-at n j
-
       padded : (ms : List ℕ) (n j : ℕ) → ((j : ℕ) → getD ms j 0 ≤ 32) → getD (ms ++ replicate n 0) j 0 ≤ 32
-      padded [] n j h = zero-at n j
+      padded [] n j h = omega (arith, nothing-at n j)
       padded (m ∷ ms) n zero h = h 0
       padded (m ∷ ms) n (suc j) h = padded ms n j (λ i. h (suc i))
 

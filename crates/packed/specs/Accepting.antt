@@ -2,7 +2,7 @@
 use Prim.Native.Nat.{ℕ, _≤_}
 use mathlib.Core.Path.{_≡_}
 use mathlib.Core.List.{List}
-use lib.ListN.{length, take, getD}
+use lib.ListN.{length, take, getD, replicate}
 use lib.Seq.{sets}
 use Rattle.packed.specs.Contents.{edgeCounts}
 use Rattle.packed.specs.ByValue.{Small}
@@ -37,13 +37,19 @@ pub record Held (H : List ℕ → Type 0) (v : Verdict) (n : ℕ) (w : List ℕ)
   pub front : take n w ≡ fields
   pub holds : H fields
 
-abbrev pub AcceptsWith : (List ℕ → Type 0) → Verdict → Reply → List ℕ → Type 0
-AcceptsWith H v (reply-is.Done n) w = Held H v n w
-AcceptsWith H v (reply-is.Refused x) w = v ≡ rejected (numberOf x) (detailOf x)
+-- a file was accepted, with H of its content; or refused, and then what is given beside the verdict is empty, as E says
+abbrev pub AcceptsWith : (List ℕ → Type 0) → Type 0 → Verdict → Reply → List ℕ → Type 0
+AcceptsWith H E v (reply-is.Done n) w = Held H v n w
+AcceptsWith H E v (reply-is.Refused x) w = (v ≡ rejected (numberOf x) (detailOf x)) × E
 
--- the k views of a catalogue with the content cs, and the numbers of their edges, in a table
+-- the k views of a catalogue with the content cs, and the numbers of their edges, in a table that is zero beyond them
 pub record HoldsViews (cs : List ℕ) (k : ℕ) (counts : List ℕ) : Type 0 where
   pub number : k ≡ getD cs 0 0
   pub few : k ≤ 16
   pub are : take k counts ≡ edgeCounts cs
+  pub rest : (j : ℕ) → k ≤ j → getD counts j 0 ≡ 0
   pub small : Small counts
+
+-- no views, and a table that is zero
+abbrev pub NoViews : ℕ → List ℕ → Type 0
+NoViews k counts = (k ≡ 0) × (counts ≡ replicate 16 0)

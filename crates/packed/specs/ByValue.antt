@@ -1,7 +1,7 @@
 -- inner: a pattern's fields by value, and the numbers of edges of a catalogue's views in a table.
 use Prim.Native.Nat.{ℕ, _+_, _-_, _*_, _<_, _≤_}
 use mathlib.Core.Path.{_≡_}
-use mathlib.Core.List.{List, _++_}
+use mathlib.Core.List.{List, [], _∷_, _++_}
 use lib.ListN.{length, getD, replicate}
 use Rattle.packed.specs.Contents.{nodesOf, edgesOf, edgeCounts}
 use Rattle.packed.specs.declared.by_value.Pattern.{Pattern}
@@ -20,6 +20,10 @@ pub record HoldsPattern (ws : List ℕ) (p : Pattern) : Type 0 where
   pub from : Spread ws (2 + nodesOf ws) 3 (edgesOf ws) 32 (p .from)
   pub to : Spread ws (3 + nodesOf ws) 3 (edgesOf ws) 32 (p .to)
   pub kind : Spread ws (4 + nodesOf ws) 3 (edgesOf ws) 32 (p .kind)
+
+-- the pattern without nodes and edges, whose tables are zero
+abbrev pub NoPattern : Pattern → Type 0
+NoPattern p = HoldsPattern (0 ∷ 0 ∷ []) p
 
 -- the numbers of edges, in a table of 16
 pub record CountTable (ws r : List ℕ) : Type 0 where

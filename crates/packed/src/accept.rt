@@ -6,9 +6,9 @@ ghost use lib.ListN.{length, take};
 ghost use Rattle.packed.specs.Format.{decode};
 ghost use Rattle.packed.specs.Formats.{sheet, book};
 ghost use Rattle.packed.specs.OldRecord.{oldRecord, readOldRecord};
-ghost use Rattle.packed.specs.ByValue.{HoldsPattern};
+ghost use Rattle.packed.specs.ByValue.{HoldsPattern, NoPattern};
 ghost use Rattle.packed.specs.Calls.{readFile, readPattern, readCatalogue, readRecord};
-ghost use Rattle.packed.specs.Accepting.{replyOf, AcceptsFile, AcceptsWith, HoldsViews};
+ghost use Rattle.packed.specs.Accepting.{replyOf, AcceptsFile, AcceptsWith, HoldsViews, NoViews};
 ghost use Rattle.packed.specs.LoadedGraph.{WordsLoaded};
 ghost use Rattle.packed.specs.OldLoading.{Orders};
 use crate::by_value;
@@ -23,13 +23,13 @@ use crate::reply::Refusal;
 use crate::reply::Reply;
 use crate::sheet;
 
-// A pattern's verdict, how many fields it has or why it is refused; and the pattern by value, where it is accepted.
+// A pattern's verdict, how many fields it has or why it is refused; and the pattern by value, the empty one where it is refused.
 pub struct PatternFile {
     pub verdict: Reply,
     pub pattern: Pattern,
 }
 
-// A catalogue's verdict, and, where it is accepted, how many views it has and how many edges each.
+// A catalogue's verdict, and how many views it has and how many edges each: none where it is refused.
 pub struct CatalogueFile {
     pub verdict: Reply,
     pub views: usize,
@@ -37,7 +37,7 @@ pub struct CatalogueFile {
 }
 
 fn refused_pattern(x: Refusal) -> PatternFile
-    ensures { λ r. ⌜ r .verdict ≡ Reply.Refused x ⌝ }
+    ensures { λ r. ⌜ (r .verdict ≡ Reply.Refused x) × NoPattern (r .pattern) ⌝ }
 {
     PatternFile {
         verdict: Reply::Refused(x),
@@ -48,7 +48,7 @@ fn refused_pattern(x: Refusal) -> PatternFile
 // A pattern: its content stands at the front of the workspace.
 pub fn accept_pattern(s: &[u8], work: &mut [u32]) -> PatternFile
     requires { ⌜ length (now work) ≡ 16384 ⌝ }
-    ensures { λ r. ⌜ AcceptsWith (λ ws. HoldsPattern ws (r .pattern)) (readPattern (now (s .entry))) (r .verdict) (now (work .exit)) ⌝ }
+    ensures { λ r. ⌜ AcceptsWith (λ ws. HoldsPattern ws (r .pattern)) (NoPattern (r .pattern)) (readPattern (now (s .entry))) (r .verdict) (now (work .exit)) ⌝ }
 {
     if limits::PATTERN_MOST < s.len() {
         return refused_pattern(Refusal::TooLong(1));
@@ -64,7 +64,7 @@ pub fn accept_pattern(s: &[u8], work: &mut [u32]) -> PatternFile
 }
 
 fn refused_catalogue(x: Refusal) -> CatalogueFile
-    ensures { λ r. ⌜ r .verdict ≡ Reply.Refused x ⌝ }
+    ensures { λ r. ⌜ (r .verdict ≡ Reply.Refused x) × NoViews (r .views) (r .edges) ⌝ }
 {
     CatalogueFile {
         verdict: Reply::Refused(x),
@@ -76,7 +76,7 @@ fn refused_catalogue(x: Refusal) -> CatalogueFile
 // A catalogue: its content stands at the front of the workspace.
 pub fn accept_catalogue(s: &[u8], work: &mut [u32]) -> CatalogueFile
     requires { ⌜ length (now work) ≡ 16384 ⌝ }
-    ensures { λ r. ⌜ AcceptsWith (λ ws. HoldsViews ws (r .views) (r .edges)) (readCatalogue (now (s .entry))) (r .verdict) (now (work .exit)) ⌝ }
+    ensures { λ r. ⌜ AcceptsWith (λ ws. HoldsViews ws (r .views) (r .edges)) (NoViews (r .views) (r .edges)) (readCatalogue (now (s .entry))) (r .verdict) (now (work .exit)) ⌝ }
 {
     if limits::CATALOGUE_MOST < s.len() {
         return refused_catalogue(Refusal::TooLong(2));

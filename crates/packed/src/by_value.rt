@@ -4,7 +4,7 @@ ghost use Prim.Native.Nat.{_+_, _*_, _≤_};
 ghost use lib.ListN.{length, replicate};
 ghost use Rattle.packed.specs.Bits.{field};
 ghost use Rattle.packed.specs.Contents.{nodesOf, edgesOf};
-ghost use Rattle.packed.specs.ByValue.{Spread, HoldsPattern};
+ghost use Rattle.packed.specs.ByValue.{Spread, HoldsPattern, NoPattern};
 use crate::bits;
 use crate::limits;
 
@@ -31,7 +31,9 @@ fn no_ends() -> [u32; 32]
     [0u32; 32]
 }
 
-pub fn no_pattern() -> Pattern {
+pub fn no_pattern() -> Pattern
+    ensures { λ r. ⌜ NoPattern r ⌝ }
+{
     Pattern {
         labels: no_labels(),
         from: no_ends(),

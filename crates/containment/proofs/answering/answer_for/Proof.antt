@@ -28,7 +28,7 @@ returns c =
     let accept-catalogue = c .before .before .before .before .before .accept-catalogue in
     let a = args in
     let e = c .enum-told2 .given .1 in
-    λ t. rw e (body-refused (bookMade (wholeOrChosen (a .whole) (a .set)) (t .content) (a .book .now) (length (a .out .now))) (a .out .now) refl (c .enum-told2 .given .0 .0) (rw e at (accept-catalogue .ensures)))
+    λ t. rw e (body-refused (bookMade (wholeOrChosen (a .whole) (a .set)) (t .content) (a .book .now) (length (a .out .now))) (a .out .now) refl (c .enum-told2 .given .0 .0) ((rw e at (accept-catalogue .ensures)) .0))
 
 map-views-requires : tie.Need-map-views-requires
 map-views-requires c κs =

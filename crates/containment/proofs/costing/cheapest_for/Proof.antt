@@ -24,7 +24,7 @@ returns c =
     let accept-catalogue = c .before .before .before .before .before .accept-catalogue in
     let verdict = c .before .verdict in
     let a = args in
-    λ t. answers-refused (λ cs. cheapestFor (t .content) cs (a .charges .now)) [] (rw (verdict .given .1) at (accept-catalogue .ensures)) refl
+    λ t. answers-refused (λ cs. cheapestFor (t .content) cs (a .charges .now)) [] ((rw (verdict .given .1) at (accept-catalogue .ensures)) .0) refl
 
 enum-told : tie.Need-enum-told
 enum-told c = search needs

@@ -26,7 +26,7 @@ returns c =
     let accept-pattern = c .before .before .before .before .before .before .accept-pattern in
     let verdict = c .before .before .verdict in
     let a = args in
-    answers-refused (quoteOn (a .catalogue .now)) [] (rw (verdict .given .1) at (accept-pattern .ensures)) (c .refused .ensures)
+    answers-refused (quoteOn (a .catalogue .now)) [] ((rw (verdict .given .1) at (accept-pattern .ensures)) .0) (c .refused .ensures)
 
 enum-told : tie.Need-enum-told
 enum-told c = search needs

@@ -29,7 +29,7 @@ returns c =
     let accept-catalogue = c .before .before .before .before .before .before .accept-catalogue in
     let verdict = c .before .before .verdict in
     let a = args in
-    λ t. answers-refused (λ cs. give (flat (quoteValues everyView (patternOf (t .content)) (viewPatterns cs))) []) [] (rw (verdict .given .1) at (accept-catalogue .ensures)) (c .refused .ensures)
+    λ t. answers-refused (λ cs. give (flat (quoteValues everyView (patternOf (t .content)) (viewPatterns cs))) []) [] ((rw (verdict .given .1) at (accept-catalogue .ensures)) .0) (c .refused .ensures)
 
 enum-told : tie.Need-enum-told
 enum-told c = search needs

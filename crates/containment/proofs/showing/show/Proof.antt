@@ -24,7 +24,7 @@ returns c =
     let accept-pattern = c .before .before .before .before .before .accept-pattern in
     let verdict = c .before .verdict in
     let a = args in
-    answers-refused (showOn (a .catalogue .now) (length (a .first .now)) (length (a .second .now))) (a .first .now ∷ a .second .now ∷ []) (rw (verdict .given .1) at (accept-pattern .ensures)) refl
+    answers-refused (showOn (a .catalogue .now) (length (a .first .now)) (length (a .second .now))) (a .first .now ∷ a .second .now ∷ []) ((rw (verdict .given .1) at (accept-pattern .ensures)) .0) refl
 
 enum-told : tie.Need-enum-told
 enum-told c = search needs

@@ -25,7 +25,7 @@ returns c =
     let accept-catalogue = c .before .before .before .before .before .accept-catalogue in
     let verdict = c .before .verdict in
     let a = args in
-    λ t. answers-refused (λ cs. showFor everyView (t .content) (viewPatterns cs) (length (a .first .now)) (length (a .second .now))) (a .first .now ∷ a .second .now ∷ []) (rw (verdict .given .1) at (accept-catalogue .ensures)) refl
+    λ t. answers-refused (λ cs. showFor everyView (t .content) (viewPatterns cs) (length (a .first .now)) (length (a .second .now))) (a .first .now ∷ a .second .now ∷ []) ((rw (verdict .given .1) at (accept-catalogue .ensures)) .0) refl
 
 enum-told : tie.Need-enum-told
 enum-told c = search needs

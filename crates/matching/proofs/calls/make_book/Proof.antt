@@ -28,7 +28,7 @@ returns c =
     let accept-catalogue = c .before .before .before .before .accept-catalogue in
     let a = args in
     let e = c .enum-told2 .given .1 in
-    rw e (body-refused (λ cs. bookFor cs (a .«record» .now) (length (a .out .now))) (a .out .now) refl (c .enum-told2 .given .0 .0) (rw e at (accept-catalogue .ensures)))
+    rw e (body-refused (λ cs. bookFor cs (a .«record» .now) (length (a .out .now))) (a .out .now) refl (c .enum-told2 .given .0 .0) ((rw e at (accept-catalogue .ensures)) .0))
 
 make-book-of-requires : tie.Need-make-book-of-requires
 make-book-of-requires c κs =

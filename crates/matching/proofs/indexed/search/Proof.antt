@@ -28,7 +28,7 @@ returns c =
     let accept-pattern = c .before .before .before .before .accept-pattern in
     let enum-told2 = c .enum-told2 in
     let e = enum-told2 .given .1 in
-    rw e (body-refused (λ ps. searchIndexedFor (patternOf ps) (args .«record» .now) (args .index .now) (length (args .out .now))) (args .out .now) refl (enum-told2 .given .0 .0) (rw e at (accept-pattern .ensures)))
+    rw e (body-refused (λ ps. searchIndexedFor (patternOf ps) (args .«record» .now) (args .index .now) (length (args .out .now))) (args .out .now) refl (enum-told2 .given .0 .0) ((rw e at (accept-pattern .ensures)) .0))
 
 search-for-requires : tie.Need-search-for-requires
 search-for-requires c κs =

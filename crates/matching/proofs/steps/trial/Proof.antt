@@ -28,7 +28,7 @@ returns-2 : tie.Need-returns-2
 returns-2 c =
     let accept-pattern = c .before .before .before .accept-pattern in
     let e = c .enum-told2 .given .1 in
-    tried-refused (now (c .before .before .before .before .before .before .before .before .before .args .question)) (c .before .before .before .before .before .before .before .before .before .args .d) (c .before .before .before .before .before .before .before .before .before .args .steps) (now (c .before .before .before .before .before .before .before .before .before .args .work)) (rw e at (accept-pattern .ensures))
+    tried-refused (now (c .before .before .before .before .before .before .before .before .before .args .question)) (c .before .before .before .before .before .before .before .before .before .args .d) (c .before .before .before .before .before .before .before .before .before .args .steps) (now (c .before .before .before .before .before .before .before .before .before .args .work)) ((rw e at (accept-pattern .ensures)) .0)
 
 sub-pairs-at-front : tie.Need-sub-pairs-at-front
 sub-pairs-at-front c = search needs

@@ -14,7 +14,7 @@ returns : tie.Need-returns
 returns c =
     let args = c .before .before .before .before .args in
     let if1 = c .before .if1 in
-    rw (c .refused-catalogue .ensures) (read-long 897 2 catalogue (args .s .now) (if1 .taken))
+    rw (c .refused-catalogue .ensures .0) ((read-long 897 2 catalogue (args .s .now) (if1 .taken)), c .refused-catalogue .ensures .1)
 
 judge-catalogue-requires : tie.Need-judge-catalogue-requires
 judge-catalogue-requires c κs = search needs
@@ -77,7 +77,7 @@ returns-3 c =
     let judge-catalogue = c .before .before .before .before .before .before .judge-catalogue in
     let p2 = c .before .before .p2 in
     let x = p2 .given .0 .0 in
-    rw (c .refused-catalogue2 .ensures) (refused-by (read-finds 897 2 catalogue (args .s .now) (if1 .left)) x (rw (p2 .given .1) at (judge-catalogue .ensures)))
+    rw (c .refused-catalogue2 .ensures .0) ((refused-by (read-finds 897 2 catalogue (args .s .now) (if1 .left)) x (rw (p2 .given .1) at (judge-catalogue .ensures))), c .refused-catalogue2 .ensures .1)
 
 pub accept-catalogue-spec : {M : Type 1} → statement M
 accept-catalogue-spec =

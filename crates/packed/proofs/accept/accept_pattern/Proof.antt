@@ -14,7 +14,7 @@ returns : tie.Need-returns
 returns c =
     let args = c .before .before .before .before .args in
     let if1 = c .before .if1 in
-    rw (c .refused-pattern .ensures) (read-long 56 1 pattern (args .s .now) (if1 .taken))
+    rw (c .refused-pattern .ensures .0) ((read-long 56 1 pattern (args .s .now) (if1 .taken)), c .refused-pattern .ensures .1)
 
 judge-pattern-requires : tie.Need-judge-pattern-requires
 judge-pattern-requires c κs = search needs
@@ -76,7 +76,7 @@ returns-3 c =
     let judge-pattern = c .before .before .before .before .before .before .judge-pattern in
     let p2 = c .before .before .p2 in
     let x = p2 .given .0 .0 in
-    rw (c .refused-pattern2 .ensures) (refused-by (read-finds 56 1 pattern (args .s .now) (if1 .left)) x (rw (p2 .given .1) at (judge-pattern .ensures)))
+    rw (c .refused-pattern2 .ensures .0) ((refused-by (read-finds 56 1 pattern (args .s .now) (if1 .left)) x (rw (p2 .given .1) at (judge-pattern .ensures))), c .refused-pattern2 .ensures .1)
 
 pub accept-pattern-spec : {M : Type 1} → statement M
 accept-pattern-spec =

@@ -31,7 +31,7 @@ returns c =
     let accept-catalogue = c .before .before .before .before .before .accept-catalogue in
     let a = args in
     let e = c .enum-told2 .given .1 in
-    rw e (body-refused (λ cs. judged (readBook cs (a .bytes .now)) (λ o. uncrowded cs o (fit (length (a .out .now)) o))) (a .out .now) refl (c .enum-told2 .given .0 .0) (rw e at (accept-catalogue .ensures)))
+    rw e (body-refused (λ cs. judged (readBook cs (a .bytes .now)) (λ o. uncrowded cs o (fit (length (a .out .now)) o))) (a .out .now) refl (c .enum-told2 .given .0 .0) ((rw e at (accept-catalogue .ensures)) .0))
 
 sub-accept-book : tie.Need-sub-accept-book
 sub-accept-book c = search needs

@@ -26,7 +26,7 @@ returns c =
     let accept-pattern = c .before .before .before .before .accept-pattern in
     let a = args in
     let e = c .enum-told .given .1 in
-    rw e (body-refused (fit (length (a .out .now))) (a .out .now) refl (c .enum-told .given .0 .0) (rw e at (accept-pattern .ensures)))
+    rw e (body-refused (fit (length (a .out .now))) (a .out .now) refl (c .enum-told .given .0 .0) ((rw e at (accept-pattern .ensures)) .0))
 
 give-words-requires : tie.Need-give-words-requires
 give-words-requires c κs =

@@ -29,7 +29,7 @@ returns c =
     let accept-pattern = c .before .before .before .before .accept-pattern in
     let a = args in
     let e = c .enum-told2 .given .1 in
-    rw e (body-refused (λ ps. judged (readSheet ps (a .bytes .now)) (fit (length (a .out .now)))) (a .out .now) refl (c .enum-told2 .given .0 .0) (rw e at (accept-pattern .ensures)))
+    rw e (body-refused (λ ps. judged (readSheet ps (a .bytes .now)) (fit (length (a .out .now)))) (a .out .now) refl (c .enum-told2 .given .0 .0) ((rw e at (accept-pattern .ensures)) .0))
 
 cast-m : tie.Need-cast-m
 cast-m c =

@@ -26,7 +26,7 @@ returns c =
     let accept-catalogue = c .before .before .before .before .before .accept-catalogue in
     let a = args in
     let e = c .enum-told2 .given .1 in
-    rw e (body-refused (λ cs. judged (writeBook cs (a .fields .now)) (λ s. uncrowded cs (a .fields .now) (fitFile (length (a .out .now)) s))) (a .out .now) refl (c .enum-told2 .given .0 .0) (rw e at (accept-catalogue .ensures)))
+    rw e (body-refused (λ cs. judged (writeBook cs (a .fields .now)) (λ s. uncrowded cs (a .fields .now) (fitFile (length (a .out .now)) s))) (a .out .now) refl (c .enum-told2 .given .0 .0) ((rw e at (accept-catalogue .ensures)) .0))
 
 write-book-of-requires : tie.Need-write-book-of-requires
 write-book-of-requires c κs =

@@ -28,7 +28,7 @@ returns c =
     let accept-pattern = c .before .before .before .before .accept-pattern in
     let a = args in
     let e = c .enum-told2 .given .1 in
-    rw e (body-refused (λ ps. judged (writeSheet ps (a .fields .now)) (fitFile (length (a .out .now)))) (a .out .now) refl (c .enum-told2 .given .0 .0) (rw e at (accept-pattern .ensures)))
+    rw e (body-refused (λ ps. judged (writeSheet ps (a .fields .now)) (fitFile (length (a .out .now)))) (a .out .now) refl (c .enum-told2 .given .0 .0) ((rw e at (accept-pattern .ensures)) .0))
 
 cast-write-sheet-of : tie.Need-cast-write-sheet-of
 cast-write-sheet-of c =
