@@ -241,14 +241,15 @@ numbers-more v k c w a h e j l =
     ne-lt p = ⊎-elim (λ (u : j < k). u) (λ (u : k ≤ j). absurd (p (omega arith))) (lt-or-ge j k)
 
 -- ---- the words in the workspace, as they are loaded
-pub words-start : (s : List ℕ) (start : ℕ) (w : List ℕ) → WordsAt s start 0 w w
-words-start s start w = record { long = refl; each = λ j h. absurd (omega arith) }
+pub words-start : (s : List ℕ) (start m : ℕ) (w : List ℕ) → WordsAt s start 0 m w w
+words-start s start m w = record { long = refl; rest = λ j h. refl; each = λ j h. absurd (omega arith) }
 
-pub words-more : {s : List ℕ} {start k c : ℕ} {w w′ : List ℕ} → WordsAt s start k w w′ → k < length w′
-    → c ≡ edgeWord (field s (start + 27 * k) 12) (field s (start + 27 * k + 12) 12) (field s (start + 27 * k + 24) 3) → WordsAt s start (k + 1) w (set w′ k c)
-words-more {s} {start} {k} {c} {w} {w′} a h e =
+pub words-more : {s : List ℕ} {start k m c : ℕ} {w w′ : List ℕ} → WordsAt s start k m w w′ → k < m → k < length w′
+    → c ≡ edgeWord (field s (start + 27 * k) 12) (field s (start + 27 * k + 12) 12) (field s (start + 27 * k + 24) 3) → WordsAt s start (k + 1) m w (set w′ k c)
+words-more {s} {start} {k} {m} {c} {w} {w′} a l h e =
     record {
       long = length-set w′ k c ∙ a .long;
+      rest = λ j q. getD-set-other w′ k j c 0 (λ p. omega arith) ∙ a .rest j q;
       each = numbers-more (λ j. edgeWord (field s (start + 27 * j) 12) (field s (start + 27 * j + 12) 12) (field s (start + 27 * j + 24) 3)) k c w′ (a .each) h e;
     }
 
@@ -274,7 +275,7 @@ module _ {wide : ℕ} {s ws : List ℕ} (g : Sited wide s ws) (f : ℕ → ℕ �
       getD-take m w j 0 z ∙ loaded-at j z ∙ sym (each-at f (g .es) j (omega arith)))
       ∙ ap (eachEdge f) (sym (sited-edges g))
 
-pub holds-by : (s ws w : List ℕ) {n m : ℕ} {w′ : List ℕ} → decode record′ s ≡ ok ws → length w ≡ 16384 → WordsAt s (27 + 32 * field s 0 13) (field s 13 14) w w′
+pub holds-by : (s ws w : List ℕ) {n m : ℕ} {w′ : List ℕ} → decode record′ s ≡ ok ws → length w ≡ 16384 → WordsAt s (27 + 32 * field s 0 13) (field s 13 14) (field s 13 14) w w′
     → n ≡ field s 0 13 → m ≡ field s 13 14 → Holds s n m w′
 holds-by s ws w {w′ = w′} is long c en em =
     record {

@@ -220,7 +220,7 @@ pub judged-start : (s : List ℕ) (start nodes number : ℕ) (w : List ℕ) → 
 judged-start s start nodes number w h =
     record {
       reading = same-at (omega arith) refl (left-is (ap (λ (k : ℕ). rising nodes k 0) (sym (sub-zero number))) (starts h));
-      words = words-start s start w;
+      words = words-start s start number w;
     }
 
 module _ {s : List ℕ} {start nodes number : ℕ} {w₀ w : List ℕ} {least k : ℕ} (j : EdgesJudged s start nodes number w₀ w least k) where
@@ -259,7 +259,7 @@ module _ {s : List ℕ} {start nodes number : ℕ} {w₀ w : List ℕ} {least k 
                 same-at (omega arith) (omega arith)
                 (left-is (ap₂ (rising nodes) (let z : number - k - 1 ≡ number - (k + 1) = omega arith in z) (ap (λ (c : ℕ). c + 1) again))
                 (edge-passes nodes (number - k) least (omega arith) (j .reading) values (omega (arith, again))));
-            words = words-more (j .words) m (e ∙ word-is s (start + 27 * k) r there is);
+            words = words-more (j .words) h m (e ∙ word-is s (start + 27 * k) r there is);
           }
 
 -- ---- several edges more
@@ -331,15 +331,19 @@ module _ {s : List ℕ} {at nodes n least : ℕ} {w : List ℕ} {k a : ℕ} {w�
 
 -- the edges before them stay
 pub judged-kept : {s : List ℕ} {at nodes n least : ℕ} {w : List ℕ} {k r : ℕ} {w′ : List ℕ} → JudgesMore s at nodes n least w k r w′
-    → {start number : ℕ} {w₀ : List ℕ} {l : ℕ} → EdgesJudged s start nodes number w₀ w l k → EdgesJudged s start nodes number w₀ w′ l k
-judged-kept p j =
+    → {start number : ℕ} {w₀ : List ℕ} {l : ℕ} → k + n ≤ number → EdgesJudged s start nodes number w₀ w l k → EdgesJudged s start nodes number w₀ w′ l k
+judged-kept p m j =
     record {
       reading = j .reading;
-      words = record { long = p .around .long ∙ j .words .long; each = λ i h. p .around .low i h ∙ j .words .each i h };
+      words = record {
+        long = p .around .long ∙ j .words .long;
+        rest = λ i h. p .around .high i (omega arith) ∙ j .words .rest i h;
+        each = λ i h. p .around .low i h ∙ j .words .each i h;
+      };
     }
 
 -- of a record that is not refused
-pub words-loaded : {s w w′ : List ℕ} {nodes number : ℕ} (r : Part) → nodes ≡ field s 0 13 → number ≡ field s 13 14 → WordsAt s (27 + 32 * nodes) number w w′
+pub words-loaded : {s w w′ : List ℕ} {nodes number : ℕ} (r : Part) → nodes ≡ field s 0 13 → number ≡ field s 13 14 → WordsAt s (27 + 32 * nodes) number number w w′
     → WordsLoaded s w (replyOf r) w′
 words-loaded (part-is.Upto at i) e d c = rw (e, d) at c
 words-loaded (part-is.Refused x) e d c = tt

@@ -31,15 +31,16 @@ ReadsCounts s (two-is.Refused x) = Refuses record′ s 0 3 x
 abbrev pub Cut : List ℕ → ℕ → ℕ → Refusal → Type 0
 Cut s at nodes x = (f : ℕ → ℕ → ℕ → Format) → Refuses (ask 12 0 nodes 4 (λ a. ask 12 0 nodes 4 (λ b. kind 3 (λ k. f a b k)))) s at 3 x
 
--- the words of m edges that stand from the bit offset start on are at the front of the workspace
-pub record WordsAt (s : List ℕ) (start m : ℕ) (w w′ : List ℕ) : Type 0 where
+-- the words of the first k of m edges that stand from the bit offset start on are at the front of the workspace; those beyond the m are as they were
+pub record WordsAt (s : List ℕ) (start k m : ℕ) (w w′ : List ℕ) : Type 0 where
   pub long : length w′ ≡ length w
-  pub each : (j : ℕ) → j < m → getD w′ j 0 ≡ edgeWord (field s (start + 27 * j) 12) (field s (start + 27 * j + 12) 12) (field s (start + 27 * j + 24) 3)
+  pub rest : (j : ℕ) → m ≤ j → getD w′ j 0 ≡ getD w j 0
+  pub each : (j : ℕ) → j < k → getD w′ j 0 ≡ edgeWord (field s (start + 27 * j) 12) (field s (start + 27 * j + 12) 12) (field s (start + 27 * j + 24) 3)
 
 -- k of the edges were read, with their words at the front of the workspace
 pub record EdgesJudged (s : List ℕ) (start nodes number : ℕ) (w₀ w : List ℕ) (least k : ℕ) : Type 0 where
   pub reading : Reading (rising nodes number 0) s start [] 0 (rising nodes (number - k) least) (start + 27 * k) [] (3 * k)
-  pub words : WordsAt s start k w₀ w
+  pub words : WordsAt s start k number w₀ w
 
 -- n edges more were read, from the bit offset at on, with their words from the place k on; the rank of the next is at least r
 pub record MoreJudged (s : List ℕ) (at nodes n least : ℕ) (w : List ℕ) (k r : ℕ) (w′ : List ℕ) : Type 0 where
@@ -56,12 +57,12 @@ pub record JudgesMore (s : List ℕ) (at nodes n least : ℕ) (w : List ℕ) (k 
 
 -- m edges were read into the workspace, or refused
 abbrev pub LoadsWords : List ℕ → ℕ → ℕ → ℕ → List ℕ → Part → List ℕ → Type 0
-LoadsWords s start nodes m w (part-is.Upto at i) w′ = Reading (rising nodes m 0) s start [] 0 done at [] i × WordsAt s start m w w′
+LoadsWords s start nodes m w (part-is.Upto at i) w′ = Reading (rising nodes m 0) s start [] 0 done at [] i × WordsAt s start m m w w′
 LoadsWords s start nodes m w (part-is.Refused x) w′ = Refuses (rising nodes m 0) s start 3 x
 
 -- unless the record is refused, the words of its edges stand there
 abbrev pub WordsLoaded : List ℕ → List ℕ → Reply → List ℕ → Type 0
-WordsLoaded s w (reply-is.Done n) w′ = WordsAt s (27 + 32 * field s 0 13) (field s 13 14) w w′
+WordsLoaded s w (reply-is.Done n) w′ = WordsAt s (27 + 32 * field s 0 13) (field s 13 14) (field s 13 14) w w′
 WordsLoaded s w (reply-is.Refused x) w′ = Unit {0}
 
 -- a record was accepted, with so many nodes and edges; the words of its edges stand at the front of the workspace, in order

@@ -174,7 +174,7 @@ fn load_rest(
 }
 
 // So many edges between so many nodes, the first at the bit offset start: those whose bits are all there are taken whole, by their ranks, and their
-// words go to the front of the workspace. They go by eight as long as all is well.
+// words go to the front of the workspace, which stays as it was beyond them. They go by eight as long as all is well.
 fn load_edges(s: &[u8], start: usize, nodes: u32, number: usize, work: &mut [u32]) -> Part
     requires { ⌜ (length (now s) ≤ 65536) × (start ≤ 8 * length (now s)) × (start % 8 ≡ 3) × (number ≤ 8192) × (8192 ≤ length (now work)) ⌝ }
     ensures { λ r. ⌜ LoadsWords (now (s .entry)) start nodes number (now (work .entry)) r (now (work .exit)) ⌝ }

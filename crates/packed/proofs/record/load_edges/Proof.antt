@@ -47,7 +47,10 @@ same-length : tie.Need-same-length Inv-loop μ-loop
 same-length c = search needs
 
 returns : tie.Need-returns Inv-loop μ-loop
-returns c = c .before .before .load-rest .ensures _ (judged-kept (c .before .before .before .before .before .before .before .load-eight .ensures) (c .before .before .before .before .before .before .before .before .before .before .loop .inv .3))
+returns c =
+    let loop-test = c .before .before .before .before .before .before .before .before .before .loop-test in
+    let within = c .before .before .before .before .before .before .before .before .before .before .before .within in
+    c .before .before .load-rest .ensures _ (judged-kept (c .before .before .before .before .before .before .before .load-eight .ensures) (omega (arith, within .ensures, loop-test .taken)) (c .before .before .before .before .before .before .before .before .before .before .loop .inv .3))
 
 add-byte : tie.Need-add-byte Inv-loop μ-loop
 add-byte c = search needs
