@@ -87,7 +87,7 @@ none-taken s n =
     record {
       long = refl;
       upto = omega arith;
-      none = λ l. n;
+      lowest = n;
       was = λ l. absurd (omega arith);
       keeps = λ x q h. h;
       why = λ x h. (h, λ l. absurd (omega arith));
@@ -97,7 +97,7 @@ none-taken s n =
 pub no-word : (s : List ℕ) (at : ℕ) → FirstWord s at → 256 ≤ at → Drawn s 8192 s
 no-word s at f l = none-taken s (λ x q h. none-has (x % 32) (cast (x % 32) (f .passed (x / 32) (omega arith)) h))
 
-module _ (s : List ℕ) (at : ℕ) (l : at < 256) (p : ℕ) (m : p < 32) (h : Has (getD s at 0) p) where
+module _ (s : List ℕ) (at : ℕ) (F : FirstWord s at) (l : at < 256) (p : ℕ) (m : p < 32) (h : Has (getD s at 0) p) (low : (k : ℕ) → k < p → Has (getD s at 0) k → ⊥) where
   pub take-by : length s ≡ 256 → (b : ℕ) → b ≡ 2 ^ p → Drawn s (32 * at + p) (set s at (bitXor (getD s at 0) (bitAnd (getD s at 0) b)))
   take-by len b e =
       let old = getD s at 0 in
@@ -110,7 +110,9 @@ module _ (s : List ℕ) (at : ℕ) (l : at < 256) (p : ℕ) (m : p < 32) (h : Ha
       record {
         long = length-set s at y;
         upto = omega arith;
-        none = λ q. absurd (omega arith);
+        lowest = λ x q h. ⊎-elim
+            (λ (z : x / 32 < at). none-has (x % 32) (cast (x % 32) (F .passed (x / 32) z) h))
+            (λ (z : at ≤ x / 32). low (x % 32) (omega arith) (cast (x % 32) (ap (λ (k : ℕ). getD s k 0) (let t : x / 32 ≡ at = omega arith in t)) h)) (lt-or-ge (x / 32) at);
         was = λ q. subst (λ (k : ℕ). Has (getD s (r / 32) 0) k) (sym place) (cast p (sym (ap (λ (k : ℕ). getD s k 0) word)) h);
         keeps = λ x q h. ⊎-elim
             (λ (z : x / 32 ≡ at). cast (x % 32) (sym (same-word s at y x in-s z)) (minus-by old b (x % 32) (cast (x % 32) (ap (λ (k : ℕ). getD s k 0) z) h)
@@ -125,8 +127,13 @@ module _ (s : List ℕ) (at : ℕ) (l : at < 256) (p : ℕ) (m : p < 32) (h : Ha
       }
 
 -- ---- marking nodes
-pub added-marks : {v x : ℕ} {s s′ : List ℕ} → v < 4096 → (x ≡ v) ⊎ (x ≡ 4096 + v) → NumberAdded x s s′ → Marks v s s′
-added-marks {v} {x} {s} {s′} l is A =
+-- the one of its two numbers by which v is marked
+abbrev pub NumberFor : List ℕ → ℕ → ℕ → Type 0
+NumberFor first v x = ((getD first (v + 1) 0 < getD first v 0 + 16) × (x ≡ v)) ⊎ ((getD first v 0 + 16 ≤ getD first (v + 1) 0) × (x ≡ 4096 + v))
+
+pub added-marks : {first : List ℕ} {v x : ℕ} {s s′ : List ℕ} → v < 4096 → NumberFor first v x → NumberAdded x s s′ → Marks first v s s′
+added-marks {first} {v} {x} {s} {s′} l place A =
+    let is : (x ≡ v) ⊎ (x ≡ 4096 + v) = ⊎-elim (λ p. inl (p .1)) (λ p. inr (p .1)) place in
     record {
       long = A .long;
       hit = ⊎-elim (λ (e : x ≡ v). inl (subst (Member s′) e (A .hit))) (λ (e : x ≡ 4096 + v). inr (subst (Member s′) e (A .hit))) is;
@@ -135,6 +142,8 @@ added-marks {v} {x} {s} {s′} l is A =
           (λ (m : Member s′ y). ⊎-elim (λ p. inl (inl p)) (λ (e : y ≡ x). inr (⊎-elim (λ (q : x ≡ v). e ∙ q) (λ (q : x ≡ 4096 + v). absurd (omega arith)) is)) (A .why y m))
           (λ (m : Member s′ (4096 + y)). ⊎-elim (λ p. inl (inr p)) (λ (e : 4096 + y ≡ x). inr (⊎-elim (λ (q : x ≡ v). absurd (omega arith)) (λ (q : x ≡ 4096 + v). let z : y ≡ v = omega arith in z) is)) (A .why (4096 + y) m))
           h;
+      few = λ k. ⊎-elim (λ p. subst (λ (y : ℕ). NumberAdded y s s′) (p .1) A) (λ p. absurd (omega (arith, p .0))) place;
+      many = λ k. ⊎-elim (λ p. absurd (omega (arith, p .0))) (λ p. subst (λ (y : ℕ). NumberAdded y s s′) (p .1) A) place;
     }
 
 module _ {s : List ℕ} {x : ℕ} {s′ : List ℕ} (L : Drawn s x s′) where
@@ -145,8 +154,11 @@ module _ {s : List ℕ} {x : ℕ} {s′ : List ℕ} (L : Drawn s x s′) where
   drawn-first l =
       record {
         long = L .long;
+        upto = omega arith;
         none = λ k. absurd (omega arith);
         was = λ k. inl (L .was (omega arith));
+        lesser = λ y k m. L .was (omega arith);
+        gone = λ k. (λ m. L .why x m .1 (omega arith) refl, λ m. L .was (omega arith));
         keeps = λ y k n h. ⊎-elim (λ m. inl (L .keeps y n m)) (λ m. inr (L .keeps (4096 + y) (λ e. omega arith) m)) h;
         why = drawn-why;
         fell = λ k. L .fell (omega arith);
@@ -157,7 +169,10 @@ module _ {s : List ℕ} {x : ℕ} {s′ : List ℕ} (L : Drawn s x s′) where
       let u = L .upto in
       record {
         long = L .long;
-        none = λ k y q h. ⊎-elim (L .none (omega arith) y (omega arith)) (L .none (omega arith) (4096 + y) (omega arith)) h;
+        upto = omega arith;
+        none = λ k y q h. ⊎-elim (L .lowest y (omega arith)) (L .lowest (4096 + y) (omega arith)) h;
+        lesser = λ y k m. absurd (L .lowest y (omega arith) m);
+        gone = λ k. (λ m. L .lowest (x - 4096) (omega arith) (L .why (x - 4096) m .0), λ m. absurd (L .why (4096 + (x - 4096)) m .1 (omega arith) (omega arith)));
         was = λ k. inr (subst (Member s) (let e : x ≡ 4096 + (x - 4096) = omega arith in e) (L .was (omega arith)));
         keeps = λ y k n h. ⊎-elim (λ m. inl (L .keeps y (λ e. omega arith) m)) (λ m. inr (L .keeps (4096 + y) (λ e. n (omega arith)) m)) h;
         why = drawn-why;
@@ -172,8 +187,8 @@ blank-unmarked v h =
 pub full-start : (s : List ℕ) → length s ≡ 256 → ((v : ℕ) → v < 4096 → IsMarked s v → ⊥) → AllMarked 0 s
 full-start s e n = record { long = e; each = λ x l. absurd (omega arith); why = λ x l h. absurd (n x l h) }
 
-pub full-more : {v : ℕ} {s s′ : List ℕ} → AllMarked v s → Marks v s s′ → AllMarked (v + 1) s′
-full-more {v} {s} {s′} F M =
+pub full-more : {first : List ℕ} {v : ℕ} {s s′ : List ℕ} → AllMarked v s → Marks first v s s′ → AllMarked (v + 1) s′
+full-more {v = v} {s} {s′} F M =
     record {
       long = M .long ∙ F .long;
       each = λ x l. ⊎-elim (λ (q : x < v). M .keeps x (F .each x q)) (λ (q : v ≤ x). subst (IsMarked s′) (let e : v ≡ x = omega arith in e) (M .hit)) (lt-or-ge x v);
@@ -186,7 +201,7 @@ module _ (w : List ℕ) (lost : ℕ) (leave : List ℕ) where
   start-whole i s z =
       record { long = refl; keeps = λ x h. h; hit = λ e a b c. absurd (none-has e (cast e z (and-by _ _ e a (and-by _ _ e b c)))); why = λ x l h. inl h }
 
-  pub start-marked : (i : ℕ) {s s′ : List ℕ} → Marks (fromOf w i) s s′ → MarkedStart w lost leave i s s′
+  pub start-marked : (i : ℕ) {first s s′ : List ℕ} → Marks first (fromOf w i) s s′ → MarkedStart w lost leave i s s′
   start-marked i m =
       record {
         long = m .long;

@@ -51,7 +51,7 @@ fn draw(set: &mut [u32]) -> usize
 // Marks the node v. One at which 16 or more pairs begin is to wait.
 pub fn mark(first: &[u16], v: usize, set: &mut [u32])
     requires { ⌜ (v < 4096) × (v + 1 < length (now first)) × (length (now set) ≡ 256) ⌝ }
-    ensures { λ r. ⌜ Marks v (now (set .entry)) (now (set .exit)) ⌝ }
+    ensures { λ r. ⌜ Marks (now (first .entry)) v (now (set .entry)) (now (set .exit)) ⌝ }
 {
     let next = v + 1;
     let a = index::wide(first[v]);

@@ -50,7 +50,7 @@ same-length-2 c = search needs
 returns-2 : tie.Need-returns-2
 returns-2 c =
     let l = c .lowest .ensures .0 in
-    take-by _ _ (omega (arith, c .before .before .if1 .left)) _ l (c .lowest .ensures .1) (c .before .before .before .before .before .before .pre) _ (rw (one-mul (2 ^ c .lowest .result)) (mod-eq-of-lt (pow-lt {j = 32} (omega arith))))
+    take-by _ _ (c .before .before .before .first-word .ensures) (omega (arith, c .before .before .if1 .left)) _ l (c .lowest .ensures .1) (c .lowest .ensures .2) (c .before .before .before .before .before .before .pre) _ (rw (one-mul (2 ^ c .lowest .result)) (mod-eq-of-lt (pow-lt {j = 32} (omega arith))))
 
 pub draw-spec : {M : Type 1} → statement M
 draw-spec =

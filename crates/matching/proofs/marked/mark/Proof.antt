@@ -51,7 +51,10 @@ returns c =
     let pre = c .before .before .before .before .before .before .before .before .before .before .before .pre in
     let if1 = c .before .before .before .before .if1 in
     let add = c .before .before .add in
-    added-marks (pre .0) (⊎-elim (λ w. inl (w .1)) (λ w. inr (w .1)) (if1 .came)) (add .ensures)
+    let joined = c .before .before .before .before .before in
+    let a = joined .before .before .wide .ensures in
+    let b = joined .wide2 .ensures in
+    added-marks (pre .0) (⊎-elim (λ w. inl (omega (arith, w .0, a, b), w .1)) (λ w. inr (omega (arith, w .0, a, b), w .1)) (if1 .came)) (add .ensures)
 
 pub mark-spec : {M : Type 1} → statement M
 mark-spec =
