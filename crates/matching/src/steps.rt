@@ -34,10 +34,10 @@ fn greater(a: u32, b: u32) -> u32
     if a < b { b } else { a }
 }
 
-// The greatest node where one of d pairs ends.
+// The greatest node where one of d pairs ends; 0 if there is none.
 fn last_end(work: &[u32], d: usize) -> u32
     requires { ⌜ d ≤ length (now work) ⌝ }
-    ensures { λ r. ⌜ (r < 4096) × ((i : ℕ) → i < d → toOf (now (work .entry)) i ≤ r) ⌝ }
+    ensures { λ r. ⌜ (r < 4096) × ((i : ℕ) → i < d → toOf (now (work .entry)) i ≤ r) × ((k : ℕ) → ((i : ℕ) → i < d → toOf (now (work .entry)) i ≤ k) → r ≤ k) ⌝ }
 {
     let mut r: u32 = 0;
     let mut i: usize = 0;
@@ -48,10 +48,10 @@ fn last_end(work: &[u32], d: usize) -> u32
     r
 }
 
-// One more than the greatest node of the d pairs: it begins the last one, or ends one.
+// One more than the greatest node of the d pairs: it begins the last one, or ends one. 0, if there is no pair.
 fn nodes(work: &[u32], d: usize) -> usize
     requires { ⌜ Pool d (now work) ⌝ }
-    ensures { λ r. ⌜ (r ≤ 4096) × Ends r d (now (work .entry)) ⌝ }
+    ensures { λ r. ⌜ (r ≤ 4096) × Ends r d (now (work .entry)) × ((k : ℕ) → Ends k d (now (work .entry)) → r ≤ k) ⌝ }
 {
     if d < 1 {
         return 0;

@@ -2,7 +2,7 @@
 use borrow.Author.Needs.{needs}
 use mathlib.Core.Path.{_≡_, ap}
 use mathlib.Core.Logic.{⊎-elim}
-use Prim.Native.Nat.{ℕ, _≤_, _<_, _-_}
+use Prim.Native.Nat.{ℕ, _≤_, _<_, _+_, _-_}
 use native.Mathlib.Omega.{arith}
 use Rattle.packed.proofs.OrderCases.{lt-or-ge}
 use Rattle.matching.specs.Sweeping.{toOf}
@@ -10,13 +10,13 @@ use Rattle.matching.proofs.steps.last_end.Statement.{statement}
 use Rattle.matching.proofs.steps.last_end.Tie as tie
 
 abbrev Inv-loop : tie.InvT-loop
-Inv-loop work d r₀ i₀ r i = (i ≤ d) × (r < 4096) × ((j : ℕ) → j < i → toOf work j ≤ r)
+Inv-loop work d r₀ i₀ r i = (i ≤ d) × (r < 4096) × ((j : ℕ) → j < i → toOf work j ≤ r) × ((k : ℕ) → ((j : ℕ) → j < i → toOf work j ≤ k) → r ≤ k)
 
 abbrev μ-loop : tie.MeasureT-loop
 μ-loop work d r₀ i₀ r i = d - i
 
 loop-holds : tie.Need-loop-holds Inv-loop μ-loop
-loop-holds c = (omega arith, omega arith, λ j l. absurd (omega arith))
+loop-holds c = (omega arith, omega arith, λ j l. absurd (omega arith), λ k h. omega arith)
 
 mul-greater : tie.Need-mul-greater Inv-loop μ-loop
 mul-greater c = search needs
@@ -46,10 +46,18 @@ loop-again c =
           let y = g .1 in
           omega arith)
           (lt-or-ge j (c .before .before .before .loop .i)),
+      λ k h.
+          (let a = v .3 k (λ j l. h j (omega arith)) in
+          let b = h (c .before .before .before .loop .i) (omega arith) in
+          let y = g .2 (k + 1) (omega arith) (omega arith) in
+          omega arith),
     )
 
 returns : tie.Need-returns Inv-loop μ-loop
-returns c = (c .before .loop .inv .1, λ i l. c .before .loop .inv .2 i (let u = c .before .loop .inv .0 in omega arith))
+returns c =
+    let v = c .before .loop .inv in
+    let u = v .0 in
+    (v .1, λ i l. v .2 i (omega arith), λ k h. v .3 k (λ j l. h j (omega arith)))
 
 pub last-end-spec : {M : Type 1} → statement M
 last-end-spec =

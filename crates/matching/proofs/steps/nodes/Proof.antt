@@ -8,7 +8,7 @@ use Rattle.matching.proofs.steps.nodes.Statement.{statement}
 use Rattle.matching.proofs.steps.nodes.Tie as tie
 
 returns : tie.Need-returns
-returns c = (omega arith, no-ends (c .before .before .pre) (omega arith))
+returns c = (omega arith, no-ends (c .before .before .pre) (omega arith), λ k e. omega arith)
 
 mul-f : tie.Need-mul-f
 mul-f c = search needs
@@ -38,7 +38,15 @@ returns-2 c =
     let s = p .small (c .before .before .before .before .before .args .d - 1) (omega arith) in
     let g = c .greater .ensures in
     let few = g .2 4096 (omega arith) (c .before .last-end .ensures .0) in
-    (omega arith, all-ends p _ _ refl (c .before .last-end .ensures .1) (g .0) (g .1))
+    let t = c .before .last-end .ensures in (
+      omega arith,
+      all-ends p _ _ refl (t .1) (g .0) (g .1),
+      λ k e.
+          (let a = e .from (c .before .before .before .before .before .args .d - 1) (omega arith) in
+          let b = t .2 (k - 1) (λ i l. let z = e .to i l in omega arith) in
+          let z = g .2 k (omega arith) (omega arith) in
+          omega arith),
+    )
 
 pub nodes-spec : {M : Type 1} → statement M
 nodes-spec = tie.close (tie.spec returns mul-f shared-slice-read-f last-end-requires greater-requires cast-result add-result returns-2)
