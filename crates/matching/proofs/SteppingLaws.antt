@@ -1,6 +1,6 @@
 -- What the masks hold between steps is the state at the settled nodes; what a step keeps of this, and where it starts.
 use mathlib.Core.Path.{_≡_, refl, ap, _∙_, sym, subst}
-use mathlib.Core.Logic.{_⊎_, inl, inr, ⊎-elim}
+use mathlib.Core.Logic.{inl, inr, ⊎-elim}
 use mathlib.Core.Bool.{Bool}
 use mathlib.Core.List.{List, [], _∷_, _++_}
 use Prim.Native.Nat.{ℕ, suc, _+_, _≤_, _<_, _/_, _%_, _^_}
@@ -24,11 +24,11 @@ use Rattle.matching.specs.Sweeps.{Has, Mask, OneOf}
 use Rattle.matching.specs.Candidates.{Pool}
 use Rattle.matching.specs.Sweeping.{fromOf, toOf, Ends, heldAt, Tabled, LookedUp}
 use Rattle.matching.specs.Choices.{Offers, Supports, Safe, Stays, Sound, Falls, Prepared, Fixed, Round}
-use Rattle.matching.specs.Stepping.{PairsTaken, LeavingLinks, Holds, Loose, Between, At, Fresh, Started, Stepped, Ran, Going, Tried}
+use Rattle.matching.specs.Stepping.{PairsTaken, LeavingLinks, Holds, Loose, LooseLinks, Between, At, Fresh, Started, Stepped, Ran, Going, Tried}
 use Rattle.matching.specs.declared.steps.Place.{Place}
 use Rattle.matching.proofs.ListLaws.{decide, same-test, in-cases, in-cast, not-in-none, gather-in, in-gather}
 use Rattle.matching.proofs.SimLaws.{has-in, in-has}
-use Rattle.matching.proofs.MaskBits.{none-has, or-left, or-right, or-cases, and-say, and-by, minus-say, minus-by, mask-cast}
+use Rattle.matching.proofs.MaskBits.{none-has, or-left, or-right, or-cases, and-say, and-by, minus-say, minus-by, mask-cast, union-more}
 use Rattle.matching.proofs.RoundLaws.{fixed-prepared, prepared-ends}
 use Rattle.matching.proofs.JoiningLaws.{every-prepared, every-has, every-shape}
 use Rattle.matching.proofs.JoinLaws.{Supported}
@@ -275,22 +275,27 @@ fresh-prepared pool f = every-prepared pool (f .few) (f .ends) (f .leaves) (f .a
 pub prepared-looked : {n d : ℕ} {w leave arrive out : List ℕ} → Prepared n d w leave arrive out → Ends (length leave) d w × (length arrive ≡ length leave)
 prepared-looked {d = d} {w = w} P = (subst (λ (x : ℕ). Ends x d w) (sym (P .leave-long)) (prepared-ends P), P .arrive-long ∙ sym (P .leave-long))
 
--- looking at one pair more
-pub loose-more : (w leave arrive : List ℕ) (i r : ℕ) → Loose i w leave arrive r
-    → Loose (i + 1) w leave arrive (bitOr r (bitXor (heldAt w i) (bitAnd (heldAt w i) (bitAnd (getD leave (fromOf w i) 0) (getD arrive (toOf w i) 0)))))
-loose-more w leave arrive i r p j e l h =
-    ⊎-elim
-    (λ (z : j < i). ⊎-elim (λ x. inl (or-left r _ e x)) (λ x. inr x) (p j e z h))
-    (λ (z : i ≤ j).
-    let y : i ≡ j = omega arith in
-    subst (λ (k : ℕ). Has (bitOr r (bitXor (heldAt w i) (bitAnd (heldAt w i) both))) e ⊎ (Has (getD leave (fromOf w k) 0) e × Has (getD arrive (toOf w k) 0) e)) y
-    (⊎-elim (λ (x : Has both e). inr (and-say (getD leave (fromOf w i) 0) (getD arrive (toOf w i) 0) e x))
-    (λ (x : Has both e → ⊥). inl (or-right r _ e (minus-by (heldAt w i) both e (subst (λ (k : ℕ). Has (heldAt w k) e) (sym y) h) x)))
-    (decide (bit both e))))
-    (lt-or-ge j i)
-  where
-    both : ℕ
-    both = bitAnd (getD leave (fromOf w i) 0) (getD arrive (toOf w i) 0)
+-- ---- the links for which a pair is held that its ends don't allow
+module _ (w leave arrive : List ℕ) where
+  abbrev Against : ℕ → ℕ → Type 0
+  Against i e = Has (heldAt w i) e × (Has (getD leave (fromOf w i) 0) e × Has (getD arrive (toOf w i) 0) e → ⊥)
+
+  pub loose-more : (i : ℕ) {r : ℕ} → LooseLinks i w leave arrive r
+      → LooseLinks (i + 1) w leave arrive (bitOr r (bitXor (heldAt w i) (bitAnd (heldAt w i) (bitAnd (getD leave (fromOf w i) 0) (getD arrive (toOf w i) 0)))))
+  loose-more i m =
+      union-more Against i m
+      (record {
+        hit = λ e p. minus-by _ _ e (p .0) (λ b. p .1 (and-say _ _ e b));
+        why = λ e h. (let p = minus-say _ _ e h in (p .0, λ b. p .1 (and-by _ _ e (b .0) (b .1))));
+      })
+
+  loose-within : {d r : ℕ} → LooseLinks d w leave arrive r → Loose d w leave arrive r
+  loose-within m i e l h =
+      let a = getD leave (fromOf w i) 0 in
+      let b = getD arrive (toOf w i) 0 in
+      ⊎-elim (λ (x : Has (bitAnd a b) e). inr (and-say a b e x))
+      (λ (x : Has (bitAnd a b) e → ⊥). inl (m .hit e (record { at = i; below = l; holds = (h, λ p. x (and-by a b e (p .0) (p .1))) })))
+      (decide (bit (bitAnd a b) e))
 
 module _ {q : Given} {n d all : ℕ} {w leave arrive out leaving arriving : List ℕ} (pool : Pool d w) (f : Fresh q n d all w leave arrive out leaving arriving)
     {r : ℕ} {w′ leave′ arrive′ out′ : List ℕ} (F : Fixed n 0 all d leaving arriving w leave arrive out r w′ leave′ arrive′ out′)
@@ -308,7 +313,7 @@ module _ {q : Given} {n d all : ℕ} {w leave arrive out leaving arriving : List
         arrives = λ u v e t le p. every-has (f .links) (f .arrives) v e (b u v t) le;
       }
 
-  module _ (s : Place) (z : s .settled ≡ 0) (y : s .free ≡ all) (L : Loose d w′ leave′ arrive′ (s .loose)) (few : (e : ℕ) → e < q .edges → Has (s .loose) e → Has (s .free) e) where
+  module _ (s : Place) (z : s .settled ≡ 0) (y : s .free ≡ all) (L : LooseLinks d w′ leave′ arrive′ (s .loose)) (few : (e : ℕ) → e < q .edges → Has (s .loose) e → Has (s .free) e) where
     unsettled : (v : ℕ) → Has (s .settled) v → ⊥
     unsettled v h = none-has v (subst (λ (x : ℕ). Has x v) z h)
 
@@ -333,7 +338,7 @@ module _ {q : Given} {n d all : ℕ} {w leave arrive out leaving arriving : List
                     O .spares i e l (every-has (f .links) (f .leaves) (fromOf w i) e (omega arith) le) (every-has (f .links) (f .arrives) (toOf w i) e (omega arith) le) x);
               };
           shape = first-sound .shape (every-shape (f .links) (q .from) (q .to) (f .leaves) (f .arrives));
-          within = L;
+          within = loose-within w′ leave′ arrive′ L;
           offered = λ v e l le h. O .offers (q .from) (q .edges) (f .by-from) v e l le (f .links .hit e le) h;
           safe = λ R t b. first-sound .safe R (first-safe R t b);
           stays = λ R t b. first-sound .stays R (first-safe R t b);

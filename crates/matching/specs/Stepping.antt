@@ -67,6 +67,10 @@ HoldsState q d w settled w′ = (cs : Offer) → Holds q d w cs → Holds q d w�
 abbrev pub Loose : ℕ → List ℕ → List ℕ → List ℕ → ℕ → Type 0
 Loose d w leave arrive r = (i e : ℕ) → i < d → Has (heldAt w i) e → Has r e ⊎ (Has (getD leave (fromOf w i) 0) e × Has (getD arrive (toOf w i) 0) e)
 
+-- r has those links alone
+abbrev pub LooseLinks : ℕ → List ℕ → List ℕ → List ℕ → ℕ → Type 0
+LooseLinks d w leave arrive r = Mask (λ e. OneOf d (λ i. Has (heldAt w i) e × (Has (getD leave (fromOf w i) 0) e × Has (getD arrive (toOf w i) 0) e → ⊥))) r
+
 -- the masks of the nodes beside what is held: w are the first words, and s the place of the steps
 pub record Between (q : Given) (n d : ℕ) (w : List ℕ) (s : Place) (w′ leave arrive : List ℕ) : Type 0 where
   pub small : (i : ℕ) → i < d → getD w i 0 < 2 ^ pairWidth

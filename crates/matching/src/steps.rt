@@ -10,7 +10,7 @@ ghost use Rattle.matching.specs.Candidates.{Pool};
 ghost use Rattle.matching.specs.Sweeping.{toOf, Ends, Tabled};
 ghost use Rattle.matching.specs.Choices.{Prepared};
 ghost use Rattle.matching.specs.Components.{OneStep};
-ghost use Rattle.matching.specs.Stepping.{PairsTaken, Loose, Fresh, Started, Stepped, AllReached, AllComponents, Going, Ran, Tried};
+ghost use Rattle.matching.specs.Stepping.{PairsTaken, LooseLinks, Fresh, Started, Stepped, AllReached, AllComponents, Going, Ran, Tried};
 use crate::components;
 use crate::engine;
 use crate::link_tables;
@@ -65,7 +65,7 @@ fn nodes(work: &[u32], d: usize) -> usize
 // The links for which a pair is held that its ends don't allow.
 fn loose(work: &[u32], d: usize, leave: &[u32], arrive: &[u32]) -> u32
     requires { ⌜ Ends (length (now leave)) d (now work) × (length (now arrive) ≡ length (now leave)) ⌝ }
-    ensures { λ r. ⌜ Loose d (now (work .entry)) (now (leave .entry)) (now (arrive .entry)) r ⌝ }
+    ensures { λ r. ⌜ LooseLinks d (now (work .entry)) (now (leave .entry)) (now (arrive .entry)) r ⌝ }
 {
     let mut r: u32 = 0;
     let mut i: usize = 0;

@@ -3,19 +3,20 @@ use borrow.Author.Needs.{needs}
 use Prim.Native.Nat.{_≤_, _-_}
 use native.Mathlib.Omega.{arith}
 use denote.Ref.{now}
-use Rattle.matching.specs.Stepping.{Loose}
+use Rattle.matching.specs.Stepping.{LooseLinks}
+use Rattle.matching.proofs.MaskBits.{union-start, union-end}
 use Rattle.matching.proofs.SteppingLaws.{loose-more}
 use Rattle.matching.proofs.steps.loose.Statement.{statement}
 use Rattle.matching.proofs.steps.loose.Tie as tie
 
 abbrev Inv-loop : tie.InvT-loop
-Inv-loop work d leave arrive r₀ i₀ r i = (i ≤ d) × Loose i work leave arrive r
+Inv-loop work d leave arrive r₀ i₀ r i = (i ≤ d) × LooseLinks i work leave arrive r
 
 abbrev μ-loop : tie.MeasureT-loop
 μ-loop work d leave arrive r₀ i₀ r i = d - i
 
 loop-holds : tie.Need-loop-holds Inv-loop μ-loop
-loop-holds c = (omega arith, λ j e l. absurd (omega arith))
+loop-holds c = (omega arith, union-start _)
 
 mul-x : tie.Need-mul-x Inv-loop μ-loop
 mul-x c = search needs
@@ -57,10 +58,10 @@ loop-less : tie.Need-loop-less Inv-loop μ-loop
 loop-less c = search needs
 
 loop-again : tie.Need-loop-again Inv-loop μ-loop
-loop-again c = (omega arith, loose-more (now (c .before .before .before .before .before .before .args .work)) (now (c .before .before .before .before .before .before .args .leave)) (now (c .before .before .before .before .before .before .args .arrive)) (c .before .before .before .before .before .loop .i) _ (c .before .before .before .before .before .loop .inv .1))
+loop-again c = (omega arith, loose-more (now (c .before .before .before .before .before .before .args .work)) (now (c .before .before .before .before .before .before .args .leave)) (now (c .before .before .before .before .before .before .args .arrive)) (c .before .before .before .before .before .loop .i) (c .before .before .before .before .before .loop .inv .1))
 
 returns : tie.Need-returns Inv-loop μ-loop
-returns c = λ i e l. c .before .loop .inv .1 i e (omega arith)
+returns c = union-end _ _ _ (c .before .loop .inv .1) (omega (arith, c .before .loop .inv .0))
 
 pub loose-spec : {M : Type 1} → statement M
 loose-spec =
