@@ -7,14 +7,14 @@ use native.Mathlib.Nat.{eq-or-lt-of-le}
 use native.Mathlib.Omega.{arith}
 use lib.ListN.{length, getD, set, replicate, length-set}
 use lib.Seq.{getD-set-same, getD-set-other}
-use lib.Bits.{bitAnd, bitOr, bitXor}
+use lib.Bits.{bitAnd, bitOr, bitXor, and-le-r}
 use Rattle.packed.proofs.OrderCases.{lt-or-ge, eq-or-ne}
 use Rattle.packed.proofs.ByValueLaws.{nothing-at}
 use Rattle.matching.specs.Sweeps.{Has, OneOf}
 use Rattle.matching.specs.Sweeping.{fromOf, sumTo, heldAt}
 use Rattle.matching.proofs.Masks.{bit-self, bit-one}
-use Rattle.matching.proofs.MaskBits.{none-has, or-left, or-right, or-cases, and-by, minus-say, minus-by, part-le, one-last, one-more}
-use Rattle.matching.specs.Late.{Member, NumberAdded, FirstWord, Drawn, IsMarked, Marks, AllMarked, TakenOut, MarkedStart, MarkedBefore, Backs}
+use Rattle.matching.proofs.MaskBits.{none-has, or-left, or-right, or-cases, and-say, and-by, minus-say, minus-by, part-le, lowest-has, one-last, one-more}
+use Rattle.matching.specs.Late.{Member, NumberAdded, FirstWord, Drawn, IsMarked, Marks, AllMarked, TakenOut, Relies, MarkedStart, MarkedBefore, Backs}
 use Rattle.matching.proofs.EndLaws.{ends-at, ends-of}
 
 -- ---- one word of a list is set
@@ -201,13 +201,19 @@ module _ (w : List ℕ) (lost : ℕ) (leave : List ℕ) where
   start-whole i s z =
       record { long = refl; keeps = λ x h. h; hit = λ e a b c. absurd (none-has e (cast e z (and-by _ _ e a (and-by _ _ e b c)))); why = λ x l h. inl h }
 
-  pub start-marked : (i : ℕ) {first s s′ : List ℕ} → Marks first (fromOf w i) s s′ → MarkedStart w lost leave i s s′
-  start-marked i m =
+  pub start-marked : (i : ℕ) {first s s′ : List ℕ} → (bitAnd (heldAt w i) (bitAnd (getD leave (fromOf w i) 0) lost) ≡ 0 → ⊥) → lost < 2 ^ 32 → Marks first (fromOf w i) s s′ → MarkedStart w lost leave i s s′
+  start-marked i z f m =
+      let both = bitAnd (getD leave (fromOf w i) 0) lost in
+      let p = and-le-r (heldAt w i) both in
+      let q = and-le-r (getD leave (fromOf w i) 0) lost in
+      let o = lowest-has 32 (bitAnd (heldAt w i) both) (omega arith) (omega arith) in
+      let a = and-say _ _ _ (o .1) in
+      let b = and-say _ _ _ (a .1) in
       record {
         long = m .long;
         keeps = m .keeps;
         hit = λ e a b c. m .hit;
-        why = λ x l h. ⊎-elim (λ p. inl p) (λ p. inr (sym p)) (m .why x l h);
+        why = λ x l h. ⊎-elim (λ p. inl p) (λ p. inr (sym p, record { at = _; below = o .0; holds = (a .0, b .0, b .1) })) (m .why x l h);
       }
 
   -- the pairs whose numbers stand in rev from a up to k
@@ -215,7 +221,7 @@ module _ (w : List ℕ) (lost : ℕ) (leave : List ℕ) where
     pub long : length s′ ≡ length s
     pub keeps : (x : ℕ) → IsMarked s x → IsMarked s′ x
     pub hit : (j e : ℕ) → a ≤ j → j < k → Has (heldAt w (getD rev j 0)) e → Has (getD leave (fromOf w (getD rev j 0)) 0) e → Has lost e → IsMarked s′ (fromOf w (getD rev j 0))
-    pub why : (x : ℕ) → x < 4096 → IsMarked s′ x → IsMarked s x ⊎ OneOf k (λ j. (a ≤ j) × (fromOf w (getD rev j 0) ≡ x))
+    pub why : (x : ℕ) → x < 4096 → IsMarked s′ x → IsMarked s x ⊎ OneOf k (λ j. (a ≤ j) × (fromOf w (getD rev j 0) ≡ x) × Relies w lost leave (getD rev j 0))
 
   pub range-start : (rev : List ℕ) (a k : ℕ) (s : List ℕ) → k ≡ a → MarkedRange rev a k s s
   range-start rev a k s z = record { long = refl; keeps = λ x h. h; hit = λ j e l m. absurd (omega arith); why = λ x l h. inl h }
@@ -232,7 +238,7 @@ module _ (w : List ℕ) (lost : ℕ) (leave : List ℕ) where
             let i : k ≡ j = omega arith in
             subst (λ (j : ℕ). Has (heldAt w (getD rev j 0)) e → Has (getD leave (fromOf w (getD rev j 0)) 0) e → Has lost e → IsMarked s′ (fromOf w (getD rev j 0))) i (r .hit e) x y z)
             (lt-or-ge j k);
-        why = λ x l p. ⊎-elim (λ q. ⊎-elim (λ u. inl u) (λ u. inr (one-more k u)) (h .why x l q)) (λ q. inr (one-last k (m, q))) (r .why x l p);
+        why = λ x l p. ⊎-elim (λ q. ⊎-elim (λ u. inl u) (λ u. inr (one-more k u)) (h .why x l q)) (λ q. inr (one-last k (m, q .0, q .1))) (r .why x l p);
       }
 
   pub range-end : {d n : ℕ} {back rev : List ℕ} {v k : ℕ} {s s′ : List ℕ} → Backs d n w back rev → v < n → MarkedRange rev (getD back v 0) k s s′ → k ≡ getD back (v + 1) 0
@@ -249,6 +255,6 @@ module _ (w : List ℕ) (lost : ℕ) (leave : List ℕ) where
         why = λ x lx p. ⊎-elim (λ q. inl q)
             (λ o. inr (
             let r = ends-of B v l (o .at) (o .holds .0) (let b = o .below in omega arith) in
-            record { at = getD rev (o .at) 0; below = r .0; holds = (o .holds .1, r .1) }))
+            record { at = getD rev (o .at) 0; below = r .0; holds = (o .holds .1, r .1, o .holds .2) }))
             (h .why x lx p);
       }

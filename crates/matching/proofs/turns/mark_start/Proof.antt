@@ -45,7 +45,7 @@ same-length : tie.Need-same-length
 same-length c = search needs
 
 returns-2 : tie.Need-returns-2
-returns-2 c = start-marked _ _ _ _ (c .before .before .mark .ensures)
+returns-2 c = start-marked _ _ _ _ (c .before .before .before .before .if1 .left) (omega arith) (c .before .before .mark .ensures)
 
 pub mark-start-spec : {M : Type 1} → statement M
 mark-start-spec =
