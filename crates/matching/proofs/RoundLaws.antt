@@ -9,37 +9,39 @@ use Rattle.packed.proofs.OrderCases.{lt-or-ge}
 use Rattle.matching.specs.Simulation.{bit}
 use Rattle.matching.specs.Sweeps.{Has, OneOf}
 use Rattle.matching.proofs.ListLaws.{decide}
-use Rattle.matching.proofs.MaskBits.{none-has, and-say, and-by, not-say, not-by}
+use Rattle.matching.proofs.MaskBits.{none-has, and-say, and-by, not-say, not-by, has-lt, part-le, mask-cast}
 use Rattle.matching.proofs.SoundLaws.{sound-none, sound-then, swept-same, from-same, to-same, held-say, held-by, swept-sound, left-lost, Loses, loses-none, losing-sound}
 use Rattle.matching.specs.Sweeping.{fromOf, toOf, Ends, Starts, heldAt, Swept, missing, NodesSettled}
 use Rattle.matching.specs.Choices.{Falls, Rests, Prepared, Fixed, Round}
 
 -- ---- one node
-module _ (due : ℕ) (leave out : List ℕ) (v e : ℕ) (s : getD out v 0 < 2 ^ 32) (l : e < 32) where
+module _ (due : ℕ) (leave out : List ℕ) (v e : ℕ) (s : getD out v 0 < 2 ^ 32) where
   miss-say : Has (missing due leave out v) e → Has (getD leave v 0) e × Has due e × (Has (getD out v 0) e → ⊥)
   unfolding missing
   miss-say h =
       let p = and-say _ _ e h in
       let q = and-say _ _ e (p .0) in
-      (q .0, q .1, not-say 32 (getD out v 0) e s l (p .1))
+      (q .0, q .1, not-say 32 (getD out v 0) e s (has-lt 32 _ e (omega arith) (p .1)) (p .1))
 
-  miss-by : Has (getD leave v 0) e → Has due e → (Has (getD out v 0) e → ⊥) → Has (missing due leave out v) e
+  miss-by : e < 32 → Has (getD leave v 0) e → Has due e → (Has (getD out v 0) e → ⊥) → Has (missing due leave out v) e
   unfolding missing
-  miss-by a b n = and-by _ _ e (and-by _ _ e a b) (not-by 32 (getD out v 0) e s l n)
+  miss-by l a b n = and-by _ _ e (and-by _ _ e a b) (not-by 32 (getD out v 0) e s l n)
 
 -- ---- a sweep
 module _ {n free d : ℕ} {w leave arrive out w′ out₁ : List ℕ} (P : Prepared n d w leave arrive out) (W : Swept d leave arrive free w out w′ out₁) where
   wide : (v : ℕ) → v < n → v < length out
   wide v l = let z = P .nodes in omega arith
 
-  out-say : (v e : ℕ) → v < n → Has (getD out₁ v 0) e → OneOf d (λ i. (fromOf w i ≡ v) × Has (heldAt w′ i) e)
+  out-say : (v e : ℕ) → v < n → Has (getD out₁ v 0) e → OneOf d (λ i. (fromOf w′ i ≡ v) × Has (heldAt w′ i) e)
   out-say v e l h =
       ⊎-elim (λ (p : Has (getD out v 0) e). absurd (none-has e (subst (λ (x : ℕ). Has x e) (P .clear v l) p)))
-      (λ o. record { at = o .at; below = o .below; holds = (o .holds .0, subst (λ (x : ℕ). Has x e) (sym (W .held (o .at) (o .below))) (o .holds .1)) })
+      (λ o. record { at = o .at; below = o .below; holds = (from-same (P .ends .most) W (o .at) (o .below) ∙ o .holds .0, subst (λ (x : ℕ). Has x e) (sym (W .held (o .at) (o .below))) (o .holds .1)) })
       (W .each v (wide v l) .why e h)
 
-  out-by : (v e : ℕ) → v < n → (i : ℕ) → i < d → fromOf w i ≡ v → Has (heldAt w′ i) e → Has (getD out₁ v 0) e
-  out-by v e l i li f h = W .each v (wide v l) .hit e (inr (record { at = i; below = li; holds = (f, subst (λ (x : ℕ). Has x e) (W .held i li) h) }))
+  out-by : (v e : ℕ) → v < n → OneOf d (λ i. (fromOf w′ i ≡ v) × Has (heldAt w′ i) e) → Has (getD out₁ v 0) e
+  out-by v e l o =
+      W .each v (wide v l) .hit e
+      (inr (record { at = o .at; below = o .below; holds = (sym (from-same (P .ends .most) W (o .at) (o .below)) ∙ o .holds .0, subst (λ (x : ℕ). Has x e) (W .held (o .at) (o .below)) (o .holds .1)) }))
 
   pub swept-falls : Falls free d w w′
   swept-falls =
@@ -74,14 +76,11 @@ module _ {n free due d : ℕ} {leaving arriving w leave arrive out w′ out₁ :
 
   loses : (v : ℕ) → Loses due d leaving arriving w′ leave arrive leave′ arrive′ v
   loses v =
-      let most = P .ends .most in
       ⊎-elim
       (λ (l : v < n). record {
         miss = missing due leave out₁ v;
-        in-due = λ e k h. miss-say due leave out₁ v e (E .short v l) k h .1;
-        unmet = λ e k h o.
-            (let y = miss-say due leave out₁ v e (E .short v l) k h in
-            y .2 (out-by P W v e l (o .at) (o .below) (sym (from-same most W (o .at) (o .below)) ∙ o .holds .0) (o .holds .1)));
+        in-due = λ e k h. miss-say due leave out₁ v e (E .short v l) h .1;
+        unmet = λ e k h o. miss-say due leave out₁ v e (E .short v l) h .2 (out-by P W v e l (record { at = o .at; below = o .below; holds = (o .holds .0, o .holds .1) }));
         leave-lost = λ a m t. left-lost (E .leave-left v l) a a m t;
         arrive-lost = left-lost (E .arrive-left v l);
       })
@@ -89,11 +88,14 @@ module _ {n free due d : ℕ} {leaving arriving w leave arrive out w′ out₁ :
       (lt-or-ge v n)
 
   module _ (z : r ≡ 0) where
+    none : (v : ℕ) → v < n → missing due leave out₁ v ≡ 0
+    none v l = let p = part-le (missing due leave out₁ v) r (λ e h. E .lost .hit e (record { at = v; below = l; holds = h })) in omega arith
+
     leave-same : (v : ℕ) → getD leave′ v 0 ≡ getD leave v 0
-    leave-same v = ⊎-elim (λ (l : v < n). E .leave-left v l .stays (E .none z v l)) (λ (l : n ≤ v). leave-beyond v l) (lt-or-ge v n)
+    leave-same v = ⊎-elim (λ (l : v < n). E .leave-left v l .stays (none v l)) (λ (l : n ≤ v). leave-beyond v l) (lt-or-ge v n)
 
     arrive-same : (v : ℕ) → getD arrive′ v 0 ≡ getD arrive v 0
-    arrive-same v = ⊎-elim (λ (l : v < n). E .arrive-left v l .stays (E .none z v l)) (λ (l : n ≤ v). arrive-beyond v l) (lt-or-ge v n)
+    arrive-same v = ⊎-elim (λ (l : v < n). E .arrive-left v l .stays (none v l)) (λ (l : n ≤ v). arrive-beyond v l) (lt-or-ge v n)
 
     rests : Rests n free due d w′ leave′ arrive′
     rests =
@@ -105,8 +107,8 @@ module _ {n free due d : ℕ} {leaving arriving w leave arrive out w′ out₁ :
               ))
               (swept-within P W i e l h);
           held = λ v e l u le h. ⊎-elim
-              (λ (p : Has (getD out₁ v 0) e). let o = out-say P W v e l p in record { at = o .at; below = o .below; holds = (from-same (P .ends .most) W (o .at) (o .below) ∙ o .holds .0, o .holds .1) })
-              (λ (p : Has (getD out₁ v 0) e → ⊥). absurd (none-has e (subst (λ (x : ℕ). Has x e) (E .none z v l)
+              (λ (p : Has (getD out₁ v 0) e). out-say P W v e l p)
+              (λ (p : Has (getD out₁ v 0) e → ⊥). absurd (none-has e (subst (λ (x : ℕ). Has x e) (none v l)
               (miss-by due leave out₁ v e (E .short v l) le (subst (λ (x : ℕ). Has x e) (leave-same v) h) u p))))
               (decide (bit (getD out₁ v 0) e));
         }
@@ -123,17 +125,27 @@ module _ {n free due d : ℕ} {leaving arriving w leave arrive out w′ out₁ :
         rests = rests;
       }
 
-  pub round-once : Round n due d leaving w leave arrive w′ leave′
-  round-once =
+  pub round-once : due < 2 ^ 32 → Round n due d leaving w leave arrive r w′ leave′
+  round-once f =
       record {
         spares = λ i e l a b h. held-by (P .ends .most) W i e l h (inr (a, b));
         offers = λ from m t v e l le y h. ⊎-elim
-            (λ (p : Has (getD out₁ v 0) e). let o = out-say P W v e l p in record { at = o .at; below = o .below; holds = (from-same (P .ends .most) W (o .at) (o .below) ∙ o .holds .0, o .holds .1) })
+            (λ (p : Has (getD out₁ v 0) e). out-say P W v e l p)
             (λ (p : Has (getD out₁ v 0) e → ⊥).
             let z = left-lost (E .leave-left v l) from from m t in
-            let x = miss-by due leave out₁ v e (E .short v l) (let f = t .few in omega arith) (z .part e h) y p in
+            let x = miss-by due leave out₁ v e (E .short v l) (has-lt 32 due e f y) (z .part e h) y p in
             absurd (z .gone e h (le, record { at = e; below = le; holds = (x, refl) })))
             (decide (bit (getD out₁ v 0) e));
+        lost = mask-cast
+            (λ e o. (let y = miss-say due leave out₁ (o .at) e (E .short (o .at) (o .below)) (o .holds) in
+            record { at = o .at; below = o .below; holds = (y .0, y .1, λ p. y .2 (out-by P W (o .at) e (o .below) p)) }))
+            (λ e o. record {
+              at = o .at;
+              below = o .below;
+              holds = miss-by due leave out₁ (o .at) e (E .short (o .at) (o .below)) (has-lt 32 due e f (o .holds .1)) (o .holds .0) (o .holds .1)
+                  (λ p. o .holds .2 (out-say P W (o .at) e (o .below) p));
+            })
+            (E .lost);
       }
 
 -- ---- rounds one after the other

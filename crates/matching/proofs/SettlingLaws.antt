@@ -1,5 +1,5 @@
 -- The loop that settles the nodes.
-use mathlib.Core.Path.{_≡_, refl, ap, _∙_, sym, subst}
+use mathlib.Core.Path.{_≡_, refl, sym, subst}
 use mathlib.Core.Logic.{⊎-elim}
 use mathlib.Core.List.{List}
 use Prim.Native.Nat.{ℕ, _≤_, _<_, _+_, _^_}
@@ -8,8 +8,9 @@ use native.Mathlib.Omega.{arith}
 use lib.ListN.{length, getD, set}
 use lib.Bits.{bitOr}
 use Rattle.packed.proofs.OrderCases.{lt-or-ge}
-use Rattle.matching.proofs.MaskBits.{part-le, or-left, or-right}
+use Rattle.matching.proofs.MaskBits.{mask-self, union-start, union-more, union-end}
 use Rattle.matching.proofs.Filling.{Filling, filling-start, filling-more, filling-around, filling-front}
+use Rattle.matching.specs.Sweeps.{Has, Mask, OneOf}
 use Rattle.matching.specs.Sweeping.{Left, missing, NodesSettled}
 
 -- the nodes below v are settled
@@ -18,12 +19,12 @@ pub record Settling (n due : ℕ) (leaving arriving leave₀ arrive₀ out₀ le
   pub arrives : Filling 0 n (λ j x. Left arriving (missing due leave₀ out₀ j) (getD arrive₀ j 0) x) arrive₀ arrive v
   pub outs : Filling 0 n (λ j x. x ≡ 0) out₀ out v
   pub short : (j : ℕ) → j < v → getD out₀ j 0 < 2 ^ 32
-  pub none : lost ≡ 0 → (j : ℕ) → j < v → missing due leave₀ out₀ j ≡ 0
+  pub missed : Mask (λ e. OneOf v (λ j. Has (missing due leave₀ out₀ j) e)) lost
 
 module _ (n due : ℕ) (leaving arriving : List ℕ) where
   pub settling-start : (leave arrive out : List ℕ) → Settling n due leaving arriving leave arrive out leave arrive out 0 0
   settling-start leave arrive out =
-      record { leaves = filling-start 0 n _ leave; arrives = filling-start 0 n _ arrive; outs = filling-start 0 n _ out; short = λ j l. absurd (omega arith); none = λ z j l. absurd (omega arith) }
+      record { leaves = filling-start 0 n _ leave; arrives = filling-start 0 n _ arrive; outs = filling-start 0 n _ out; short = λ j l. absurd (omega arith); missed = union-start (λ j. Has (missing due leave out j)) }
 
   module _ {leave₀ arrive₀ out₀ leave arrive out : List ℕ} {lost v : ℕ} (h : Settling n due leaving arriving leave₀ arrive₀ out₀ leave arrive out lost v) where
     missing-same : missing due leave out v ≡ missing due leave₀ out₀ v
@@ -48,12 +49,7 @@ module _ (n due : ℕ) (leaving arriving : List ℕ) where
           outs = filling-more 0 n _ (h .outs) v 0 l (omega arith) (sym (zero-add v)) refl;
           short = λ j p. ⊎-elim (λ (q : j < v). h .short j q)
               (λ (q : v ≤ j). let e : v ≡ j = omega arith in subst (λ (x : ℕ). getD out₀ x 0 < 2 ^ 32) e (let o : getD out v 0 ≡ getD out₀ v 0 = h .outs .later v (omega arith) in omega arith)) (lt-or-ge j v);
-          none = λ z j p.
-              (let c = missing due leave out v in
-              let x = part-le lost (bitOr lost c) (λ k i. or-left lost c k i) in
-              let y = part-le c (bitOr lost c) (λ k i. or-right lost c k i) in
-              ⊎-elim (λ (q : j < v). h .none (omega arith) j q)
-              (λ (q : v ≤ j). let e : j ≡ v = omega arith in ap (missing due leave₀ out₀) e ∙ sym m ∙ (let g : c ≡ 0 = omega arith in g)) (lt-or-ge j v));
+          missed = union-more (λ j. Has (missing due leave₀ out₀ j)) v (h .missed) (rw m (mask-self (missing due leave₀ out₀ v)));
         }
 
     pub settling-end : n ≤ v → NodesSettled n due leaving arriving leave₀ arrive₀ out₀ lost leave arrive out
@@ -66,5 +62,5 @@ module _ (n due : ℕ) (leaving arriving : List ℕ) where
           arrive-left = filling-front n _ (h .arrives) l;
           clear = filling-front n _ (h .outs) l;
           short = λ j p. h .short j (omega arith);
-          none = λ z j p. h .none z j (omega arith);
+          lost = union-end (λ j. Has (missing due leave₀ out₀ j)) v n (h .missed) (let u = h .leaves .upto in omega arith);
         }

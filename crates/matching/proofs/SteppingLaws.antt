@@ -299,7 +299,7 @@ module _ (w leave arrive : List ℕ) where
 
 module _ {q : Given} {n d all : ℕ} {w leave arrive out leaving arriving : List ℕ} (pool : Pool d w) (f : Fresh q n d all w leave arrive out leaving arriving)
     {r : ℕ} {w′ leave′ arrive′ out′ : List ℕ} (F : Fixed n 0 all d leaving arriving w leave arrive out r w′ leave′ arrive′ out′)
-    (O : Round n all d leaving w leave arrive w′ leave′) where
+    (O : Round n all d leaving w leave arrive r w′ leave′) where
   abbrev first-sound : Sound (q .from) (q .to) (q .edges) 0 all d w leave arrive w′ leave′ arrive′
   first-sound = F .sound (q .from) (q .to) (q .edges) (f .by-from) (f .by-to) (λ e y h. none-has e h)
 

@@ -7,7 +7,7 @@ use mathlib.Core.Bool.{Bool}
 use mathlib.Core.Logic.{_⊎_}
 use lib.ListN.{length, getD}
 use lib.Dec.{T}
-use Rattle.matching.specs.Sweeps.{Has, OneOf}
+use Rattle.matching.specs.Sweeps.{Has, Mask, OneOf}
 use Rattle.matching.specs.Sweeping.{fromOf, toOf, Ends, heldAt, Tabled}
 
 -- a pair that begins at v is held for the link e, and at its end stands the link's
@@ -93,7 +93,8 @@ pub record Fixed (n free due d : ℕ) (leaving arriving w leave arrive out : Lis
       → ((e : ℕ) → Has due e → Has free e → ⊥) → Sound from to m free due d w leave arrive w′ leave′ arrive′
   pub rests : r ≡ 0 → Rests n free due d w′ leave′ arrive′
 
--- what one round keeps of the pairs that their ends allow, and that each link that may leave a node is held there
-pub record Round (n due d : ℕ) (leaving w leave arrive w′ leave′ : List ℕ) : Type 0 where
+-- what one round keeps of the pairs that their ends allow, that each link that may leave a node is held there, and that r has the links that might leave one and weren't
+pub record Round (n due d : ℕ) (leaving w leave arrive : List ℕ) (r : ℕ) (w′ leave′ : List ℕ) : Type 0 where
   pub spares : (i e : ℕ) → i < d → Has (getD leave (fromOf w i) 0) e → Has (getD arrive (toOf w i) 0) e → Has (heldAt w i) e → Has (heldAt w′ i) e
   pub offers : (from : List ℕ) (m : ℕ) → Tabled from from m leaving → (v e : ℕ) → v < n → e < m → Has due e → Has (getD leave′ v 0) e → OneOf d (λ i. (fromOf w′ i ≡ v) × Has (heldAt w′ i) e)
+  pub lost : Mask (λ e. OneOf n (λ v. Has (getD leave v 0) e × Has due e × (OneOf d (λ i. (fromOf w′ i ≡ v) × Has (heldAt w′ i) e) → ⊥))) r

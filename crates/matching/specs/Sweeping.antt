@@ -83,7 +83,7 @@ pub record NodesSettled (n due : ℕ) (leaving arriving leave arrive out : List 
   pub arrive-left : (v : ℕ) → v < n → Left arriving (missing due leave out v) (getD arrive v 0) (getD arrive′ v 0)
   pub clear : (v : ℕ) → v < n → getD out′ v 0 ≡ 0
   pub short : (v : ℕ) → v < n → getD out v 0 < 2 ^ 32
-  pub none : r ≡ 0 → (v : ℕ) → v < n → missing due leave out v ≡ 0
+  pub lost : Mask (λ e. OneOf n (λ v. Has (missing due leave out v) e)) r
 
 -- the sum of the words of n nodes
 unfoldable pub sumTo : ℕ → List ℕ → ℕ

@@ -117,7 +117,7 @@ pub fn round(
     arriving: &[u32; 128],
 ) -> u32
     requires { ⌜ Prepared n d (now work) (now leave) (now arrive) (now out) ⌝ }
-    ensures { λ r. ⌜ Fixed n free due d (now (leaving .entry)) (now (arriving .entry)) (now (work .entry)) (now (leave .entry)) (now (arrive .entry)) (now (out .entry)) r (now (work .exit)) (now (leave .exit)) (now (arrive .exit)) (now (out .exit)) × Round n due d (now (leaving .entry)) (now (work .entry)) (now (leave .entry)) (now (arrive .entry)) (now (work .exit)) (now (leave .exit)) ⌝ }
+    ensures { λ r. ⌜ Fixed n free due d (now (leaving .entry)) (now (arriving .entry)) (now (work .entry)) (now (leave .entry)) (now (arrive .entry)) (now (out .entry)) r (now (work .exit)) (now (leave .exit)) (now (arrive .exit)) (now (out .exit)) × Round n due d (now (leaving .entry)) (now (work .entry)) (now (leave .entry)) (now (arrive .entry)) r (now (work .exit)) (now (leave .exit)) ⌝ }
 {
     sweep(work, d, leave, arrive, free, out);
     settle(n, leave, arrive, out, due, leaving, arriving)

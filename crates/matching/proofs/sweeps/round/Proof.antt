@@ -1,4 +1,5 @@
 use Rattle.matching.proofs.RoundLaws.{round-fixed, round-once, prepared-ends, prepared-starts}
+use native.Mathlib.Omega.{arith}
 use borrow.Author.Needs.{needs}
 use Rattle.matching.proofs.sweeps.round.Statement.{statement}
 use Rattle.matching.proofs.sweeps.round.Tie as tie
@@ -25,10 +26,11 @@ same-length-4 c = search needs
 
 returns : tie.Need-returns
 returns c =
-    let pre = c .before .before .before .before .before .before .before .before .before .before .before .before .before .before .before .before .before .before .before .before .before .before .before .pre in
+    let start = c .before .before .before .before .before .before .before .before .before .before .before .before .before .before .before .before .before .before .before .before .before .before .before in
+    let pre = start .pre in
     let sweep = c .before .before .before .before .before .before .before .before .before .before .before .before .before .before .sweep in
     let settle = c .before .before .before .before .before .before .settle in
-    (round-fixed pre (sweep .ensures) (settle .ensures), round-once pre (sweep .ensures) (settle .ensures))
+    (round-fixed pre (sweep .ensures) (settle .ensures), round-once pre (sweep .ensures) (settle .ensures) (omega (arith, start .fits)))
 
 pub round-spec : {M : Type 1} → statement M
 round-spec =
