@@ -43,7 +43,7 @@ AllComponents t n c = (u : ℕ) → u < n → Mask (λ v. Has (getD t u 0) v × 
 abbrev pub IsNext : List ℕ → List ℕ → ℕ → ℕ → Type 0
 IsNext t c settled u = bitOr (bitAnd (getD c u 0) settled) (bitXor (getD t u 0) (bitAnd (getD t u 0) (bitOr settled (getD c u 0)))) ≡ 0
 
--- the first such component, or none
+-- such a component, whichever, or 0 if there is none
 pub record NextOf (t c : List ℕ) (n settled r : ℕ) : Type 0 where
   pub one : (r ≡ 0 → ⊥) → OneOf n (λ u. IsNext t c settled u × (r ≡ getD c u 0))
   pub none : ((u : ℕ) → u < n → getD c u 0 ≡ 0 → ⊥) → r ≡ 0 → (u : ℕ) → u < n → IsNext t c settled u → ⊥

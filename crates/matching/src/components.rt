@@ -88,7 +88,8 @@ pub fn components(t: &[u32; 16], n: usize) -> [u32; 16]
     c
 }
 
-// The component that is settled next: that of the lowest node that is not settled and whose component leads to settled ones alone; 0, if all are settled.
+// A component that can be settled next: one that is not settled and leads to settled ones alone; 0, if all are settled. The lowest node's is taken, and the contract
+// holds for any.
 pub fn next(t: &[u32; 16], components: &[u32; 16], n: usize, settled: u32) -> u32
     requires { ⌜ n ≤ 16 ⌝ }
     ensures { λ r. ⌜ NextOf (now (t .entry)) (now (components .entry)) n settled r ⌝ }
