@@ -1,6 +1,6 @@
 // What programs lend. A file is read into one byte more than its most, so that a longer one is refused as too long.
 ghost use mathlib.Core.Path.{_≡_};
-ghost use Prim.Native.Nat.{_≤_};
+ghost use Prim.Native.Nat.{min};
 ghost use lib.ListN.{length};
 
 pub fn question_bytes() -> [u8; 57]
@@ -84,7 +84,7 @@ pub fn work_words() -> [u32; 16384]
 
 // How many are lent: as many as a file has or a buffer holds.
 pub fn least(a: usize, b: usize) -> usize
-    ensures { λ r. ⌜ (r ≤ a) × (r ≤ b) ⌝ }
+    ensures { λ r. ⌜ r ≡ min a b ⌝ }
 {
     if a < b { a } else { b }
 }

@@ -1,6 +1,8 @@
 // Text files of decimal numbers, read a byte at a time: a file of any length is read to its end, and its lines are counted. A list has one number
 // a line. In a set spaces and line ends stand between the numbers, which are below 16.
-
+ghost use mathlib.Core.Path.{_≡_};
+ghost use lib.ListN.{set};
+ghost use Rattle.folder.specs.Numbers.{emptyText, withLine, withDigit, endMember, nextInSet, state, endLine, nextInList, next, steps, atEnd};
 use crate::files;
 
 // A number is at most this.
@@ -16,7 +18,9 @@ pub struct Text {
     value: u64,
 }
 
-fn empty(is_list: bool) -> Text {
+fn empty(is_list: bool) -> Text
+    ensures { λ r. ⌜ r ≡ emptyText «is_list» ⌝ }
+{
     Text {
         count: 0,
         good: true,
@@ -28,7 +32,9 @@ fn empty(is_list: bool) -> Text {
 }
 
 // A line has ended, good or not: a bad one is the last that counts.
-fn with_line(text: Text, good: bool) -> Text {
+fn with_line(text: Text, good: bool) -> Text
+    ensures { λ r. ⌜ r ≡ withLine text good ⌝ }
+{
     Text {
         count: std::num::wrapping_add_usize(text.count, 1),
         good,
@@ -40,7 +46,9 @@ fn with_line(text: Text, good: bool) -> Text {
 }
 
 // A digit more. A number over the most stays over it.
-fn with_digit(text: Text, digit: u8) -> Text {
+fn with_digit(text: Text, digit: u8) -> Text
+    ensures { λ r. ⌜ r ≡ withDigit text digit ⌝ }
+{
     let value = text.value;
     if MOST < value {
         return text;
@@ -55,14 +63,18 @@ fn with_digit(text: Text, digit: u8) -> Text {
     }
 }
 
-fn put(out: &mut [u32], i: usize, x: u32) {
+fn put(out: &mut [u32], i: usize, x: u32)
+    ensures { λ r. ⌜ now (out .exit) ≡ set (now (out .entry)) i x ⌝ }
+{
     if i < out.len() {
         out[i] = x;
     }
 }
 
 // A line of a list is at its end. Its number goes to its place, where there is one.
-fn end_line(text: Text, out: &mut [u32]) -> Text {
+fn end_line(text: Text, out: &mut [u32]) -> Text
+    ensures { λ r. ⌜ state r (now (out .exit)) ≡ endLine (state text (now (out .entry))) ⌝ }
+{
     let value = text.value;
     if MOST < value {
         return with_line(text, false);
@@ -75,7 +87,9 @@ fn end_line(text: Text, out: &mut [u32]) -> Text {
 }
 
 // A number of a set is at its end, if one has begun.
-fn end_member(text: Text) -> Text {
+fn end_member(text: Text) -> Text
+    ensures { λ r. ⌜ r ≡ endMember text ⌝ }
+{
     let value = text.value;
     if !text.begun {
         return text;
@@ -94,7 +108,9 @@ fn end_member(text: Text) -> Text {
 }
 
 // The next byte of a set.
-fn next_in_set(text: Text, byte: u8) -> Text {
+fn next_in_set(text: Text, byte: u8) -> Text
+    ensures { λ r. ⌜ r ≡ nextInSet text byte ⌝ }
+{
     let ended = end_member(text);
     if !ended.good | (byte == b' ') {
         return ended;
@@ -103,14 +119,18 @@ fn next_in_set(text: Text, byte: u8) -> Text {
 }
 
 // The next byte of a list.
-fn next_in_list(text: Text, byte: u8, out: &mut [u32]) -> Text {
+fn next_in_list(text: Text, byte: u8, out: &mut [u32]) -> Text
+    ensures { λ r. ⌜ state r (now (out .exit)) ≡ nextInList (state text (now (out .entry))) byte ⌝ }
+{
     if byte == b'\n' {
         return end_line(text, out);
     }
     with_line(text, false)
 }
 
-fn next(text: Text, byte: u8, out: &mut [u32]) -> Text {
+fn next(text: Text, byte: u8, out: &mut [u32]) -> Text
+    ensures { λ r. ⌜ state r (now (out .exit)) ≡ next (state text (now (out .entry))) byte ⌝ }
+{
     if !text.good {
         return text;
     }
@@ -126,7 +146,9 @@ fn next(text: Text, byte: u8, out: &mut [u32]) -> Text {
     }
 }
 
-fn take(bytes: &[u8], before: Text, out: &mut [u32]) -> Text {
+fn take(bytes: &[u8], before: Text, out: &mut [u32]) -> Text
+    ensures { λ r. ⌜ state r (now (out .exit)) ≡ steps (state before (now (out .entry))) (now (bytes .entry)) ⌝ }
+{
     let mut text = before;
     let mut i: usize = 0;
     while i < bytes.len() {
@@ -137,7 +159,9 @@ fn take(bytes: &[u8], before: Text, out: &mut [u32]) -> Text {
 }
 
 // The last line may lack its line end.
-fn end(text: Text, out: &mut [u32]) -> Text {
+fn end(text: Text, out: &mut [u32]) -> Text
+    ensures { λ r. ⌜ state r (now (out .exit)) ≡ atEnd (state text (now (out .entry))) ⌝ }
+{
     if text.begun {
         return next(text, b'\n', out);
     }

@@ -1,0 +1,97 @@
+-- Text files of decimal numbers: what the bytes of `charges` (decisions 49 and 50) and of `set` (decision 53) say, one after the other.
+use Prim.Native.Nat.{ℕ, _+_, _-_, _*_, _%_, _^_}
+use mathlib.Core.Bool.{Bool, true, false, not, _&&_, _||_}
+use mathlib.Core.List.{List, [], _∷_}
+use lib.Dec.{eqb, leb, ltb}
+use lib.Bits.{bitOr}
+use lib.ListN.{set}
+use Rattle.packed.specs.Format.{pick}
+use Rattle.folder.specs.declared.numbers.Text.{Text}
+
+-- 49: a number is at most this
+abbrev pub most : ℕ
+most = 4294967295
+
+-- 49, 53: the bytes of the digits 0 to 9
+unfoldable pub isDigit : ℕ → Bool
+isDigit b = leb 48 b && leb b 57
+
+-- the byte that ends a line
+abbrev pub lineFeed : ℕ
+lineFeed = 10
+
+-- 53: the other byte that stands between the numbers of a set
+abbrev pub space : ℕ
+space = 32
+
+-- ---- a text so far
+
+-- no byte is read yet
+unfoldable pub emptyText : Bool → Text
+emptyText isList = record { count = 0; good = true; set = 0; «is_list» = isList; begun = false; value = 0 }
+
+-- a line more, which is as it should be or is the one that a failure names
+unfoldable pub withLine : Text → Bool → Text
+withLine t good = record { count = (t .count + 1) % 2 ^ 64; good = good; set = t .set; «is_list» = t .«is_list»; begun = false; value = 0 }
+
+-- a digit more; a number over the most stays as it is
+unfoldable pub withDigit : Text → ℕ → Text
+withDigit t d =
+    pick (ltb most (t .value))
+    t
+    (record { count = t .count; good = t .good; set = t .set; «is_list» = t .«is_list»; begun = true; value = t .value * 10 + d })
+
+-- 49: a line is one number: one digit at least, and no more than the most
+unfoldable pub isNumber : Text → Bool
+isNumber t = leb (t .value) most && t .begun
+
+-- 53: a number that has begun is at its end: one of 0 to 15 is in the set, and a larger one is a failure
+unfoldable pub endMember : Text → Text
+endMember t =
+    pick (t .begun)
+    (pick (leb (t .value) 15)
+    (record { count = t .count; good = true; set = bitOr (t .set) (2 ^ t .value); «is_list» = false; begun = false; value = 0 })
+    (withLine t false))
+    t
+
+-- 53: after a number stands a space or a line end
+unfoldable pub nextInSet : Text → ℕ → Text
+nextInSet t b = pick (not (endMember t .good) || eqb b space) (endMember t) (withLine (endMember t) (eqb b lineFeed))
+
+-- ---- a text and the words that are lent for its numbers
+
+pub record State : Type 0 where
+  pub text : Text
+  pub words : List ℕ
+
+abbrev pub state : Text → List ℕ → State
+state t ws = record { text = t; words = ws }
+
+-- 49: a line of a list is at its end: its number goes to its place, where there is one
+unfoldable pub endLine : State → State
+endLine s =
+    pick (isNumber (s .text))
+    (state (withLine (s .text) true) (set (s .words) (s .text .count) (s .text .value)))
+    (state (withLine (s .text) false) (s .words))
+
+-- 49: after a number stands a line end
+unfoldable pub nextInList : State → ℕ → State
+nextInList s b = pick (eqb b lineFeed) (endLine s) (state (withLine (s .text) false) (s .words))
+
+-- the next byte; the first line that is not as it should be is the last that counts
+unfoldable pub next : State → ℕ → State
+next s b =
+    pick (s .text .good)
+    (pick (isDigit b)
+    (state (withDigit (s .text) (b - 48)) (s .words))
+    (pick (s .text .«is_list») (nextInList s b) (state (nextInSet (s .text) b) (s .words))))
+    s
+
+-- bytes one after the other
+unfoldable pub steps : State → List ℕ → State
+steps s [] = s
+steps s (b ∷ bs) = steps (next s b) bs
+
+-- 49: the last line may lack its line end
+unfoldable pub atEnd : State → State
+atEnd s = pick (s .text .begun) (next s lineFeed) s
