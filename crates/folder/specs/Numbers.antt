@@ -95,3 +95,58 @@ steps s (b ∷ bs) = steps (next s b) bs
 -- 49: the last line may lack its line end
 unfoldable pub atEnd : State → State
 atEnd s = pick (s .text .begun) (next s lineFeed) s
+
+-- ---- a whole list
+
+-- inner: a byte before the first line
+unfoldable pub onto : ℕ → List (List ℕ) → List (List ℕ)
+onto b [] = (b ∷ []) ∷ []
+onto b (l ∷ ls) = (b ∷ l) ∷ ls
+
+-- 49: the lines of a text: each ends in a line feed, which the last may lack, so no bytes have no line
+unfoldable pub linesOf : List ℕ → List (List ℕ)
+linesOf [] = []
+linesOf (b ∷ bs) = pick (eqb b lineFeed) ([] ∷ linesOf bs) (onto b (linesOf bs))
+
+unfoldable pub allDigits : List ℕ → Bool
+allDigits [] = true
+allDigits (b ∷ bs) = isDigit b && allDigits bs
+
+unfoldable pub isThere : List ℕ → Bool
+isThere [] = false
+isThere (b ∷ bs) = true
+
+-- inner: the number that digits go on to write
+unfoldable pub valueFrom : ℕ → List ℕ → ℕ
+valueFrom v [] = v
+valueFrom v (b ∷ bs) = valueFrom (v * 10 + (b - 48)) bs
+
+-- the number that digits write, however long; leading zeros are no fault
+unfoldable pub valueOf : List ℕ → ℕ
+valueOf l = valueFrom 0 l
+
+-- 49: one decimal number in digits alone, from 0 to the most
+unfoldable pub isCharge : List ℕ → Bool
+isCharge l = allDigits l && isThere l && leb (valueOf l) most
+
+-- how many lines there are, or which is no number, and the lent words
+pub record Listed : Type 0 where
+  pub count : ℕ
+  pub good : Bool
+  pub words : List ℕ
+
+-- 49, 50: lines after n others: all are counted, each number goes to its place where there is one, and the first that is no number is named
+unfoldable pub listOf : ℕ → List ℕ → List (List ℕ) → Listed
+listOf n ws [] = record { count = n; good = true; words = ws }
+listOf n ws (l ∷ ls) =
+    pick (isCharge l)
+    (listOf (n + 1) (set ws n (valueOf l)) ls)
+    (record { count = n + 1; good = false; words = ws })
+
+-- what a state tells of a list
+abbrev pub listed : State → Listed
+listed s = record { count = s .text .count; good = s .text .good; words = s .words }
+
+-- the state after the last byte
+abbrev pub whole : Bool → List ℕ → List ℕ → State
+whole isList ws bs = atEnd (steps (state (emptyText isList) ws) bs)
