@@ -29,14 +29,14 @@ first-false false h = refl
 
 -- ---- digits one by one
 
-digit-no-feed : (b : ℕ) → isDigit b ≡ true → eqb b lineFeed ≡ false
+pub digit-no-feed : (b : ℕ) → isDigit b ≡ true → eqb b lineFeed ≡ false
 digit-no-feed b h = ne-eqb b 10 (λ e. let k = below-digits b (omega arith) in let z : _≡_ {A = ℕ} 0 1 = cc in omega arith)
 
-first-digit : (x : ℕ) (p : List ℕ) → allDigits (x ∷ p) ≡ true → isDigit x ≡ true
+pub first-digit : (x : ℕ) (p : List ℕ) → allDigits (x ∷ p) ≡ true → isDigit x ≡ true
 unfolding allDigits
 first-digit x p h = both-first (isDigit x) (allDigits p) h
 
-other-digits : (x : ℕ) (p : List ℕ) → allDigits (x ∷ p) ≡ true → allDigits p ≡ true
+pub other-digits : (x : ℕ) (p : List ℕ) → allDigits (x ∷ p) ≡ true → allDigits p ≡ true
 unfolding allDigits
 other-digits x p h = both-second (isDigit x) (allDigits p) h
 
@@ -50,7 +50,7 @@ unfolding isThere
 there-more [] b = refl
 there-more (x ∷ p) b = refl
 
-value-there : (p : List ℕ) → 0 < valueOf p → isThere p ≡ true
+pub value-there : (p : List ℕ) → 0 < valueOf p → isThere p ≡ true
 unfolding valueOf valueFrom isThere
 value-there [] h = absurd (omega arith)
 value-there (x ∷ p) h = refl
@@ -119,68 +119,68 @@ spoilt-line n ws ls k = rw (k .is) (bad-line n ws (k .line) (k .others) (simp (k
 
 -- ---- a text in a line of digits
 
-record Within (t : Text) (p : List ℕ) : Type 0 where
-  good : t .good ≡ true
-  list : t .«is_list» ≡ true
-  begun : t .begun ≡ isThere p
-  digits : allDigits p ≡ true
-  small : valueOf p ≤ most → t .value ≡ valueOf p
-  large : most < valueOf p → most < t .value
+pub record Within (list : Bool) (t : Text) (p : List ℕ) : Type 0 where
+  pub good : t .good ≡ true
+  pub kind : t .«is_list» ≡ list
+  pub begun : t .begun ≡ isThere p
+  pub digits : allDigits p ≡ true
+  pub small : valueOf p ≤ most → t .value ≡ valueOf p
+  pub large : most < valueOf p → most < t .value
 
-fresh : (t : Text) → t .«is_list» ≡ true → Within (withLine t true) []
+pub fresh : (list : Bool) (t : Text) → t .«is_list» ≡ list → Within list (withLine t true) []
 unfolding withLine isThere allDigits valueOf valueFrom
-fresh t h = record { good = refl; list = h; begun = refl; digits = refl; small = λ k. refl; large = λ k. absurd (omega arith) }
+fresh list t h = record { good = refl; kind = h; begun = refl; digits = refl; small = λ k. refl; large = λ k. absurd (omega arith) }
 
-start : Within (emptyText true) []
+pub start : (list : Bool) → Within list (emptyText list) []
 unfolding emptyText isThere allDigits valueOf valueFrom
-start = record { good = refl; list = refl; begun = refl; digits = refl; small = λ k. refl; large = λ k. absurd (omega arith) }
+start list = record { good = refl; kind = refl; begun = refl; digits = refl; small = λ k. refl; large = λ k. absurd (omega arith) }
 
 digit-value : (p : List ℕ) (b : ℕ) → valueOf (p ++ (b ∷ [])) ≡ valueOf p * 10 + (b - 48)
 unfolding valueOf
 digit-value p b = value-more 0 p b
 
-digit-kept : (t : Text) (d : ℕ) → most < t .value → withDigit t d ≡ t
+pub digit-kept : (t : Text) (d : ℕ) → most < t .value → withDigit t d ≡ t
 unfolding withDigit
 digit-kept t d h = simp (lt-ltb _ _ h)
 
-digit-added : (t : Text) (d : ℕ) → t .value ≤ most
+pub digit-added : (t : Text) (d : ℕ) → t .value ≤ most
     → withDigit t d ≡ record { count = t .count; good = t .good; set = t .set; «is_list» = t .«is_list»; begun = true; value = t .value * 10 + d }
 unfolding withDigit
 digit-added t d h = simp (le-ltb _ _ h)
 
-over : (t : Text) (p : List ℕ) (b : ℕ) → Within t p → isDigit b ≡ true → most < valueOf p → Within (withDigit t (b - 48)) (p ++ (b ∷ []))
-over t p b w h k =
+over : (list : Bool) (t : Text) (p : List ℕ) (b : ℕ) → Within list t p → isDigit b ≡ true → most < valueOf p → Within list (withDigit t (b - 48)) (p ++ (b ∷ []))
+over list t p b w h k =
     rw (digit-kept t (b - 48) (w .large k))
     (record {
       good = w .good;
-      list = w .list;
+      kind = w .kind;
       begun = w .begun ∙ value-there p (omega arith) ∙ sym (there-more p b);
       digits = digits-more p b (w .digits) h;
       small = λ m. absurd (omega (arith, digit-value p b));
       large = λ m. w .large k;
     })
 
-under : (t : Text) (p : List ℕ) (b : ℕ) → Within t p → isDigit b ≡ true → valueOf p ≤ most → Within (withDigit t (b - 48)) (p ++ (b ∷ []))
-under t p b w h k =
+under : (list : Bool) (t : Text) (p : List ℕ) (b : ℕ) → Within list t p → isDigit b ≡ true → valueOf p ≤ most → Within list (withDigit t (b - 48)) (p ++ (b ∷ []))
+under list t p b w h k =
     let e = w .small k in
     rw (digit-added t (b - 48) (omega arith))
     (record {
       good = w .good;
-      list = w .list;
+      kind = w .kind;
       begun = sym (there-more p b);
       digits = digits-more p b (w .digits) h;
       small = λ m. omega (arith, digit-value p b);
       large = λ m. omega (arith, digit-value p b);
     })
 
-within-digit : (t : Text) (p : List ℕ) (b : ℕ) → Within t p → isDigit b ≡ true → Within (withDigit t (b - 48)) (p ++ (b ∷ []))
-within-digit t p b w h = by (leb (valueOf p) most) refl
+pub within-digit : (list : Bool) (t : Text) (p : List ℕ) (b : ℕ) → Within list t p → isDigit b ≡ true → Within list (withDigit t (b - 48)) (p ++ (b ∷ []))
+within-digit list t p b w h = by (leb (valueOf p) most) refl
   where
-    by : (c : Bool) → leb (valueOf p) most ≡ c → Within (withDigit t (b - 48)) (p ++ (b ∷ []))
-    by true e = under t p b w h (leb-true _ _ e)
-    by false e = over t p b w h (leb-false _ _ e)
+    by : (c : Bool) → leb (valueOf p) most ≡ c → Within list (withDigit t (b - 48)) (p ++ (b ∷ []))
+    by true e = under list t p b w h (leb-true _ _ e)
+    by false e = over list t p b w h (leb-false _ _ e)
 
-digit-count : (t : Text) (d : ℕ) → withDigit t d .count ≡ t .count
+pub digit-count : (t : Text) (d : ℕ) → withDigit t d .count ≡ t .count
 digit-count t d = by (leb (t .value) most) refl
   where
     by : (c : Bool) → leb (t .value) most ≡ c → withDigit t d .count ≡ t .count
@@ -189,14 +189,14 @@ digit-count t d = by (leb (t .value) most) refl
 
 -- ---- the next byte
 
-bad-stays : (s : State) (bs : List ℕ) → s .text .good ≡ false → steps s bs ≡ s
+pub bad-stays : (s : State) (bs : List ℕ) → s .text .good ≡ false → steps s bs ≡ s
 unfolding steps next
 bad-stays s [] h = refl
 bad-stays s (b ∷ bs) h =
     let e : next s b ≡ s = simp h in
     rw e (bad-stays s bs h)
 
-next-digit : (t : Text) (ws : List ℕ) (b : ℕ) → t .good ≡ true → isDigit b ≡ true → next (state t ws) b ≡ state (withDigit t (b - 48)) ws
+pub next-digit : (t : Text) (ws : List ℕ) (b : ℕ) → t .good ≡ true → isDigit b ≡ true → next (state t ws) b ≡ state (withDigit t (b - 48)) ws
 unfolding next
 next-digit t ws b g h = simp (g, h)
 
@@ -213,7 +213,7 @@ charge-is : (p : List ℕ) → allDigits p ≡ true → isCharge p ≡ (isThere 
 unfolding isCharge
 charge-is p h = simp h
 
-charge-ends : (t : Text) (p ws : List ℕ) → Within t p → isCharge p ≡ true → endLine (state t ws) ≡ state (withLine t true) (set ws (t .count) (valueOf p))
+charge-ends : (t : Text) (p ws : List ℕ) → Within true t p → isCharge p ≡ true → endLine (state t ws) ≡ state (withLine t true) (set ws (t .count) (valueOf p))
 unfolding endLine isNumber
 charge-ends t p ws w h =
     let k : isThere p && leb (valueOf p) most ≡ true = sym (charge-is p (w .digits)) ∙ h in
@@ -222,7 +222,7 @@ charge-ends t p ws w h =
     let e : t .value ≡ valueOf p = w .small l in
     simp (e, le-leb _ _ l, w .begun, f)
 
-no-charge-ends : (t : Text) (p ws : List ℕ) → Within t p → isCharge p ≡ false → endLine (state t ws) ≡ state (withLine t false) ws
+no-charge-ends : (t : Text) (p ws : List ℕ) → Within true t p → isCharge p ≡ false → endLine (state t ws) ≡ state (withLine t false) ws
 unfolding endLine isNumber
 no-charge-ends t p ws w h = by (leb (valueOf p) most) refl
   where
@@ -240,16 +240,16 @@ no-charge-ends t p ws w h = by (leb (valueOf p) most) refl
 one-more : (n m : ℕ) → n + m + 1 < 2 ^ 64 → (n + 1) % 2 ^ 64 ≡ n + 1
 one-more n m h = mod-eq-of-lt (omega arith)
 
-line-count : (t : Text) (good : Bool) (m : ℕ) → t .count + m + 1 < 2 ^ 64 → withLine t good .count ≡ t .count + 1
+pub line-count : (t : Text) (good : Bool) (m : ℕ) → t .count + m + 1 < 2 ^ 64 → withLine t good .count ≡ t .count + 1
 unfolding withLine
 line-count t good m h = one-more (t .count) m h
 
 -- a line that has just ended has not begun
-at-line-end : (t : Text) (good : Bool) (ws : List ℕ) → atEnd (state (withLine t good) ws) ≡ state (withLine t good) ws
+pub at-line-end : (t : Text) (good : Bool) (ws : List ℕ) → atEnd (state (withLine t good) ws) ≡ state (withLine t good) ws
 unfolding atEnd withLine
 at-line-end t good ws = refl
 
-at-end-within : (t : Text) (ws : List ℕ) → t .begun ≡ true → atEnd (state t ws) ≡ next (state t ws) lineFeed
+pub at-end-within : (t : Text) (ws : List ℕ) → t .begun ≡ true → atEnd (state t ws) ≡ next (state t ws) lineFeed
 unfolding atEnd
 at-end-within t ws h = simp h
 
@@ -259,7 +259,7 @@ after-line : (t : Text) (good : Bool) (ws : List ℕ) (m : ℕ) → t .count + m
 unfolding withLine
 after-line t good ws m h = rw (one-more (t .count) m h)
 
-bad-line-is : (t : Text) → withLine t false .good ≡ false
+pub bad-line-is : (t : Text) → withLine t false .good ≡ false
 unfolding withLine
 bad-line-is t = refl
 
@@ -270,33 +270,33 @@ ends-bad t ws bs m h = ap (λ (s : State). listed (atEnd s)) (bad-stays (state (
 
 -- from within a line, the bytes that follow are read as the lines that they make
 abbrev Says : List ℕ → Type 0
-Says bs = (p : List ℕ) (t : Text) (ws : List ℕ) → Within t p → t .count + length bs + 1 < 2 ^ 64
+Says bs = (p : List ℕ) (t : Text) (ws : List ℕ) → Within true t p → t .count + length bs + 1 < 2 ^ 64
     → listed (atEnd (steps (state t ws) bs)) ≡ listOf (t .count) ws (linesOf (p ++ bs))
 
 says-digit : (b : ℕ) (bs : List ℕ) → Says bs → isDigit b ≡ true → Says (b ∷ bs)
 unfolding steps
 says-digit b bs ih h p t ws w k =
     let c = digit-count t (b - 48) in
-    let e = ih (p ++ (b ∷ [])) (withDigit t (b - 48)) ws (within-digit t p b w h) (omega arith) in
+    let e = ih (p ++ (b ∷ [])) (withDigit t (b - 48)) ws (within-digit true t p b w h) (omega arith) in
     rw (next-digit t ws b (w .good) h)
     (e ∙ ap₂ (λ (n : ℕ) (l : List ℕ). listOf n ws (linesOf l)) c (append-assoc p (b ∷ []) bs))
 
 says-feed : (bs : List ℕ) → Says bs → Says (lineFeed ∷ bs)
 unfolding steps
-says-feed bs ih p t ws w k = rw (next-feed t ws (w .good) (w .list), line-ends p bs (w .digits)) (by (isCharge p) refl)
+says-feed bs ih p t ws w k = rw (next-feed t ws (w .good) (w .kind), line-ends p bs (w .digits)) (by (isCharge p) refl)
   where
     by : (c : Bool) → isCharge p ≡ c → listed (atEnd (steps (endLine (state t ws)) bs)) ≡ listOf (t .count) ws (p ∷ linesOf bs)
     by true h =
         let ws′ = set ws (t .count) (valueOf p) in
         let c = line-count t true (suc (length bs)) k in
-        let e = ih [] (withLine t true) ws′ (fresh t (w .list)) (omega arith) in
+        let e = ih [] (withLine t true) ws′ (fresh true t (w .kind)) (omega arith) in
         rw (charge-ends t p ws w h, good-line (t .count) ws p (linesOf bs) h) (e ∙ ap (λ (n : ℕ). listOf n ws′ (linesOf bs)) c)
     by false h = rw (no-charge-ends t p ws w h, bad-line (t .count) ws p (linesOf bs) h) (ends-bad t ws bs (suc (length bs)) k)
 
 says-other : (b : ℕ) (bs : List ℕ) → isDigit b ≡ false → eqb b lineFeed ≡ false → Says (b ∷ bs)
 unfolding steps
 says-other b bs h f p t ws w k =
-    rw (next-other t ws b (w .good) (w .list) h f)
+    rw (next-other t ws b (w .good) (w .kind) h f)
     (ends-bad t ws bs (suc (length bs)) k ∙ sym (spoilt-line (t .count) ws (linesOf (p ++ (b ∷ bs))) (spoilt p b bs (w .digits) h f)))
 
 says-more : (b : ℕ) (bs : List ℕ) → Says bs → Says (b ∷ bs)
@@ -316,7 +316,7 @@ unfolding steps isThere listOf
 says-none [] t ws w k = none-says t ws (w .good) (w .begun)
 says-none (x ∷ q) t ws w k =
     rw
-    (append-nil q, at-end-within t ws (w .begun), next-feed t ws (w .good) (w .list), last-line x q (w .digits))
+    (append-nil q, at-end-within t ws (w .begun), next-feed t ws (w .good) (w .kind), last-line x q (w .digits))
     (by (isCharge (x ∷ q)) refl)
   where
     by : (c : Bool) → isCharge (x ∷ q) ≡ c → listed (endLine (state t ws)) ≡ listOf (t .count) ws ((x ∷ q) ∷ [])
@@ -330,4 +330,4 @@ says (b ∷ bs) = says-more b bs (says bs)
 -- byte by byte a list is read as its lines say
 pub list-read : (ws bs : List ℕ) → length bs + 1 < 2 ^ 64 → listed (whole true ws bs) ≡ listOf 0 ws (linesOf bs)
 unfolding emptyText
-list-read ws bs h = says bs [] (emptyText true) ws start (omega arith)
+list-read ws bs h = says bs [] (emptyText true) ws (start true) (omega arith)

@@ -1,7 +1,7 @@
 -- Laws of texts of numbers.
 use Prim.Native.Nat.{ℕ, zero, suc, _+_, _*_, _%_, _^_, _≤_, _<_}
-use mathlib.Core.Path.{_≡_, refl}
-use mathlib.Core.Bool.{true, false, not, _||_}
+use mathlib.Core.Path.{_≡_, refl, ap, sym, _∙_}
+use mathlib.Core.Bool.{Bool, true, false, not, _||_}
 use mathlib.Core.List.{List, [], _∷_, _++_}
 use lib.Dec.{eqb}
 use lib.ListN.{length, getD, drop}
@@ -12,7 +12,7 @@ use native.Mathlib.Omega.{arith}
 use native.Mathlib.Numerals.{add-one}
 use borrow.Author.Tests.{le-leb, lt-leb}
 use Rattle.folder.specs.declared.numbers.Text.{Text}
-use Rattle.folder.specs.Numbers.{isDigit, lineFeed, space, withLine, endMember, nextInSet, State, next, steps}
+use Rattle.folder.specs.Numbers.{isDigit, lineFeed, space, withLine, endMember, nextInSet, State, state, next, steps, atEnd, emptyText, Follows, OfText}
 
 -- ---- which bytes are digits
 
@@ -59,3 +59,21 @@ steps-end s [] zero h = refl
 steps-end s [] (suc i) h = refl
 steps-end s (b ∷ bs) zero h = absurd (omega arith)
 steps-end s (b ∷ bs) (suc i) h = steps-end s bs i (omega arith)
+
+-- ---- a file in parts
+
+pub follows-none : (s : State) → Follows s s
+unfolding steps
+follows-none s = record { bytes = []; is = refl }
+
+pub follows-more : (s t u : State) → Follows s t → Follows t u → Follows s u
+follows-more s t u f g = record { bytes = f .bytes ++ g .bytes; is = g .is ∙ ap (λ (v : State). steps v (g .bytes)) (f .is) ∙ sym (steps-append s (f .bytes) (g .bytes)) }
+
+pub text-ends : (isList : Bool) (ws : List ℕ) (t : Text) (s u : State) → t ≡ emptyText isList → Follows (state t ws) s → u ≡ atEnd s → OfText isList ws u
+text-ends isList ws t s u e f h =
+    record { bytes = f .bytes; is = h ∙ ap atEnd (f .is) ∙ ap (λ (v : Text). atEnd (steps (state v ws) (f .bytes))) e }
+
+-- a file that can't be opened has no bytes
+pub no-text : (isList : Bool) (ws : List ℕ) (t : Text) → t ≡ emptyText isList → OfText isList ws (state t ws)
+unfolding steps atEnd emptyText
+no-text isList ws t e = record { bytes = []; is = ap (λ (v : Text). state v ws) e }

@@ -1,6 +1,7 @@
 -- Text files of decimal numbers: what the bytes of `charges` (decisions 49 and 50) and of `set` (decision 53) say, one after the other.
 use Prim.Native.Nat.{ℕ, _+_, _-_, _*_, _%_, _^_}
 use mathlib.Core.Bool.{Bool, true, false, not, _&&_, _||_}
+use mathlib.Core.Path.{_≡_}
 use mathlib.Core.List.{List, [], _∷_}
 use lib.Dec.{eqb, leb, ltb}
 use lib.Bits.{bitOr}
@@ -150,3 +151,62 @@ listed s = record { count = s .text .count; good = s .text .good; words = s .wor
 -- the state after the last byte
 abbrev pub whole : Bool → List ℕ → List ℕ → State
 whole isList ws bs = atEnd (steps (state (emptyText isList) ws) bs)
+
+-- ---- a whole set
+
+-- what stands between two spaces or line ends, or nothing, and the number of its line, from 1
+pub record Piece : Type 0 where
+  pub line : ℕ
+  pub bytes : List ℕ
+
+-- inner: a byte before the first piece
+unfoldable pub ontoPiece : ℕ → List Piece → List Piece
+ontoPiece b [] = []
+ontoPiece b (q ∷ qs) = record { line = q .line; bytes = b ∷ q .bytes } ∷ qs
+
+-- 53: the pieces of a text, from the line n on
+unfoldable pub piecesOf : ℕ → List ℕ → List Piece
+piecesOf n [] = record { line = n; bytes = [] } ∷ []
+piecesOf n (b ∷ bs) =
+    pick (eqb b lineFeed)
+    (record { line = n; bytes = [] } ∷ piecesOf (n + 1) bs)
+    (pick (eqb b space) (record { line = n; bytes = [] } ∷ piecesOf n bs) (ontoPiece b (piecesOf n bs)))
+
+-- 53: a decimal number from 0 to 15, or nothing
+unfoldable pub isMember : List ℕ → Bool
+isMember l = allDigits l && leb (valueOf l) 15
+
+-- a set with one number more, which may be in it; nothing adds none
+unfoldable pub withMember : ℕ → List ℕ → ℕ
+withMember x l = pick (isThere l) (bitOr x (2 ^ valueOf l)) x
+
+-- a set as its bits, or the line that a failure names
+pub data SetTold : Type 0 where
+  members : ℕ → SetTold
+  failed : ℕ → SetTold
+
+-- 53: the numbers of the pieces, beside those of the set x; anything else is a failure that names the line
+unfoldable pub setOf : ℕ → List Piece → SetTold
+setOf x [] = members x
+setOf x (q ∷ qs) = pick (isMember (q .bytes)) (setOf (withMember x (q .bytes)) qs) (failed (q .line))
+
+-- what a text tells of a set
+unfoldable pub setTold : Text → SetTold
+setTold t = pick (t .good) (members (t .set)) (failed (t .count))
+
+-- ---- a file, read in parts; no contract can say which bytes the system reads
+
+-- some bytes lead from one state to the other
+pub record Follows (s t : State) : Type 0 where
+  pub bytes : List ℕ
+  pub is : t ≡ steps s bytes
+
+-- the state is that after the last byte of some text
+pub record OfText (isList : Bool) (ws : List ℕ) (s : State) : Type 0 where
+  pub bytes : List ℕ
+  pub is : s ≡ whole isList ws bytes
+
+-- the same, where no words are lent
+pub record OfSet (t : Text) : Type 0 where
+  pub words : List ℕ
+  pub of : OfText false (0 ∷ []) (state t words)

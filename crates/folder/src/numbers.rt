@@ -1,8 +1,9 @@
 // Text files of decimal numbers, read a byte at a time: a file of any length is read to its end, and its lines are counted. A list has one number
 // a line. In a set spaces and line ends stand between the numbers, which are below 16.
 ghost use mathlib.Core.Path.{_≡_};
+ghost use mathlib.Core.Bool.{true};
 ghost use lib.ListN.{set};
-ghost use Rattle.folder.specs.Numbers.{emptyText, withLine, withDigit, endMember, nextInSet, state, endLine, nextInList, next, steps, atEnd};
+ghost use Rattle.folder.specs.Numbers.{emptyText, withLine, withDigit, endMember, nextInSet, state, endLine, nextInList, next, steps, atEnd, Follows, OfText, OfSet};
 use crate::files;
 
 // A number is at most this.
@@ -173,7 +174,9 @@ struct Part {
     is_last: bool,
 }
 
-fn take_part(fd: i32, before: Text, out: &mut [u32]) -> Part {
+fn take_part(fd: i32, before: Text, out: &mut [u32]) -> Part
+    ensures { λ r. ⌜ Follows (state before (now (out .entry))) (state (r .text) (now (out .exit))) ⌝ }
+{
     let mut buf = io::buffer();
     let n = io::read_full(fd, &mut buf);
     let text = take(&buf[0..n], before, out);
@@ -183,7 +186,9 @@ fn take_part(fd: i32, before: Text, out: &mut [u32]) -> Part {
     }
 }
 
-fn take_parts(fd: i32, is_list: bool, out: &mut [u32]) -> Text {
+fn take_parts(fd: i32, is_list: bool, out: &mut [u32]) -> Text
+    ensures { λ r. ⌜ OfText «is_list» (now (out .entry)) (state r (now (out .exit))) ⌝ }
+{
     let mut text = empty(is_list);
     let mut left = files::PARTS;
     while 0 < left {
@@ -194,7 +199,9 @@ fn take_parts(fd: i32, is_list: bool, out: &mut [u32]) -> Text {
     end(text, out)
 }
 
-fn read(name: &[u8], is_list: bool, out: &mut [u32]) -> Text {
+fn read(name: &[u8], is_list: bool, out: &mut [u32]) -> Text
+    ensures { λ r. ⌜ OfText «is_list» (now (out .entry)) (state r (now (out .exit))) ⌝ }
+{
     let fd = os::open_read(name);
     if fd < 0 {
         return empty(is_list);
@@ -206,12 +213,16 @@ fn read(name: &[u8], is_list: bool, out: &mut [u32]) -> Text {
 
 // The numbers of a list, as far as the output goes, and how many lines it has; or the line that is no number. A file that can't be opened has
 // none.
-pub fn read_list(name: &[u8], out: &mut [u32]) -> Text {
+pub fn read_list(name: &[u8], out: &mut [u32]) -> Text
+    ensures { λ r. ⌜ OfText true (now (out .entry)) (state r (now (out .exit))) ⌝ }
+{
     read(name, true, out)
 }
 
 // The numbers of a set, as bits; or the line that has something else. A file that can't be opened has none.
-pub fn read_set(name: &[u8]) -> Text {
+pub fn read_set(name: &[u8]) -> Text
+    ensures { λ r. ⌜ OfSet r ⌝ }
+{
     let mut none = [0u32; 1];
     read(name, false, &mut none)
 }

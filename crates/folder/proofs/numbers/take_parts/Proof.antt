@@ -1,12 +1,14 @@
--- `folder::numbers::take_parts` is safe and ends.
+-- `folder::numbers::take_parts` meets its contract.
 use mathlib.Core.Path.{_≡_}
 use lib.ListN.{length}
 use borrow.Author.Needs.{needs}
+use Rattle.folder.specs.Numbers.{state, Follows}
+use Rattle.folder.proofs.NumberLaws.{follows-none, follows-more, text-ends}
 use Rattle.folder.proofs.numbers.take_parts.Statement.{statement}
 use Rattle.folder.proofs.numbers.take_parts.Tie as tie
 
 abbrev Inv-loop : tie.InvT-loop
-Inv-loop fd is-list out₀ text₀ left₀ out text left = length out ≡ length out₀
+Inv-loop fd is-list out₀ text₀ left₀ out text left = (length out ≡ length out₀) × Follows (state text₀ out₀) (state text out)
 
 abbrev μ-loop : tie.MeasureT-loop
 μ-loop fd is-list out₀ text₀ left₀ out text left = left
@@ -15,7 +17,7 @@ empty-requires : tie.Need-empty-requires Inv-loop μ-loop
 empty-requires c κs = search needs
 
 loop-holds : tie.Need-loop-holds Inv-loop μ-loop
-loop-holds c = search needs
+loop-holds c = (search needs, follows-none _)
 
 take-part-requires : tie.Need-take-part-requires Inv-loop μ-loop
 take-part-requires c κs = search needs
@@ -27,13 +29,13 @@ loop-less : tie.Need-loop-less Inv-loop μ-loop
 loop-less c = search needs
 
 loop-again : tie.Need-loop-again Inv-loop μ-loop
-loop-again c = search needs
+loop-again c = (search needs, follows-more _ _ _ (c .before .before .before .before .before .before .before .loop .inv .1) (c .before .before .before .before .take-part .ensures))
 
 loop-less-2 : tie.Need-loop-less-2 Inv-loop μ-loop
 loop-less-2 c = search needs
 
 loop-again-2 : tie.Need-loop-again-2 Inv-loop μ-loop
-loop-again-2 c = search needs
+loop-again-2 c = (search needs, follows-more _ _ _ (c .before .before .before .before .before .before .before .loop .inv .1) (c .before .before .before .before .take-part .ensures))
 
 end-requires : tie.Need-end-requires Inv-loop μ-loop
 end-requires c κs = search needs
@@ -42,7 +44,7 @@ same-length : tie.Need-same-length Inv-loop μ-loop
 same-length c = search needs
 
 returns : tie.Need-returns Inv-loop μ-loop
-returns c = search needs
+returns c = text-ends _ _ _ _ _ (c .before .before .before .before .before .before .empty .ensures) (c .before .before .before .before .before .loop .inv .1) (c .before .before .end .ensures)
 
 pub take-parts-spec : {M : Type 1} → statement M
 take-parts-spec =
