@@ -1,5 +1,5 @@
 -- Byte by byte a list is read as its lines say.
-use Prim.Native.Nat.{ℕ, zero, suc, _+_, _-_, _*_, _%_, _^_, _≤_, _<_}
+use Prim.Native.Nat.{ℕ, suc, _+_, _-_, _*_, _%_, _^_, _≤_, _<_}
 use mathlib.Core.Path.{_≡_, refl, ap, ap₂, sym, _∙_}
 use mathlib.Core.Bool.{Bool, true, false, _&&_}
 use mathlib.Core.List.{List, [], _∷_, _++_, append-assoc, append-nil}
@@ -10,7 +10,7 @@ use native.Mathlib.Omega.{arith}
 use borrow.Author.Tests.{eqb-true, leb-true, leb-false, lt-ltb, le-ltb, lt-leb, le-leb, ne-eqb}
 use Rattle.folder.specs.declared.numbers.Text.{Text}
 use Rattle.folder.specs.Numbers.{most, isDigit, lineFeed, emptyText, withLine, withDigit, isNumber, State, state, endLine, nextInList, next, steps, atEnd}
-use Rattle.folder.specs.Numbers.{onto, linesOf, allDigits, isThere, valueFrom, valueOf, isCharge, Listed, listOf, listed, whole}
+use Rattle.folder.specs.Numbers.{onto, linesOf, allDigits, isThere, valueFrom, valueOf, isCharge, listOf, listed, whole}
 use Rattle.folder.proofs.NumberLaws.{below-digits}
 
 -- ---- both of two tests
@@ -266,7 +266,10 @@ bad-line-is t = refl
 -- a line that is no number is the last
 ends-bad : (t : Text) (ws bs : List ℕ) (m : ℕ) → t .count + m + 1 < 2 ^ 64
     → listed (atEnd (steps (state (withLine t false) ws) bs)) ≡ record { count = t .count + 1; good = false; words = ws }
-ends-bad t ws bs m h = ap (λ (s : State). listed (atEnd s)) (bad-stays (state (withLine t false) ws) bs (bad-line-is t)) ∙ ap listed (at-line-end t false ws) ∙ after-line t false ws m h
+ends-bad t ws bs m h =
+    ap (λ (s : State). listed (atEnd s)) (bad-stays (state (withLine t false) ws) bs (bad-line-is t))
+    ∙ ap listed (at-line-end t false ws)
+    ∙ after-line t false ws m h
 
 -- from within a line, the bytes that follow are read as the lines that they make
 abbrev Says : List ℕ → Type 0

@@ -1,7 +1,7 @@
 -- Byte by byte a set is read as its pieces say.
-use Prim.Native.Nat.{ℕ, zero, suc, _+_, _-_, _*_, _%_, _^_, _≤_, _<_}
+use Prim.Native.Nat.{ℕ, suc, _+_, _-_, _^_, _≤_, _<_}
 use mathlib.Core.Path.{_≡_, refl, ap, ap₂, sym, _∙_}
-use mathlib.Core.Bool.{Bool, true, false, not, _||_}
+use mathlib.Core.Bool.{Bool, true, false}
 use mathlib.Core.List.{List, [], _∷_, _++_, append-assoc, append-nil}
 use lib.Bits.{bitOr}
 use lib.Dec.{eqb, leb}
@@ -10,9 +10,11 @@ use native.Mathlib.Omega.{arith}
 use borrow.Author.Tests.{eqb-true, leb-true, leb-false, lt-leb, le-leb, ne-eqb}
 use Rattle.folder.specs.declared.numbers.Text.{Text}
 use Rattle.folder.specs.Numbers.{most, isDigit, lineFeed, space, emptyText, withLine, withDigit, endMember, nextInSet, State, state, next, steps, atEnd}
-use Rattle.folder.specs.Numbers.{allDigits, isThere, valueFrom, valueOf, whole, Piece, ontoPiece, piecesOf, isMember, withMember, SetTold, members, failed, setOf, setTold}
+use Rattle.folder.specs.Numbers.{allDigits, isThere, valueFrom, valueOf, whole}
+use Rattle.folder.specs.Numbers.{Piece, ontoPiece, piecesOf, isMember, withMember, SetTold, members, failed, setOf, setTold}
 use Rattle.folder.proofs.NumberLaws.{below-digits}
-use Rattle.folder.proofs.ListLaws.{Within, first-digit, other-digits, digit-no-feed, start, within-digit, digit-count, bad-stays, next-digit, line-count, at-line-end, at-end-within, bad-line-is, fresh, value-there, digit-added, digit-kept}
+use Rattle.folder.proofs.ListLaws.{first-digit, other-digits, digit-no-feed, value-there, Within, fresh, start, within-digit}
+use Rattle.folder.proofs.ListLaws.{digit-count, bad-stays, next-digit, line-count, at-line-end, at-end-within, bad-line-is, digit-added, digit-kept}
 
 -- ---- the pieces of a text
 

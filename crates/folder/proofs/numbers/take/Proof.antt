@@ -30,7 +30,9 @@ loop-less : tie.Need-loop-less Inv-loop μ-loop
 loop-less c = search needs
 
 loop-again : tie.Need-loop-again Inv-loop μ-loop
-loop-again c = (search needs, steps-more _ _ _ _ (c .before .before .before .before .before .loop-test .taken) (c .before .before .next .ensures) ∙ c .before .before .before .before .before .before .loop .inv .1)
+loop-again c =
+    let test = c .before .before .before .before .before in
+    (search needs, steps-more _ _ _ _ (test .loop-test .taken) (c .before .before .next .ensures) ∙ test .before .loop .inv .1)
 
 same-length : tie.Need-same-length Inv-loop μ-loop
 same-length c = search needs

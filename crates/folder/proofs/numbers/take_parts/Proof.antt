@@ -29,13 +29,17 @@ loop-less : tie.Need-loop-less Inv-loop μ-loop
 loop-less c = search needs
 
 loop-again : tie.Need-loop-again Inv-loop μ-loop
-loop-again c = (search needs, follows-more _ _ _ (c .before .before .before .before .before .before .before .loop .inv .1) (c .before .before .before .before .take-part .ensures))
+loop-again c =
+    let part = c .before .before .before .before in
+    (search needs, follows-more _ _ _ (part .before .before .before .loop .inv .1) (part .take-part .ensures))
 
 loop-less-2 : tie.Need-loop-less-2 Inv-loop μ-loop
 loop-less-2 c = search needs
 
 loop-again-2 : tie.Need-loop-again-2 Inv-loop μ-loop
-loop-again-2 c = (search needs, follows-more _ _ _ (c .before .before .before .before .before .before .before .loop .inv .1) (c .before .before .before .before .take-part .ensures))
+loop-again-2 c =
+    let part = c .before .before .before .before in
+    (search needs, follows-more _ _ _ (part .before .before .before .loop .inv .1) (part .take-part .ensures))
 
 end-requires : tie.Need-end-requires Inv-loop μ-loop
 end-requires c κs = search needs
