@@ -1,4 +1,4 @@
--- inner: the entries of an index and the bytes of its file: two bytes an entry, most significant first.
+-- The entries of an index and the bytes of its file: two bytes an entry, most significant first.
 use Prim.Native.Nat.{ℕ, zero, suc, _+_, _*_, _/_, _%_}
 use mathlib.Core.List.{List, [], _∷_}
 

@@ -1,7 +1,7 @@
 // What the programs share: files of the folder that a program is run in, the lines that it prints, and the arrays that it lends.
 //
-// No contract can say what the system reads or writes. Those here say what happens to lent memory and bound what is answered; all that decides
-// what a file holds is done by the crates below, on slices.
+// No contract can say what the system reads or writes. Those here say what happens to lent memory, and what the bytes mean that were read: texts of
+// numbers, and an index as a file. All else that decides what a file holds is done by the crates below, on slices.
 pub mod entries;
 pub mod files;
 pub mod lent;
