@@ -139,7 +139,7 @@ module _ {p : Given} {s : List ℕ} {n m : ℕ} {w : List ℕ} (fair : Fair p) (
         }
 
     module _ {leaving arriving w₂ leave′ arrive′ out′ : List ℕ} (T₁ : Tabled (p .from) (p .from) (p .edges) leaving) (T₂ : Tabled (p .from) (p .to) (p .edges) arriving)
-        (F : Fixed n 0 all m leaving arriving w₁ leave arrive out 0 w₂ leave′ arrive′ out′) where
+        (F : Fixed n 0 all 0 m leaving arriving leaving arriving w₁ leave arrive out 0 w₂ leave′ arrive′ out′) where
       apart : (e : ℕ) → Has all e → Has 0 e → ⊥
       apart e y h = none-has e h
 
@@ -163,7 +163,7 @@ module _ {p : Given} {s : List ℕ} {n m : ℕ} {w : List ℕ} (fair : Fair p) (
       -- the lent arrays may be lent again
       room-again : NodeRoom n leave′ arrive′ out′
       room-again =
-          let f = F .sound (p .from) (p .to) (p .edges) T₁ T₂ apart in
+          let f = F .sound (p .from) (p .to) (p .edges) T₁ T₂ (λ e h. absurd (none-has e h)) apart 0 (λ e h. h) in
           let a = F .leave-long ∙ S .leaves .long ∙ R .leave-long in
           let b = F .arrive-long ∙ S .arrives .long ∙ R .arrive-long in
           let c = F .out-long ∙ S .outs .long in

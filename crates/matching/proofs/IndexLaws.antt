@@ -11,10 +11,11 @@ use lib.Bits.{bitAnd, bitXor}
 use Rattle.packed.proofs.OrderCases.{lt-or-ge, eq-or-ne}
 use Rattle.matching.specs.Simulation.{bit}
 use Rattle.matching.specs.Sweeps.{Has, OneOf}
-use Rattle.matching.specs.Sweeping.{fromOf, toOf, Ends, heldAt}
+use Rattle.matching.specs.Sweeping.{fromOf, Ends, heldAt}
 use Rattle.matching.proofs.ListLaws.{decide}
 use Rattle.matching.proofs.MaskBits.{and-say, and-by, minus-say, minus-by, part-le, one-last, one-more, one-cases}
-use Rattle.matching.specs.Late.{ByStart, BeginsBelow, Cut, Firsts, FirstsMade, missed}
+use Rattle.matching.specs.Late.{ByStart, BeginsBelow, Cut, Firsts, FirstsMade, missedBy}
+use Rattle.matching.specs.Choices.{End}
 
 has-or : (x k : ℕ) → Has x k ⊎ (Has x k → ⊥)
 has-or x k = decide (bit x k)
@@ -123,55 +124,55 @@ range-rises {d} {n} {w} {first} F v l =
     )
 
 -- ---- what the pairs of a range offer
--- a pair from a up to b is held for the link e, which may arrive at its end
-abbrev pub Offered : List ℕ → ℕ → ℕ → List ℕ → ℕ → Type 0
-Offered w a b arrive e = OneOf b (λ i. (a ≤ i) × Has (heldAt w i) e × Has (getD arrive (toOf w i) 0) e)
+-- a pair with a number from num a up to num b is held for the link e, which is in the masks at its far end
+abbrev pub OfferedBy : End → (ℕ → ℕ) → List ℕ → ℕ → ℕ → List ℕ → ℕ → Type 0
+OfferedBy far num w a b masks e = OneOf b (λ i. (a ≤ i) × Has (heldAt w (num i)) e × Has (getD masks (far (getD w (num i) 0)) 0) e)
 
 -- r has the links of want that are not offered
-pub record Looked (w : List ℕ) (a b : ℕ) (arrive : List ℕ) (want r : ℕ) : Type 0 where
+pub record Looked (far : End) (num : ℕ → ℕ) (w : List ℕ) (a b : ℕ) (masks : List ℕ) (want r : ℕ) : Type 0 where
   pub part : (e : ℕ) → Has r e → Has want e
-  pub missing : (e : ℕ) → Has r e → Offered w a b arrive e → ⊥
-  pub found : (e : ℕ) → Has want e → (Has r e → ⊥) → Offered w a b arrive e
+  pub missing : (e : ℕ) → Has r e → OfferedBy far num w a b masks e → ⊥
+  pub found : (e : ℕ) → Has want e → (Has r e → ⊥) → OfferedBy far num w a b masks e
 
-module _ (w : List ℕ) (arrive : List ℕ) (want a : ℕ) where
-  pub missed-none : (k : ℕ) → k ≡ 0 → missed w arrive want a k ≡ want
-  unfolding missed
+module _ (far : End) (num : ℕ → ℕ) (w : List ℕ) (masks : List ℕ) (want a : ℕ) where
+  pub missed-none : (k : ℕ) → k ≡ 0 → missedBy far num w masks want a k ≡ want
+  unfolding missedBy
   missed-none k e = rw e
 
   -- the pair i more
-  pub missed-more : (i : ℕ) → a ≤ i → {r : ℕ} → r ≡ missed w arrive want a (i - a)
-      → bitXor r (bitAnd r (bitAnd (getD w (8192 + i) 0) (getD arrive (toOf w i) 0))) ≡ missed w arrive want a ((i + 1) - a)
-  unfolding missed
+  pub missed-more : (i : ℕ) → a ≤ i → {r : ℕ} → r ≡ missedBy far num w masks want a (i - a)
+      → bitXor r (bitAnd r (bitAnd (getD w (8192 + num i) 0) (getD masks (far (getD w (num i) 0)) 0))) ≡ missedBy far num w masks want a ((i + 1) - a)
+  unfolding missedBy
   missed-more i l {r} e =
       let k : (i + 1) - a ≡ suc (i - a) = omega arith in
       let j : a + (i - a) ≡ i = omega arith in
-      ap (λ (x : ℕ). bitXor x (bitAnd x (bitAnd (getD w (8192 + i) 0) (getD arrive (toOf w i) 0)))) e
-      ∙ ap (λ (y : ℕ). bitXor (missed w arrive want a (i - a)) (bitAnd (missed w arrive want a (i - a)) (bitAnd (getD w (8192 + y) 0) (getD arrive (toOf w y) 0)))) (sym j)
-      ∙ ap (missed w arrive want a) (sym k)
+      ap (λ (x : ℕ). bitXor x (bitAnd x (bitAnd (getD w (8192 + num i) 0) (getD masks (far (getD w (num i) 0)) 0)))) e
+      ∙ ap (λ (y : ℕ). bitXor (missedBy far num w masks want a (i - a)) (bitAnd (missedBy far num w masks want a (i - a)) (bitAnd (getD w (8192 + num y) 0) (getD masks (far (getD w (num y) 0)) 0)))) (sym j)
+      ∙ ap (missedBy far num w masks want a) (sym k)
 
   -- nothing is added
-  missed-falls : (k j : ℕ) → missed w arrive want a (j + k) ≤ missed w arrive want a k
-  unfolding missed
-  missed-falls k zero = let z : 0 + k ≡ k = omega arith in omega (arith, ap (missed w arrive want a) z)
+  missed-falls : (k j : ℕ) → missedBy far num w masks want a (j + k) ≤ missedBy far num w masks want a k
+  unfolding missedBy
+  missed-falls k zero = let z : 0 + k ≡ k = omega arith in omega (arith, ap (missedBy far num w masks want a) z)
   missed-falls k (suc j) =
       let z : suc j + k ≡ suc (j + k) = omega arith in
       omega (
         arith,
-        ap (missed w arrive want a) z,
+        ap (missedBy far num w masks want a) z,
         missed-falls k j,
-        part-le (missed w arrive want a (suc (j + k))) (missed w arrive want a (j + k)) (λ e h. minus-say (missed w arrive want a (j + k)) _ e h .0),
+        part-le (missedBy far num w masks want a (suc (j + k))) (missedBy far num w masks want a (j + k)) (λ e h. minus-say (missedBy far num w masks want a (j + k)) _ e h .0),
       )
 
   -- so where nothing is missing any more the rest need not be looked at
-  pub missed-all : (i b : ℕ) → a ≤ i → i ≤ b → missed w arrive want a (i - a) ≡ 0 → missed w arrive want a (b - a) ≡ 0
+  pub missed-all : (i b : ℕ) → a ≤ i → i ≤ b → missedBy far num w masks want a (i - a) ≡ 0 → missedBy far num w masks want a (b - a) ≡ 0
   missed-all i b l q z =
       let k : b - a ≡ (b - i) + (i - a) = omega arith in
       let f = missed-falls (i - a) (b - i) in
-      ap (missed w arrive want a) k ∙ omega arith
+      ap (missedBy far num w masks want a) k ∙ omega arith
 
   -- what is missed is what no pair of the range offers
-  pub missed-looked : (k : ℕ) → Looked w a (a + k) arrive want (missed w arrive want a k)
-  unfolding missed
+  pub missed-looked : (k : ℕ) → Looked far num w a (a + k) masks want (missedBy far num w masks want a k)
+  unfolding missedBy
   missed-looked zero =
       record {
         part = λ e h. h;
@@ -179,12 +180,12 @@ module _ (w : List ℕ) (arrive : List ℕ) (want a : ℕ) where
         found = λ e h n. absurd (n h);
       }
   missed-looked (suc k) =
-      let r = missed w arrive want a k in
+      let r = missedBy far num w masks want a k in
       let h = missed-looked k in
-      let x = bitAnd (getD w (8192 + (a + k)) 0) (getD arrive (toOf w (a + k)) 0) in
+      let x = bitAnd (getD w (8192 + num (a + k)) 0) (getD masks (far (getD w (num (a + k)) 0)) 0) in
       let up : a + suc k ≡ (a + k) + 1 = omega arith in
       let l : a ≤ a + k = omega arith in
-      subst (λ (b : ℕ). Looked w a b arrive want (bitXor r (bitAnd r x))) (sym up)
+      subst (λ (b : ℕ). Looked far num w a b masks want (bitXor r (bitAnd r x))) (sym up)
       record {
         part = λ e p. h .part e (minus-say r x e p .0);
         missing = λ e p o. (let m = minus-say r x e p in ⊎-elim (λ q. h .missing e (m .0) q) (λ q. m .1 (and-by _ _ e (q .1) (q .2))) (one-cases (a + k) o));
@@ -194,8 +195,9 @@ module _ (w : List ℕ) (arrive : List ℕ) (want a : ℕ) where
       }
 
 -- by the entries of an index
-pub looked-by : {w : List ℕ} {a b a′ b′ : ℕ} {arrive : List ℕ} {want r : ℕ} → a ≡ a′ → b ≡ b′ → a′ ≤ b′ → r ≡ missed w arrive want a (b - a) → Looked w a′ b′ arrive want r
-looked-by {w} {a} {b} {a′} {b′} {arrive} {want} {r} e f l q =
+pub looked-by : (far : End) (num : ℕ → ℕ) {w : List ℕ} {a b a′ b′ : ℕ} {masks : List ℕ} {want r : ℕ} → a ≡ a′ → b ≡ b′ → a′ ≤ b′ → r ≡ missedBy far num w masks want a (b - a)
+    → Looked far num w a′ b′ masks want r
+looked-by far num {w} {a} {b} {a′} {b′} {masks} {want} {r} e f l q =
     let k : a′ + (b′ - a′) ≡ b′ = omega arith in
-    let z : r ≡ missed w arrive want a′ (b′ - a′) = q ∙ ap₂ (λ (x y : ℕ). missed w arrive want x (y - x)) e f in
-    subst (λ (x : ℕ). Looked w a′ b′ arrive want x) (sym z) (subst (λ (x : ℕ). Looked w a′ x arrive want (missed w arrive want a′ (b′ - a′))) k (missed-looked w arrive want a′ (b′ - a′)))
+    let z : r ≡ missedBy far num w masks want a′ (b′ - a′) = q ∙ ap₂ (λ (x y : ℕ). missedBy far num w masks want x (y - x)) e f in
+    subst (λ (x : ℕ). Looked far num w a′ b′ masks want x) (sym z) (subst (λ (x : ℕ). Looked far num w a′ x masks want (missedBy far num w masks want a′ (b′ - a′))) k (missed-looked far num w masks want a′ (b′ - a′)))

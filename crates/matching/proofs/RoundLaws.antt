@@ -5,14 +5,16 @@ use mathlib.Core.List.{List}
 use Prim.Native.Nat.{ℕ, _≤_, _<_, _/_, _%_, _^_}
 use native.Mathlib.Omega.{arith}
 use lib.ListN.{length, getD}
+use lib.Bits.{bitOr}
 use Rattle.packed.proofs.OrderCases.{lt-or-ge}
 use Rattle.matching.specs.Simulation.{bit}
 use Rattle.matching.specs.Sweeps.{Has, OneOf}
 use Rattle.matching.proofs.ListLaws.{decide}
-use Rattle.matching.proofs.MaskBits.{none-has, and-say, and-by, not-say, not-by, has-lt, part-le, mask-cast}
-use Rattle.matching.proofs.SoundLaws.{sound-none, sound-then, swept-same, from-same, to-same, held-say, held-by, swept-sound, left-lost, Loses, loses-none, losing-sound}
-use Rattle.matching.specs.Sweeping.{fromOf, toOf, Ends, Starts, heldAt, Swept, missing, NodesSettled}
-use Rattle.matching.specs.Choices.{Falls, Rests, Prepared, Fixed, Round}
+use Rattle.matching.proofs.MaskBits.{none-has, and-say, and-by, or-left, or-right, not-say, not-by, has-lt, part-le, mask-cast, lowest-has}
+use Rattle.matching.proofs.SoundLaws.{sound-none, sound-then, swept-same, from-same, to-same, held-say, held-by, swept-sound, left-lost, loses-none, losing-sound, losing-back-sound}
+use Rattle.packed.specs.Contents.{wordFrom, wordTo}
+use Rattle.matching.specs.Sweeping.{fromOf, toOf, Ends, Starts, heldAt, Swept, Arrived, missing, NodesSettled}
+use Rattle.matching.specs.Choices.{End, Loses, Falls, Rests, Prepared, Fixed, BackSettled, Round}
 
 -- ---- one node
 module _ (due : ℕ) (leave out : List ℕ) (v e : ℕ) (s : getD out v 0 < 2 ^ 32) where
@@ -64,28 +66,18 @@ module _ {n free d : ℕ} {w leave arrive out w′ out₁ : List ℕ} (P : Prepa
       ))
       (held-say most W i e l h .1)
 
--- ---- a round
-module _ {n free due d : ℕ} {leaving arriving w leave arrive out w′ out₁ : List ℕ} {r : ℕ} {leave′ arrive′ out′ : List ℕ} (P : Prepared n d w leave arrive out)
-    (W : Swept d leave arrive free w out w′ out₁) (E : NodesSettled n due leaving arriving leave arrive out₁ r leave′ arrive′ out′) where
+-- ---- one side settled
+-- a pair whose near end is v is held for the link e
+abbrev HeldBy : End → ℕ → List ℕ → ℕ → ℕ → Type 0
+HeldBy near d w v e = OneOf d (λ i. (near (getD w i 0) ≡ v) × Has (heldAt w i) e)
+
+module _ {n due : ℕ} {leaving arriving leave arrive out₁ : List ℕ} {r : ℕ} {leave′ arrive′ out′ : List ℕ} (E : NodesSettled n due leaving arriving leave arrive out₁ r leave′ arrive′ out′) where
   -- the masks of the nodes from n on stay
   leave-beyond : (v : ℕ) → n ≤ v → getD leave′ v 0 ≡ getD leave v 0
   leave-beyond v l = E .leaves .high v (omega arith)
 
   arrive-beyond : (v : ℕ) → n ≤ v → getD arrive′ v 0 ≡ getD arrive v 0
   arrive-beyond v l = E .arrives .high v (omega arith)
-
-  loses : (v : ℕ) → Loses due d leaving arriving w′ leave arrive leave′ arrive′ v
-  loses v =
-      ⊎-elim
-      (λ (l : v < n). record {
-        miss = missing due leave out₁ v;
-        in-due = λ e k h. miss-say due leave out₁ v e (E .short v l) h .1;
-        unmet = λ e k h o. miss-say due leave out₁ v e (E .short v l) h .2 (out-by P W v e l (record { at = o .at; below = o .below; holds = (o .holds .0, o .holds .1) }));
-        leave-lost = λ a m t. left-lost (E .leave-left v l) a a m t;
-        arrive-lost = left-lost (E .arrive-left v l);
-      })
-      (λ (l : n ≤ v). loses-none (leave-beyond v l) (arrive-beyond v l))
-      (lt-or-ge v n)
 
   module _ (z : r ≡ 0) where
     none : (v : ℕ) → v < n → missing due leave out₁ v ≡ 0
@@ -97,31 +89,59 @@ module _ {n free due d : ℕ} {leaving arriving w leave arrive out w′ out₁ :
     arrive-same : (v : ℕ) → getD arrive′ v 0 ≡ getD arrive v 0
     arrive-same v = ⊎-elim (λ (l : v < n). E .arrive-left v l .stays (none v l)) (λ (l : n ≤ v). arrive-beyond v l) (lt-or-ge v n)
 
-    rests : Rests n free due d w′ leave′ arrive′
+  -- where out₁ has what is held at the near ends
+  module _ (near far : End) (d : ℕ) (w : List ℕ) where
+    loses : ((v e : ℕ) → v < n → HeldBy near d w v e → Has (getD out₁ v 0) e) → (v : ℕ) → Loses near far due d leaving arriving w leave arrive leave′ arrive′ v
+    loses by v =
+        ⊎-elim
+        (λ (l : v < n). record {
+          miss = missing due leave out₁ v;
+          in-due = λ e k h. miss-say due leave out₁ v e (E .short v l) h .1;
+          unmet = λ e k h o. miss-say due leave out₁ v e (E .short v l) h .2 (by v e l (record { at = o .at; below = o .below; holds = (o .holds .0, o .holds .1) }));
+          leave-lost = λ a m t. left-lost (E .leave-left v l) a a m t;
+          arrive-lost = left-lost (E .arrive-left v l);
+        })
+        (λ (l : n ≤ v). loses-none (leave-beyond v l) (arrive-beyond v l))
+        (lt-or-ge v n)
+
+    -- each due link that may still be there is held
+    all-held : ((v e : ℕ) → v < n → Has (getD out₁ v 0) e → HeldBy near d w v e) → r ≡ 0 → (v e : ℕ) → v < n → Has due e → e < 32 → Has (getD leave′ v 0) e → HeldBy near d w v e
+    all-held say z v e l u le h =
+        ⊎-elim
+        (λ (p : Has (getD out₁ v 0) e). say v e l p)
+        (λ (p : Has (getD out₁ v 0) e → ⊥). absurd (none-has e (subst (λ (x : ℕ). Has x e) (none z v l)
+        (miss-by due leave out₁ v e (E .short v l) le (subst (λ (x : ℕ). Has x e) (leave-same z v) h) u p))))
+        (decide (bit (getD out₁ v 0) e))
+
+-- ---- a round as links leave
+module _ {n free due d : ℕ} {leaving arriving w leave arrive out w′ out₁ : List ℕ} {r : ℕ} {leave′ arrive′ out′ : List ℕ} (P : Prepared n d w leave arrive out)
+    (W : Swept d leave arrive free w out w′ out₁) (E : NodesSettled n due leaving arriving leave arrive out₁ r leave′ arrive′ out′) where
+  forward : (v : ℕ) → Loses wordFrom wordTo due d leaving arriving w′ leave arrive leave′ arrive′ v
+  forward = loses E wordFrom wordTo d w′ (out-by P W)
+
+  module _ (z : r ≡ 0) where
+    rests : Rests n free due 0 d w′ leave′ arrive′
     rests =
         record {
           within = λ i e l h. ⊎-elim (λ f. inl f)
               (λ b. inr (
-                subst (λ (x : ℕ). Has x e) (sym (leave-same (fromOf w′ i))) (b .0),
-                subst (λ (x : ℕ). Has x e) (sym (arrive-same (toOf w′ i))) (b .1),
+                subst (λ (x : ℕ). Has x e) (sym (leave-same E z (fromOf w′ i))) (b .0),
+                subst (λ (x : ℕ). Has x e) (sym (arrive-same E z (toOf w′ i))) (b .1),
               ))
               (swept-within P W i e l h);
-          held = λ v e l u le h. ⊎-elim
-              (λ (p : Has (getD out₁ v 0) e). out-say P W v e l p)
-              (λ (p : Has (getD out₁ v 0) e → ⊥). absurd (none-has e (subst (λ (x : ℕ). Has x e) (none v l)
-              (miss-by due leave out₁ v e (E .short v l) le (subst (λ (x : ℕ). Has x e) (leave-same v) h) u p))))
-              (decide (bit (getD out₁ v 0) e));
+          held = all-held E wordFrom wordTo d w′ (out-say P W) z;
+          arrived = λ v e l y. absurd (none-has e y);
         }
 
-  pub round-fixed : Fixed n free due d leaving arriving w leave arrive out r w′ leave′ arrive′ out′
-  round-fixed =
+  pub round-fixed : (ending starting : List ℕ) → Fixed n free due 0 d leaving arriving ending starting w leave arrive out r w′ leave′ arrive′ out′
+  round-fixed ending starting =
       record {
         falls = swept-falls P W;
         leave-long = E .leaves .long;
         arrive-long = E .arrives .long;
         out-long = E .outs .long ∙ W .long;
         clear = E .clear;
-        sound = λ from to m T₁ T₂ apart. sound-then from to m (swept-same (P .ends .most) W) (swept-sound (P .ends .most) W from to m due) (losing-sound loses from to m free T₁ T₂ apart);
+        sound = λ from to m T₁ T₂ T₃ apart asked a. sound-then from to m (swept-same (P .ends .most) W) (swept-sound (P .ends .most) W from to m due asked) (losing-sound forward from to m free asked T₁ T₂ apart);
         rests = rests;
       }
 
@@ -148,6 +168,61 @@ module _ {n free due d : ℕ} {leaving arriving w leave arrive out w′ out₁ :
             (E .lost);
       }
 
+-- ---- and as they arrive
+module _ {n back d : ℕ} {ending starting w leave arrive out out₁ : List ℕ} {r : ℕ} {leave′ arrive′ out′ : List ℕ} (P : Prepared n d w leave arrive out)
+    (A : Arrived d w out out₁) (E : NodesSettled n back ending starting arrive leave out₁ r arrive′ leave′ out′) where
+  in-say : (v e : ℕ) → v < n → Has (getD out₁ v 0) e → OneOf d (λ i. (toOf w i ≡ v) × Has (heldAt w i) e)
+  in-say v e l h =
+      ⊎-elim (λ (p : Has (getD out v 0) e). absurd (none-has e (subst (λ (x : ℕ). Has x e) (P .clear v l) p))) (λ o. o) (A .each v (let z = P .nodes in omega arith) .why e h)
+
+  in-by : (v e : ℕ) → v < n → OneOf d (λ i. (toOf w i ≡ v) × Has (heldAt w i) e) → Has (getD out₁ v 0) e
+  in-by v e l o = A .each v (let z = P .nodes in omega arith) .hit e (inr o)
+
+  backward : (v : ℕ) → Loses wordTo wordFrom back d ending starting w arrive leave arrive′ leave′ v
+  backward = loses E wordTo wordFrom d w in-by
+
+  pub back-settled : BackSettled n back d ending starting w leave arrive out r leave′ arrive′ out′
+  back-settled =
+      record {
+        leave-long = E .arrives .long;
+        arrive-long = E .leaves .long;
+        out-long = E .outs .long ∙ A .long;
+        clear = E .clear;
+        sound = λ from to m T₁ T₂ free due asked a. losing-back-sound backward from to m free due asked T₁ T₂ a;
+        rests = λ z free due R. record {
+          within = λ i e l h. ⊎-elim (λ f. inl f)
+              (λ b. inr (
+                subst (λ (x : ℕ). Has x e) (sym (arrive-same E z (fromOf w i))) (b .0),
+                subst (λ (x : ℕ). Has x e) (sym (leave-same E z (toOf w i))) (b .1),
+              ))
+              (R .within i e l h);
+          held = λ v e l u le h. R .held v e l u le (subst (λ (x : ℕ). Has x e) (arrive-same E z v) h);
+          arrived = all-held E wordTo wordFrom d w in-say z;
+        };
+      }
+
+-- both, where some links are asked as they arrive
+module _ {n free due back d : ℕ} {leaving arriving ending starting w leave arrive out : List ℕ} {r : ℕ} {w₁ leave₁ arrive₁ out₁ : List ℕ}
+    (A : Fixed n free due 0 d leaving arriving ending starting w leave arrive out r w₁ leave₁ arrive₁ out₁) where
+  pub both-fixed : {r₂ : ℕ} {leave₂ arrive₂ out₂ : List ℕ} → BackSettled n back d ending starting w₁ leave₁ arrive₁ out₁ r₂ leave₂ arrive₂ out₂ → back < 2 ^ 32 → (back ≡ 0 → ⊥)
+      → Fixed n free due back d leaving arriving ending starting w leave arrive out (bitOr r r₂) w₁ leave₂ arrive₂ out₂
+  both-fixed {r₂ = r₂} B short some =
+      let e = lowest-has 32 back (omega (arith, some)) short in
+      record {
+        falls = A .falls;
+        leave-long = B .leave-long ∙ A .leave-long;
+        arrive-long = B .arrive-long ∙ A .arrive-long;
+        out-long = B .out-long ∙ A .out-long;
+        clear = B .clear;
+        sound = λ from to m T₁ T₂ T₃ apart asked a.
+            sound-then from to m (A .falls .same) (A .sound from to m T₁ T₂ (λ k h. absurd (none-has k h)) apart asked (λ k h. absurd (none-has k h)))
+            (B .sound from to m (T₃ _ (e .1) .0) (T₃ _ (e .1) .1) free due asked a);
+        rests = λ z. B .rests (let p = part-le r₂ (bitOr r r₂) (λ k h. or-right r r₂ k h) in omega arith) free due (A .rests (let p = part-le r (bitOr r r₂) (λ k h. or-left r r₂ k h) in omega arith));
+      }
+
+  pub forward-fixed : back ≡ 0 → Fixed n free due back d leaving arriving ending starting w leave arrive out r w₁ leave₁ arrive₁ out₁
+  forward-fixed z = subst (λ (x : ℕ). Fixed n free due x d leaving arriving ending starting w leave arrive out r w₁ leave₁ arrive₁ out₁) (sym z) A
+
 -- ---- rounds one after the other
 pub prepared-starts : {n d : ℕ} {w leave arrive out : List ℕ} → Prepared n d w leave arrive out → Starts d w out
 prepared-starts P = record { order = P .order; clear = λ i l. P .clear _ (P .ends .from i l) }
@@ -161,8 +236,8 @@ prepared-ends P =
       to = λ i l. (let a = P .ends .to i l in let b = P .nodes in omega arith);
     }
 
-pub fixed-none : {n free due d : ℕ} {leaving arriving w leave arrive out : List ℕ} (r : ℕ) → (r ≡ 0 → ⊥) → Prepared n d w leave arrive out
-    → Fixed n free due d leaving arriving w leave arrive out r w leave arrive out
+pub fixed-none : {n free due back d : ℕ} {leaving arriving ending starting w leave arrive out : List ℕ} (r : ℕ) → (r ≡ 0 → ⊥) → Prepared n d w leave arrive out
+    → Fixed n free due back d leaving arriving ending starting w leave arrive out r w leave arrive out
 fixed-none r nz P =
     record {
       falls = record { long = refl; low = λ k l. refl; same = λ i l. refl; part = λ i e l h. h; untouched = λ i e l f h. h };
@@ -170,12 +245,12 @@ fixed-none r nz P =
       arrive-long = refl;
       out-long = refl;
       clear = P .clear;
-      sound = λ from to m T₁ T₂ apart. sound-none from to m;
+      sound = λ from to m T₁ T₂ T₃ apart asked a. sound-none from to m;
       rests = λ z. absurd (nz z);
     }
 
-module _ {n free due d : ℕ} {leaving arriving w leave arrive out : List ℕ} {r : ℕ} {w₁ leave₁ arrive₁ out₁ : List ℕ}
-    (A : Fixed n free due d leaving arriving w leave arrive out r w₁ leave₁ arrive₁ out₁) where
+module _ {n free due back d : ℕ} {leaving arriving ending starting w leave arrive out : List ℕ} {r : ℕ} {w₁ leave₁ arrive₁ out₁ : List ℕ}
+    (A : Fixed n free due back d leaving arriving ending starting w leave arrive out r w₁ leave₁ arrive₁ out₁) where
   pub fixed-prepared : Prepared n d w leave arrive out → Prepared n d w₁ leave₁ arrive₁ out₁
   fixed-prepared P =
       record {
@@ -197,8 +272,8 @@ module _ {n free due d : ℕ} {leaving arriving w leave arrive out : List ℕ} {
         clear = A .clear;
       }
 
-  pub fixed-then : {r₂ : ℕ} {w₂ leave₂ arrive₂ out₂ : List ℕ} → Fixed n free due d leaving arriving w₁ leave₁ arrive₁ out₁ r₂ w₂ leave₂ arrive₂ out₂
-      → Fixed n free due d leaving arriving w leave arrive out r₂ w₂ leave₂ arrive₂ out₂
+  pub fixed-then : {r₂ : ℕ} {w₂ leave₂ arrive₂ out₂ : List ℕ} → Fixed n free due back d leaving arriving ending starting w₁ leave₁ arrive₁ out₁ r₂ w₂ leave₂ arrive₂ out₂
+      → Fixed n free due back d leaving arriving ending starting w leave arrive out r₂ w₂ leave₂ arrive₂ out₂
   fixed-then B =
       record {
         falls =
@@ -213,12 +288,12 @@ module _ {n free due d : ℕ} {leaving arriving w leave arrive out : List ℕ} {
         arrive-long = B .arrive-long ∙ A .arrive-long;
         out-long = B .out-long ∙ A .out-long;
         clear = B .clear;
-        sound = λ from to m T₁ T₂ apart. sound-then from to m (A .falls .same) (A .sound from to m T₁ T₂ apart) (B .sound from to m T₁ T₂ apart);
+        sound = λ from to m T₁ T₂ T₃ apart asked a. sound-then from to m (A .falls .same) (A .sound from to m T₁ T₂ T₃ apart asked a) (B .sound from to m T₁ T₂ T₃ apart asked a);
         rests = B .rests;
       }
 
   -- the answer may be told otherwise, where it is 0 at the same time
-  pub fixed-told : (r₂ : ℕ) → (r₂ ≡ 0 → r ≡ 0) → Fixed n free due d leaving arriving w leave arrive out r₂ w₁ leave₁ arrive₁ out₁
+  pub fixed-told : (r₂ : ℕ) → (r₂ ≡ 0 → r ≡ 0) → Fixed n free due back d leaving arriving ending starting w leave arrive out r₂ w₁ leave₁ arrive₁ out₁
   fixed-told r₂ f =
       record {
         falls = A .falls;
@@ -229,3 +304,18 @@ module _ {n free due d : ℕ} {leaving arriving w leave arrive out : List ℕ} {
         sound = A .sound;
         rests = λ z. A .rests (f z);
       }
+
+-- where no link is asked as it arrives, any tables will do
+pub fixed-tables : {n free due d : ℕ} {leaving arriving ending starting w leave arrive out : List ℕ} {r : ℕ} {w₁ leave₁ arrive₁ out₁ : List ℕ}
+    → Fixed n free due 0 d leaving arriving ending starting w leave arrive out r w₁ leave₁ arrive₁ out₁ → (a b : List ℕ)
+    → Fixed n free due 0 d leaving arriving a b w leave arrive out r w₁ leave₁ arrive₁ out₁
+fixed-tables A a b =
+    record {
+      falls = A .falls;
+      leave-long = A .leave-long;
+      arrive-long = A .arrive-long;
+      out-long = A .out-long;
+      clear = A .clear;
+      sound = λ from to m T₁ T₂ T₃ apart asked h. A .sound from to m T₁ T₂ (λ e y. absurd (none-has e y)) apart asked h;
+      rests = A .rests;
+    }

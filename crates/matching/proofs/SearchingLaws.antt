@@ -46,7 +46,7 @@ module _ (P : Pattern) (G : Graph) (from to kinds : List ℕ) (m n d : ℕ) (w l
         in-in = λ v e k le lk q h. B .arrive-by v k lk (subst (λ (x : ℕ). T (fits P G (x, v))) q (B .arrive-say v e le h));
       }
 
-  begun-safe : (free : ℕ) → Safe from to m free d w leave arrive (λ u v. T (has (u, v) (sim P G)))
+  begun-safe : (free : ℕ) → Safe from to m free 0 d w leave arrive (λ u v. T (has (u, v) (sim P G)))
   begun-safe free =
       record {
         supports = λ u v p e le nf q.
@@ -61,19 +61,20 @@ module _ (P : Pattern) (G : Graph) (from to kinds : List ℕ) (m n d : ℕ) (w l
                 subst (λ (x : ℕ). T (has (getD to e 0, x) (sim P G))) (ap (λ (f : Edge). f .to) (o .holds)) (in-has (s .4)),
               );
             });
+        backs = λ u v p e le y. absurd (none-has e y);
         leaves = λ u v e p le q. B .leave-by v e le (subst (λ (x : ℕ). T (fits P G (x, v))) (sym q) (sim-is P G .fit u v (has-in (u, v) p)));
         arrives = λ u v e p le q. B .arrive-by v e le (subst (λ (x : ℕ). T (fits P G (x, v))) (sym q) (sim-is P G .fit u v (has-in (u, v) p)));
       }
 
   module _ {due : ℕ} {leaving arriving out : List ℕ} {r : ℕ} {w′ leave′ arrive′ out′ : List ℕ} (T₁ : Tabled from from m leaving) (T₂ : Tabled from to m arriving)
-      (all : (e : ℕ) → e < m → Has due e) (E : Prepared n d w leave arrive out) (F : Fixed n 0 due d leaving arriving w leave arrive out r w′ leave′ arrive′ out′) where
+      (all : (e : ℕ) → e < m → Has due e) (E : Prepared n d w leave arrive out) (F : Fixed n 0 due 0 d leaving arriving leaving arriving w leave arrive out r w′ leave′ arrive′ out′) where
     apart : (e : ℕ) → Has due e → Has 0 e → ⊥
     apart e y h = none-has e h
 
     -- where nothing was lost, what may stand is a simulation
     stands-sim : r ≡ 0 → IsSim P G (λ u v. RestsAt from to m n leave′ arrive′ u v × EndOf from to m u)
     stands-sim z =
-        let s = F .sound from to m T₁ T₂ apart in
+        let s = F .sound from to m T₁ T₂ (λ e h. absurd (none-has e h)) apart 0 (λ e h. h) in
         record {
           fit = λ u v p.
               (let e = p .1 .at in
@@ -108,7 +109,7 @@ module _ (P : Pattern) (G : Graph) (from to kinds : List ℕ) (m n d : ℕ) (w l
     -- a pair of the link's kind is held for it where its ends are partners of the link's ends
     pub held-say : r ≡ 0 → (i e : ℕ) → i < d → e < m → Has (heldAt w′ i) e → In (getD from e 0, fromOf w i) (sim P G) × In (getD to e 0, toOf w i) (sim P G)
     held-say z i e l le h =
-        let s = F .sound from to m T₁ T₂ apart .shape begun-shape in
+        let s = F .sound from to m T₁ T₂ (λ e h. absurd (none-has e h)) apart 0 (λ e h. h) .shape begun-shape in
         let b = ⊎-elim (λ f. absurd (none-has e f)) (λ b. b) (F .rests z .within i e l h) in
         let n′ = fixed-prepared F E .ends in
         let c = F .falls .same i l in (
@@ -122,4 +123,4 @@ module _ (P : Pattern) (G : Graph) (from to kinds : List ℕ) (m n d : ℕ) (w l
 
     pub held-by : (i e : ℕ) → i < d → OfKind kinds m (kindOf w i) e → In (getD from e 0, fromOf w i) (sim P G) → In (getD to e 0, toOf w i) (sim P G) → Has (heldAt w′ i) e
     held-by i e l q a b =
-        F .sound from to m T₁ T₂ apart .stays (λ u v. has (u, v) (sim P G)) (begun-safe 0) i e l (q .0) (in-has a) (in-has b) (B .held i l .hit e q)
+        F .sound from to m T₁ T₂ (λ e h. absurd (none-has e h)) apart 0 (λ e h. h) .stays (λ u v. has (u, v) (sim P G)) (begun-safe 0) i e l (q .0) (in-has a) (in-has b) (B .held i l .hit e q)

@@ -11,11 +11,11 @@ use lib.Bits.{bitAnd, bitOr, bitXor, and-le-r}
 use Rattle.packed.proofs.OrderCases.{lt-or-ge, eq-or-ne}
 use Rattle.packed.proofs.ByValueLaws.{nothing-at}
 use Rattle.matching.specs.Sweeps.{Has, OneOf}
-use Rattle.matching.specs.Sweeping.{fromOf, sumTo, heldAt}
+use Rattle.matching.specs.Sweeping.{sumTo, heldAt}
 use Rattle.matching.proofs.Masks.{bit-self, bit-one}
 use Rattle.matching.proofs.MaskBits.{none-has, or-left, or-right, or-cases, and-say, and-by, minus-say, minus-by, part-le, lowest-has, one-last, one-more}
-use Rattle.matching.specs.Late.{Member, NumberAdded, FirstWord, Drawn, IsMarked, Marks, AllMarked, TakenOut, Relies, MarkedStart, MarkedBefore, Backs}
-use Rattle.matching.proofs.EndLaws.{ends-at, ends-of}
+use Rattle.matching.specs.Late.{Member, NumberAdded, FirstWord, Drawn, IsMarked, Marks, AllMarked, TakenOut, Relies, MarkedEnd, MarkedBy}
+use Rattle.matching.specs.Choices.{End}
 
 -- ---- one word of a list is set
 module _ (s : List ℕ) (at y x : ℕ) where
@@ -128,11 +128,12 @@ module _ (s : List ℕ) (at : ℕ) (F : FirstWord s at) (l : at < 256) (p : ℕ)
 
 -- ---- marking nodes
 -- the one of its two numbers by which v is marked
-abbrev pub NumberFor : List ℕ → ℕ → ℕ → Type 0
-NumberFor first v x = ((getD first (v + 1) 0 < getD first v 0 + 16) × (x ≡ v)) ⊎ ((getD first v 0 + 16 ≤ getD first (v + 1) 0) × (x ≡ 4096 + v))
+abbrev pub NumberFor : List ℕ → List ℕ → ℕ → ℕ → Type 0
+NumberFor first back v x =
+    ((getD first (v + 1) 0 + getD back (v + 1) 0 < getD first v 0 + getD back v 0 + 16) × (x ≡ v)) ⊎ ((getD first v 0 + getD back v 0 + 16 ≤ getD first (v + 1) 0 + getD back (v + 1) 0) × (x ≡ 4096 + v))
 
-pub added-marks : {first : List ℕ} {v x : ℕ} {s s′ : List ℕ} → v < 4096 → NumberFor first v x → NumberAdded x s s′ → Marks first v s s′
-added-marks {first} {v} {x} {s} {s′} l place A =
+pub added-marks : {first back : List ℕ} {v x : ℕ} {s s′ : List ℕ} → v < 4096 → NumberFor first back v x → NumberAdded x s s′ → Marks first back v s s′
+added-marks {first} {back} {v} {x} {s} {s′} l place A =
     let is : (x ≡ v) ⊎ (x ≡ 4096 + v) = ⊎-elim (λ p. inl (p .1)) (λ p. inr (p .1)) place in
     record {
       long = A .long;
@@ -187,7 +188,7 @@ blank-unmarked v h =
 pub full-start : (s : List ℕ) → length s ≡ 256 → ((v : ℕ) → v < 4096 → IsMarked s v → ⊥) → AllMarked 0 s
 full-start s e n = record { long = e; each = λ x l. absurd (omega arith); why = λ x l h. absurd (n x l h) }
 
-pub full-more : {first : List ℕ} {v : ℕ} {s s′ : List ℕ} → AllMarked v s → Marks first v s s′ → AllMarked (v + 1) s′
+pub full-more : {first back : List ℕ} {v : ℕ} {s s′ : List ℕ} → AllMarked v s → Marks first back v s s′ → AllMarked (v + 1) s′
 full-more {v = v} {s} {s′} F M =
     record {
       long = M .long ∙ F .long;
@@ -195,17 +196,17 @@ full-more {v = v} {s} {s′} F M =
       why = λ x l h. ⊎-elim (λ p. let z = F .why x l p in omega arith) (λ (e : x ≡ v). omega arith) (M .why x l h);
     }
 
--- ---- marking the starts of pairs
-module _ (w : List ℕ) (lost : ℕ) (leave : List ℕ) where
-  pub start-whole : (i : ℕ) (s : List ℕ) → bitAnd (heldAt w i) (bitAnd (getD leave (fromOf w i) 0) lost) ≡ 0 → MarkedStart w lost leave i s s
-  start-whole i s z =
+-- ---- marking ends of pairs
+module _ (near : End) (w : List ℕ) (lost : ℕ) (masks : List ℕ) where
+  pub end-whole : (i : ℕ) (s : List ℕ) → bitAnd (heldAt w i) (bitAnd (getD masks (near (getD w i 0)) 0) lost) ≡ 0 → MarkedEnd near w lost masks i s s
+  end-whole i s z =
       record { long = refl; keeps = λ x h. h; hit = λ e a b c. absurd (none-has e (cast e z (and-by _ _ e a (and-by _ _ e b c)))); why = λ x l h. inl h }
 
-  pub start-marked : (i : ℕ) {first s s′ : List ℕ} → (bitAnd (heldAt w i) (bitAnd (getD leave (fromOf w i) 0) lost) ≡ 0 → ⊥) → lost < 2 ^ 32 → Marks first (fromOf w i) s s′ → MarkedStart w lost leave i s s′
-  start-marked i z f m =
-      let both = bitAnd (getD leave (fromOf w i) 0) lost in
+  pub end-marked : (i : ℕ) {first back s s′ : List ℕ} → (bitAnd (heldAt w i) (bitAnd (getD masks (near (getD w i 0)) 0) lost) ≡ 0 → ⊥) → lost < 2 ^ 32 → Marks first back (near (getD w i 0)) s s′ → MarkedEnd near w lost masks i s s′
+  end-marked i z f m =
+      let both = bitAnd (getD masks (near (getD w i 0)) 0) lost in
       let p = and-le-r (heldAt w i) both in
-      let q = and-le-r (getD leave (fromOf w i) 0) lost in
+      let q = and-le-r (getD masks (near (getD w i 0)) 0) lost in
       let o = lowest-has 32 (bitAnd (heldAt w i) both) (omega arith) (omega arith) in
       let a = and-say _ _ _ (o .1) in
       let b = and-say _ _ _ (a .1) in
@@ -216,19 +217,19 @@ module _ (w : List ℕ) (lost : ℕ) (leave : List ℕ) where
         why = λ x l h. ⊎-elim (λ p. inl p) (λ p. inr (sym p, record { at = _; below = o .0; holds = (a .0, b .0, b .1) })) (m .why x l h);
       }
 
-  -- the pairs whose numbers stand in rev from a up to k
-  pub record MarkedRange (rev : List ℕ) (a k : ℕ) (s s′ : List ℕ) : Type 0 where
+  -- the pairs whose numbers are num a and those up to num k
+  pub record MarkedRange (num : ℕ → ℕ) (a k : ℕ) (s s′ : List ℕ) : Type 0 where
     pub long : length s′ ≡ length s
     pub keeps : (x : ℕ) → IsMarked s x → IsMarked s′ x
-    pub hit : (j e : ℕ) → a ≤ j → j < k → Has (heldAt w (getD rev j 0)) e → Has (getD leave (fromOf w (getD rev j 0)) 0) e → Has lost e → IsMarked s′ (fromOf w (getD rev j 0))
-    pub why : (x : ℕ) → x < 4096 → IsMarked s′ x → IsMarked s x ⊎ OneOf k (λ j. (a ≤ j) × (fromOf w (getD rev j 0) ≡ x) × Relies w lost leave (getD rev j 0))
+    pub hit : (j e : ℕ) → a ≤ j → j < k → Has (heldAt w (num j)) e → Has (getD masks (near (getD w (num j) 0)) 0) e → Has lost e → IsMarked s′ (near (getD w (num j) 0))
+    pub why : (x : ℕ) → x < 4096 → IsMarked s′ x → IsMarked s x ⊎ OneOf k (λ j. (a ≤ j) × (near (getD w (num j) 0) ≡ x) × Relies near w lost masks (num j))
 
-  pub range-start : (rev : List ℕ) (a k : ℕ) (s : List ℕ) → k ≡ a → MarkedRange rev a k s s
-  range-start rev a k s z = record { long = refl; keeps = λ x h. h; hit = λ j e l m. absurd (omega arith); why = λ x l h. inl h }
+  pub range-start : (num : ℕ → ℕ) (a k : ℕ) (s : List ℕ) → k ≡ a → MarkedRange num a k s s
+  range-start num a k s z = record { long = refl; keeps = λ x h. h; hit = λ j e l m. absurd (omega arith); why = λ x l h. inl h }
 
-  pub range-next : {rev : List ℕ} {a k : ℕ} {s₀ s s′ : List ℕ} → MarkedRange rev a k s₀ s → a ≤ k → {i : ℕ} → i ≡ getD rev k 0 → MarkedStart w lost leave i s s′ → MarkedRange rev a (k + 1) s₀ s′
-  range-next {rev} {a} {k} {s₀} {s} {s′} h m {i} y R =
-      let r = subst (λ (i : ℕ). MarkedStart w lost leave i s s′) y R in
+  pub range-next : (num : ℕ → ℕ) {a k : ℕ} {s₀ s s′ : List ℕ} → MarkedRange num a k s₀ s → a ≤ k → {i : ℕ} → i ≡ num k → MarkedEnd near w lost masks i s s′ → MarkedRange num a (k + 1) s₀ s′
+  range-next num {a} {k} {s₀} {s} {s′} h m {i} y R =
+      let r = subst (λ (i : ℕ). MarkedEnd near w lost masks i s s′) y R in
       record {
         long = r .long ∙ h .long;
         keeps = λ x p. r .keeps x (h .keeps x p);
@@ -236,25 +237,29 @@ module _ (w : List ℕ) (lost : ℕ) (leave : List ℕ) where
             (λ (q : j < k). r .keeps _ (h .hit j e n q x y z))
             (λ (q : k ≤ j).
             let i : k ≡ j = omega arith in
-            subst (λ (j : ℕ). Has (heldAt w (getD rev j 0)) e → Has (getD leave (fromOf w (getD rev j 0)) 0) e → Has lost e → IsMarked s′ (fromOf w (getD rev j 0))) i (r .hit e) x y z)
+            subst (λ (j : ℕ). Has (heldAt w (num j)) e → Has (getD masks (near (getD w (num j) 0)) 0) e → Has lost e → IsMarked s′ (near (getD w (num j) 0))) i (r .hit e) x y z)
             (lt-or-ge j k);
         why = λ x l p. ⊎-elim (λ q. ⊎-elim (λ u. inl u) (λ u. inr (one-more k u)) (h .why x l q)) (λ q. inr (one-last k (m, q .0, q .1))) (r .why x l p);
       }
 
-  pub range-end : {d n : ℕ} {back rev : List ℕ} {v k : ℕ} {s s′ : List ℕ} → Backs d n w back rev → v < n → MarkedRange rev (getD back v 0) k s s′ → k ≡ getD back (v + 1) 0
-      → MarkedBefore d w v lost leave s s′
-  range-end {d} {n} {back} {rev} {v} {k} {s} {s′} B l h z =
+  -- they are just the pairs whose far end is v
+  pub range-end : (far : End) (num : ℕ → ℕ) {d a b v k : ℕ} {s s′ : List ℕ} → ((i : ℕ) → i < d → far (getD w i 0) ≡ v → OneOf b (λ j. (a ≤ j) × (num j ≡ i)))
+      → ((j : ℕ) → a ≤ j → j < b → (num j < d) × (far (getD w (num j) 0) ≡ v)) → MarkedRange num a k s s′ → k ≡ b → MarkedBy near far d w v lost masks s s′
+  range-end far num {d} {a} {b} {v} {k} {s} {s′} at of h z =
       record {
         long = h .long;
         keeps = h .keeps;
         hit = λ i e m t x y u.
-            (let o = ends-at B v l i m t in
+            (let o = at i m t in
             let q = o .holds .1 in
             let b = o .below in
-            subst (λ (i : ℕ). Has (heldAt w i) e → Has (getD leave (fromOf w i) 0) e → Has lost e → IsMarked s′ (fromOf w i)) q (h .hit (o .at) e (o .holds .0) (omega arith)) x y u);
+            subst (λ (i : ℕ). Has (heldAt w i) e → Has (getD masks (near (getD w i 0)) 0) e → Has lost e → IsMarked s′ (near (getD w i 0))) q (h .hit (o .at) e (o .holds .0) (omega arith)) x y u);
         why = λ x lx p. ⊎-elim (λ q. inl q)
             (λ o. inr (
-            let r = ends-of B v l (o .at) (o .holds .0) (let b = o .below in omega arith) in
-            record { at = getD rev (o .at) 0; below = r .0; holds = (o .holds .1, r .1, o .holds .2) }))
+            let r = of (o .at) (o .holds .0) (let b = o .below in omega arith) in
+            record { at = num (o .at); below = r .0; holds = (o .holds .1, r .1, o .holds .2) }))
             (h .why x lx p);
       }
+
+  pub none-marked : (far : End) (d v : ℕ) (s : List ℕ) → lost ≡ 0 → MarkedBy near far d w v lost masks s s
+  none-marked far d v s z = record { long = refl; keeps = λ x h. h; hit = λ i e l t x y u. absurd (none-has e (cast e z u)); why = λ x l h. inl h }

@@ -298,17 +298,18 @@ module _ (w leave arrive : List ℕ) where
       (decide (bit (bitAnd a b) e))
 
 module _ {q : Given} {n d all : ℕ} {w leave arrive out leaving arriving : List ℕ} (pool : Pool d w) (f : Fresh q n d all w leave arrive out leaving arriving)
-    {r : ℕ} {w′ leave′ arrive′ out′ : List ℕ} (F : Fixed n 0 all d leaving arriving w leave arrive out r w′ leave′ arrive′ out′)
+    {r : ℕ} {w′ leave′ arrive′ out′ : List ℕ} (F : Fixed n 0 all 0 d leaving arriving leaving arriving w leave arrive out r w′ leave′ arrive′ out′)
     (O : Round n all d leaving w leave arrive r w′ leave′) where
-  abbrev first-sound : Sound (q .from) (q .to) (q .edges) 0 all d w leave arrive w′ leave′ arrive′
-  first-sound = F .sound (q .from) (q .to) (q .edges) (f .by-from) (f .by-to) (λ e y h. none-has e h)
+  abbrev first-sound : Sound (q .from) (q .to) (q .edges) 0 all 0 d w leave arrive w′ leave′ arrive′
+  first-sound = F .sound (q .from) (q .to) (q .edges) (f .by-from) (f .by-to) (λ e h. absurd (none-has e h)) (λ e y h. none-has e h) 0 (λ e h. h)
 
   -- what supports itself is safe at first
   first-safe : (R : ℕ → ℕ → Bool) → Supports (q .from) (q .to) (q .edges) (λ e. Unit {0}) d w (λ u v. T (R u v)) → ((u v : ℕ) → T (R u v) → v < 4096)
-      → Safe (q .from) (q .to) (q .edges) 0 d w leave arrive (λ u v. T (R u v))
+      → Safe (q .from) (q .to) (q .edges) 0 0 d w leave arrive (λ u v. T (R u v))
   first-safe R s b =
       record {
         supports = λ u v t e le n p. s u v t e le tt p;
+        backs = λ u v t e le y. absurd (none-has e y);
         leaves = λ u v e t le p. every-has (f .links) (f .leaves) v e (b u v t) le;
         arrives = λ u v e t le p. every-has (f .links) (f .arrives) v e (b u v t) le;
       }
@@ -408,15 +409,15 @@ module _ {q : Given} {n d : ℕ} (c due : ℕ) {w leave arrive out : List ℕ} (
         }
 
   module _ {leaving arriving w′ leave′ arrive′ out′ : List ℕ} {r : ℕ} (T₁ : Tabled (q .from) (q .from) (q .edges) leaving) (T₂ : Tabled (q .from) (q .to) (q .edges) arriving)
-      (F : Fixed n free′ due d leaving arriving w leave arrive out 0 w′ leave′ arrive′ out′) (L : LookedUp arriving due r) where
+      (F : Fixed n free′ due 0 d leaving arriving leaving arriving w leave arrive out 0 w′ leave′ arrive′ out′) (L : LookedUp arriving due r) where
     abbrev more : ℕ
     more = bitAnd (bitOr (s .loose) r) free′
 
     apart : (e : ℕ) → Has due e → Has free′ e → ⊥
     apart e y h = minus-say (s .free) due e h .1 y
 
-    abbrev sound : Sound (q .from) (q .to) (q .edges) free′ due d w leave arrive w′ leave′ arrive′
-    sound = F .sound (q .from) (q .to) (q .edges) T₁ T₂ apart
+    abbrev sound : Sound (q .from) (q .to) (q .edges) free′ due 0 d w leave arrive w′ leave′ arrive′
+    sound = F .sound (q .from) (q .to) (q .edges) T₁ T₂ (λ e h. absurd (none-has e h)) apart 0 (λ e h. h)
 
     from-then : (i : ℕ) → i < d → fromOf w′ i ≡ fromOf w i
     from-then i l = ap (λ (y : ℕ). y / 4096 % 4096) (F .falls .same i l)
@@ -428,7 +429,7 @@ module _ {q : Given} {n d : ℕ} (c due : ℕ) {w leave arrive out : List ℕ} (
     left-alone : (e : ℕ) → e < q .edges → (Has due e → ⊥) → ((k : ℕ) → k < q .edges → Has due k → getD (q .from) k 0 ≡ getD (q .to) e 0 → ⊥) → Stays (q .from) (q .to) (q .edges) d w leave arrive w′ leave′ arrive′ e
     left-alone e le x y =
         sound .aside e le
-        (record { start = λ k lk h p. x (due-by e le (subst (Has c) p (due-say k h .1))); end = y })
+        (record { start = λ k lk h p. x (due-by e le (subst (Has c) p (due-say k h .1))); end = y; start-back = λ k lk h. absurd (none-has k h); end-back = λ k lk h. absurd (none-has k h) })
 
     module _ {w₀ : List ℕ} (b : Between q n d w₀ s w leave arrive) where
       within-then : Loose d w′ leave′ arrive′ more
@@ -474,10 +475,10 @@ module _ {q : Given} {n d : ℕ} (c due : ℕ) {w leave arrive out : List ℕ} (
               (decide (bit (s .settled) (getD (q .from) k 0)))
 
       -- what is safe for all links stays so: the free ones are untouched
-      safe-free : (R : ℕ → ℕ → Bool) → Safe (q .from) (q .to) (q .edges) 0 d w leave arrive (λ u v. T (R u v)) → Safe (q .from) (q .to) (q .edges) free′ d w leave arrive (λ u v. T (R u v))
-      safe-free R z = record { supports = λ u v t e le x p. z .supports u v t e le (none-has e) p; leaves = z .leaves; arrives = z .arrives }
+      safe-free : (R : ℕ → ℕ → Bool) → Safe (q .from) (q .to) (q .edges) 0 0 d w leave arrive (λ u v. T (R u v)) → Safe (q .from) (q .to) (q .edges) free′ 0 d w leave arrive (λ u v. T (R u v))
+      safe-free R z = record { supports = λ u v t e le x p. z .supports u v t e le (none-has e) p; backs = z .backs; leaves = z .leaves; arrives = z .arrives }
 
-      safe-then : (R : ℕ → ℕ → Bool) → Safe (q .from) (q .to) (q .edges) 0 d w leave arrive (λ u v. T (R u v)) → Safe (q .from) (q .to) (q .edges) 0 d w′ leave′ arrive′ (λ u v. T (R u v))
+      safe-then : (R : ℕ → ℕ → Bool) → Safe (q .from) (q .to) (q .edges) 0 0 d w leave arrive (λ u v. T (R u v)) → Safe (q .from) (q .to) (q .edges) 0 0 d w′ leave′ arrive′ (λ u v. T (R u v))
       safe-then R z =
           let y = sound .safe R (safe-free R z) in
           record {
@@ -495,6 +496,7 @@ module _ {q : Given} {n d : ℕ} (c due : ℕ) {w leave arrive out : List ℕ} (
                 })
                 (λ (f : Has free′ e → ⊥). y .supports u v t e le f p)
                 (decide (bit free′ e));
+            backs = y .backs;
             leaves = y .leaves;
             arrives = y .arrives;
           }
@@ -526,7 +528,7 @@ module _ {q : Given} {n d : ℕ} (c due : ℕ) {w leave arrive out : List ℕ} (
       record { settled = x; leave-long = refl; arrive-long = refl; out-long = refl; prepared = P; at = λ w₀ a. between-at (ends₀ (a .between)) few (between-skip (a .between) z s′ x y v) }
 
   pub stepped-rest : {leaving arriving w′ leave′ arrive′ out′ : List ℕ} {r : ℕ} → Tabled (q .from) (q .from) (q .edges) leaving → Tabled (q .from) (q .to) (q .edges) arriving
-      → Fixed n free′ due d leaving arriving w leave arrive out 0 w′ leave′ arrive′ out′ → LookedUp arriving due r
+      → Fixed n free′ due 0 d leaving arriving leaving arriving w leave arrive out 0 w′ leave′ arrive′ out′ → LookedUp arriving due r
       → (s′ : Place) → s′ .settled ≡ settled′ → s′ .free ≡ free′ → s′ .loose ≡ bitAnd (bitOr (s .loose) r) free′ → Stepped q n d c s w leave arrive out s′ w′ leave′ arrive′ out′
   stepped-rest T₁ T₂ F L s′ x y v =
       record { settled = x; leave-long = F .leave-long; arrive-long = F .arrive-long; out-long = F .out-long; prepared = fixed-prepared F P; at = λ w₀ a. between-at (ends₀ (a .between)) few (between-rest T₁ T₂ F L (a .between) s′ x y v) }

@@ -11,7 +11,7 @@ use Rattle.packed.proofs.OrderCases.{eq-or-ne}
 use Rattle.matching.specs.Sweeps.{Has, Mask, OneOf}
 use Rattle.matching.proofs.MaskBits.{mask-cast, mask-or, mask-self, one-none, one-last, one-more, one-cases}
 use Rattle.matching.proofs.Filling.{Filling, filling-start, filling-more, filling-around, filling-each}
-use Rattle.matching.specs.Sweeping.{fromOf, toOf, Ends, Starts, Carried, heldAt, heldAfter, Swept}
+use Rattle.matching.specs.Sweeping.{fromOf, toOf, Ends, Starts, Carried, heldAt, heldAfter, Swept, Arrived}
 
 -- the first i pairs have been swept
 pub record Sweeping (d : ℕ) (leave arrive : List ℕ) (free : ℕ) (w₀ out₀ w out : List ℕ) (i : ℕ) : Type 0 where
@@ -129,3 +129,33 @@ module _ (d : ℕ) (leave arrive : List ℕ) (free : ℕ) where
                     (let p = h .ahead i (omega arith) l in let q = o .order i j (omega arith) b in omega arith));
               };
         }
+
+-- ---- what arrives: the pairs up to i have been taken
+pub arrived-start : (w out : List ℕ) → Arrived 0 w out out
+arrived-start w out = record { long = refl; each = λ v l. mask-cast (λ k h. inl h) (λ k. ⊎-elim (λ h. h) (λ o. absurd (one-none o))) (mask-self (getD out v 0)) }
+
+pub arrived-more : (w out₀ out : List ℕ) (i : ℕ) → Arrived i w out₀ out → toOf w i < length out₀ → Arrived (i + 1) w out₀ (set out (toOf w i) (bitOr (getD out (toOf w i) 0) (heldAt w i)))
+arrived-more w out₀ out i h l =
+    let t = toOf w i in
+    let x = heldAt w i in
+    let fin : t < length out = let b = h .long in omega arith in
+    record {
+      long = length-set out t (bitOr (getD out t 0) x) ∙ h .long;
+      each = λ v b. ⊎-elim
+          (λ (z : v ≡ t).
+          subst (Mask _) (sym (ap (λ (y : ℕ). getD (set out t (bitOr (getD out t 0) x)) y 0) z ∙ getD-set-same out t (bitOr (getD out t 0) x) 0 fin))
+          (mask-cast {A = λ k. (Has (getD out₀ v 0) k ⊎ OneOf i (λ j. (toOf w j ≡ v) × Has (heldAt w j) k)) ⊎ Has x k}
+          (λ k. ⊎-elim (⊎-elim (λ p. inl p) (λ o. inr (one-more i o))) (λ p. inr (one-last i (sym z, p))))
+          (λ k. ⊎-elim (λ p. inl (inl p)) (λ o. ⊎-elim (λ q. inl (inr q)) (λ q. inr (q .1)) (one-cases i o)))
+          (mask-or (subst (λ (y : ℕ). Mask (λ k. Has (getD out₀ v 0) k ⊎ OneOf i (λ j. (toOf w j ≡ v) × Has (heldAt w j) k)) (getD out y 0)) z (h .each v b)) (mask-self x))))
+          (λ (z : v ≡ t → ⊥).
+          subst (Mask _) (sym (getD-set-other out t v (bitOr (getD out t 0) x) 0 z))
+          (mask-cast {A = λ k. Has (getD out₀ v 0) k ⊎ OneOf i (λ j. (toOf w j ≡ v) × Has (heldAt w j) k)}
+          (λ k. ⊎-elim (λ p. inl p) (λ o. inr (one-more i o)))
+          (λ k. ⊎-elim (λ p. inl p) (λ o. ⊎-elim (λ q. inr q) (λ q. absurd (z (sym (q .0)))) (one-cases i o)))
+          (h .each v b)))
+          (eq-or-ne v t);
+    }
+
+pub arrived-end : {d i : ℕ} {w out₀ out : List ℕ} → Arrived i w out₀ out → i ≤ d → d ≤ i → Arrived d w out₀ out
+arrived-end {d} {i} {w} {out₀} {out} h a b = subst (λ (n : ℕ). Arrived n w out₀ out) (let e : i ≡ d = omega arith in e) h

@@ -82,7 +82,7 @@ pub record Between (q : Given) (n d : ℕ) (w : List ℕ) (s : Place) (w′ leav
   pub within : Loose d w′ leave arrive (s .loose)
   pub offered : (v e : ℕ) → v < n → e < q .edges → Has (getD leave v 0) e → OneOf d (λ i. (fromOf w′ i ≡ v) × Has (heldAt w′ i) e)
   pub safe : (R : ℕ → ℕ → Bool) → Supports (q .from) (q .to) (q .edges) (λ e. Unit {0}) d w (λ u v. T (R u v)) → ((u v : ℕ) → T (R u v) → v < 4096)
-      → Safe (q .from) (q .to) (q .edges) 0 d w′ leave arrive (λ u v. T (R u v))
+      → Safe (q .from) (q .to) (q .edges) 0 0 d w′ leave arrive (λ u v. T (R u v))
   pub stays : (R : ℕ → ℕ → Bool) → Supports (q .from) (q .to) (q .edges) (λ e. Unit {0}) d w (λ u v. T (R u v)) → ((u v : ℕ) → T (R u v) → v < 4096) → (i e : ℕ) → i < d → e < q .edges
       → T (R (getD (q .from) e 0) (fromOf w i)) → T (R (getD (q .to) e 0) (toOf w i)) → Has (heldAt w i) e → Has (heldAt w′ i) e
 

@@ -42,6 +42,11 @@ pub record Swept (d : ℕ) (leave arrive : List ℕ) (free : ℕ) (w out w′ ou
   pub long : length out′ ≡ length out
   pub each : (v : ℕ) → v < length out → Mask (λ k. Has (getD out v 0) k ⊎ OneOf d (λ i. (fromOf w i ≡ v) × Has (heldAfter leave arrive free w i) k)) (getD out′ v 0)
 
+-- what is held at a node has also what the pairs that end there are held for
+pub record Arrived (d : ℕ) (w out out′ : List ℕ) : Type 0 where
+  pub long : length out′ ≡ length out
+  pub each : (v : ℕ) → v < length out → Mask (λ k. Has (getD out v 0) k ⊎ OneOf d (λ i. (toOf w i ≡ v) × Has (heldAt w i) k)) (getD out′ v 0)
+
 -- the pairs stand in the order of the nodes where they begin, and nothing is held there yet
 pub record Starts (d : ℕ) (w out : List ℕ) : Type 0 where
   pub order : (i j : ℕ) → i < j → j < d → fromOf w i ≤ fromOf w j

@@ -19,13 +19,29 @@ pub fn rest_by(
     out: &mut [u32],
     free: u32,
     due: u32,
+    back: u32,
     leaving: &[u32; 128],
     arriving: &[u32; 128],
+    ending: &[u32; 128],
+    starting: &[u32; 128],
 )
     requires { ⌜ Prepared n d (now work) (now leave) (now arrive) (now out) × (n ≤ 4096) × (n < length (now first)) × Firsts d n (now work) (now first) ⌝ }
-    ensures { λ r. ⌜ Fixed n free due d (now (leaving .entry)) (now (arriving .entry)) (now (work .entry)) (now (leave .entry)) (now (arrive .entry)) (now (out .entry)) 0 (now (work .exit)) (now (leave .exit)) (now (arrive .exit)) (now (out .exit)) ⌝ }
+    ensures { λ r. ⌜ Fixed n free due back d (now (leaving .entry)) (now (arriving .entry)) (now (ending .entry)) (now (starting .entry)) (now (work .entry)) (now (leave .entry)) (now (arrive .entry)) (now (out .entry)) 0 (now (work .exit)) (now (leave .exit)) (now (arrive .exit)) (now (out .exit)) ⌝ }
 {
-    turns::late(work, n, d, first, due, leaving, arriving, leave, arrive);
+    turns::late(
+        work,
+        n,
+        d,
+        first,
+        due,
+        back,
+        leaving,
+        arriving,
+        ending,
+        starting,
+        leave,
+        arrive,
+    );
     sweeps::sweep(work, d, leave, arrive, free, out);
     workspace::clear(out, n);
 }
@@ -40,13 +56,30 @@ pub fn rest(
     out: &mut [u32],
     free: u32,
     due: u32,
+    back: u32,
     leaving: &[u32; 128],
     arriving: &[u32; 128],
+    ending: &[u32; 128],
+    starting: &[u32; 128],
 )
     requires { ⌜ Prepared n d (now work) (now leave) (now arrive) (now out) × (n ≤ 4096) ⌝ }
-    ensures { λ r. ⌜ Fixed n free due d (now (leaving .entry)) (now (arriving .entry)) (now (work .entry)) (now (leave .entry)) (now (arrive .entry)) (now (out .entry)) 0 (now (work .exit)) (now (leave .exit)) (now (arrive .exit)) (now (out .exit)) ⌝ }
+    ensures { λ r. ⌜ Fixed n free due back d (now (leaving .entry)) (now (arriving .entry)) (now (ending .entry)) (now (starting .entry)) (now (work .entry)) (now (leave .entry)) (now (arrive .entry)) (now (out .entry)) 0 (now (work .exit)) (now (leave .exit)) (now (arrive .exit)) (now (out .exit)) ⌝ }
 {
-    let lost = sweeps::fix(work, d, n, leave, arrive, out, free, due, leaving, arriving);
+    let lost = sweeps::fix(
+        work,
+        d,
+        n,
+        leave,
+        arrive,
+        out,
+        free,
+        due,
+        back,
+        leaving,
+        arriving,
+        ending,
+        starting,
+    );
     if lost == 0 {
         return;
     }
@@ -62,7 +95,10 @@ pub fn rest(
         out,
         free,
         due,
+        back,
         leaving,
         arriving,
+        ending,
+        starting,
     );
 }

@@ -1,9 +1,9 @@
 // Where the pairs that begin at a node stand, and what they offer.
 ghost use mathlib.Core.Path.{_≡_};
-ghost use Prim.Native.Nat.{_+_, _-_, _<_, _≤_};
-ghost use lib.ListN.{length};
-ghost use Rattle.matching.specs.Sweeping.{Ends};
-ghost use Rattle.matching.specs.Late.{ByStart, Cut, BeginsBelow, FirstsMade, Compared, IndexJudged, missed};
+ghost use Prim.Native.Nat.{ℕ, _+_, _-_, _<_, _≤_};
+ghost use lib.ListN.{length, getD};
+ghost use Rattle.matching.specs.Sweeping.{fromOf, Ends};
+ghost use Rattle.matching.specs.Late.{ByStart, Cut, BeginsBelow, FirstsMade, Compared, IndexJudged, missed, missedBack};
 use packed::limits;
 use packed::reply::Refusal;
 use packed::reply::Reply;
@@ -95,6 +95,28 @@ pub fn look(work: &[u32], a: usize, b: usize, arrive: &[u32], want: u32) -> u32
         let offer = work[at] & arrive[t];
         miss = miss ^ (miss & offer);
         i += 1;
+    }
+    miss
+}
+
+// The links of want that none of the pairs offers whose numbers stand in rev from a up to b: each offers those that it is held for and that may leave
+// its start.
+pub fn look_back(work: &[u32], a: usize, b: usize, rev: &[u16], leave: &[u32], want: u32) -> u32
+    requires { ⌜ (a ≤ b) × (b ≤ length (now rev)) × (length (now work) ≡ 16384) × ((k : ℕ) → a ≤ k → k < b → (getD (now rev) k 0 < 8192) × (fromOf (now work) (getD (now rev) k 0) < length (now leave))) ⌝ }
+    ensures { λ r. ⌜ r ≡ missedBack (now (work .entry)) (now (rev .entry)) (now (leave .entry)) want a (b - a) ⌝ }
+{
+    let mut miss = want;
+    let mut k = a;
+    while k < b {
+        if miss == 0 {
+            return 0;
+        }
+        let i = wide(rev[k]);
+        let f = (work[i] / limits::NODES % limits::NODES) as usize;
+        let at = limits::HELD + i;
+        let offer = work[at] & leave[f];
+        miss = miss ^ (miss & offer);
+        k += 1;
     }
     miss
 }

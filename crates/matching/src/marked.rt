@@ -48,26 +48,28 @@ fn draw(set: &mut [u32]) -> usize
     32 * at + place
 }
 
-// Marks the node v. One at which 16 or more pairs begin is to wait.
-pub fn mark(first: &[u16], v: usize, set: &mut [u32])
-    requires { ⌜ (v < 4096) × (v + 1 < length (now first)) × (length (now set) ≡ 256) ⌝ }
-    ensures { λ r. ⌜ Marks (now (first .entry)) v (now (set .entry)) (now (set .exit)) ⌝ }
+// Marks the node v. One at which 16 or more pairs begin or end is to wait.
+pub fn mark(first: &[u16], back: &[u16], v: usize, set: &mut [u32])
+    requires { ⌜ (v < 4096) × (v + 1 < length (now first)) × (length (now set) ≡ 256) × (v + 1 < length (now back)) ⌝ }
+    ensures { λ r. ⌜ Marks (now (first .entry)) (now (back .entry)) v (now (set .entry)) (now (set .exit)) ⌝ }
 {
     let next = v + 1;
     let a = index::wide(first[v]);
     let b = index::wide(first[next]);
-    let x = if b < a + 16 { v } else { 4096 + v };
+    let c = index::wide(back[v]);
+    let d = index::wide(back[next]);
+    let x = if b + d < a + c + 16 { v } else { 4096 + v };
     add(set, x);
 }
 
 // Marks the first n nodes.
-pub fn mark_all(n: usize, first: &[u16], set: &mut [u32])
-    requires { ⌜ (n ≤ 4096) × (n < length (now first)) × (length (now set) ≡ 256) × ((v : ℕ) → v < 4096 → IsMarked (now set) v → ⊥) ⌝ }
+pub fn mark_all(n: usize, first: &[u16], back: &[u16], set: &mut [u32])
+    requires { ⌜ (n ≤ 4096) × (n < length (now first)) × (length (now set) ≡ 256) × (n < length (now back)) × ((v : ℕ) → v < 4096 → IsMarked (now set) v → ⊥) ⌝ }
     ensures { λ r. ⌜ AllMarked n (now (set .exit)) ⌝ }
 {
     let mut v: usize = 0;
     while v < n {
-        mark(first, v, set);
+        mark(first, back, v, set);
         v += 1;
     }
 }

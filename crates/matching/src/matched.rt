@@ -33,7 +33,21 @@ pub fn match_edges(
     start::spread(s, n, p, leave, arrive, out);
     let leaving = link_tables::table(&from, &from, edges);
     let arriving = link_tables::table(&from, &to, edges);
-    engine::rest(work, m, n, leave, arrive, out, 0, all, &leaving, &arriving);
+    engine::rest(
+        work,
+        m,
+        n,
+        leave,
+        arrive,
+        out,
+        0,
+        all,
+        0,
+        &leaving,
+        &arriving,
+        &leaving,
+        &arriving,
+    );
 }
 
 // The same by the record's index.
@@ -70,6 +84,9 @@ pub fn match_indexed(
         out,
         0,
         all,
+        0,
+        &leaving,
+        &arriving,
         &leaving,
         &arriving,
     );

@@ -135,7 +135,21 @@ pub fn step(
             loose: place.loose,
         };
     }
-    engine::rest(work, d, n, leave, arrive, out, free, due, leaving, arriving);
+    engine::rest(
+        work,
+        d,
+        n,
+        leave,
+        arrive,
+        out,
+        free,
+        due,
+        0,
+        leaving,
+        arriving,
+        leaving,
+        arriving,
+    );
     let more = place.loose | sweeps::look_up(arriving, due);
     Place {
         settled,

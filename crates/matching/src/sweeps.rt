@@ -1,11 +1,13 @@
-// Sweeps over the pairs and settling of the nodes: the words of the d pairs stand from word 0 on, with their codes in the low 24 bits, and from 8192 on for each the links that
-// it is held for.
-// `due` are the links whose items are being settled, `free` those that are not settled yet.
+// Sweeps over the pairs and settling of the nodes: the words of the d pairs stand from word 0 on, with their codes in the low 24 bits, and from 8192 on for
+// each the links that it is held for.
+// `due` are the links whose items are being settled, `free` those that are not settled yet, `back` those that are asked as they arrive. Tables: `leaving` and
+// `arriving` have the links that leave and that arrive at an item which a link leaves, `ending` and `starting` those that arrive at and that leave an item at
+// which a link arrives.
 ghost use mathlib.Core.Path.{_≡_};
 ghost use Prim.Native.Nat.{_+_, _<_, _≤_};
 ghost use lib.ListN.{length};
-ghost use Rattle.matching.specs.Sweeping.{Ends, Starts, Carried, Swept, LookedUp, Left, NodesSettled};
-ghost use Rattle.matching.specs.Choices.{Prepared, Fixed, Round};
+ghost use Rattle.matching.specs.Sweeping.{Ends, Starts, Carried, Swept, Arrived, LookedUp, Left, NodesSettled};
+ghost use Rattle.matching.specs.Choices.{Prepared, Fixed, BackSettled, Round};
 use packed::limits;
 
 // run, if the pair begins where the last one did.
@@ -36,6 +38,21 @@ pub fn sweep(work: &mut [u32], d: usize, leave: &[u32], arrive: &[u32], free: u3
         run = carried(f, last, run) | held;
         out[f] = run;
         last = f;
+        i += 1;
+    }
+}
+
+// Every pair adds what it is held for to what is held at the node where it ends.
+pub fn arrivals(work: &[u32], d: usize, out: &mut [u32])
+    requires { ⌜ Ends (length (now out)) d (now work) ⌝ }
+    ensures { λ r. ⌜ Arrived d (now (work .entry)) (now (out .entry)) (now (out .exit)) ⌝ }
+{
+    let mut i: usize = 0;
+    while i < d {
+        let t = (work[i] % limits::NODES) as usize;
+        let at = limits::HELD + i;
+        let old = out[t];
+        out[t] = old | work[at];
         i += 1;
     }
 }
@@ -103,7 +120,7 @@ pub fn settle(
     lost
 }
 
-// One sweep, and the nodes settled. The links that were missed.
+// One sweep, and the nodes settled as links leave them. The links that were missed.
 pub fn round(
     work: &mut [u32],
     d: usize,
@@ -117,10 +134,56 @@ pub fn round(
     arriving: &[u32; 128],
 ) -> u32
     requires { ⌜ Prepared n d (now work) (now leave) (now arrive) (now out) ⌝ }
-    ensures { λ r. ⌜ Fixed n free due d (now (leaving .entry)) (now (arriving .entry)) (now (work .entry)) (now (leave .entry)) (now (arrive .entry)) (now (out .entry)) r (now (work .exit)) (now (leave .exit)) (now (arrive .exit)) (now (out .exit)) × Round n due d (now (leaving .entry)) (now (work .entry)) (now (leave .entry)) (now (arrive .entry)) r (now (work .exit)) (now (leave .exit)) ⌝ }
+    ensures { λ r. ⌜ Fixed n free due 0 d (now (leaving .entry)) (now (arriving .entry)) (now (leaving .entry)) (now (arriving .entry)) (now (work .entry)) (now (leave .entry)) (now (arrive .entry)) (now (out .entry)) r (now (work .exit)) (now (leave .exit)) (now (arrive .exit)) (now (out .exit)) × Round n due d (now (leaving .entry)) (now (work .entry)) (now (leave .entry)) (now (arrive .entry)) r (now (work .exit)) (now (leave .exit)) ⌝ }
 {
     sweep(work, d, leave, arrive, free, out);
     settle(n, leave, arrive, out, due, leaving, arriving)
+}
+
+// The nodes settled as links arrive at them: the same, with the ends of pairs and of links changed for each other. The links that were missed.
+fn round_back(
+    work: &[u32],
+    d: usize,
+    n: usize,
+    leave: &mut [u32],
+    arrive: &mut [u32],
+    out: &mut [u32],
+    back: u32,
+    ending: &[u32; 128],
+    starting: &[u32; 128],
+) -> u32
+    requires { ⌜ Prepared n d (now work) (now leave) (now arrive) (now out) ⌝ }
+    ensures { λ r. ⌜ BackSettled n back d (now (ending .entry)) (now (starting .entry)) (now (work .entry)) (now (leave .entry)) (now (arrive .entry)) (now (out .entry)) r (now (leave .exit)) (now (arrive .exit)) (now (out .exit)) ⌝ }
+{
+    arrivals(work, d, out);
+    settle(n, arrive, leave, out, back, ending, starting)
+}
+
+// One round both ways; one way, where back has no link.
+fn round_both(
+    work: &mut [u32],
+    d: usize,
+    n: usize,
+    leave: &mut [u32],
+    arrive: &mut [u32],
+    out: &mut [u32],
+    free: u32,
+    due: u32,
+    back: u32,
+    leaving: &[u32; 128],
+    arriving: &[u32; 128],
+    ending: &[u32; 128],
+    starting: &[u32; 128],
+) -> u32
+    requires { ⌜ Prepared n d (now work) (now leave) (now arrive) (now out) ⌝ }
+    ensures { λ r. ⌜ Fixed n free due back d (now (leaving .entry)) (now (arriving .entry)) (now (ending .entry)) (now (starting .entry)) (now (work .entry)) (now (leave .entry)) (now (arrive .entry)) (now (out .entry)) r (now (work .exit)) (now (leave .exit)) (now (arrive .exit)) (now (out .exit)) ⌝ }
+{
+    let lost = round(work, d, n, leave, arrive, out, free, due, leaving, arriving);
+    if back == 0 {
+        return lost;
+    }
+    let more = round_back(work, d, n, leave, arrive, out, back, ending, starting);
+    lost | more
 }
 
 // At most twelve rounds. 0, if the last lost nothing.
@@ -133,15 +196,32 @@ pub fn fix(
     out: &mut [u32],
     free: u32,
     due: u32,
+    back: u32,
     leaving: &[u32; 128],
     arriving: &[u32; 128],
+    ending: &[u32; 128],
+    starting: &[u32; 128],
 ) -> u32
     requires { ⌜ Prepared n d (now work) (now leave) (now arrive) (now out) ⌝ }
-    ensures { λ r. ⌜ Fixed n free due d (now (leaving .entry)) (now (arriving .entry)) (now (work .entry)) (now (leave .entry)) (now (arrive .entry)) (now (out .entry)) r (now (work .exit)) (now (leave .exit)) (now (arrive .exit)) (now (out .exit)) ⌝ }
+    ensures { λ r. ⌜ Fixed n free due back d (now (leaving .entry)) (now (arriving .entry)) (now (ending .entry)) (now (starting .entry)) (now (work .entry)) (now (leave .entry)) (now (arrive .entry)) (now (out .entry)) r (now (work .exit)) (now (leave .exit)) (now (arrive .exit)) (now (out .exit)) ⌝ }
 {
     let mut left: usize = 12;
     while left > 0 {
-        let lost = round(work, d, n, leave, arrive, out, free, due, leaving, arriving);
+        let lost = round_both(
+            work,
+            d,
+            n,
+            leave,
+            arrive,
+            out,
+            free,
+            due,
+            back,
+            leaving,
+            arriving,
+            ending,
+            starting,
+        );
         if lost == 0 {
             return 0;
         }

@@ -3,6 +3,7 @@ use borrow.Author.Needs.{needs}
 use native.Mathlib.Omega.{arith}
 use Prim.Native.Nat.{ℕ, _-_, _≤_}
 use mathlib.Core.Path.{_≡_, ap, sym, _∙_}
+use Rattle.packed.specs.Contents.{wordTo}
 use Rattle.matching.specs.Late.{missed}
 use Rattle.matching.proofs.IndexLaws.{missed-none, missed-more, missed-all}
 use Rattle.matching.proofs.index.look.Statement.{statement}
@@ -15,12 +16,12 @@ abbrev μ-loop : tie.MeasureT-loop
 μ-loop work a b arrive want miss₀ i₀ miss i = b - i
 
 loop-holds : tie.Need-loop-holds Inv-loop μ-loop
-loop-holds c = (omega arith, c .pre .0, sym (missed-none _ _ _ _ _ (omega arith)))
+loop-holds c = (omega arith, c .pre .0, sym (missed-none wordTo (λ i. i) _ _ _ _ _ (omega arith)))
 
 returns : tie.Need-returns Inv-loop μ-loop
 returns c =
     let loop = c .before .before .loop in
-    sym (missed-all _ _ _ _ _ _ (loop .inv .0) (loop .inv .1) (sym (loop .inv .2) ∙ c .if1 .taken))
+    sym (missed-all wordTo (λ i. i) _ _ _ _ _ _ (loop .inv .0) (loop .inv .1) (sym (loop .inv .2) ∙ c .if1 .taken))
 
 mul-t : tie.Need-mul-t Inv-loop μ-loop
 mul-t c = search needs
@@ -44,7 +45,10 @@ mul-offer-2 : tie.Need-mul-offer-2 Inv-loop μ-loop
 mul-offer-2 c = search needs
 
 shared-slice-read-offer-2 : tie.Need-shared-slice-read-offer-2 Inv-loop μ-loop
-shared-slice-read-offer-2 c = omega (arith, c .before .before .before .before .before .before .pre .1 .to (c .before .before .before .before .before .loop .i) (omega arith))
+shared-slice-read-offer-2 c =
+    let pre = c .before .before .before .before .before .before .pre in
+    let loop = c .before .before .before .before .before .loop in
+    omega (arith, pre .1 .to (loop .i) (omega arith))
 
 add-i : tie.Need-add-i Inv-loop μ-loop
 add-i c = search needs
@@ -53,7 +57,9 @@ loop-less : tie.Need-loop-less Inv-loop μ-loop
 loop-less c = search needs
 
 loop-again : tie.Need-loop-again Inv-loop μ-loop
-loop-again c = (omega arith, omega arith, missed-more _ _ _ _ _ (c .before .before .before .before .before .loop .inv .0) (c .before .before .before .before .before .loop .inv .2))
+loop-again c =
+    let loop = c .before .before .before .before .before .loop in
+    (omega arith, omega arith, missed-more wordTo (λ i. i) _ _ _ _ _ (loop .inv .0) (loop .inv .2))
 
 returns-2 : tie.Need-returns-2 Inv-loop μ-loop
 returns-2 c =

@@ -9,20 +9,22 @@ use Rattle.matching.proofs.marked.mark_all.Statement.{statement}
 use Rattle.matching.proofs.marked.mark_all.Tie as tie
 
 abbrev Inv-loop : tie.InvT-loop
-Inv-loop n first set₀ v₀ set v = (v ≤ n) × AllMarked v set
+Inv-loop n first back set₀ v₀ set v = (v ≤ n) × AllMarked v set
 
 abbrev μ-loop : tie.MeasureT-loop
-μ-loop n first set₀ v₀ set v = n - v
+μ-loop n first back set₀ v₀ set v = n - v
 
 loop-holds : tie.Need-loop-holds Inv-loop μ-loop
-loop-holds c = (omega arith, full-start _ (c .before .before .pre .2) (c .before .before .pre .3))
+loop-holds c =
+    let pre = c .before .before .before .pre in
+    (omega arith, full-start _ (pre .2) (pre .4))
 
 mark-requires : tie.Need-mark-requires Inv-loop μ-loop
 mark-requires c κs =
-    let pre = c .before .before .before .before .before .pre in
+    let pre = c .before .before .before .before .before .before .pre in
     let loop = c .before .before .loop in
     let loop-test = c .before .loop-test in
-    (omega (arith, loop-test .taken, pre .0), omega (arith, loop-test .taken, pre .1), loop .inv .1 .long)
+    (omega (arith, loop-test .taken, pre .0), omega (arith, loop-test .taken, pre .1), loop .inv .1 .long, omega (arith, loop-test .taken, pre .3))
 
 add-v : tie.Need-add-v Inv-loop μ-loop
 add-v c = search needs
@@ -39,13 +41,13 @@ loop-again c =
 
 same-length : tie.Need-same-length Inv-loop μ-loop
 same-length c =
-    let pre = c .before .before .before .before .pre in
+    let pre = c .before .before .before .before .before .pre in
     let loop = c .before .loop in
     loop .inv .1 .long ∙ sym (pre .2)
 
 returns : tie.Need-returns Inv-loop μ-loop
 returns c =
-    let args = c .before .before .before .before .args in
+    let args = c .before .before .before .before .before .args in
     let loop = c .before .loop in
     let e : loop .v ≡ args .n = omega (arith, loop .inv .0, c .loop-test .left) in
     subst (λ (k : ℕ). AllMarked k (loop .set)) e (loop .inv .1)

@@ -33,44 +33,44 @@ table-requires-2 c κs =
 
 rest-by-requires : tie.Need-rest-by-requires
 rest-by-requires c κs =
-    let pre = c .before .before .before .before .before .before .before .before .before .before .before .before .before .before .before .before .before .before .before .before .before .before .before .before .before .before .before .before .before .before .before .before .before .before .before .before .before .pre in
-    let all = c .before .before .before .before .before .before .before .before .before .before .before .before .before .before .before .before .before .before .before .before .before .before .before .before .before .before .before .all in
-    let hold = c .before .before .before .before .before .before .before .before .before .before .before .before .before .before .before .before .before .before .before .before .before .before .before .before .hold in
-    let spread = c .before .before .before .before .before .before .before .before .before .before .before .before .before .before .before .before .before .before .spread in
+    let pre = c .before .before .before .before .before .before .before .before .before .before .before .before .before .before .before .before .before .before .before .before .before .before .before .before .before .before .before .before .before .before .before .before .before .before .before .before .before .before .before .pre in
+    let all = c .before .before .before .before .before .before .before .before .before .before .before .before .before .before .before .before .before .before .before .before .before .before .before .before .before .before .before .before .before .all in
+    let hold = c .before .before .before .before .before .before .before .before .before .before .before .before .before .before .before .before .before .before .before .before .before .before .before .before .before .before .hold in
+    let spread = c .before .before .before .before .before .before .before .before .before .before .before .before .before .before .before .before .before .before .before .before .spread in
     (started (pre .0) (pre .2) (pre .3) (all .ensures) (pre .4) (hold .ensures) (spread .ensures), pre .2 .nodes, pre .5, firsts-again (λ i l. hold .ensures .around .low i (omega (arith, pre .2 .edges))) (pre .6))
 
 same-length : tie.Need-same-length
 same-length c =
-    let hold = c .before .before .before .before .before .before .before .before .before .before .before .before .before .before .before .before .before .before .before .before .before .before .before .before .before .before .before .before .before .before .before .before .before .hold in
+    let hold = c .before .before .before .before .before .before .before .before .before .before .before .before .before .before .before .before .before .before .before .before .before .before .before .before .before .before .before .before .before .before .before .before .before .before .before .hold in
     let rest-by = c .before .before .before .before .before .before .before .before .rest-by in
     rest-by .ensures .falls .long ∙ hold .ensures .around .long
 
 same-length-2 : tie.Need-same-length-2
 same-length-2 c =
-    let spread = c .before .before .before .before .before .before .before .before .before .before .before .before .before .before .before .before .before .before .before .before .before .before .before .before .before .before .before .spread in
+    let spread = c .before .before .before .before .before .before .before .before .before .before .before .before .before .before .before .before .before .before .before .before .before .before .before .before .before .before .before .before .before .spread in
     let rest-by = c .before .before .before .before .before .before .before .before .rest-by in
     rest-by .ensures .leave-long ∙ spread .ensures .leaves .long
 
 same-length-3 : tie.Need-same-length-3
 same-length-3 c =
-    let spread = c .before .before .before .before .before .before .before .before .before .before .before .before .before .before .before .before .before .before .before .before .before .before .before .before .before .before .before .spread in
+    let spread = c .before .before .before .before .before .before .before .before .before .before .before .before .before .before .before .before .before .before .before .before .before .before .before .before .before .before .before .before .before .spread in
     let rest-by = c .before .before .before .before .before .before .before .before .rest-by in
     rest-by .ensures .arrive-long ∙ spread .ensures .arrives .long
 
 same-length-4 : tie.Need-same-length-4
 same-length-4 c =
-    let spread = c .before .before .before .before .before .before .before .before .before .before .before .before .before .before .before .before .before .before .before .before .before .before .before .before .before .before .before .spread in
+    let spread = c .before .before .before .before .before .before .before .before .before .before .before .before .before .before .before .before .before .before .before .before .before .before .before .before .before .before .before .before .before .spread in
     let rest-by = c .before .before .before .before .before .before .before .before .rest-by in
     rest-by .ensures .out-long ∙ spread .ensures .outs .long
 
 returns : tie.Need-returns
 returns c =
-    let pre = c .before .before .before .before .before .before .before .before .before .before .before .before .before .before .before .before .before .before .before .before .before .before .before .before .before .before .before .before .before .before .before .before .before .before .before .before .before .before .before .before .before .before .before .before .before .before .pre in
-    let all = c .before .before .before .before .before .before .before .before .before .before .before .before .before .before .before .before .before .before .before .before .before .before .before .before .before .before .before .before .before .before .before .before .before .before .before .before .all in
-    let hold = c .before .before .before .before .before .before .before .before .before .before .before .before .before .before .before .before .before .before .before .before .before .before .before .before .before .before .before .before .before .before .before .before .before .hold in
-    let spread = c .before .before .before .before .before .before .before .before .before .before .before .before .before .before .before .before .before .before .before .before .before .before .before .before .before .before .before .spread in
-    let table = c .before .before .before .before .before .before .before .before .before .before .before .before .before .before .before .before .before .before .table in
-    let table2 = c .before .before .before .before .before .before .before .before .before .before .before .before .before .before .before .table2 in
+    let pre = c .before .before .before .before .before .before .before .before .before .before .before .before .before .before .before .before .before .before .before .before .before .before .before .before .before .before .before .before .before .before .before .before .before .before .before .before .before .before .before .before .before .before .before .before .before .before .before .before .pre in
+    let all = c .before .before .before .before .before .before .before .before .before .before .before .before .before .before .before .before .before .before .before .before .before .before .before .before .before .before .before .before .before .before .before .before .before .before .before .before .before .before .all in
+    let hold = c .before .before .before .before .before .before .before .before .before .before .before .before .before .before .before .before .before .before .before .before .before .before .before .before .before .before .before .before .before .before .before .before .before .before .before .hold in
+    let spread = c .before .before .before .before .before .before .before .before .before .before .before .before .before .before .before .before .before .before .before .before .before .before .before .before .before .before .before .before .before .spread in
+    let table = c .before .before .before .before .before .before .before .before .before .before .before .before .before .before .before .before .before .before .before .before .table in
+    let table2 = c .before .before .before .before .before .before .before .before .before .before .before .before .before .before .before .before .before .table2 in
     let rest-by = c .before .before .before .before .before .before .before .before .rest-by in
     all-found (pre .0) (pre .2) (pre .3) (all .ensures) (pre .4) (hold .ensures) (spread .ensures) (table .ensures) (table2 .ensures) (rest-by .ensures) (pre .1)
 

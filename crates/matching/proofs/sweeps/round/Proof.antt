@@ -1,3 +1,4 @@
+-- `matching::sweeps::round` meets its contract.
 use Rattle.matching.proofs.RoundLaws.{round-fixed, round-once, prepared-ends, prepared-starts}
 use native.Mathlib.Omega.{arith}
 use borrow.Author.Needs.{needs}
@@ -30,7 +31,7 @@ returns c =
     let pre = start .pre in
     let sweep = c .before .before .before .before .before .before .before .before .before .before .before .before .before .before .sweep in
     let settle = c .before .before .before .before .before .before .settle in
-    (round-fixed pre (sweep .ensures) (settle .ensures), round-once pre (sweep .ensures) (settle .ensures) (omega (arith, start .fits)))
+    (round-fixed pre (sweep .ensures) (settle .ensures) _ _, round-once pre (sweep .ensures) (settle .ensures) (omega (arith, start .fits)))
 
 pub round-spec : {M : Type 1} → statement M
 round-spec =

@@ -20,21 +20,27 @@ ends-requires c κs =
     (pre .0, pre .2, zeroed, omega (arith, pre .0 .most, length-replicate {A = ℕ} 8192 0))
 
 slice-aggregate-mark-all : tie.Need-slice-aggregate-mark-all
-slice-aggregate-mark-all c = sym (length-replicate {A = ℕ} 256 0)
+slice-aggregate-mark-all c =
+    let back2 = c .before .before .back2 in
+    sym (back2 .given)
+
+slice-aggregate-mark-all-2 : tie.Need-slice-aggregate-mark-all-2
+slice-aggregate-mark-all-2 c = sym (length-replicate {A = ℕ} 256 0)
 
 mark-all-requires : tie.Need-mark-all-requires
 mark-all-requires c κs =
-    let pre = c .before .before .before .before .before .before .before .before .before .before .pre in
-    (pre .2, pre .3, length-replicate {A = ℕ} 256 0, λ v l. blank-unmarked v)
+    let pre = c .before .before .before .before .before .before .before .before .before .before .before .pre in
+    let ends = c .before .before .before .before .ends in
+    (pre .2, pre .3, length-replicate {A = ℕ} 256 0, omega (arith, pre .2, ends .ensures .long), λ v l. blank-unmarked v)
 
 slice-aggregate-settle : tie.Need-slice-aggregate-settle
 slice-aggregate-settle c =
-    let back2 = c .before .before .before .before .before .back2 in
+    let back2 = c .before .before .before .before .before .before .back2 in
     sym (back2 .given)
 
 slice-aggregate-settle-2 : tie.Need-slice-aggregate-settle-2
 slice-aggregate-settle-2 c =
-    let rev2 = c .before .before .before .before .before .rev2 in
+    let rev2 = c .before .before .before .before .before .before .rev2 in
     sym (rev2 .given)
 
 slice-aggregate-settle-3 : tie.Need-slice-aggregate-settle-3
@@ -44,8 +50,8 @@ slice-aggregate-settle-3 c =
 
 settle-requires : tie.Need-settle-requires
 settle-requires c κs =
-    let pre = c .before .before .before .before .before .before .before .before .before .before .before .before .before .before .before .before .before .pre in
-    let ends = c .before .before .before .before .before .before .before .before .before .before .ends in
+    let pre = c .before .before .before .before .before .before .before .before .before .before .before .before .before .before .before .before .before .before .pre in
+    let ends = c .before .before .before .before .before .before .before .before .before .before .before .ends in
     let mark-all = c .before .before .before .before .before .before .mark-all in
     (pre .0, pre .1, ends .ensures, pre .2, pre .3, pre .4, pre .5, mark-all .ensures)
 
@@ -72,6 +78,7 @@ late-spec =
     slice-aggregate-ends-2
     ends-requires
     slice-aggregate-mark-all
+    slice-aggregate-mark-all-2
     mark-all-requires
     slice-aggregate-settle
     slice-aggregate-settle-2

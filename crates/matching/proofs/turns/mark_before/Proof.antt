@@ -1,16 +1,17 @@
 -- `matching::turns::mark_before` meets its contract.
 use native.Mathlib.Omega.{arith}
+use Rattle.packed.specs.Contents.{wordFrom, wordTo}
 use borrow.Author.Needs.{needs}
 use mathlib.Core.Path.{_∙_}
 use Prim.Native.Nat.{_-_, _+_, _≤_, _<_}
 use lib.ListN.{getD}
-use Rattle.matching.proofs.EndLaws.{ends-rise, ends-of}
+use Rattle.matching.proofs.EndLaws.{ends-rise, ends-at, ends-of}
 use Rattle.matching.proofs.SetLaws.{MarkedRange, range-start, range-next, range-end}
 use Rattle.matching.proofs.turns.mark_before.Statement.{statement}
 use Rattle.matching.proofs.turns.mark_before.Tie as tie
 
 abbrev Inv-loop : tie.InvT-loop
-Inv-loop work n d back rev v lost leave first set₀ next stop k₀ set k = (getD back v 0 ≤ k) × (k ≤ stop) × MarkedRange work lost leave rev (getD back v 0) k set₀ set
+Inv-loop work n d back rev v lost leave first set₀ next stop k₀ set k = (getD back v 0 ≤ k) × (k ≤ stop) × MarkedRange wordFrom work lost leave (λ j. getD rev j 0) (getD back v 0) k set₀ set
 
 abbrev μ-loop : tie.MeasureT-loop
 μ-loop work n d back rev v lost leave first set₀ next stop k₀ set k = stop - k
@@ -46,7 +47,7 @@ loop-holds c =
     let pre = c .before .before .before .before .before .before .before .before .before .before .pre in
     let wide = c .before .before .wide in
     let r = ends-rise (pre .1) (args .v) (pre .2) in
-    (omega (arith, c .wide2 .ensures), omega (arith, r .0, wide .ensures, c .wide2 .ensures), range-start _ _ _ _ _ _ _ (c .wide2 .ensures))
+    (omega (arith, c .wide2 .ensures), omega (arith, r .0, wide .ensures, c .wide2 .ensures), range-start wordFrom _ _ _ _ _ _ _ (c .wide2 .ensures))
 
 mul-wide-3 : tie.Need-mul-wide-3 Inv-loop μ-loop
 mul-wide-3 c =
@@ -77,7 +78,7 @@ mark-start-requires c κs =
     let l : loop .k < getD (args .back .now) (args .v + 1) 0 = omega (arith, wide .ensures, loop-test .taken) in
     let o = ends-of (pre .1) (args .v) (pre .2) (loop .k) (loop .inv .0) l in
     let f = pre .0 .from (wide3 .result) (omega (arith, wide3 .ensures, o .0)) in
-    (omega (arith, wide3 .ensures, o .0, pre .0 .most), pre .0 .long, omega (arith, f, pre .3), omega (arith, f, pre .4), omega (arith, f, pre .5), loop .inv .2 .long ∙ pre .6)
+    (omega (arith, wide3 .ensures, o .0, pre .0 .most), pre .0 .long, omega (arith, f, pre .3), omega (arith, f, pre .4), omega (arith, f, pre .5), loop .inv .2 .long ∙ pre .6, pre .1 .long)
 
 add-k : tie.Need-add-k Inv-loop μ-loop
 add-k c = search needs
@@ -91,17 +92,20 @@ loop-again c =
     let loop-test = c .before .before .before .before .before .before .loop-test in
     let wide3 = c .before .before .before .before .wide3 in
     let mark-start = c .before .before .mark-start in
-    (omega (arith, loop .inv .0), omega (arith, loop-test .taken), range-next _ _ _ (loop .inv .2) (loop .inv .0) (wide3 .ensures) (mark-start .ensures))
+    (omega (arith, loop .inv .0), omega (arith, loop-test .taken), range-next wordFrom _ _ _ _ (loop .inv .2) (loop .inv .0) (wide3 .ensures) (mark-start .ensures))
 
 same-length : tie.Need-same-length Inv-loop μ-loop
-same-length c = c .before .loop .inv .2 .long
+same-length c =
+    let loop = c .before .loop in
+    loop .inv .2 .long
 
 returns : tie.Need-returns Inv-loop μ-loop
 returns c =
+    let args = c .before .before .before .before .before .before .before .before .before .before .before .before .args in
     let pre = c .before .before .before .before .before .before .before .before .before .before .before .before .pre in
     let wide = c .before .before .before .before .wide in
     let loop = c .before .loop in
-    range-end _ _ _ (pre .1) (pre .2) (loop .inv .2) (omega (arith, loop .inv .1, c .loop-test .left, wide .ensures))
+    range-end wordFrom _ _ _ wordTo _ (ends-at (pre .1) (args .v) (pre .2)) (ends-of (pre .1) (args .v) (pre .2)) (loop .inv .2) (omega (arith, loop .inv .1, c .loop-test .left, wide .ensures))
 
 pub mark-before-spec : {M : Type 1} → statement M
 mark-before-spec =

@@ -1,7 +1,8 @@
 -- `matching::turns::mark_start` meets its contract.
 use native.Mathlib.Omega.{arith}
+use Rattle.packed.specs.Contents.{wordFrom}
 use borrow.Author.Needs.{needs}
-use Rattle.matching.proofs.SetLaws.{start-whole, start-marked}
+use Rattle.matching.proofs.SetLaws.{end-whole, end-marked}
 use Rattle.matching.proofs.turns.mark_start.Statement.{statement}
 use Rattle.matching.proofs.turns.mark_start.Tie as tie
 
@@ -13,7 +14,7 @@ shared-slice-read-f c = search needs
 
 cast-f : tie.Need-cast-f
 cast-f c =
-    let pre = c .before .before .before .before .before .pre in
+    let pre = c .before .before .before .before .before .before .pre in
     omega (arith, pre .2)
 
 add-at : tie.Need-add-at
@@ -30,22 +31,25 @@ mul-hurt-2 c = search needs
 
 shared-slice-read-hurt-2 : tie.Need-shared-slice-read-hurt-2
 shared-slice-read-hurt-2 c =
-    let pre = c .before .before .before .before .before .before .before .pre in
+    let pre = c .before .before .before .before .before .before .before .before .pre in
     omega (arith, pre .3)
 
 returns : tie.Need-returns
-returns c = start-whole _ _ _ _ _ (c .if1 .taken)
+returns c = end-whole wordFrom _ _ _ _ _ (c .if1 .taken)
 
 mark-requires : tie.Need-mark-requires
 mark-requires c κs =
-    let pre = c .before .before .before .before .before .before .before .before .before .pre in
-    (pre .2, pre .4, pre .5)
+    let pre = c .before .before .before .before .before .before .before .before .before .before .pre in
+    (pre .2, pre .4, pre .5, omega (arith, pre .2, pre .6))
 
 same-length : tie.Need-same-length
 same-length c = search needs
 
 returns-2 : tie.Need-returns-2
-returns-2 c = start-marked _ _ _ _ (c .before .before .before .before .if1 .left) (omega arith) (c .before .before .mark .ensures)
+returns-2 c =
+    let if1 = c .before .before .before .before .if1 in
+    let mark = c .before .before .mark in
+    end-marked wordFrom _ _ _ _ (if1 .left) (omega arith) (mark .ensures)
 
 pub mark-start-spec : {M : Type 1} → statement M
 mark-start-spec =

@@ -6,18 +6,20 @@ use Rattle.matching.proofs.turns.settle.Statement.{statement}
 use Rattle.matching.proofs.turns.settle.Tie as tie
 
 abbrev Inv-loop : tie.InvT-loop
-Inv-loop work n d first back rev due leaving arriving leave₀ arrive₀ set₀ leave arrive set = Turning n due d leaving arriving work leave₀ arrive₀ leave arrive set
+Inv-loop work n d first back rev due asked leaving arriving ending starting leave₀ arrive₀ set₀ leave arrive set = Turning n due asked d leaving arriving ending starting work leave₀ arrive₀ leave arrive set
 
 abbrev μ-loop : tie.MeasureT-loop
-μ-loop work n d first back rev due leaving arriving leave₀ arrive₀ set₀ leave arrive set = measure n leave set
+μ-loop work n d first back rev due asked leaving arriving ending starting leave₀ arrive₀ set₀ leave arrive set = measure n leave arrive set
 
 loop-holds : tie.Need-loop-holds Inv-loop μ-loop
 loop-holds c =
     let pre = c .before .before .before .before .before .before .before .pre in
-    turning-start _ _ _ _ _ _ _ _ _ (pre .7)
+    turning-start _ _ _ _ _ _ _ _ _ _ _ _ (pre .7)
 
 take-requires : tie.Need-take-requires Inv-loop μ-loop
-take-requires c κs = c .before .loop .inv .long
+take-requires c κs =
+    let loop = c .before .loop in
+    loop .inv .long
 
 look-at-requires : tie.Need-look-at-requires Inv-loop μ-loop
 look-at-requires c κs =
