@@ -8,12 +8,12 @@ use native.Mathlib.Omega.{arith}
 use Rattle.packed.specs.Formats.{code}
 use Rattle.packed.specs.Contents.{edgeCounts, sheetsIn}
 use Rattle.matching.specs.Lists.{In}
-use Rattle.matching.specs.Simulation.{Pair, Edge, noEdge, Pattern, patternOf, ascending}
+use Rattle.matching.specs.Simulation.{Pair, Edge, noEdge, oneWay, Pattern, patternOf, ascending}
 use Rattle.matching.specs.Join.{View, pairOf, candidates, answerSets}
 use Rattle.matching.proofs.ByEdge.{answerTo}
 use Rattle.matching.proofs.ListLaws.{in-cast, getD-each}
 use Rattle.matching.proofs.CodeLaws.{code-same, ascending-say, ascending-by}
-use Rattle.matching.proofs.JoinLaws.{Supported, JoinedPair, join-candidate, join-supported, join-most, complete-say, complete-by, answer-say, answer-by, answer-each, code-pair, pair-code}
+use Rattle.matching.proofs.JoinLaws.{Supported, supported-one, JoinedPair, join-candidate, join-supported, join-most, complete-say, complete-by, answer-say, answer-by, answer-each, code-pair, pair-code}
 use Rattle.containment.specs.Quote.{noPattern}
 use Rattle.containment.specs.Answer.{viewsIn}
 use Rattle.containment.specs.Demands.{extracts, Candidate, SupportsItself, GreatestChoice, Joins}
@@ -25,7 +25,7 @@ pair-narrow : {f : Pair} (c : ℕ) → f ≡ pairOf c → f .1 < 4096
 unfolding pairOf
 pair-narrow {f} c e = let q : f .1 ≡ c % 4096 = ap (λ (g : Pair). g .1) e in omega arith
 
-module _ (Q : Pattern) (Ps : List Pattern) (sheets : List (List (List ℕ))) (set : ℕ) where
+module _ (Q : Pattern) (Ps : List Pattern) (sheets : List (List (List ℕ))) (set : ℕ) (one : Q .rule ≡ oneWay) where
   abbrev views : List View
   views = viewsIn set Ps sheets
 
@@ -71,10 +71,10 @@ module _ (Q : Pattern) (Ps : List Pattern) (sheets : List (List (List ℕ))) (se
       begins {g} {v} (h, k, q) = (h .1, subst (λ z. Keeps g (z, h .1)) q k)
 
   supported-of : (L : Edge → Pair → Type 0) → SupportsItself Q L → (e : Edge) (f : Pair) → L e f → Supported Q L e f
-  supported-of L s e f k = record {
-    tail = λ g i q. let r = s .leaving-from e (f .0) (f .1) k g i q in ((f .0, r .0), r .1, refl);
-    head = λ g i q. let r = s .leaving-to e (f .0) (f .1) k g i q in ((f .1, r .0), r .1, refl);
-  }
+  supported-of L s e f k =
+      supported-one one
+      (λ g i q. let r = s .leaving-from e (f .0) (f .1) k g i q in ((f .0, r .0), r .1, refl))
+      (λ g i q. let r = s .leaving-to e (f .0) (f .1) k g i q in ((f .1, r .0), r .1, refl))
 
   greatest-choice : GreatestChoice Q (Candidate Q Ps sheets set) Keeps
   greatest-choice = record {
@@ -103,9 +103,13 @@ module _ (Q : Pattern) (Ps : List Pattern) (sheets : List (List (List ℕ))) (se
         λ m. subst (λ l. In (code (f .0) (f .1)) l) (sym at) (ascending-by (answer-by Q views (complete-by Q views (m .0)) (m .1))),
       )
 
+query-rule : (qs : List ℕ) → patternOf qs .rule ≡ oneWay
+unfolding patternOf
+query-rule qs = refl
+
 pub answer-joins : (set : ℕ) (qs cs bs : List ℕ) → Joins set qs cs bs
 answer-joins set qs cs bs = record {
-  keeps = Keeps (patternOf qs) (extracts cs) (sheetsIn (edgeCounts cs) bs) set;
-  is = greatest-choice (patternOf qs) (extracts cs) (sheetsIn (edgeCounts cs) bs) set;
-  lists = answer-lists (patternOf qs) (extracts cs) (sheetsIn (edgeCounts cs) bs) set;
+  keeps = Keeps (patternOf qs) (extracts cs) (sheetsIn (edgeCounts cs) bs) set (query-rule qs);
+  is = greatest-choice (patternOf qs) (extracts cs) (sheetsIn (edgeCounts cs) bs) set (query-rule qs);
+  lists = answer-lists (patternOf qs) (extracts cs) (sheetsIn (edgeCounts cs) bs) set (query-rule qs);
 }

@@ -14,7 +14,7 @@ use Rattle.packed.specs.Matches.{matchesOf}
 use Rattle.packed.specs.declared.by_value.Pattern.{Pattern as Given}
 use Rattle.packed.proofs.AcceptedBounds.{catalogue-views}
 use Rattle.matching.specs.Lists.{In, here, there}
-use Rattle.matching.specs.Simulation.{Edge, noEdge, Pattern, patternOf, graphOf, asGraph, matchSets, viewSheet}
+use Rattle.matching.specs.Simulation.{Edge, noEdge, Rule, oneWay, Pattern, patternOf, graphOf, asGraph, matchSets, viewSheet}
 use Rattle.matching.specs.Steps.{givenEdge, patternIn, graphIn, Edges}
 use Rattle.matching.specs.Sweeps.{OneOf}
 use Rattle.matching.specs.Matched.{EdgesMatched, ViewAt}
@@ -25,6 +25,7 @@ use Rattle.matching.proofs.PatternLaws.{edges-in, pattern-same}
 use Rattle.matching.proofs.SortedGraphs.{alike-sets}
 use Rattle.matching.proofs.MatchSetLaws.{view-sheet}
 use Rattle.matching.proofs.RecordLaws.{sets-same, graph-again}
+use Rattle.matching.proofs.BookLaws.{own-rule}
 use Rattle.matching.proofs.ViewLaws.{Ahead, Advanced, advance, all-ahead}
 use Rattle.containment.specs.Quote.{maskIn, matchMask, mapping}
 use Rattle.containment.specs.Show.{graphFields}
@@ -77,7 +78,7 @@ map-snoc [] x = refl
 map-snoc (u ∷ us) x = ap (λ (m : List Pattern). patternOf u ∷ m) (map-snoc us x)
 
 -- what the edges of a record are held for
-pub within-by : {p : Given} {s : List ℕ} {n m : ℕ} {w w′ : List ℕ} → EdgesMatched p s n m w w′ → m ≤ 8192 → Within p m w′
+pub within-by : {way : Rule} {p : Given} {s : List ℕ} {n m : ℕ} {w w′ : List ℕ} → EdgesMatched way p s n m w w′ → m ≤ 8192 → Within p m w′
 unfolding Within
 within-by d b i e h l t = let r = d .only i e h l t in (r .0, r .1 ∙ ap (λ (x : ℕ). x / 2 ^ 24) (sym (d .edges .same i (omega arith))))
 
@@ -127,7 +128,7 @@ module _ {q : Given} {s : List ℕ} {n m : ℕ} {w : List ℕ} (t : Query q) (h 
 
   -- ---- the next view's column
   module _ {c : List ℕ} {k a byte : ℕ} {table table′ : List ℕ} (o : Noted q c k a byte table) (l : a < k) (v : Views c k) (r : View) (view : ViewAt c byte r)
-      {w₁ w₂ : List ℕ} (g : Edges w w₁) (d : EdgesMatched (r .pattern) s n m w₁ w₂)
+      {w₁ w₂ : List ℕ} (g : Edges w w₁) (d : EdgesMatched oneWay (r .pattern) s n m w₁ w₂)
       (col : Column a (q .edges) (λ e x. x ≡ maskIn (givenEdge q e) (patternIn (r .pattern) .edges) (matchesOf m (r .pattern .edges) w₂)) table table′) where
     abbrev Q : Pattern
     Q = patternOf (t .content)
@@ -148,7 +149,7 @@ module _ {q : Given} {s : List ℕ} {n m : ℕ} {w : List ℕ} (t : Query q) (h 
     sets-view =
         let b = number-few in
         d .sets
-        ∙ ap₂ matchSets view-same (graph-again g s n (omega arith))
+        ∙ ap₂ matchSets (own-rule (r .pattern) ∙ view-same) (graph-again g s n (omega arith))
         ∙ sets-query (patternOf here′)
         ∙ sym (view-sheet (patternOf here′) (asGraph Q))
 
@@ -175,7 +176,7 @@ module _ {q : Given} {s : List ℕ} {n m : ℕ} {w : List ℕ} (t : Query q) (h 
 
 pub noted-more : {q : Given} {s : List ℕ} {n m : ℕ} {w : List ℕ} → Holds s n m w → ((t : Query q) → decode record′ s ≡ ok (graphFields (t .content)))
     → {c : List ℕ} {k a byte : ℕ} {table table′ : List ℕ} → Noted q c k a byte table → a < k → (r : View) → ViewAt c byte r
-    → {w₁ w₂ : List ℕ} → Edges w w₁ → EdgesMatched (r .pattern) s n m w₁ w₂
+    → {w₁ w₂ : List ℕ} → Edges w w₁ → EdgesMatched oneWay (r .pattern) s n m w₁ w₂
     → Column a (q .edges) (λ e x. x ≡ maskIn (givenEdge q e) (patternIn (r .pattern) .edges) (matchesOf m (r .pattern .edges) w₂)) table table′ → Noted q c k (a + 1) (r .next) table′
 noted-more h reads {c} {a = a} o l r view g d col =
     record {

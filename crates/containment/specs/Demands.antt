@@ -20,7 +20,7 @@ use Rattle.packed.specs.Refusals.{Told, told}
 use Rattle.packed.specs.OldRecord.{readOldRecord, sortedFields, recordSorted}
 use Rattle.packed.specs.Calls.{Outcome, give, refuse, fronts, Settled, Fulfils, withWorkspace, accepted, readPattern, readCatalogue, readRecord, readSheet, readBook, pairsOf, fit, fitFile, patternRead, catalogueRead, recordRead, sheetRead, bookRead, patternWritten, catalogueWritten, recordWritten, sheetWritten, bookWritten}
 use Rattle.matching.specs.Lists.{In}
-use Rattle.matching.specs.Simulation.{Pair, Edge, asPair, noEdge, Pattern, Graph, patternOf, graphOf, asGraph, bit, fits, IsSim, sim, sound, matchSets, viewSheet}
+use Rattle.matching.specs.Simulation.{Pair, Edge, asPair, noEdge, oneWay, Pattern, Graph, patternOf, graphOf, asGraph, bit, fits, IsSim, sim, sound, matchSets, viewSheet}
 use Rattle.matching.specs.Join.{without, answerSets}
 use Rattle.matching.specs.Search.{sheetBytes, bookBytes, viewSheets, searchOutcome, makeBookOutcome}
 use Rattle.matching.specs.Index.{indexOf, makeIndexOutcome, checkIndexOutcome, searchIndexedOutcome}
@@ -443,7 +443,8 @@ pub record Sorting : Type 1 where
   pub sheets : (s ws : List ℕ) → OldFile s ws → (P : Pattern) → sheetOf P (sortedFields ws) ≡ sheetOf P ws
   pub extract-sheets : (s ws : List ℕ) → OldFile s ws → (P : Pattern) → extractSheetOf P (sortedFields ws) ≡ extractSheetOf P ws
   -- "its sheets stay the same for patterns whose links all have kind 0": these are matched as before links had kinds, and list the same pairs
-  pub as-before : (s ws : List ℕ) → OldFile s ws → (P : Pattern) → AllKind0 P → (R : ℕ → ℕ → Type 0) → IsSim P (graphOf (sortedFields ws)) R ↔ EndsSim P (graphOf (sortedFields ws)) R
+  pub as-before : (s ws : List ℕ) → OldFile s ws → (P : Pattern) → AllKind0 P → P .rule ≡ oneWay
+      → (R : ℕ → ℕ → Type 0) → IsSim P (graphOf (sortedFields ws)) R ↔ EndsSim P (graphOf (sortedFields ws)) R
   pub lists-before : (s ws : List ℕ) → OldFile s ws → (P : Pattern) → AllKind0 P → (i : ℕ) → i < length (P .edges) → (f : Pair) → f .1 < 4096
       → In (code (f .0) (f .1)) (getD (matchSets P (graphOf (sortedFields ws))) i []) ↔ EndsMatching P (graphOf (sortedFields ws)) (getD (P .edges) i noEdge) f
 

@@ -9,7 +9,7 @@ use Rattle.packed.specs.Format.{pick}
 use Rattle.packed.specs.Contents.{viewsOf}
 use Rattle.packed.specs.Refusals.{Told, told, numberOf, detailOf}
 use Rattle.packed.specs.Calls.{Outcome, give, judged, readPattern, readCatalogue}
-use Rattle.matching.specs.Simulation.{Edge, noEdge, Pattern, patternOf, asGraph, viewSheet}
+use Rattle.matching.specs.Simulation.{Edge, noEdge, oneWay, Pattern, patternOf, asGraph, viewSheet}
 use Rattle.matching.specs.Lists.{upTo}
 use Rattle.matching.specs.Join.{isMatch}
 use Rattle.containment.specs.Choice.{everyView, coversIn, lowestUnmatched, chosen}
@@ -28,7 +28,7 @@ unfoldable pub matchMask : Pattern → Edge → Pattern → ℕ
 matchMask Q e P = maskIn e (P .edges) (viewSheet P (asGraph Q))
 
 abbrev pub noPattern : Pattern
-noPattern = record { labels = []; edges = [] }
+noPattern = record { labels = []; edges = []; rule = oneWay }
 
 -- the table of a quote: 16 masks for each edge, one for each view; zero beyond the edges and beyond the views
 unfoldable pub maskAt : Pattern → List Pattern → ℕ → ℕ

@@ -1,20 +1,19 @@
 -- The greatest choice for the edges that leave a shut set of nodes does not depend on the other edges; components, and the steps that settle them.
-use mathlib.Core.Path.{_≡_, refl, sym, ap, subst, _∙_}
+use mathlib.Core.Path.{_≡_, refl, sym, ap, ap₂, subst}
 use mathlib.Core.Logic.{_⊎_, inl, inr, ⊎-elim}
 use mathlib.Core.Bool.{Bool, true, false, not}
-use mathlib.Core.List.{List, [], _∷_}
+use mathlib.Core.List.{List}
 use Prim.Native.Nat.{ℕ, zero, suc, _+_, _<_, _≤_}
 use native.Mathlib.Omega.{arith}
 use lib.ListN.{length}
 use lib.Dec.{T, eqb, eqb→eq, eqb-refl}
-use Rattle.matching.specs.Lists.{_and_, _or_, _implies_, In, every, some, keep, below}
-use Rattle.matching.specs.Greatest.{greatest}
-use Rattle.matching.specs.Simulation.{Pair, Edge, Pattern}
+use Rattle.matching.specs.Lists.{_implies_, In, some, keep, below}
+use Rattle.matching.specs.Simulation.{Pair, Edge, Rule, oneWay, Pattern}
 use Rattle.matching.specs.Join.{View, Offer, candidates, choice, join, keptFor}
 use Rattle.matching.specs.Components.{Nodes, leavingOf, joinIn, stateAt, Shut, apart, unreached, reaches, together, ready, OneStep, StepsTo, start, step}
-use Rattle.matching.proofs.ListLaws.{and-left, and-right, both, or-left, or-right, or-cases, use-if, make-if, decide, cond-case, in-cast, every-in, in-every, every-fails, keep-length, keep-shorter, keep-keep, keep-same, some-in, in-some, keep-in, in-keep, below-in, in-below, in-length}
+use Rattle.matching.proofs.ListLaws.{and-left, and-right, both, or-left, or-right, or-cases, use-if, make-if, decide, cond-case, in-cast, every-in, in-every, every-fails, keep-length, keep-shorter, keep-keep, keep-all, some-in, in-some, keep-in, in-keep, below-in, in-below, in-length}
 use Rattle.matching.proofs.GreatestLaws.{greatest-part, greatest-ok, greatest-all}
-use Rattle.matching.proofs.JoinLaws.{Supported, choice-candidate, choice-supported, choice-most, kept-in, in-kept}
+use Rattle.matching.proofs.JoinLaws.{Supported, supported-one, choice-candidate, choice-supported, choice-most, kept-in, in-kept}
 
 -- ---- an edge that leaves S
 pub leaving-in : (S : Nodes) (Q : Pattern) {e : Edge} → In e (leavingOf S Q .edges) → In e (Q .edges) × T (S (e .from))
@@ -24,6 +23,10 @@ leaving-in S Q i = keep-in _ (Q .edges) i
 pub in-leaving : (S : Nodes) (Q : Pattern) {e : Edge} → In e (Q .edges) → T (S (e .from)) → In e (leavingOf S Q .edges)
 unfolding leavingOf
 in-leaving S Q i t = in-keep (λ e. S (e .from)) i t
+
+pub leaving-rule : (S : Nodes) (Q : Pattern) → leavingOf S Q .rule ≡ oneWay
+unfolding leavingOf
+leaving-rule S Q = refl
 
 -- ---- the three laws of the greatest choice for S
 module _ (S : Nodes) (Q : Pattern) (cs : Offer) where
@@ -71,38 +74,29 @@ module _ (S S′ : Nodes) (Q : Pattern) (cs : Offer) (shut : Shut Q S) (within :
   join-cut {e} {f} i t =
       join-in-most S Q cs (λ g h. JoinedIn S′ Q cs g h × T (S (g .from)))
       (λ g h k. let c = join-in-candidate S′ Q cs (k .0) in record { edge = c .edge; from = k .1; listed = c .listed })
-      (λ g h k. let s = join-in-supported S′ Q cs (k .0) in record {
-        tail = λ x j q. let m = leaving-in S Q j in let r = s .tail x (in-leaving S′ Q (m .0) (within (x .from) (m .1))) q in (r .0, (r .1, m .1), r .2);
-        head = λ x j q. let m = leaving-in S Q j in let r = s .head x (in-leaving S′ Q (m .0) (within (x .from) (m .1))) q in (r .0, (r .1, m .1), r .2);
-      })
+      (λ g h k. let s = join-in-supported S′ Q cs (k .0) in
+      supported-one (leaving-rule S Q)
+      (λ x j q. let m = leaving-in S Q j in let r = s .tail x (in-leaving S′ Q (m .0) (within (x .from) (m .1))) q in (r .0, (r .1, m .1), r .2))
+      (λ x j q. let m = leaving-in S Q j in let r = s .head x (in-leaving S′ Q (m .0) (within (x .from) (m .1))) q in (r .0, (r .1, m .1), r .2)))
       e f (i, t)
 
   pub join-grow : {e : Edge} {f : Pair} → JoinedIn S Q cs e f → JoinedIn S′ Q cs e f
   join-grow {e} {f} i =
       join-in-most S′ Q cs (JoinedIn S Q cs)
       (λ g h k. let c = join-in-candidate S Q cs k in record { edge = c .edge; from = within (g .from) (c .from); listed = c .listed })
-      (λ g h k. let c = join-in-candidate S Q cs k in let s = join-in-supported S Q cs k in record {
-        tail = λ x j q. s .tail x (in-leaving S Q (leaving-in S′ Q j .0) (subst (λ z. T (S z)) (sym q) (c .from))) q;
-        head = λ x j q. s .head x (in-leaving S Q (leaving-in S′ Q j .0) (subst (λ z. T (S z)) (sym q) (shut g (c .edge) (c .from)))) q;
-      })
+      (λ g h k. let c = join-in-candidate S Q cs k in let s = join-in-supported S Q cs k in
+      supported-one (leaving-rule S′ Q)
+      (λ x j q. s .tail x (in-leaving S Q (leaving-in S′ Q j .0) (subst (λ z. T (S z)) (sym q) (c .from))) q)
+      (λ x j q. s .head x (in-leaving S Q (leaving-in S′ Q j .0) (subst (λ z. T (S z)) (sym q) (shut g (c .edge) (c .from)))) q))
       e f i
 
 -- ---- with every node settled it is the join
-is-true : (b : Bool) → T b → b ≡ true
-is-true true h = refl
-is-true false h = absurd h
-
-keep-true : {A : Type 0} (l : List A) → keep (λ x. true) l ≡ l
-unfolding keep
-keep-true [] = refl
-keep-true (x ∷ l) = ap (λ m. x ∷ m) (keep-true l)
-
-keep-all : {A : Type 0} (p : A → Bool) (l : List A) → ((x : A) → In x l → T (p x)) → keep p l ≡ l
-keep-all p l h = keep-same p (λ x. true) l (λ x i. is-true (p x) (h x i)) ∙ keep-true l
-
-pub join-in-all : (S : Nodes) (Q : Pattern) (vs : List View) → ((e : Edge) → In e (Q .edges) → T (S (e .from))) → joinIn S Q (candidates Q vs) ≡ join Q vs
+pub join-in-all : (S : Nodes) (Q : Pattern) (vs : List View) → Q .rule ≡ oneWay → ((e : Edge) → In e (Q .edges) → T (S (e .from)))
+    → joinIn S Q (candidates Q vs) ≡ join Q vs
 unfolding joinIn join leavingOf
-join-in-all S Q vs all = ap (λ (es : List Edge). choice (record { labels = Q .labels; edges = es }) (candidates Q vs)) (keep-all (λ e. S (e .from)) (Q .edges) all)
+join-in-all S Q vs one all =
+    ap₂ (λ (es : List Edge) (r : Rule). choice (record { labels = Q .labels; edges = es; rule = r }) (candidates Q vs))
+    (keep-all (λ e. S (e .from)) (Q .edges) all) (sym one)
 
 -- ---- reaching
 not-say : (b : Bool) → T (not b) → T b → ⊥

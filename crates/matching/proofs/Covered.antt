@@ -7,12 +7,12 @@ use native.Mathlib.Omega.{arith}
 use lib.ListN.{length, getD}
 use lib.Dec.{T}
 use Rattle.matching.specs.Lists.{In, each}
-use Rattle.matching.specs.Simulation.{Pair, Edge, asPair, bit, Pattern, Graph, asGraph, ascending, matchSets, viewSheet, IsSim, sound}
+use Rattle.matching.specs.Simulation.{Pair, Edge, asPair, bit, bothWays, Pattern, Graph, asGraph, ascending, matchSets, viewSheet, IsSim, sound}
 use Rattle.matching.proofs.ByEdge.{rowOf, someMatch, matchedBy, matched, covered, viewOf, answerTo}
 use Rattle.matching.specs.Join.{View, join, complete, answerSets}
 use Rattle.matching.proofs.ListLaws.{every-in, some-in, each-same}
 use Rattle.matching.proofs.SimLaws.{FitsInto, fits-say, fits-by, sim-is, sim-most}
-use Rattle.matching.proofs.MatchLaws.{Sim, Total, Matches, matches-edge, row-say, row-by, own-label, matches-through, SoundPattern, sound-say}
+use Rattle.matching.proofs.MatchLaws.{Sim, Total, Matches, matches-edge, row-say, row-by, own-label, Weaker, matches-through, SoundPattern, sound-say}
 use Rattle.matching.proofs.CodeLaws.{ascending-same}
 use Rattle.matching.proofs.MatchSetLaws.{Narrow, matches-narrow, sets-each, view-each}
 use Rattle.matching.proofs.JoinLaws.{JoinedPair, join-candidate, join-supported, join-most, complete-say, complete-by, answer-say, answer-by, answer-each, listed-pair, match-say, some-match-each, Found, candidates-say, candidates-by}
@@ -69,20 +69,37 @@ module _ (Q : Pattern) (Ps : List Pattern) (G : Graph) (ok : SoundPattern Q) (nq
       subst₂ (FitsInto Q G) p q (fits-of (c .1 .view) (c .1 .of-query .head) (c .1 .of-graph .head) (ok .ends e (c .0) .1))
 
   -- one more kept pair, and its head
-  ends-next : (v : ℕ) (g : Edge) → (h : Pair) × JoinedPair Q views g h × (h .0 ≡ v) → (f : Edge) × In f (G .edges) × (f .from ≡ v) × (f .kind ≡ g .kind) × KeptEnds (g .to) (f .to)
+  ends-next : (v : ℕ) (g : Edge) → (h : Pair) × JoinedPair Q views g h × (h .0 ≡ v)
+      → (f : Edge) × In f (G .edges) × (f .from ≡ v) × (f .kind ≡ g .kind) × KeptEnds (g .to) (f .to)
   unfolding KeptEnds
   ends-next v g (h, k, q) =
       let c = join-found k .1 in
       let m = c .of-graph in
       (m .link, m .edge, sym (ap (λ (p : Pair). p .0) (m .ends)) ∙ q, m .kind ∙ c .kind, (g, h, k, inr (refl, ap (λ (p : Pair). p .1) (m .ends))))
 
-  ends-follow : (u v : ℕ) → KeptEnds u v → (g : Edge) → In g (Q .edges) → g .from ≡ u → (f : Edge) × In f (G .edges) × (f .from ≡ v) × (f .kind ≡ g .kind) × KeptEnds (g .to) (f .to)
+  ends-follow : (u v : ℕ) → KeptEnds u v → (g : Edge) → In g (Q .edges) → g .from ≡ u
+      → (f : Edge) × In f (G .edges) × (f .from ≡ v) × (f .kind ≡ g .kind) × KeptEnds (g .to) (f .to)
   unfolding KeptEnds
   ends-follow u v (e, f, i, inl (p, q)) g j t = let r = join-supported Q views i .tail g j (t ∙ sym p) in ends-next v g (r .0, r .1, r .2 ∙ q)
   ends-follow u v (e, f, i, inr (p, q)) g j t = let r = join-supported Q views i .head g j (t ∙ sym p) in ends-next v g (r .0, r .1, r .2 ∙ q)
 
+  -- one more kept pair, and its tail
+  ends-before : (v : ℕ) (g : Edge) → (h : Pair) × JoinedPair Q views g h × (h .1 ≡ v)
+      → (f : Edge) × In f (G .edges) × (f .to ≡ v) × (f .kind ≡ g .kind) × KeptEnds (g .from) (f .from)
+  unfolding KeptEnds
+  ends-before v g (h, k, q) =
+      let c = join-found k .1 in
+      let m = c .of-graph in
+      (m .link, m .edge, sym (ap (λ (p : Pair). p .1) (m .ends)) ∙ q, m .kind ∙ c .kind, (g, h, k, inl (refl, ap (λ (p : Pair). p .0) (m .ends))))
+
+  ends-arrive : Q .rule ≡ bothWays → (u v : ℕ) → KeptEnds u v → (g : Edge) → In g (Q .edges) → g .to ≡ u
+      → (f : Edge) × In f (G .edges) × (f .to ≡ v) × (f .kind ≡ g .kind) × KeptEnds (g .from) (f .from)
+  unfolding KeptEnds
+  ends-arrive b u v (e, f, i, inl (p, q)) g j t = let r = join-supported Q views i .tail-back b g j (t ∙ sym p) in ends-before v g (r .0, r .1, r .2 ∙ q)
+  ends-arrive b u v (e, f, i, inr (p, q)) g j t = let r = join-supported Q views i .head-back b g j (t ∙ sym p) in ends-before v g (r .0, r .1, r .2 ∙ q)
+
   pub ends-sim : IsSim Q G KeptEnds
-  ends-sim = record { fit = λ u v r. fits-by Q G (ends-fit u v r); follow = ends-follow }
+  ends-sim = record { fit = λ u v r. fits-by Q G (ends-fit u v r); follow = ends-follow; arrive = ends-arrive }
 
   joined-tail : {e : Edge} {f : Pair} → JoinedPair Q views e f → Sim Q G (e .from) (f .0)
   unfolding KeptEnds
@@ -106,20 +123,26 @@ module _ (Q : Pattern) (Ps : List Pattern) (G : Graph) (ok : SoundPattern Q) (nq
       let m = c .of-graph in
       record { whole = complete-total t; link = m .link; edge = m .edge; kind = m .kind ∙ c .kind; ends = m .ends; tail = joined-tail i; head = joined-head i }
 
-  -- ---- what matches the query's edge is kept, where the views cover the query
-  module _ (cover : T (covered Q Ps)) where
+  -- ---- what matches the query's edge is kept, where the views cover the query and have no stronger rules
+  module _ (weaker : (P : Pattern) → In P Ps → Weaker P Q) (cover : T (covered Q Ps)) where
     -- from a partner of u, each edge that leaves u goes on
     matches-next : Total Q (Sim Q G) → {u v : ℕ} → Sim Q G u v → (g : Edge) → In g (Q .edges) → g .from ≡ u → (h : Pair) × Matches Q G g h × (h .0 ≡ v)
     matches-next a {u} {v} s g j p =
         let n = sim-is Q G .follow u v s g j p in
         (asPair (n .0), matches-edge Q G g (n .0) a (n .1) (n .3) (subst₂ (Sim Q G) (sym p) (sym (n .2)) s) (n .4), n .2)
 
+    -- and each that arrives at u goes back, where this is asked
+    matches-before : Q .rule ≡ bothWays → Total Q (Sim Q G) → {u v : ℕ} → Sim Q G u v → (g : Edge) → In g (Q .edges) → g .to ≡ u → (h : Pair) × Matches Q G g h × (h .1 ≡ v)
+    matches-before b a {u} {v} s g j p =
+        let n = sim-is Q G .arrive b u v s g j p in
+        (asPair (n .0), matches-edge Q G g (n .0) a (n .1) (n .3) (n .4) (subst₂ (Sim Q G) (sym p) (sym (n .2)) s), n .2)
+
     matches-found : (e : Edge) (f : Pair) → In e (Q .edges) → Matches Q G e f → Found Q Ps G e f
     unfolding covered
     matches-found e f i m = from (matched-say Q Ps nq e (narrow-edge i) (every-in _ cover i))
       where
         from : (P : Pattern) × In P Ps × (g : Edge) × In g (P .edges) × (g .kind ≡ e .kind) × Matches P (asGraph Q) g (asPair e) → Found Q Ps G e f
-        from (P, p, g, j, s, k) = record { view = P; given = p; at = g; at-edge = j; kind = s; of-query = k; of-graph = matches-through P Q G g e f s k m }
+        from (P, p, g, j, s, k) = record { view = P; given = p; at = g; at-edge = j; kind = s; of-query = k; of-graph = matches-through P Q G (weaker P p) g e f s k m }
 
     Asked : Edge → Pair → Type 0
     Asked e f = In e (Q .edges) × Matches Q G e f
@@ -129,11 +152,19 @@ module _ (Q : Pattern) (Ps : List Pattern) (G : Graph) (ok : SoundPattern Q) (nq
     matches-joined e f i m =
         join-most Q views Asked
         (λ g h a. (a .0, candidates-by Q Ps G nq ng (matches-found g h (a .0) (a .1))))
-        (λ g h a. record { tail = next (a .1 .whole) (a .1 .tail); head = next (a .1 .whole) (a .1 .head) })
+        (λ g h a. record {
+          tail = next (a .1 .whole) (a .1 .tail);
+          head = next (a .1 .whole) (a .1 .head);
+          tail-back = λ b. before b (a .1 .whole) (a .1 .tail);
+          head-back = λ b. before b (a .1 .whole) (a .1 .head);
+        })
         e f (i, m)
       where
         next : Total Q (Sim Q G) → {u v : ℕ} → Sim Q G u v → (g : Edge) → In g (Q .edges) → g .from ≡ u → (h : Pair) × (In g (Q .edges) × Matches Q G g h) × (h .0 ≡ v)
         next a s g j p = let n = matches-next a s g j p in (n .0, (j, n .1), n .2)
+
+        before : Q .rule ≡ bothWays → Total Q (Sim Q G) → {u v : ℕ} → Sim Q G u v → (g : Edge) → In g (Q .edges) → g .to ≡ u → (h : Pair) × (In g (Q .edges) × Matches Q G g h) × (h .1 ≡ v)
+        before b a s g j p = let n = matches-before b a s g j p in (n .0, (j, n .1), n .2)
 
     total-complete : Total Q (Sim Q G) → T (complete Q (join Q views))
     total-complete a =
@@ -149,12 +180,13 @@ module _ (Q : Pattern) (Ps : List Pattern) (G : Graph) (ok : SoundPattern Q) (nq
       λ j. let m = row-say Q G j in answer-by Q views (total-complete (m .whole)) (matches-joined e f i m),
     )
 
--- for every list of views that covers the query, answering from their sheets is searching the graph
-pub covered-answer : (Q : Pattern) (Ps : List Pattern) → T (sound Q) → length (Q .labels) ≤ 4096 → T (covered Q Ps) → (G : Graph) → Narrow G → answerSets Q (each (viewOf G) Ps) ≡ matchSets Q G
-covered-answer Q Ps s h c G n = answer-each Q (each (viewOf G) Ps) ∙ each-same _ _ (Q .edges) list ∙ sym (sets-each Q G)
+-- for every list of views that covers the query, each by its rule or a weaker one, answering from their sheets is searching the graph
+pub covered-answer : (Q : Pattern) (Ps : List Pattern) → T (sound Q) → length (Q .labels) ≤ 4096 → ((P : Pattern) → In P Ps → Weaker P Q)
+    → T (covered Q Ps) → (G : Graph) → Narrow G → answerSets Q (each (viewOf G) Ps) ≡ matchSets Q G
+covered-answer Q Ps s h weaker c G n = answer-each Q (each (viewOf G) Ps) ∙ each-same _ _ (Q .edges) list ∙ sym (sets-each Q G)
   where
     list : (e : Edge) → In e (Q .edges) → ascending (answerTo Q (each (viewOf G) Ps) e) ≡ ascending (rowOf Q G e)
     list e i =
         let ok = sound-say Q s in
         let nq = narrow-query Q ok h in
-        ascending-same _ _ (λ f. answer-row Q Ps G ok nq n c e f i .0) (λ f. answer-row Q Ps G ok nq n c e f i .1)
+        ascending-same _ _ (λ f. answer-row Q Ps G ok nq n weaker c e f i .0) (λ f. answer-row Q Ps G ok nq n weaker c e f i .1)

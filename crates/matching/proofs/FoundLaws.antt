@@ -11,12 +11,12 @@ use Rattle.packed.specs.Bits.{field}
 use Rattle.packed.specs.declared.by_value.Pattern.{Pattern as Given}
 use Rattle.packed.proofs.OrderCases.{lt-or-ge}
 use Rattle.matching.specs.Lists.{In}
-use Rattle.matching.specs.Simulation.{Pattern, Graph, bit, fits, sim}
+use Rattle.matching.specs.Simulation.{Rule, bothWays, Pattern, ruled, Graph, bit, fits, sim}
 use Rattle.matching.specs.Steps.{givenEdge, edgeOfWord, patternIn, graphIn, Fair, Ready}
 use Rattle.matching.specs.Matched.{Rises, Proper, EdgesMatched}
 use Rattle.matching.specs.Sweeps.{Has, Mask}
 use Rattle.matching.specs.Sweeping.{Tabled}
-use Rattle.matching.specs.Choices.{Prepared, Fixed}
+use Rattle.matching.specs.Choices.{Prepared, TabledBack, Fixed}
 use Rattle.matching.specs.Starting.{NodeRoom, OfKind, KindsHeld, LinksSpread}
 use Rattle.matching.proofs.UpToLaws.{length-upTo, getD-upTo, in-upTo, upTo-in}
 use Rattle.matching.proofs.SimLaws.{fits-say, fits-by}
@@ -100,8 +100,10 @@ module _ {p : Given} {s : List ℕ} {n m : ℕ} {w : List ℕ} (fair : Fair p) (
     arrive-some v e h =
         ⊎-elim (λ (l : v < n). let q = S .arrive-each v l .why e h in (l, q .0, q .1)) (λ (l : n ≤ v). absurd (none-has e (subst (λ (x : ℕ). Has x e) (arrive-beyond v l) h))) (lt-or-ge v n)
 
-    begun : Begun P G (p .from) (p .to) (p .kind) (p .edges) n m w₁ leave arrive
-    begun =
+    -- whatever the rule: it says nothing of labels
+    begun : (way : Rule) → Begun (ruled way P) G (p .from) (p .to) (p .kind) (p .edges) n m w₁ leave arrive
+    unfolding fits
+    begun way =
         record {
           links = links-numbered p;
           pairs = pairs-numbered s n m w w₁ code;
@@ -138,32 +140,37 @@ module _ {p : Given} {s : List ℕ} {n m : ℕ} {w : List ℕ} (fair : Fair p) (
           clear = S .clear;
         }
 
-    module _ {leaving arriving w₂ leave′ arrive′ out′ : List ℕ} (T₁ : Tabled (p .from) (p .from) (p .edges) leaving) (T₂ : Tabled (p .from) (p .to) (p .edges) arriving)
-        (F : Fixed n 0 all 0 m leaving arriving leaving arriving w₁ leave arrive out 0 w₂ leave′ arrive′ out′) where
+    module _ (way : Rule) {back : ℕ} (asked : Mask (λ e. (way ≡ bothWays) × (e < p .edges)) back) {leaving arriving ending starting w₂ leave′ arrive′ out′ : List ℕ}
+        (T₁ : Tabled (p .from) (p .from) (p .edges) leaving) (T₂ : Tabled (p .from) (p .to) (p .edges) arriving)
+        (T₃ : TabledBack back (p .from) (p .to) (p .edges) ending starting)
+        (F : Fixed n 0 all back m leaving arriving ending starting w₁ leave arrive out 0 w₂ leave′ arrive′ out′) where
+      abbrev R′ : Pattern
+      R′ = ruled way P
+
       apart : (e : ℕ) → Has all e → Has 0 e → ⊥
       apart e y h = none-has e h
 
-      found : ListsCodes p s n m w w₂
+      found : ListsCodes way p s n m w w₂
       found =
           record {
             edges = record { long = F .falls .long ∙ H .around .long; same = λ k l. F .falls .low k l ∙ H .around .low k l };
             say = λ i e l le h.
-                (let r = held-say P G (p .from) (p .to) (p .kind) (p .edges) n m w₁ leave arrive begun T₁ T₂ (A .hit) started F refl i e l le h in (
-                  subst (λ (x : ℕ). In (getD (p .from) e 0, x / 4096 % 4096) (sim P G)) (code i l) (r .0),
-                  subst (λ (x : ℕ). In (getD (p .to) e 0, x % 4096) (sim P G)) (code i l) (r .1),
+                (let r = held-say R′ G (p .from) (p .to) (p .kind) (p .edges) n m w₁ leave arrive (begun way) T₁ T₂ T₃ asked (A .hit) started F refl i e l le h in (
+                  subst (λ (x : ℕ). In (getD (p .from) e 0, x / 4096 % 4096) (sim R′ G)) (code i l) (r .0),
+                  subst (λ (x : ℕ). In (getD (p .to) e 0, x % 4096) (sim R′ G)) (code i l) (r .1),
                 ));
             by = λ i e l q a b.
-                held-by P G (p .from) (p .to) (p .kind) (p .edges) n m w₁ leave arrive begun T₁ T₂ (A .hit) started F i e l
+                held-by R′ G (p .from) (p .to) (p .kind) (p .edges) n m w₁ leave arrive (begun way) T₁ T₂ T₃ asked (A .hit) started F i e l
                 (q .0, q .1 ∙ sym (ap (λ (x : ℕ). x / 2 ^ 24) (code i l)))
-                (subst (λ (x : ℕ). In (getD (p .from) e 0, x / 4096 % 4096) (sim P G)) (sym (code i l)) a)
-                (subst (λ (x : ℕ). In (getD (p .to) e 0, x % 4096) (sim P G)) (sym (code i l)) b);
+                (subst (λ (x : ℕ). In (getD (p .from) e 0, x / 4096 % 4096) (sim R′ G)) (sym (code i l)) a)
+                (subst (λ (x : ℕ). In (getD (p .to) e 0, x % 4096) (sim R′ G)) (sym (code i l)) b);
             only = λ i e l h. H .each i l .why e (F .falls .part i e l h);
           }
 
       -- the lent arrays may be lent again
       room-again : NodeRoom n leave′ arrive′ out′
       room-again =
-          let f = F .sound (p .from) (p .to) (p .edges) T₁ T₂ (λ e h. absurd (none-has e h)) apart 0 (λ e h. h) in
+          let f = F .sound (p .from) (p .to) (p .edges) T₁ T₂ T₃ apart back (λ e h. h) in
           let a = F .leave-long ∙ S .leaves .long ∙ R .leave-long in
           let b = F .arrive-long ∙ S .arrives .long ∙ R .arrive-long in
           let c = F .out-long ∙ S .outs .long in
@@ -175,5 +182,5 @@ module _ {p : Given} {s : List ℕ} {n m : ℕ} {w : List ℕ} (fair : Fair p) (
             arrive-clear = λ v l. (let q : getD arrive′ v 0 ≤ 0 = part-le _ 0 (λ e h. subst (λ (x : ℕ). Has x e) (arrive-beyond v l) (f .arrive-part v e h)) in omega arith);
           }
 
-      pub all-found : Proper p → EdgesMatched p s n m w w₂ × NodeRoom n leave′ arrive′ out′
+      pub all-found : Proper p → EdgesMatched way p s n m w w₂ × NodeRoom n leave′ arrive′ out′
       all-found proper = (matches ready found proper rises, room-again)

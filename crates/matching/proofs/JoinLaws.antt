@@ -9,53 +9,74 @@ use native.Mathlib.Omega.{arith}
 use lib.ListN.{length, getD}
 use lib.Dec.{T, eqb, eqb→eq}
 use Rattle.packed.specs.Formats.{code}
-use Rattle.matching.specs.Lists.{_and_, _or_, In, here, there, some, gather, each}
-use Rattle.matching.specs.Simulation.{Pair, Edge, sameEdge, asPair, noEdge, Pattern, Graph, asGraph, ascending, viewSheet}
+use Rattle.matching.specs.Lists.{_and_, _or_, _implies_, In, here, there, some, gather, each}
+use Rattle.matching.specs.Simulation.{Pair, Edge, sameEdge, asPair, noEdge, oneWay, bothWays, Pattern, Graph, asGraph, ascending, viewSheet}
 use Rattle.matching.proofs.ByEdge.{rowOf, someMatch, viewOf, answerTo}
-use Rattle.matching.specs.Join.{isMatch, View, pairOf, under, candidates, Kept, supported, Offer, choice, join, complete, keptFor, answerSets}
+use Rattle.matching.specs.Join.{isMatch, View, pairOf, under, candidates, Kept, supportedOut, supportedIn, supported, Offer, choice, join, complete, keptFor, answerSets}
 use Rattle.matching.proofs.ListLaws.{and-left, and-right, both, or-left, or-right, or-cases, use-if, make-if, equal-test, cond-case, not-in-none, in-cast, every-in, in-every, some-in, in-some, keep-in, in-keep, append-in, in-append-left, in-append-right, gather-in, in-gather, each-in, in-each}
 use Rattle.matching.proofs.GreatestLaws.{greatest-part, greatest-ok, greatest-all}
-use Rattle.matching.proofs.SimLaws.{same-edge, same-edge-refl}
+use Rattle.matching.proofs.SimLaws.{same-edge, same-edge-refl, asks-say, asks-by, not-both}
 use Rattle.matching.proofs.MatchLaws.{Matches, row-say, row-by}
 use Rattle.matching.proofs.CodeLaws.{in-member, member-in, code-same, ascending-say, ascending-by}
 use Rattle.matching.proofs.MatchSetLaws.{Narrow, matches-narrow, view-each}
 
 -- ---- what `supported` says, for any choice K of pairs
-pub record Supported (Q : Pattern) (K : Edge → Pair → Type 0) (e : Edge) (f : Pair) : Type 0 where
-  pub tail : (g : Edge) → In g (Q .edges) → g .from ≡ e .from → (h : Pair) × K g h × (h .0 ≡ f .0)
-  pub head : (g : Edge) → In g (Q .edges) → g .from ≡ e .to → (h : Pair) × K g h × (h .0 ≡ f .1)
+-- each edge of Q that has u at its end keeps a pair that has v at the same end
+abbrev pub KeepsAt : (Edge → ℕ) → (Pair → ℕ) → Pattern → (Edge → Pair → Type 0) → ℕ → ℕ → Type 0
+KeepsAt end at Q K u v = (g : Edge) → In g (Q .edges) → end g ≡ u → (h : Pair) × K g h × (at h ≡ v)
 
-module _ (Q : Pattern) (l : List Kept) where
-  -- the edge g keeps a pair that begins at v
-  begins-say : (g : Edge) (v : ℕ) → T (some (λ j. sameEdge (j .0) g and eqb (j .1 .0) v) l) → (h : Pair) × In (g, h) l × (h .0 ≡ v)
-  begins-say g v t =
-      let r = some-in _ l t in
+pub record Supported (Q : Pattern) (K : Edge → Pair → Type 0) (e : Edge) (f : Pair) : Type 0 where
+  pub tail : KeepsAt (λ g. g .from) (λ h. h .0) Q K (e .from) (f .0)
+  pub head : KeepsAt (λ g. g .from) (λ h. h .0) Q K (e .to) (f .1)
+  pub tail-back : Q .rule ≡ bothWays → KeepsAt (λ g. g .to) (λ h. h .1) Q K (e .from) (f .0)
+  pub head-back : Q .rule ≡ bothWays → KeepsAt (λ g. g .to) (λ h. h .1) Q K (e .to) (f .1)
+
+-- one-way the edges that leave are all
+pub supported-one : {Q : Pattern} {K : Edge → Pair → Type 0} {e : Edge} {f : Pair} → Q .rule ≡ oneWay
+    → KeepsAt (λ g. g .from) (λ h. h .0) Q K (e .from) (f .0) → KeepsAt (λ g. g .from) (λ h. h .0) Q K (e .to) (f .1) → Supported Q K e f
+supported-one r t h =
+    record { tail = t; head = h; tail-back = λ b. absurd (not-both (sym r ∙ b)); head-back = λ b. absurd (not-both (sym r ∙ b)) }
+
+module _ (end : Edge → ℕ) (at : Pair → ℕ) (Q : Pattern) (l : List Kept) (u v : ℕ) where
+  abbrev keepsAt : Edge → Bool
+  keepsAt g = eqb (end g) u implies some (λ j. sameEdge (j .0) g and eqb (at (j .1)) v) l
+
+  keeps-say : ((g : Edge) → In g (Q .edges) → T (keepsAt g)) → KeepsAt end at Q (λ g h. In (g, h) l) u v
+  keeps-say t g i q =
+      let r = some-in _ l (use-if _ _ (t g i) (equal-test (end g) q)) in
       (r .0 .1, subst (λ z. In (z, r .0 .1) l) (same-edge (r .0 .0) g (and-left _ _ (r .2))) (r .1), eqb→eq _ v (and-right _ _ (r .2)))
 
-  begins-by : (g : Edge) (v : ℕ) → (h : Pair) × In (g, h) l × (h .0 ≡ v) → T (some (λ j. sameEdge (j .0) g and eqb (j .1 .0) v) l)
-  begins-by g v (h, i, q) = in-some _ i (both _ _ (same-edge-refl g) (equal-test (h .0) q))
+  keeps-by : KeepsAt end at Q (λ g h. In (g, h) l) u v → (g : Edge) → In g (Q .edges) → T (keepsAt g)
+  keeps-by k g i =
+      make-if _ _ λ t. let r = k g i (eqb→eq (end g) u t) in in-some _ (r .1) (both _ _ (same-edge-refl g) (equal-test (at (r .0)) (r .2)))
 
+module _ (Q : Pattern) (l : List Kept) where
   pub supported-say : {e : Edge} {f : Pair} → T (supported Q l (e, f)) → Supported Q (λ g h. In (g, h) l) e f
-  unfolding supported
-  supported-say {e} {f} t = record {
-    tail = λ g i q. begins-say g (f .0) (use-if _ _ (and-left _ _ (every-in _ t i)) (equal-test (g .from) q));
-    head = λ g i q. begins-say g (f .1) (use-if _ _ (and-right _ _ (every-in _ t i)) (equal-test (g .from) q));
+  unfolding supported supportedOut supportedIn
+  supported-say t = record {
+    tail = keeps-say (λ g. g .from) (λ h. h .0) Q l _ _ (λ g i. and-left _ _ (every-in _ (and-left _ _ t) i));
+    head = keeps-say (λ g. g .from) (λ h. h .0) Q l _ _ (λ g i. and-right _ _ (every-in _ (and-left _ _ t) i));
+    tail-back = λ r. keeps-say (λ g. g .to) (λ h. h .1) Q l _ _ (λ g i. and-left _ _ (every-in _ (use-if _ _ (and-right _ _ t) (asks-by r)) i));
+    head-back = λ r. keeps-say (λ g. g .to) (λ h. h .1) Q l _ _ (λ g i. and-right _ _ (every-in _ (use-if _ _ (and-right _ _ t) (asks-by r)) i));
   }
 
   pub supported-by : {e : Edge} {f : Pair} → Supported Q (λ g h. In (g, h) l) e f → T (supported Q l (e, f))
-  unfolding supported
-  supported-by {e} {f} s =
-      in-every _ (Q .edges) λ g i.
+  unfolding supported supportedOut supportedIn
+  supported-by s =
       both _ _
-      (make-if _ _ λ t. begins-by g (f .0) (s .tail g i (eqb→eq (g .from) (e .from) t)))
-      (make-if _ _ λ t. begins-by g (f .1) (s .head g i (eqb→eq (g .from) (e .to) t)))
+      (in-every _ (Q .edges) λ g i.
+      both _ _ (keeps-by (λ g. g .from) (λ h. h .0) Q l _ _ (s .tail) g i) (keeps-by (λ g. g .from) (λ h. h .0) Q l _ _ (s .head) g i))
+      (make-if _ _ λ t.
+      let r = asks-say (Q .rule) t in
+      in-every _ (Q .edges) λ g i.
+      both _ _ (keeps-by (λ g. g .to) (λ h. h .1) Q l _ _ (s .tail-back r) g i) (keeps-by (λ g. g .to) (λ h. h .1) Q l _ _ (s .head-back r) g i))
 
 -- a larger choice supports what a smaller one does
 pub supported-more : (Q : Pattern) (K L : Edge → Pair → Type 0) → ((e : Edge) (f : Pair) → K e f → L e f) → {e : Edge} {f : Pair} → Supported Q K e f → Supported Q L e f
-supported-more Q K L m s = record {
-  tail = λ g i q. let r = s .tail g i q in (r .0, m g (r .0) (r .1), r .2);
-  head = λ g i q. let r = s .head g i q in (r .0, m g (r .0) (r .1), r .2);
-}
+supported-more Q K L m s = record { tail = more (s .tail); head = more (s .head); tail-back = λ r. more (s .tail-back r); head-back = λ r. more (s .head-back r) }
+  where
+    more : {end : Edge → ℕ} {at : Pair → ℕ} {u v : ℕ} → KeepsAt end at Q K u v → KeepsAt end at Q L u v
+    more k g i q = let r = k g i q in (r .0, m g (r .0) (r .1), r .2)
 
 -- ---- the greatest choice is one from the candidates, is supported by itself, and holds every such choice
 module _ (Q : Pattern) (cs : Offer) where

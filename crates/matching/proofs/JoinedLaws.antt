@@ -30,7 +30,7 @@ use Rattle.matching.proofs.CodeLaws.{ascending-same}
 use Rattle.matching.proofs.MatchedLaws.{row-marked, sets-marked}
 use Rattle.matching.proofs.JoinLaws.{kept-in, in-kept, pair-code}
 use Rattle.matching.proofs.ComponentLaws.{join-in-all, state-say, state-old, steps-all}
-use Rattle.matching.proofs.ReachLaws.{given-nodes, given-ended}
+use Rattle.matching.proofs.ReachLaws.{given-rule, given-nodes, given-ended}
 use Rattle.matching.proofs.AnswerLaws.{answer-all-or-none}
 
 module _ (q : Given) (t : List ℕ) (set : ℕ) {s counts : List ℕ} {k d steps : ℕ} {w w₁ w₂ w₃ : List ℕ} {settled : ℕ} (fair : Fair q)
@@ -142,7 +142,7 @@ module _ (q : Given) (t : List ℕ) (set : ℕ) {s counts : List ℕ} {k d steps
         }
       where
         whole : joinIn (bit settled) Q (candidates Q vs) ≡ J
-        whole = join-in-all (bit settled) Q vs all-leave
+        whole = join-in-all (bit settled) Q vs (given-rule q) all-leave
 
         from-settled : (n : ℕ) → n < q .edges → Has settled (getD (q .from) n 0)
         from-settled n le = all-settled (getD (q .from) n 0) (fair .from n le)

@@ -60,3 +60,4 @@ pub mod AnswerFits
 -- demand 3 on lists
 pub mod Covered
 pub mod Uncovered
+pub mod EnterLaws

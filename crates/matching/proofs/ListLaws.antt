@@ -190,6 +190,16 @@ module _ {A : Type 0} where
   keep-same p q [] f = refl
   keep-same p q (x ∷ l) f = λ i. put (f x (here refl) i) x (keep-same p q l (λ y j. f y (there j)) i)
 
+  -- a test that all members pass keeps all
+  pub put-all : (b : Bool) (x : A) (l : List A) → T b → put b x l ≡ x ∷ l
+  put-all true x l h = refl
+  put-all false x l h = absurd h
+
+  pub keep-all : (p : A → Bool) (l : List A) → ((x : A) → In x l → T (p x)) → keep p l ≡ l
+  unfolding keep
+  keep-all p [] h = refl
+  keep-all p (x ∷ l) h = put-all (p x) x (keep p l) (h x (here refl)) ∙ ap (λ m. x ∷ m) (keep-all p l (λ y i. h y (there i)))
+
   -- a test that a second one weakens keeps the same after it
   keep-put : (p : A → Bool) (y : A) (l : List A) (b : Bool) → (T (p y) → T b) → keep p (put b y l) ≡ keep p (y ∷ l)
   unfolding keep

@@ -7,7 +7,7 @@ use native.Mathlib.Omega.{arith}
 use lib.ListN.{length, getD}
 use lib.Dec.{T, eqb, eqb→eq, eqb-refl, ltb→lt, lt→ltb}
 use Rattle.matching.specs.Lists.{_or_, In, below}
-use Rattle.matching.specs.Simulation.{Pair, Edge, asPair, bit, Pattern, Graph, asGraph, sim, total, row, IsSim, sound}
+use Rattle.matching.specs.Simulation.{Pair, Edge, asPair, bit, bothWays, Pattern, Graph, asGraph, sim, total, row, IsSim, sound}
 use Rattle.matching.proofs.ByEdge.{rowOf}
 use Rattle.matching.proofs.ListLaws.{and-left, and-right, both, or-left, or-right, or-cases, equal-test, cond-case, not-in-none, in-cast, every-in, in-every, some-in, in-some, keep-in, in-keep, each-in, in-each, length-each, getD-each, below-in, in-below}
 use Rattle.matching.proofs.Masks.{bit-one}
@@ -87,6 +87,7 @@ subgraph-sim P G H R m s = record {
     label = subst (λ l. T (bit (getD l v 0) (getD (P .labels) u 0))) (m .same-labels) (f .label);
   });
   follow = λ u v r e i q. let n = s .follow u v r e i q in (n .0, m .more (n .0) (n .1), n .2, n .3, n .4);
+  arrive = λ t u v r e i q. let n = s .arrive t u v r e i q in (n .0, m .more (n .0) (n .1), n .2, n .3, n .4);
 }
 
 pub subgraph-fewer : (P : Pattern) (G H : Graph) → Subgraph G H → (u v : ℕ) → Sim P G u v → Sim P H u v
@@ -107,35 +108,43 @@ fits-through P Q G {v = v} f g = record {
   label = subst (λ k. T (bit (getD (G .labels) v 0) k)) (sym (own-label P Q f)) (g .label);
 }
 
-pub compose : (P Q : Pattern) (G : Graph) (R S : ℕ → ℕ → Type 0) → IsSim P (asGraph Q) R → IsSim Q G S → IsSim P G (λ w v. (u : ℕ) × R w u × S u v)
+-- the rule of P asks no more than that of Q: a simulation both ways is one one-way
+abbrev pub Weaker : Pattern → Pattern → Type 0
+Weaker P Q = P .rule ≡ bothWays → Q .rule ≡ bothWays
+
+pub compose : (P Q : Pattern) (G : Graph) → Weaker P Q → (R S : ℕ → ℕ → Type 0) → IsSim P (asGraph Q) R → IsSim Q G S → IsSim P G (λ w v. (u : ℕ) × R w u × S u v)
 unfolding asGraph
-compose P Q G R S r s = record {
+compose P Q G weaker R S r s = record {
   fit = λ w v p. fits-by P G (fits-through P Q G (fits-say P (asGraph Q) (r .fit w (p .0) (p .1))) (fits-say Q G (s .fit (p .0) v (p .2))));
   follow = λ w v p x i q.
       let a = r .follow w (p .0) (p .1) x i q in
       let b = s .follow (p .0) v (p .2) (a .0) (a .1) (a .2) in
       (b .0, b .1, b .2, b .3 ∙ a .3, (a .0 .to, a .4, b .4));
+  arrive = λ t w v p x i q.
+      let a = r .arrive t w (p .0) (p .1) x i q in
+      let b = s .arrive (weaker t) (p .0) v (p .2) (a .0) (a .1) (a .2) in
+      (b .0, b .1, b .2, b .3 ∙ a .3, (a .0 .from, a .4, b .4));
 }
 
 -- the greatest simulation of P in Q, followed by that of Q in G, lies in that of P in G
-pub sim-through : (P Q : Pattern) (G : Graph) (w u v : ℕ) → Sim P (asGraph Q) w u → Sim Q G u v → Sim P G w v
-sim-through P Q G w u v i j =
-    sim-most P G (λ a c. (b : ℕ) × Sim P (asGraph Q) a b × Sim Q G b c) (compose P Q G (Sim P (asGraph Q)) (Sim Q G) (sim-is P (asGraph Q)) (sim-is Q G)) w v (u, i, j)
+pub sim-through : (P Q : Pattern) (G : Graph) → Weaker P Q → (w u v : ℕ) → Sim P (asGraph Q) w u → Sim Q G u v → Sim P G w v
+sim-through P Q G weaker w u v i j =
+    sim-most P G (λ a c. (b : ℕ) × Sim P (asGraph Q) a b × Sim Q G b c) (compose P Q G weaker (Sim P (asGraph Q)) (Sim Q G) (sim-is P (asGraph Q)) (sim-is Q G)) w v (u, i, j)
 
 -- an edge that matches an edge that matches an edge of its kind
-pub matches-through : (P Q : Pattern) (G : Graph) (g e : Edge) (f : Pair) → g .kind ≡ e .kind → Matches P (asGraph Q) g (asPair e) → Matches Q G e f → Matches P G g f
+pub matches-through : (P Q : Pattern) (G : Graph) → Weaker P Q → (g e : Edge) (f : Pair) → g .kind ≡ e .kind → Matches P (asGraph Q) g (asPair e) → Matches Q G e f → Matches P G g f
 unfolding asGraph
-matches-through P Q G g e f k a b = record {
+matches-through P Q G weaker g e f k a b = record {
   whole = λ w l.
       let p = a .whole w l in
       let q = b .whole (p .0) (omega (arith, fits-say P (asGraph Q) (sim-is P (asGraph Q) .fit w (p .0) (p .1)) .right, length-each (λ k. 2 ^ k) (Q .labels))) in
-      (q .0, sim-through P Q G w (p .0) (q .0) (p .1) (q .1));
+      (q .0, sim-through P Q G weaker w (p .0) (q .0) (p .1) (q .1));
   link = b .link;
   edge = b .edge;
   kind = b .kind ∙ sym k;
   ends = b .ends;
-  tail = sim-through P Q G (g .from) (e .from) (f .0) (a .tail) (b .tail);
-  head = sim-through P Q G (g .to) (e .to) (f .1) (a .head) (b .head);
+  tail = sim-through P Q G weaker (g .from) (e .from) (f .0) (a .tail) (b .tail);
+  head = sim-through P Q G weaker (g .to) (e .to) (f .1) (a .head) (b .head);
 }
 
 -- what `sound` says

@@ -18,7 +18,7 @@ use Rattle.packed.proofs.DistinctLaws.{distinct-own}
 use Rattle.packed.proofs.SheetLaws.{Rising, rising-none, rising-next, Fit, fit-next}
 use Rattle.packed.proofs.MatchLaws.{fit-lists}
 use Rattle.matching.specs.Lists.{_and_, In, each, keep, put, upTo}
-use Rattle.matching.specs.Simulation.{Pair, Edge, asPair, Pattern, Graph, bit, has, sim, row, ascending, matchSets}
+use Rattle.matching.specs.Simulation.{Pair, Edge, asPair, Rule, Pattern, ruled, sound, Graph, bit, has, sim, row, ascending, matchSets}
 use Rattle.matching.specs.Steps.{givenEdge, edgeOfWord, patternIn, graphIn, Ready, Edges}
 use Rattle.matching.specs.Sweeping.{kindOf}
 use Rattle.matching.specs.Starting.{OfKind}
@@ -115,19 +115,25 @@ module _ {n : ℕ} {w : List ℕ} (k : MarkedPairs n w) where
 pub edges-twice : {w w₁ w₂ : List ℕ} → Edges w w₁ → Edges w₁ w₂ → Edges w w₂
 edges-twice a b = record { long = b .long ∙ a .long; same = λ k l. b .same k l ∙ a .same k l }
 
--- each edge is held for the edges of the pattern of its kind whose ends have its own as partners
-pub record ListsCodes (p : Given) (s : List ℕ) (n m : ℕ) (w w′ : List ℕ) : Type 0 where
+-- each edge is held for the edges of the pattern of its kind whose ends have its own as partners, by the rule r
+pub record ListsCodes (r : Rule) (p : Given) (s : List ℕ) (n m : ℕ) (w w′ : List ℕ) : Type 0 where
   pub edges : Edges w w′
   pub say : (i e : ℕ) → i < m → e < p .edges → T (bit (getD w′ (8192 + i) 0) e)
-      → In (getD (p .from) e 0, getD w i 0 / 4096 % 4096) (sim (patternIn p) (graphIn s n m w)) × In (getD (p .to) e 0, getD w i 0 % 4096) (sim (patternIn p) (graphIn s n m w))
-  pub by : (i e : ℕ) → i < m → OfKind (p .kind) (p .edges) (kindOf w i) e → In (getD (p .from) e 0, getD w i 0 / 4096 % 4096) (sim (patternIn p) (graphIn s n m w))
-      → In (getD (p .to) e 0, getD w i 0 % 4096) (sim (patternIn p) (graphIn s n m w)) → T (bit (getD w′ (8192 + i) 0) e)
+      → In (getD (p .from) e 0, getD w i 0 / 4096 % 4096) (sim (ruled r (patternIn p)) (graphIn s n m w))
+      × In (getD (p .to) e 0, getD w i 0 % 4096) (sim (ruled r (patternIn p)) (graphIn s n m w))
+  pub by : (i e : ℕ) → i < m → OfKind (p .kind) (p .edges) (kindOf w i) e
+      → In (getD (p .from) e 0, getD w i 0 / 4096 % 4096) (sim (ruled r (patternIn p)) (graphIn s n m w))
+      → In (getD (p .to) e 0, getD w i 0 % 4096) (sim (ruled r (patternIn p)) (graphIn s n m w)) → T (bit (getD w′ (8192 + i) 0) e)
   pub only : (i e : ℕ) → i < m → T (bit (getD w′ (8192 + i) 0) e) → OfKind (p .kind) (p .edges) (kindOf w i) e
 
 -- ---- the match sets
-module _ {p : Given} {s : List ℕ} {n m : ℕ} {w w₂ : List ℕ} (ready : Ready s n m w) (k : ListsCodes p s n m w w₂) where
+sound-ruled : (r : Rule) (P : Pattern) → T (sound P) → T (sound (ruled r P))
+unfolding sound
+sound-ruled r P t = t
+
+module _ {way : Rule} {p : Given} {s : List ℕ} {n m : ℕ} {w w₂ : List ℕ} (ready : Ready s n m w) (k : ListsCodes way p s n m w w₂) where
   abbrev P : Pattern
-  P = patternIn p
+  P = ruled way (patternIn p)
 
   abbrev G : Graph
   G = graphIn s n m w
@@ -176,7 +182,7 @@ module _ {p : Given} {s : List ℕ} {n m : ℕ} {w w₂ : List ℕ} (ready : Rea
 
     edge-sets : matchesOf m (p .edges) w₂ ≡ matchSets P G
     unfolding patternIn
-    edge-sets = sets-marked pairs-marked (p .edges) (givenEdge p) (row G (sim P G)) edge-row ∙ sym (sets-all-or-none P G (proper .sound))
+    edge-sets = sets-marked pairs-marked (p .edges) (givenEdge p) (row G (sim P G)) edge-row ∙ sym (sets-all-or-none P G (sound-ruled way (patternIn p) (proper .sound)))
 
-    pub matches : EdgesMatched p s n m w w₂
+    pub matches : EdgesMatched way p s n m w w₂
     matches = record { edges = k .edges; marked = pairs-marked; sets = edge-sets; only = λ i e h l. k .only i e h }

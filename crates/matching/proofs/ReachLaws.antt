@@ -11,7 +11,7 @@ use lib.Bits.{bitAnd, bitOr}
 use Rattle.packed.specs.declared.by_value.Pattern.{Pattern as Given}
 use Rattle.packed.proofs.OrderCases.{lt-or-ge}
 use Rattle.matching.specs.Lists.{_or_, In}
-use Rattle.matching.specs.Simulation.{bit, Edge}
+use Rattle.matching.specs.Simulation.{bit, Edge, oneWay}
 use Rattle.matching.specs.Components.{Nodes, reaches, together, ready, Shut, OneStep}
 use Rattle.matching.specs.Steps.{givenEdge, patternIn, Fair}
 use Rattle.matching.specs.Sweeps.{Has, Mask, OneOf}
@@ -30,6 +30,10 @@ module _ (q : Given) where
   pub edges-in : {e : Edge} → In e (patternIn q .edges) → OneOf (q .edges) (λ n. e ≡ givenEdge q n)
   unfolding patternIn
   edges-in i = upTo-in (givenEdge q) (q .edges) i
+
+  pub given-rule : patternIn q .rule ≡ oneWay
+  unfolding patternIn
+  given-rule = refl
 
 -- x has u, and lies in what u leads to
 abbrev pub Within : Given → ℕ → ℕ → Type 0

@@ -37,6 +37,9 @@ module _ (P : Pattern) (G : Graph) (e : Edge) (never : (g : Edge) → In g (P .e
     follow = λ u v i g j q.
         let n = sim-is P G .follow u v i g j q in
         (n .0, in-keep _ (n .1) (other g (n .0) j (n .3) (matches-edge P G g (n .0) a (n .1) (n .3) (subst₂ (Sim P G) (sym q) (sym (n .2)) i) (n .4))), n .2, n .3, n .4);
+    arrive = λ t u v i g j q.
+        let n = sim-is P G .arrive t u v i g j q in
+        (n .0, in-keep _ (n .1) (other g (n .0) j (n .3) (matches-edge P G g (n .0) a (n .1) (n .3) (n .4) (subst₂ (Sim P G) (sym q) (sym (n .2)) i))), n .2, n .3, n .4);
   }
 
   up : (u v : ℕ) → Sim P H u v → Sim P G u v

@@ -31,8 +31,8 @@ use Rattle.matching.proofs.SimLaws.{has-in, in-has}
 use Rattle.matching.proofs.MaskBits.{none-has, or-left, or-right, or-cases, and-say, and-by, minus-say, minus-by, mask-cast, union-more}
 use Rattle.matching.proofs.RoundLaws.{fixed-prepared, prepared-ends}
 use Rattle.matching.proofs.JoiningLaws.{every-prepared, every-has, every-shape}
-use Rattle.matching.proofs.JoinLaws.{Supported}
-use Rattle.matching.proofs.ComponentLaws.{leaving-in, in-leaving, join-in-candidate, join-in-supported, join-in-most, state-say, state-old, state-new, step-shut}
+use Rattle.matching.proofs.JoinLaws.{Supported, supported-one}
+use Rattle.matching.proofs.ComponentLaws.{leaving-rule, leaving-in, in-leaving, join-in-candidate, join-in-supported, join-in-most, state-say, state-old, state-new, step-shut}
 use Rattle.matching.proofs.ReachLaws.{in-edges, edges-in, given-ended}
 
 -- ---- the ends of what is kept
@@ -127,10 +127,9 @@ module _ {q : Given} {n d : ℕ} {w : List ℕ} {s : Place} {w′ leave arrive :
   unfolding pair pairOf
   supports i e l le t h =
       let m = within i e l le t h in
-      record {
-        tail = marks-from (getD (q .from) e 0) (fromOf w i) (sym (pair-from i l)) (λ k lk p. begins (fromOf w i) k (ends .from i l) lk (b .shape .out-out (fromOf w i) e k le lk (sym p) (m .0)));
-        head = marks-from (getD (q .to) e 0) (toOf w i) refl (λ k lk p. begins (toOf w i) k (ends .to i l) lk (b .shape .in-out (toOf w i) e k le lk (sym p) (m .1)));
-      }
+      supported-one (leaving-rule S Q)
+      (marks-from (getD (q .from) e 0) (fromOf w i) (sym (pair-from i l)) (λ k lk p. begins (fromOf w i) k (ends .from i l) lk (b .shape .out-out (fromOf w i) e k le lk (sym p) (m .0))))
+      (marks-from (getD (q .to) e 0) (toOf w i) refl (λ k lk p. begins (toOf w i) k (ends .to i l) lk (b .shape .in-out (toOf w i) e k le lk (sym p) (m .1))))
 
   candidate : (i e : ℕ) → i < d → e < q .edges → After i e → In (pair i) (cs (givenEdge q e))
   unfolding pair

@@ -39,6 +39,7 @@ module _ (Q : Pattern) (ok : SoundPattern Q) where
   own-sim = record {
     fit = λ u v r. subst (λ z. T (fits Q (asGraph Q) (u, z))) (r .0) (fits-by Q (asGraph Q) (own u (r .1)));
     follow = λ u v r e i q. (e, i, q ∙ r .0, refl, (refl, ok .ends e i .1));
+    arrive = λ t u v r e i q. (e, i, q ∙ r .0, refl, (refl, ok .ends e i .0));
   }
     where
       own : (u : ℕ) → u < length (Q .labels) → FitsInto Q (asGraph Q) u u
@@ -57,7 +58,7 @@ module _ (Q : Pattern) (ok : SoundPattern Q) where
       (sim-most Q (asGraph Q) Own own-sim (e .to) (e .to) (refl, ok .ends e i .1))
 
 -- the list of no edge of its kind has the code of a removed edge
-removed-unlisted : (P : Pattern) (G : Graph) → Narrow G → (e : Edge) → e .to < 4096 → (g : Edge) → g .kind ≡ e .kind → In (code (e .from) (e .to)) (ascending (rowOf P (without e G) g)) → ⊥
+pub removed-unlisted : (P : Pattern) (G : Graph) → Narrow G → (e : Edge) → e .to < 4096 → (g : Edge) → g .kind ≡ e .kind → In (code (e .from) (e .to)) (ascending (rowOf P (without e G) g)) → ⊥
 unfolding without
 removed-unlisted P G n e h g s j = of-pair (ascending-say _ j)
   where

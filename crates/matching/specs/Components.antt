@@ -7,7 +7,7 @@ use lib.ListN.{length}
 use lib.Dec.{T, eqb}
 use Rattle.matching.specs.Lists.{_and_, _or_, _implies_, In, every, some, keep, below}
 use Rattle.matching.specs.Greatest.{greatest}
-use Rattle.matching.specs.Simulation.{Pair, Edge, Pattern}
+use Rattle.matching.specs.Simulation.{Pair, Edge, oneWay, Pattern}
 use Rattle.matching.specs.Join.{Kept, Offer, choice, keptFor}
 
 -- ---- components
@@ -31,9 +31,9 @@ together Q u v = reaches Q u v and reaches Q v u
 abbrev pub Nodes : Type 0
 Nodes = ℕ → Bool
 
--- the pattern with those of its edges alone that leave S
+-- the pattern with those of its edges alone that leave S, matched one-way: the steps ask for the edges that leave
 unfoldable pub leavingOf : Nodes → Pattern → Pattern
-leavingOf S Q = record { labels = Q .labels; edges = keep (λ e. S (e .from)) (Q .edges) }
+leavingOf S Q = record { labels = Q .labels; edges = keep (λ e. S (e .from)) (Q .edges); rule = oneWay }
 
 -- the greatest choice for the edges that leave S alone: the join's support, asked for these edges alone
 unfoldable pub joinIn : Nodes → Pattern → Offer → List Kept

@@ -7,7 +7,7 @@ use Rattle.packed.specs.Formats.{code}
 use Rattle.packed.specs.Contents.{member}
 use Rattle.matching.specs.Lists.{_and_, _implies_, every, some, keep, gather, each}
 use Rattle.matching.specs.Greatest.{greatest}
-use Rattle.matching.specs.Simulation.{Pair, Edge, sameEdge, Pattern, Graph, asGraph, ascending, viewSheet}
+use Rattle.matching.specs.Simulation.{Pair, Edge, sameEdge, asksArrivals, Pattern, Graph, asGraph, ascending, viewSheet}
 
 -- ---- answering
 
@@ -40,15 +40,27 @@ candidates Q vs e = each pairOf (gather (λ v. under e (v .pattern .edges) (view
 abbrev pub Kept : Type 0
 Kept = Edge × Pair
 
--- the one test of whether a pair may be kept for an edge: each edge of Q that leaves an end of the edge k .0 keeps some pair that begins at
--- the same end of the pair k .1
-unfoldable pub supported : Pattern → List Kept → Kept → Bool
-supported Q l k =
+-- each edge of Q that leaves an end of the edge k .0 keeps some pair that begins at the same end of the pair k .1
+unfoldable pub supportedOut : Pattern → List Kept → Kept → Bool
+supportedOut Q l k =
     every
     (λ g.
     (eqb (g .from) (k .0 .from) implies some (λ j. sameEdge (j .0) g and eqb (j .1 .0) (k .1 .0)) l)
     and (eqb (g .from) (k .0 .to) implies some (λ j. sameEdge (j .0) g and eqb (j .1 .0) (k .1 .1)) l))
     (Q .edges)
+
+-- each edge of Q that arrives at an end of the edge k .0 keeps some pair that ends at the same end of the pair k .1
+unfoldable pub supportedIn : Pattern → List Kept → Kept → Bool
+supportedIn Q l k =
+    every
+    (λ g.
+    (eqb (g .to) (k .0 .from) implies some (λ j. sameEdge (j .0) g and eqb (j .1 .1) (k .1 .0)) l)
+    and (eqb (g .to) (k .0 .to) implies some (λ j. sameEdge (j .0) g and eqb (j .1 .1) (k .1 .1)) l))
+    (Q .edges)
+
+-- the one test of whether a pair may be kept for an edge, as the rule of Q asks: by the edges that leave its ends, and both ways also by those that arrive
+unfoldable pub supported : Pattern → List Kept → Kept → Bool
+supported Q l k = supportedOut Q l k and (asksArrivals (Q .rule) implies supportedIn Q l k)
 
 -- candidates for each edge, from wherever they come
 abbrev pub Offer : Type 0

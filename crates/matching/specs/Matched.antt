@@ -1,6 +1,7 @@
 -- inner: what matching a pattern leaves in the workspace, and a view of an accepted catalogue by value.
 use Prim.Native.Nat.{ℕ, _+_, _*_, _<_, _≤_}
 use mathlib.Core.Path.{_≡_}
+use mathlib.Core.Bool.{Bool, cond}
 use mathlib.Core.List.{List}
 use lib.ListN.{length, drop, getD}
 use lib.Dec.{T}
@@ -13,7 +14,7 @@ use Rattle.packed.specs.Reading.{from}
 use Rattle.packed.specs.Matches.{matchesOf}
 use Rattle.packed.specs.Matches.{Marked as MarkedPairs}
 use Rattle.packed.specs.declared.by_value.Pattern.{Pattern as Given}
-use Rattle.matching.specs.Simulation.{bit, sound, matchSets}
+use Rattle.matching.specs.Simulation.{bit, Rule, oneWay, bothWays, ruled, sound, matchSets}
 use Rattle.matching.specs.Steps.{patternIn, graphIn, Edges}
 use Rattle.matching.specs.declared.views.View.{View}
 
@@ -26,11 +27,15 @@ pub record Proper (p : Given) : Type 0 where
 abbrev pub Rises : ℕ → List ℕ → Type 0
 Rises m w = (i j : ℕ) → i < j → j < m → wordRank (getD w i 0) < wordRank (getD w j 0)
 
--- the m edges of the record s, at the front of the workspace, are marked with the edges of the pattern that list them
-pub record EdgesMatched (p : Given) (s : List ℕ) (n m : ℕ) (w w′ : List ℕ) : Type 0 where
+-- the rule by which the code is asked to match: both ways or not
+abbrev pub ruleOf : Bool → Rule
+ruleOf both = cond both bothWays oneWay
+
+-- the m edges of the record s, at the front of the workspace, are marked with the edges of the pattern that list them, by the rule r
+pub record EdgesMatched (r : Rule) (p : Given) (s : List ℕ) (n m : ℕ) (w w′ : List ℕ) : Type 0 where
   pub edges : Edges w w′
   pub marked : MarkedPairs m w′
-  pub sets : matchesOf m (p .edges) w′ ≡ matchSets (patternIn p) (graphIn s n m w)
+  pub sets : matchesOf m (p .edges) w′ ≡ matchSets (ruled r (patternIn p)) (graphIn s n m w)
   pub only : (i e : ℕ) → i < m → e < 32 → T (bit (getD w′ (8192 + i) 0) e) → (e < p .edges) × (getD (p .kind) e 0 ≡ wordKind (getD w i 0))
 
 -- the first d pairs of the workspace make the pattern's sheet

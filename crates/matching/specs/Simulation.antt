@@ -1,6 +1,6 @@
 -- Patterns, data graphs, the greatest simulation and the match sets.
 use mathlib.Core.Path.{_≡_}
-use mathlib.Core.Bool.{Bool, cond}
+use mathlib.Core.Bool.{Bool, true, false, cond}
 use mathlib.Core.List.{List, [], _∷_}
 use Prim.Native.Nat.{ℕ, _+_, _/_, _%_, _^_}
 use lib.ListN.{length, getD, take, drop}
@@ -48,10 +48,25 @@ noEdge = between 0 0 0
 unfoldable pub bit : ℕ → ℕ → Bool
 bit m k = eqb (m / 2 ^ k % 2) 1
 
--- a pattern: node ("item") u has the label ("kind") labels[u]; its edges are its links
+-- by which rule a pattern is matched: by the edges that leave a node alone, or also by those that arrive at it
+pub data Rule : Type 0 where
+  oneWay : Rule
+  bothWays : Rule
+
+-- whether a rule asks for the edges that arrive
+unfoldable pub asksArrivals : Rule → Bool
+asksArrivals oneWay = false
+asksArrivals bothWays = true
+
+-- a pattern: node ("item") u has the label ("kind") labels[u]; its edges are its links; it is matched by its rule
 pub record Pattern : Type 0 where
   pub labels : List ℕ
   pub edges : List Edge
+  pub rule : Rule
+
+-- the pattern, matched by the rule r
+abbrev pub ruled : Rule → Pattern → Pattern
+ruled r P = record { labels = P .labels; edges = P .edges; rule = r }
 
 -- a data graph, which is what a record means: node v has each label whose bit is set in labels[v]
 pub record Graph : Type 0 where
@@ -65,9 +80,9 @@ edgesIn (a ∷ []) = []
 edgesIn (a ∷ b ∷ []) = []
 edgesIn (a ∷ b ∷ k ∷ es) = between a b k ∷ edgesIn es
 
--- what the content of a pattern and of a record mean
+-- what the content of a pattern and of a record mean: patterns are matched one-way
 unfoldable pub patternOf : List ℕ → Pattern
-patternOf ws = record { labels = take (nodesOf ws) (drop 2 ws); edges = edgesIn (drop (2 + nodesOf ws) ws) }
+patternOf ws = record { labels = take (nodesOf ws) (drop 2 ws); edges = edgesIn (drop (2 + nodesOf ws) ws); rule = oneWay }
 
 unfoldable pub graphOf : List ℕ → Graph
 graphOf ws = record { labels = take (nodesOf ws) (drop 2 ws); edges = edgesIn (drop (2 + nodesOf ws) ws) }
@@ -81,14 +96,32 @@ unfoldable pub fits : Pattern → Graph → Pair → Bool
 fits P G x =
     ltb (x .0) (length (P .labels)) and (ltb (x .1) (length (G .labels)) and bit (getD (G .labels) (x .1) 0) (getD (P .labels) (x .0) 0))
 
--- R is a simulation of P in G: partners have the label, and each edge that leaves u is followed by one of its kind that leaves its partner, to a partner
+-- R is a simulation of P in G: partners have the label, and each edge that leaves u is followed by one of its kind that leaves its partner, to a partner;
+-- where P is matched both ways, also each edge that arrives at u is followed by one of its kind that arrives at its partner, from a partner
 pub record IsSim (P : Pattern) (G : Graph) (R : ℕ → ℕ → Type 0) : Type 0 where
   pub fit : (u v : ℕ) → R u v → T (fits P G (u, v))
-  pub follow : (u v : ℕ) → R u v → (e : Edge) → In e (P .edges) → e .from ≡ u → (f : Edge) × In f (G .edges) × (f .from ≡ v) × (f .kind ≡ e .kind) × R (e .to) (f .to)
+  pub follow : (u v : ℕ) → R u v → (e : Edge) → In e (P .edges) → e .from ≡ u
+      → (f : Edge) × In f (G .edges) × (f .from ≡ v) × (f .kind ≡ e .kind) × R (e .to) (f .to)
+  pub arrive : P .rule ≡ bothWays → (u v : ℕ) → R u v → (e : Edge) → In e (P .edges) → e .to ≡ u
+      → (f : Edge) × In f (G .edges) × (f .to ≡ v) × (f .kind ≡ e .kind) × R (e .from) (f .from)
 
--- the same as a test: each edge of P that leaves x .0 is followed by one of G of its kind that leaves x .1, to a partner in l
+-- the same as tests: each edge of P that leaves x .0 is followed by one of G of its kind that leaves x .1, to a partner in l
+unfoldable pub followsOut : Pattern → Graph → List Pair → Pair → Bool
+followsOut P G l x =
+    every
+    (λ e. eqb (e .from) (x .0) implies some (λ f. eqb (f .from) (x .1) and (eqb (f .kind) (e .kind) and has (e .to, f .to) l)) (G .edges))
+    (P .edges)
+
+-- each edge of P that arrives at x .0 is followed by one of G of its kind that arrives at x .1, from a partner in l
+unfoldable pub followsIn : Pattern → Graph → List Pair → Pair → Bool
+followsIn P G l x =
+    every
+    (λ e. eqb (e .to) (x .0) implies some (λ f. eqb (f .to) (x .1) and (eqb (f .kind) (e .kind) and has (e .from, f .from) l)) (G .edges))
+    (P .edges)
+
+-- as the rule of P asks: of the edges that leave, and both ways also of those that arrive
 unfoldable pub follows : Pattern → Graph → List Pair → Pair → Bool
-follows P G l x = every (λ e. eqb (e .from) (x .0) implies some (λ f. eqb (f .from) (x .1) and (eqb (f .kind) (e .kind) and has (e .to, f .to) l)) (G .edges)) (P .edges)
+follows P G l x = followsOut P G l x and (asksArrivals (P .rule) implies followsIn P G l x)
 
 -- the greatest simulation of P in G
 unfoldable pub sim : Pattern → Graph → List Pair
@@ -110,8 +143,7 @@ ascending l = distinct (each (λ f. code (f .0) (f .1)) l)
 unfoldable pub matchSets : Pattern → Graph → List (List ℕ)
 matchSets P G = let s = sim P G in let b = total P s in each (λ e. ascending (cond b (row G s e) [])) (P .edges)
 
--- the sheet that the view ("extract") P has on the graph G: a list for each edge of P. Here alone it is said by which rule a view is matched, on a record
--- as on a query
+-- the sheet that the view ("extract") P has on the graph G, on a record as on a query: a list for each edge of P, by the rule of P
 unfoldable pub viewSheet : Pattern → Graph → List (List ℕ)
 viewSheet P G = matchSets P G
 

@@ -7,7 +7,7 @@ use Rattle.packed.specs.Bits.{field}
 use Rattle.packed.specs.Contents.{wordFrom, wordTo, wordKind}
 use Rattle.packed.specs.declared.by_value.Pattern.{Pattern as Given}
 use Rattle.matching.specs.Lists.{upTo}
-use Rattle.matching.specs.Simulation.{Edge, between, Pattern, Graph}
+use Rattle.matching.specs.Simulation.{Edge, between, oneWay, Pattern, Graph}
 
 -- the edge number e of a pattern that is given by value, and the edge that stands in a word
 abbrev pub givenEdge : Given → ℕ → Edge
@@ -18,7 +18,7 @@ edgeOfWord c = between (wordFrom c) (wordTo c) (wordKind c)
 
 -- the pattern that is given by value
 unfoldable pub patternIn : Given → Pattern
-patternIn p = record { labels = take (p .nodes) (p .labels); edges = upTo (givenEdge p) (p .edges) }
+patternIn p = record { labels = take (p .nodes) (p .labels); edges = upTo (givenEdge p) (p .edges); rule = oneWay }
 
 -- the graph of a record s with n nodes whose m edges stand in the workspace
 unfoldable pub graphIn : List ℕ → ℕ → ℕ → List ℕ → Graph

@@ -39,7 +39,17 @@ fn search_for(p: Pattern, record: &[u8], out: &mut [u8], work: &mut [u32]) -> Re
             let mut leave = no_words();
             let mut arrive = no_words();
             let mut held = no_words();
-            matched::match_edges(record, n, m, p, work, &mut leave, &mut arrive, &mut held);
+            matched::match_edges(
+                record,
+                n,
+                m,
+                p,
+                false,
+                work,
+                &mut leave,
+                &mut arrive,
+                &mut held,
+            );
             matches::give_sheet(work, m, p.edges as u32, out)
         }
         Graph::Refused(x) => Reply::Refused(x),
@@ -86,7 +96,7 @@ fn book_size(
     while a < k {
         let v = views::view_at(catalogue, byte);
         let p = v.pattern;
-        matched::match_edges(record, n, m, p, work, leave, arrive, held);
+        matched::match_edges(record, n, m, p, false, work, leave, arrive, held);
         let more = matches::sheet_size(work, m, p.edges as u32);
         sizes[a] = more;
         size += more;
@@ -115,7 +125,7 @@ fn match_again(
     if size == 1 {
         return 0;
     }
-    matched::match_edges(record, n, m, p, work, leave, arrive, held);
+    matched::match_edges(record, n, m, p, false, work, leave, arrive, held);
     m
 }
 

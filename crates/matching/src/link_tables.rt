@@ -4,6 +4,8 @@ ghost use Prim.Native.Nat.{_+_, _*_, _/_, _%_, _<_, _≤_};
 ghost use lib.ListN.{replicate};
 ghost use Rattle.matching.specs.Sweeps.{Mask};
 ghost use Rattle.matching.specs.Sweeping.{Tabled};
+ghost use Rattle.matching.specs.Simulation.{bothWays};
+ghost use Rattle.matching.specs.Matched.{ruleOf};
 ghost use Rattle.matching.specs.Rows.{RowOf, RowsOf, PickedBy, WordOf};
 
 // Bit k, where x is y.
@@ -95,6 +97,17 @@ pub fn table(a: &[u32; 32], b: &[u32; 32], m: usize) -> [u32; 128]
     t
 }
 
+// The table for links as they arrive, where they are asked; else nothing is looked up in it.
+pub fn table_if(both: bool, a: &[u32; 32], b: &[u32; 32], m: usize) -> [u32; 128]
+    requires { ⌜ m ≤ 32 ⌝ }
+    ensures { λ r. ⌜ (ruleOf both ≡ bothWays → Tabled (now (a .entry)) (now (b .entry)) m r) ⌝ }
+{
+    if both {
+        return table(a, b, m);
+    }
+    no_table()
+}
+
 // All m links.
 pub fn all(m: usize) -> u32
     requires { ⌜ m ≤ 32 ⌝ }
@@ -105,4 +118,15 @@ pub fn all(m: usize) -> u32
     }
     let less = (32 - m) as u32;
     0xffff_ffff >> less
+}
+
+// The links that are asked as they arrive: all, or none.
+pub fn asked(both: bool, m: usize) -> u32
+    requires { ⌜ m ≤ 32 ⌝ }
+    ensures { λ r. ⌜ Mask (λ e. (ruleOf both ≡ bothWays) × (e < m)) r ⌝ }
+{
+    if both {
+        return all(m);
+    }
+    0
 }

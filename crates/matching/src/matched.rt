@@ -4,35 +4,39 @@ ghost use lib.ListN.{length};
 ghost use Rattle.matching.specs.Late.{Firsts};
 ghost use Rattle.matching.specs.Steps.{Fair, Ready};
 ghost use Rattle.matching.specs.Starting.{NodeRoom};
-ghost use Rattle.matching.specs.Matched.{EdgesMatched, Proper, Rises};
+ghost use Rattle.matching.specs.Matched.{ruleOf, EdgesMatched, Proper, Rises};
 use crate::engine;
 use crate::link_tables;
 use crate::start;
 use packed::by_value::Pattern;
 
-// The edges are marked with the edges of the pattern that list them. The lent arrays have room for n nodes.
+// The edges are marked with the edges of the pattern that list them, by the rule that is asked. The lent arrays have room for n nodes.
 pub fn match_edges(
     s: &[u8],
     n: usize,
     m: usize,
     p: Pattern,
+    both: bool,
     work: &mut [u32],
     leave: &mut [u32],
     arrive: &mut [u32],
     out: &mut [u32],
 )
     requires { ⌜ Fair p × Proper p × Ready (now s) n m (now work) × Rises m (now work) × NodeRoom n (now leave) (now arrive) (now out) ⌝ }
-    ensures { λ r. ⌜ EdgesMatched p (now (s .entry)) n m (now (work .entry)) (now (work .exit)) × NodeRoom n (now (leave .exit)) (now (arrive .exit)) (now (out .exit)) ⌝ }
+    ensures { λ r. ⌜ EdgesMatched (ruleOf both) p (now (s .entry)) n m (now (work .entry)) (now (work .exit)) × NodeRoom n (now (leave .exit)) (now (arrive .exit)) (now (out .exit)) ⌝ }
 {
     let from = p.from;
     let to = p.to;
     let kind = p.kind;
     let edges = p.edges;
     let all = link_tables::all(edges);
+    let back = link_tables::asked(both, edges);
     start::hold(work, m, &kind, edges);
     start::spread(s, n, p, leave, arrive, out);
     let leaving = link_tables::table(&from, &from, edges);
     let arriving = link_tables::table(&from, &to, edges);
+    let ending = link_tables::table_if(both, &to, &to, edges);
+    let starting = link_tables::table_if(both, &to, &from, edges);
     engine::rest(
         work,
         m,
@@ -42,11 +46,11 @@ pub fn match_edges(
         out,
         0,
         all,
-        0,
+        back,
         &leaving,
         &arriving,
-        &leaving,
-        &arriving,
+        &ending,
+        &starting,
     );
 }
 
@@ -56,6 +60,7 @@ pub fn match_indexed(
     n: usize,
     m: usize,
     p: Pattern,
+    both: bool,
     first: &[u16],
     work: &mut [u32],
     leave: &mut [u32],
@@ -63,17 +68,20 @@ pub fn match_indexed(
     out: &mut [u32],
 )
     requires { ⌜ Fair p × Proper p × Ready (now s) n m (now work) × Rises m (now work) × NodeRoom n (now leave) (now arrive) (now out) × (n < length (now first)) × Firsts m n (now work) (now first) ⌝ }
-    ensures { λ r. ⌜ EdgesMatched p (now (s .entry)) n m (now (work .entry)) (now (work .exit)) × NodeRoom n (now (leave .exit)) (now (arrive .exit)) (now (out .exit)) ⌝ }
+    ensures { λ r. ⌜ EdgesMatched (ruleOf both) p (now (s .entry)) n m (now (work .entry)) (now (work .exit)) × NodeRoom n (now (leave .exit)) (now (arrive .exit)) (now (out .exit)) ⌝ }
 {
     let from = p.from;
     let to = p.to;
     let kind = p.kind;
     let edges = p.edges;
     let all = link_tables::all(edges);
+    let back = link_tables::asked(both, edges);
     start::hold(work, m, &kind, edges);
     start::spread(s, n, p, leave, arrive, out);
     let leaving = link_tables::table(&from, &from, edges);
     let arriving = link_tables::table(&from, &to, edges);
+    let ending = link_tables::table_if(both, &to, &to, edges);
+    let starting = link_tables::table_if(both, &to, &from, edges);
     engine::rest_by(
         work,
         m,
@@ -84,10 +92,10 @@ pub fn match_indexed(
         out,
         0,
         all,
-        0,
+        back,
         &leaving,
         &arriving,
-        &leaving,
-        &arriving,
+        &ending,
+        &starting,
     );
 }

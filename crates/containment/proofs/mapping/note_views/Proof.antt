@@ -108,9 +108,9 @@ loop-again c =
       edges-twice (l .1) (d .edges),
       noted-more (c .before .before .before .before .before .before .before .before .before .before .before .before .before .before .before .before .before .before .before .before .before .before .before .before .pre .4) (c .before .before .before .before .before .before .before .before .before .before .before .before .before .before .before .before .before .before .before .before .before .before .before .before .pre .5) (l .2) (omega arith) _ (c .before .before .before .before .before .before .before .before .before .before .before .before .before .before .view-at .ensures) (l .1) d (c .note-view .ensures),
       c .before .before .before .before .before .before .before .before .match-edges .ensures .1,
-      c .before .before .before .before .before .before .before .before .match-edges .kept .1 .1 .1 .1 .1 .0 ∙ l .4,
-      c .before .before .before .before .before .before .before .before .match-edges .kept .1 .1 .1 .1 .1 .1 .0 ∙ l .5,
-      c .before .before .before .before .before .before .before .before .match-edges .kept .1 .1 .1 .1 .1 .1 .1 .0 ∙ l .6,
+      c .before .before .before .before .before .before .before .before .match-edges .kept .1 .1 .1 .1 .1 .1 .0 ∙ l .4,
+      c .before .before .before .before .before .before .before .before .match-edges .kept .1 .1 .1 .1 .1 .1 .1 .0 ∙ l .5,
+      c .before .before .before .before .before .before .before .before .match-edges .kept .1 .1 .1 .1 .1 .1 .1 .1 .0 ∙ l .6,
     )
 
 same-length : tie.Need-same-length Inv-loop μ-loop

@@ -86,7 +86,7 @@ loop-again c =
     let loop-test = c .before .before .before .before .before .before .before .before .before .before .before .before .before .before .before .before .before .before .loop-test in
     let view-at = c .before .before .before .before .before .before .before .before .before .before .before .before .before .before .before .before .before .view-at in
     let match-edges = c .before .before .before .before .before .before .before .before .before .before .before .match-edges in
-    (keeping-next (loop .inv .0) (omega (arith, loop-test)) (view-at .result) (view-at .ensures) (match-edges .ensures .0) (c .sheet-size .result) (c .sheet-size .ensures), match-edges .ensures .1, match-edges .kept .1 .1 .1 .1 .1 .0 ∙ loop .inv .2, match-edges .kept .1 .1 .1 .1 .1 .1 .0 ∙ loop .inv .3, match-edges .kept .1 .1 .1 .1 .1 .1 .1 .0 ∙ loop .inv .4)
+    (keeping-next (loop .inv .0) (omega (arith, loop-test)) (view-at .result) (view-at .ensures) (match-edges .ensures .0) (c .sheet-size .result) (c .sheet-size .ensures), match-edges .ensures .1, match-edges .kept .1 .1 .1 .1 .1 .1 .0 ∙ loop .inv .2, match-edges .kept .1 .1 .1 .1 .1 .1 .1 .0 ∙ loop .inv .3, match-edges .kept .1 .1 .1 .1 .1 .1 .1 .1 .0 ∙ loop .inv .4)
 
 same-length : tie.Need-same-length Inv-loop μ-loop
 same-length c = c .before .loop .inv .0 .sizing .turn .edges .long
