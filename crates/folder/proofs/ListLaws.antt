@@ -9,8 +9,8 @@ use native.Mathlib.Nat.{mod-eq-of-lt}
 use native.Mathlib.Omega.{arith}
 use borrow.Author.Tests.{eqb-true, leb-true, leb-false, lt-ltb, le-ltb, lt-leb, le-leb, ne-eqb}
 use Rattle.folder.specs.declared.numbers.Text.{Text}
-use Rattle.folder.specs.Numbers.{most, isDigit, lineFeed, emptyText, withLine, withDigit, isNumber, State, state, endLine, nextInList, next, steps, atEnd}
-use Rattle.folder.specs.Numbers.{onto, linesOf, allDigits, isThere, valueFrom, valueOf, isCharge, listOf, listed, whole}
+use Rattle.folder.specs.Numbers.{most, isDigit, lineFeed, onto, linesOf, allDigits, isThere, valueFrom, valueOf, isCharge, listOf, listTold, ListRead}
+use Rattle.folder.specs.Reading.{emptyText, withLine, withDigit, isNumber, State, state, endLine, nextInList, next, steps, atEnd, listed, whole, OfText}
 use Rattle.folder.proofs.NumberLaws.{below-digits}
 
 -- ---- both of two tests
@@ -334,3 +334,6 @@ says (b ∷ bs) = says-more b bs (says bs)
 pub list-read : (ws bs : List ℕ) → length bs + 1 < 2 ^ 64 → listed (whole true ws bs) ≡ listOf 0 ws (linesOf bs)
 unfolding emptyText
 list-read ws bs h = says bs [] (emptyText true) ws (start true) (omega arith)
+
+pub list-reads : (ws ws′ : List ℕ) (t : Text) → OfText true ws (state t ws′) → ListRead ws (listTold t ws′)
+list-reads ws ws′ t h = record { bytes = h .bytes; few = h .few; is = ap listed (h .is) ∙ list-read ws (h .bytes) (omega (arith, h .few)) }

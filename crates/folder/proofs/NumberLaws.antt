@@ -4,7 +4,7 @@ use mathlib.Core.Path.{_≡_, refl, ap, sym, _∙_}
 use mathlib.Core.Bool.{Bool, true, false, not, _||_}
 use mathlib.Core.List.{List, [], _∷_, _++_}
 use lib.Dec.{eqb}
-use lib.ListN.{length, getD, drop}
+use lib.ListN.{length, getD, take, drop, length-append, length-take}
 use lib.Seq.{drop-cons}
 use lib.Pow.{pow-lt}
 use native.Mathlib.Nat.{one-mul, mod-eq-of-lt}
@@ -12,7 +12,8 @@ use native.Mathlib.Omega.{arith}
 use native.Mathlib.Numerals.{add-one}
 use borrow.Author.Tests.{le-leb, lt-leb}
 use Rattle.folder.specs.declared.numbers.Text.{Text}
-use Rattle.folder.specs.Numbers.{isDigit, lineFeed, space, withLine, endMember, nextInSet, State, state, next, steps, atEnd, emptyText, Follows, OfText}
+use Rattle.folder.specs.Numbers.{isDigit, lineFeed, space}
+use Rattle.folder.specs.Reading.{withLine, endMember, nextInSet, State, state, next, steps, atEnd, emptyText, Follows, OfText}
 
 -- ---- which bytes are digits
 
@@ -62,18 +63,27 @@ steps-end s (b ∷ bs) (suc i) h = steps-end s bs i (omega arith)
 
 -- ---- a file in parts
 
-pub follows-none : (s : State) → Follows s s
+pub follows-none : (n : ℕ) (s : State) → Follows n s s
 unfolding steps
-follows-none s = record { bytes = []; is = refl }
+follows-none n s = record { bytes = []; few = omega arith; is = refl }
 
-pub follows-more : (s t u : State) → Follows s t → Follows t u → Follows s u
-follows-more s t u f g = record { bytes = f .bytes ++ g .bytes; is = g .is ∙ ap (λ (v : State). steps v (g .bytes)) (f .is) ∙ sym (steps-append s (f .bytes) (g .bytes)) }
+-- the first bytes of a buffer
+pub follows-front : (n i : ℕ) (bs : List ℕ) (s t : State) → length bs ≤ n → t ≡ steps s (take i bs) → Follows n s t
+follows-front n i bs s t h e = record { bytes = take i bs; few = omega (arith, length-take i bs); is = e }
 
-pub text-ends : (isList : Bool) (ws : List ℕ) (t : Text) (s u : State) → t ≡ emptyText isList → Follows (state t ws) s → u ≡ atEnd s → OfText isList ws u
-text-ends isList ws t s u e f h =
-    record { bytes = f .bytes; is = h ∙ ap atEnd (f .is) ∙ ap (λ (v : Text). atEnd (steps (state v ws) (f .bytes))) e }
+pub follows-more : (n m k : ℕ) (s t u : State) → Follows n s t → Follows m t u → n + m ≤ k → Follows k s u
+follows-more n m k s t u f g h =
+    record {
+      bytes = f .bytes ++ g .bytes;
+      few = omega (arith, f .few, g .few, length-append (f .bytes) (g .bytes));
+      is = g .is ∙ ap (λ (v : State). steps v (g .bytes)) (f .is) ∙ sym (steps-append s (f .bytes) (g .bytes));
+    }
+
+pub text-ends : (isList : Bool) (ws : List ℕ) (n : ℕ) (t : Text) (s u : State) → t ≡ emptyText isList → Follows n (state t ws) s → n ≤ 2 ^ 63 → u ≡ atEnd s → OfText isList ws u
+text-ends isList ws n t s u e f k h =
+    record { bytes = f .bytes; few = omega (arith, f .few); is = h ∙ ap atEnd (f .is) ∙ ap (λ (v : Text). atEnd (steps (state v ws) (f .bytes))) e }
 
 -- a file that can't be opened has no bytes
 pub no-text : (isList : Bool) (ws : List ℕ) (t : Text) → t ≡ emptyText isList → OfText isList ws (state t ws)
 unfolding steps atEnd emptyText
-no-text isList ws t e = record { bytes = []; is = ap (λ (v : Text). state v ws) e }
+no-text isList ws t e = record { bytes = []; few = omega arith; is = ap (λ (v : Text). state v ws) e }

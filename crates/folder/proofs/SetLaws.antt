@@ -9,9 +9,9 @@ use lib.ListN.{length}
 use native.Mathlib.Omega.{arith}
 use borrow.Author.Tests.{eqb-true, leb-true, leb-false, lt-leb, le-leb, ne-eqb}
 use Rattle.folder.specs.declared.numbers.Text.{Text}
-use Rattle.folder.specs.Numbers.{most, isDigit, lineFeed, space, emptyText, withLine, withDigit, endMember, nextInSet, State, state, next, steps, atEnd}
-use Rattle.folder.specs.Numbers.{allDigits, isThere, valueFrom, valueOf, whole}
-use Rattle.folder.specs.Numbers.{Piece, ontoPiece, piecesOf, isMember, withMember, SetTold, members, failed, setOf, setTold}
+use Rattle.folder.specs.Numbers.{most, isDigit, lineFeed, space, allDigits, isThere, valueFrom, valueOf}
+use Rattle.folder.specs.Numbers.{Piece, ontoPiece, piecesOf, isMember, withMember, SetTold, members, failed, setOf, setTold, SetRead}
+use Rattle.folder.specs.Reading.{emptyText, withLine, withDigit, endMember, nextInSet, State, state, next, steps, atEnd, whole, OfText}
 use Rattle.folder.proofs.NumberLaws.{below-digits}
 use Rattle.folder.proofs.ListLaws.{first-digit, other-digits, digit-no-feed, value-there, Within, fresh, start, within-digit}
 use Rattle.folder.proofs.ListLaws.{digit-count, bad-stays, next-digit, line-count, at-line-end, at-end-within, bad-line-is, digit-added, digit-kept}
@@ -317,3 +317,11 @@ says (b ∷ bs) = says-more b bs (says bs)
 pub set-read : (ws bs : List ℕ) → length bs + 1 < 2 ^ 64 → setTold (whole false ws bs .text) ≡ setOf 0 (piecesOf 1 bs)
 unfolding emptyText
 set-read ws bs h = says bs [] (emptyText false) ws (start false) (omega arith)
+
+pub set-reads : (ws ws′ : List ℕ) (t : Text) → OfText false ws (state t ws′) → SetRead (setTold t)
+set-reads ws ws′ t h =
+    record {
+      bytes = h .bytes;
+      few = h .few;
+      is = ap (λ (s : State). setTold (s .text)) (h .is) ∙ set-read ws (h .bytes) (omega (arith, h .few));
+    }

@@ -1,11 +1,11 @@
--- Text files of decimal numbers: what the bytes of `charges` (decisions 49 and 50) and of `set` (decision 53) say, one after the other.
-use Prim.Native.Nat.{ℕ, _+_, _-_, _*_, _%_, _^_}
-use mathlib.Core.Bool.{Bool, true, false, not, _&&_, _||_}
+-- Text files of decimal numbers: what the bytes of `charges` (decisions 49 and 50) and of `set` (decision 53) say.
+use Prim.Native.Nat.{ℕ, _+_, _-_, _*_, _^_, _≤_}
+use mathlib.Core.Bool.{Bool, true, false, _&&_}
 use mathlib.Core.Path.{_≡_}
 use mathlib.Core.List.{List, [], _∷_}
-use lib.Dec.{eqb, leb, ltb}
+use lib.Dec.{eqb, leb}
 use lib.Bits.{bitOr}
-use lib.ListN.{set}
+use lib.ListN.{length, set}
 use Rattle.packed.specs.Format.{pick}
 use Rattle.folder.specs.declared.numbers.Text.{Text}
 
@@ -25,81 +25,9 @@ lineFeed = 10
 abbrev pub space : ℕ
 space = 32
 
--- ---- a text so far
+-- ---- a list: lines
 
--- no byte is read yet
-unfoldable pub emptyText : Bool → Text
-emptyText isList = record { count = 0; good = true; set = 0; «is_list» = isList; begun = false; value = 0 }
-
--- a line more, which is as it should be or is the one that a failure names
-unfoldable pub withLine : Text → Bool → Text
-withLine t good = record { count = (t .count + 1) % 2 ^ 64; good = good; set = t .set; «is_list» = t .«is_list»; begun = false; value = 0 }
-
--- a digit more; a number over the most stays as it is
-unfoldable pub withDigit : Text → ℕ → Text
-withDigit t d =
-    pick (ltb most (t .value))
-    t
-    (record { count = t .count; good = t .good; set = t .set; «is_list» = t .«is_list»; begun = true; value = t .value * 10 + d })
-
--- 49: a line is one number: one digit at least, and no more than the most
-unfoldable pub isNumber : Text → Bool
-isNumber t = leb (t .value) most && t .begun
-
--- 53: a number that has begun is at its end: one of 0 to 15 is in the set, and a larger one is a failure
-unfoldable pub endMember : Text → Text
-endMember t =
-    pick (t .begun)
-    (pick (leb (t .value) 15)
-    (record { count = t .count; good = true; set = bitOr (t .set) (2 ^ t .value); «is_list» = false; begun = false; value = 0 })
-    (withLine t false))
-    t
-
--- 53: after a number stands a space or a line end
-unfoldable pub nextInSet : Text → ℕ → Text
-nextInSet t b = pick (not (endMember t .good) || eqb b space) (endMember t) (withLine (endMember t) (eqb b lineFeed))
-
--- ---- a text and the words that are lent for its numbers
-
-pub record State : Type 0 where
-  pub text : Text
-  pub words : List ℕ
-
-abbrev pub state : Text → List ℕ → State
-state t ws = record { text = t; words = ws }
-
--- 49: a line of a list is at its end: its number goes to its place, where there is one
-unfoldable pub endLine : State → State
-endLine s =
-    pick (isNumber (s .text))
-    (state (withLine (s .text) true) (set (s .words) (s .text .count) (s .text .value)))
-    (state (withLine (s .text) false) (s .words))
-
--- 49: after a number stands a line end
-unfoldable pub nextInList : State → ℕ → State
-nextInList s b = pick (eqb b lineFeed) (endLine s) (state (withLine (s .text) false) (s .words))
-
--- the next byte; the first line that is not as it should be is the last that counts
-unfoldable pub next : State → ℕ → State
-next s b =
-    pick (s .text .good)
-    (pick (isDigit b)
-    (state (withDigit (s .text) (b - 48)) (s .words))
-    (pick (s .text .«is_list») (nextInList s b) (state (nextInSet (s .text) b) (s .words))))
-    s
-
--- bytes one after the other
-unfoldable pub steps : State → List ℕ → State
-steps s [] = s
-steps s (b ∷ bs) = steps (next s b) bs
-
--- 49: the last line may lack its line end
-unfoldable pub atEnd : State → State
-atEnd s = pick (s .text .begun) (next s lineFeed) s
-
--- ---- a whole list
-
--- inner: a byte before the first line
+-- a byte before the first line
 unfoldable pub onto : ℕ → List (List ℕ) → List (List ℕ)
 onto b [] = (b ∷ []) ∷ []
 onto b (l ∷ ls) = (b ∷ l) ∷ ls
@@ -117,7 +45,7 @@ unfoldable pub isThere : List ℕ → Bool
 isThere [] = false
 isThere (b ∷ bs) = true
 
--- inner: the number that digits go on to write
+-- the number that digits go on to write after v
 unfoldable pub valueFrom : ℕ → List ℕ → ℕ
 valueFrom v [] = v
 valueFrom v (b ∷ bs) = valueFrom (v * 10 + (b - 48)) bs
@@ -144,22 +72,14 @@ listOf n ws (l ∷ ls) =
     (listOf (n + 1) (set ws n (valueOf l)) ls)
     (record { count = n + 1; good = false; words = ws })
 
--- what a state tells of a list
-abbrev pub listed : State → Listed
-listed s = record { count = s .text .count; good = s .text .good; words = s .words }
-
--- the state after the last byte
-abbrev pub whole : Bool → List ℕ → List ℕ → State
-whole isList ws bs = atEnd (steps (state (emptyText isList) ws) bs)
-
--- ---- a whole set
+-- ---- a set: numbers between spaces and line ends
 
 -- what stands between two spaces or line ends, or nothing, and the number of its line, from 1
 pub record Piece : Type 0 where
   pub line : ℕ
   pub bytes : List ℕ
 
--- inner: a byte before the first piece
+-- a byte before the first piece
 unfoldable pub ontoPiece : ℕ → List Piece → List Piece
 ontoPiece b [] = []
 ontoPiece b (q ∷ qs) = record { line = q .line; bytes = b ∷ q .bytes } ∷ qs
@@ -190,23 +110,24 @@ unfoldable pub setOf : ℕ → List Piece → SetTold
 setOf x [] = members x
 setOf x (q ∷ qs) = pick (isMember (q .bytes)) (setOf (withMember x (q .bytes)) qs) (failed (q .line))
 
--- what a text tells of a set
+-- what reading tells of a set
 unfoldable pub setTold : Text → SetTold
 setTold t = pick (t .good) (members (t .set)) (failed (t .count))
 
--- ---- a file, read in parts; no contract can say which bytes the system reads
+-- ---- a file
 
--- some bytes lead from one state to the other
-pub record Follows (s t : State) : Type 0 where
+-- what reading tells of a list, with the words that were lent
+abbrev pub listTold : Text → List ℕ → Listed
+listTold t ws = record { count = t .count; good = t .good; words = ws }
+
+-- No contract can say which bytes the system reads. Some text was read, no longer than a file can be, and what is told is what its lines say..
+pub record ListRead (ws : List ℕ) (l : Listed) : Type 0 where
   pub bytes : List ℕ
-  pub is : t ≡ steps s bytes
+  pub few : length bytes ≤ 2 ^ 63
+  pub is : l ≡ listOf 0 ws (linesOf bytes)
 
--- the state is that after the last byte of some text
-pub record OfText (isList : Bool) (ws : List ℕ) (s : State) : Type 0 where
+-- .. or what its numbers say
+pub record SetRead (t : SetTold) : Type 0 where
   pub bytes : List ℕ
-  pub is : s ≡ whole isList ws bytes
-
--- the same, where no words are lent
-pub record OfSet (t : Text) : Type 0 where
-  pub words : List ℕ
-  pub of : OfText false (0 ∷ []) (state t words)
+  pub few : length bytes ≤ 2 ^ 63
+  pub is : t ≡ setOf 0 (piecesOf 1 bytes)

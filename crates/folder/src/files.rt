@@ -2,8 +2,8 @@
 ghost use Prim.Native.Nat.{_≤_};
 use crate::lines;
 
-// So many parts of a file at most: no file has as many.
-pub(crate) const PARTS: u64 = 0xffff_ffff_ffff_ffff;
+// So many parts of 4,096 bytes at most, 2^63 bytes in all: no file has more.
+pub(crate) const PARTS: u64 = 0x8_0000_0000_0000;
 
 // The bytes of a file, as far as the buffer goes: how many there are. A file that can't be opened has none.
 pub fn read(name: &[u8], buf: &mut [u8]) -> usize

@@ -3,7 +3,8 @@
 ghost use mathlib.Core.Path.{_≡_};
 ghost use mathlib.Core.Bool.{true};
 ghost use lib.ListN.{set};
-ghost use Rattle.folder.specs.Numbers.{emptyText, withLine, withDigit, endMember, nextInSet, state, endLine, nextInList, next, steps, atEnd, Follows, OfText, OfSet};
+ghost use Rattle.folder.specs.Numbers.{listTold, setTold, ListRead, SetRead};
+ghost use Rattle.folder.specs.Reading.{emptyText, withLine, withDigit, endMember, nextInSet, state, endLine, nextInList, next, steps, atEnd, Follows, OfText};
 use crate::files;
 
 // A number is at most this.
@@ -175,7 +176,7 @@ struct Part {
 }
 
 fn take_part(fd: i32, before: Text, out: &mut [u32]) -> Part
-    ensures { λ r. ⌜ Follows (state before (now (out .entry))) (state (r .text) (now (out .exit))) ⌝ }
+    ensures { λ r. ⌜ Follows 4096 (state before (now (out .entry))) (state (r .text) (now (out .exit))) ⌝ }
 {
     let mut buf = io::buffer();
     let n = io::read_full(fd, &mut buf);
@@ -214,14 +215,14 @@ fn read(name: &[u8], is_list: bool, out: &mut [u32]) -> Text
 // The numbers of a list, as far as the output goes, and how many lines it has; or the line that is no number. A file that can't be opened has
 // none.
 pub fn read_list(name: &[u8], out: &mut [u32]) -> Text
-    ensures { λ r. ⌜ OfText true (now (out .entry)) (state r (now (out .exit))) ⌝ }
+    ensures { λ r. ⌜ ListRead (now (out .entry)) (listTold r (now (out .exit))) ⌝ }
 {
     read(name, true, out)
 }
 
 // The numbers of a set, as bits; or the line that has something else. A file that can't be opened has none.
 pub fn read_set(name: &[u8]) -> Text
-    ensures { λ r. ⌜ OfSet r ⌝ }
+    ensures { λ r. ⌜ SetRead (setTold r) ⌝ }
 {
     let mut none = [0u32; 1];
     read(name, false, &mut none)

@@ -1,6 +1,6 @@
 -- `folder::numbers::empty` meets its contract.
 use mathlib.Core.Path.{refl}
-use Rattle.folder.specs.Numbers.{emptyText}
+use Rattle.folder.specs.Reading.{emptyText}
 use Rattle.folder.proofs.numbers.empty.Statement.{statement}
 use Rattle.folder.proofs.numbers.empty.Tie as tie
 

@@ -1,6 +1,6 @@
 -- `folder::numbers::end` meets its contract.
 use borrow.Author.Needs.{needs}
-use Rattle.folder.specs.Numbers.{atEnd}
+use Rattle.folder.specs.Reading.{atEnd}
 use Rattle.folder.proofs.numbers.end.Statement.{statement}
 use Rattle.folder.proofs.numbers.end.Tie as tie
 

@@ -1,7 +1,7 @@
 -- `folder::numbers::end_line` meets its contract.
 use borrow.Author.Tests.{lt-leb, le-leb, not-true, not-false}
 use borrow.Author.Needs.{needs}
-use Rattle.folder.specs.Numbers.{isNumber, endLine}
+use Rattle.folder.specs.Reading.{isNumber, endLine}
 use Rattle.folder.proofs.numbers.end_line.Statement.{statement}
 use Rattle.folder.proofs.numbers.end_line.Tie as tie
 

@@ -1,7 +1,7 @@
 -- `folder::numbers::end_member` meets its contract.
 use borrow.Author.Tests.{lt-leb, le-leb, not-true, not-false}
 use borrow.Author.Needs.{needs}
-use Rattle.folder.specs.Numbers.{endMember}
+use Rattle.folder.specs.Reading.{endMember}
 use Rattle.folder.proofs.NumberLaws.{one-bit}
 use Rattle.folder.proofs.numbers.end_member.Statement.{statement}
 use Rattle.folder.proofs.numbers.end_member.Tie as tie

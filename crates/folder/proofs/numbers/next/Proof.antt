@@ -2,7 +2,7 @@
 use mathlib.Core.Logic.{⊎-elim}
 use borrow.Author.Tests.{not-true, not-false}
 use borrow.Author.Needs.{needs}
-use Rattle.folder.specs.Numbers.{next}
+use Rattle.folder.specs.Reading.{next}
 use Rattle.folder.proofs.NumberLaws.{digit, below-digits, above-digits}
 use Rattle.folder.proofs.numbers.next.Statement.{statement}
 use Rattle.folder.proofs.numbers.next.Tie as tie

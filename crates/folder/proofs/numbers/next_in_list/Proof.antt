@@ -1,7 +1,7 @@
 -- `folder::numbers::next_in_list` meets its contract.
 use borrow.Author.Tests.{eq-eqb, ne-eqb}
 use borrow.Author.Needs.{needs}
-use Rattle.folder.specs.Numbers.{nextInList}
+use Rattle.folder.specs.Reading.{nextInList}
 use Rattle.folder.proofs.numbers.next_in_list.Statement.{statement}
 use Rattle.folder.proofs.numbers.next_in_list.Tie as tie
 

@@ -3,7 +3,7 @@ use Prim.Native.Nat.{_-_}
 use mathlib.Core.Path.{_≡_, refl, _∙_}
 use lib.ListN.{length, drop}
 use borrow.Author.Needs.{needs}
-use Rattle.folder.specs.Numbers.{state, steps}
+use Rattle.folder.specs.Reading.{state, steps}
 use Rattle.folder.proofs.NumberLaws.{steps-more, steps-end}
 use Rattle.folder.proofs.numbers.take.Statement.{statement}
 use Rattle.folder.proofs.numbers.take.Tie as tie

@@ -1,7 +1,7 @@
 -- `folder::numbers::with_digit` meets its contract.
 use borrow.Author.Tests.{lt-ltb, le-ltb}
 use borrow.Author.Needs.{needs}
-use Rattle.folder.specs.Numbers.{withDigit}
+use Rattle.folder.specs.Reading.{withDigit}
 use Rattle.folder.proofs.numbers.with_digit.Statement.{statement}
 use Rattle.folder.proofs.numbers.with_digit.Tie as tie
 

@@ -1,6 +1,6 @@
 -- `folder::numbers::with_line` meets its contract.
 use borrow.Author.Needs.{needs}
-use Rattle.folder.specs.Numbers.{withLine}
+use Rattle.folder.specs.Reading.{withLine}
 use Rattle.folder.proofs.numbers.with_line.Statement.{statement}
 use Rattle.folder.proofs.numbers.with_line.Tie as tie
 
