@@ -3,6 +3,8 @@ ghost use mathlib.Core.Path.{_≡_};
 ghost use Prim.Native.Nat.{_+_, _*_};
 ghost use lib.ListN.{length};
 ghost use Rattle.folder.specs.Entries.{entryBytes, entriesOf, byteOf};
+use packed::reply::Refusal;
+use packed::reply::Reply;
 
 fn joined(high: u8, low: u8) -> u16
     ensures { λ r. ⌜ r ≡ 256 * high + low ⌝ }
@@ -45,5 +47,23 @@ pub fn pack(entries: &[u16], bytes: &mut [u8])
         let x = entries[i];
         bytes[at] = byte_of(x, at % 2);
         at += 1;
+    }
+}
+
+// Of too many entries no more are lent than show it: a refusal tells how many the file has.
+pub fn counted(reply: Reply, count: usize) -> Reply {
+    if count <= 4098 {
+        return reply;
+    }
+    match reply {
+        Reply::Done(_) => reply,
+        Reply::Refused(x) => Reply::Refused(with_count(x, count)),
+    }
+}
+
+fn with_count(x: Refusal, count: usize) -> Refusal {
+    match x {
+        Refusal::WrongIndex(_) => Refusal::WrongIndex(count),
+        _ => x,
     }
 }

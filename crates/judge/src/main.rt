@@ -1,8 +1,12 @@
-// Judges the files that it finds in the folder it is run in: `question`, `catalogue`, `record`, a `sheet` and an `answer` beside the question,
-// a `book` beside the catalogue, and the records `first` and `second`. One that is not there gets no line.
+// Judges the files that it finds in the folder it is run in: `question`, `catalogue`, `record`, a `sheet` and an `answer` beside the question, a
+// `book` and `charges` beside the catalogue, an `index` beside the record, the records `first` and `second`, a `set`, and a record `old`, stored before
+// links had kinds. One that is not there gets no line.
+use folder::entries;
 use folder::files;
 use folder::lent;
 use folder::lines;
+use folder::numbers;
+use packed::reply::Refusal;
 use packed::reply::Reply;
 
 fn say(name: &[u8], reply: Reply) {
@@ -65,6 +69,79 @@ fn judge_book(catalogue: &[u8]) {
     }
 }
 
+fn judge_index() {
+    if !files::is_there(b"index") {
+        return;
+    }
+    let mut bytes = lent::index_bytes();
+    let size = files::read_whole(b"index", &mut bytes);
+    if size % 2 == 1 {
+        lines::failed(b"index");
+        return;
+    }
+    let mut index = lent::index_entries();
+    entries::unpack(&bytes, &mut index);
+    let mut record = lent::record_bytes();
+    let m = files::read(b"record", &mut record);
+    let mut work = lent::work_words();
+    let n = lent::least(size / 2, index.len());
+    let reply = matching::check_index(&record[0..m], &index[0..n], &mut work);
+    say(b"index", entries::counted(reply, size / 2));
+}
+
+// Beside an accepted catalogue there is a charge for each of its extracts.
+fn charged(reply: Reply, extracts: u32, charges: usize) -> Reply {
+    match reply {
+        Reply::Done(_) => {
+            if extracts as usize == charges {
+                reply
+            } else {
+                Reply::Refused(Refusal::WrongCharges(charges))
+            }
+        }
+        Reply::Refused(_) => reply,
+    }
+}
+
+fn judge_charges(catalogue: &[u8]) {
+    if !files::is_there(b"charges") {
+        return;
+    }
+    let mut charges = lent::charge_words();
+    let text = numbers::read_list(b"charges", &mut charges);
+    if !text.good {
+        lines::failed_at(b"charges", text.count);
+        return;
+    }
+    let mut content = lent::content_words();
+    let mut work = lent::work_words();
+    let reply = packed::read_catalogue(catalogue, &mut content, &mut work);
+    say(b"charges", charged(reply, content[0], text.count));
+}
+
+fn judge_set() {
+    if !files::is_there(b"set") {
+        return;
+    }
+    let text = numbers::read_set(b"set");
+    if text.good {
+        lines::say(b"set accepted\n");
+    } else {
+        lines::failed_at(b"set", text.count);
+    }
+}
+
+fn judge_old() {
+    if files::is_there(b"old") {
+        let mut old = lent::old_record_bytes();
+        let n = files::read(b"old", &mut old);
+        let mut record = lent::output_bytes();
+        let mut work = lent::work_words();
+        let reply = packed::sort_record(&old[0..n], &mut record, &mut work);
+        say(b"old", reply);
+    }
+}
+
 fn judge(question: &[u8], catalogue: &[u8]) {
     judge_question(question);
     judge_catalogue(catalogue);
@@ -74,6 +151,10 @@ fn judge(question: &[u8], catalogue: &[u8]) {
     judge_sheet(question, b"answer");
     judge_record(b"first");
     judge_record(b"second");
+    judge_index();
+    judge_charges(catalogue);
+    judge_set();
+    judge_old();
 }
 
 fn main() {
