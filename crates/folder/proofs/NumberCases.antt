@@ -1,4 +1,4 @@
--- Texts of decisions 49, 50 and 53, by computation: two words are lent, each 9 before.
+-- Texts of decisions 8.8, 8.9 and 8.12, by computation: two words are lent, each 9 before.
 use Prim.Native.Nat.{ℕ}
 use mathlib.Core.Path.{_≡_, refl}
 use mathlib.Core.Bool.{Bool, true, false}

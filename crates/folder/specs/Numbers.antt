@@ -1,4 +1,4 @@
--- Text files of decimal numbers: what the bytes of `charges` (decisions 49 and 50) and of `set` (decision 53) say.
+-- Text files of decimal numbers: what the bytes of `charges` (decisions 8.8 and 8.9) and of `set` (decision 8.12) say.
 use Prim.Native.Nat.{ℕ, _+_, _-_, _*_, _^_, _≤_}
 use mathlib.Core.Bool.{Bool, true, false, _&&_}
 use mathlib.Core.Path.{_≡_}
@@ -9,11 +9,11 @@ use lib.ListN.{length, set}
 use Rattle.packed.specs.Format.{pick}
 use Rattle.folder.specs.declared.numbers.Text.{Text}
 
--- 49: a number is at most this
+-- 8.8: a number is at most this
 abbrev pub most : ℕ
 most = 4294967295
 
--- 49, 53: the bytes of the digits 0 to 9
+-- 8.8, 8.12: the bytes of the digits 0 to 9
 unfoldable pub isDigit : ℕ → Bool
 isDigit b = leb 48 b && leb b 57
 
@@ -21,7 +21,7 @@ isDigit b = leb 48 b && leb b 57
 abbrev pub lineFeed : ℕ
 lineFeed = 10
 
--- 53: the other byte that stands between the numbers of a set
+-- 8.12: the other byte that stands between the numbers of a set
 abbrev pub space : ℕ
 space = 32
 
@@ -32,7 +32,7 @@ unfoldable pub onto : ℕ → List (List ℕ) → List (List ℕ)
 onto b [] = (b ∷ []) ∷ []
 onto b (l ∷ ls) = (b ∷ l) ∷ ls
 
--- 49: the lines of a text: each ends in a line feed, which the last may lack, so no bytes have no line
+-- 8.8: the lines of a text: each ends in a line feed, which the last may lack, so no bytes have no line
 unfoldable pub linesOf : List ℕ → List (List ℕ)
 linesOf [] = []
 linesOf (b ∷ bs) = pick (eqb b lineFeed) ([] ∷ linesOf bs) (onto b (linesOf bs))
@@ -54,7 +54,7 @@ valueFrom v (b ∷ bs) = valueFrom (v * 10 + (b - 48)) bs
 unfoldable pub valueOf : List ℕ → ℕ
 valueOf l = valueFrom 0 l
 
--- 49: one decimal number in digits alone, from 0 to the most
+-- 8.8: one decimal number in digits alone, from 0 to the most
 unfoldable pub isCharge : List ℕ → Bool
 isCharge l = allDigits l && isThere l && leb (valueOf l) most
 
@@ -64,7 +64,7 @@ pub record Listed : Type 0 where
   pub good : Bool
   pub words : List ℕ
 
--- 49, 50: lines after n others: all are counted, each number goes to its place where there is one, and the first that is no number is named
+-- 8.8, 8.9: lines after n others: all are counted, each number goes to its place where there is one, and the first that is no number is named
 unfoldable pub listOf : ℕ → List ℕ → List (List ℕ) → Listed
 listOf n ws [] = record { count = n; good = true; words = ws }
 listOf n ws (l ∷ ls) =
@@ -84,7 +84,7 @@ unfoldable pub ontoPiece : ℕ → List Piece → List Piece
 ontoPiece b [] = []
 ontoPiece b (q ∷ qs) = record { line = q .line; bytes = b ∷ q .bytes } ∷ qs
 
--- 53: the pieces of a text, from the line n on
+-- 8.12: the pieces of a text, from the line n on
 unfoldable pub piecesOf : ℕ → List ℕ → List Piece
 piecesOf n [] = record { line = n; bytes = [] } ∷ []
 piecesOf n (b ∷ bs) =
@@ -92,7 +92,7 @@ piecesOf n (b ∷ bs) =
     (record { line = n; bytes = [] } ∷ piecesOf (n + 1) bs)
     (pick (eqb b space) (record { line = n; bytes = [] } ∷ piecesOf n bs) (ontoPiece b (piecesOf n bs)))
 
--- 53: a decimal number from 0 to 15, or nothing
+-- 8.12: a decimal number from 0 to 15, or nothing
 unfoldable pub isMember : List ℕ → Bool
 isMember l = allDigits l && leb (valueOf l) 15
 
@@ -105,7 +105,7 @@ pub data SetTold : Type 0 where
   members : ℕ → SetTold
   failed : ℕ → SetTold
 
--- 53: the numbers of the pieces, beside those of the set x; anything else is a failure that names the line
+-- 8.12: the numbers of the pieces, beside those of the set x; anything else is a failure that names the line
 unfoldable pub setOf : ℕ → List Piece → SetTold
 setOf x [] = members x
 setOf x (q ∷ qs) = pick (isMember (q .bytes)) (setOf (withMember x (q .bytes)) qs) (failed (q .line))

@@ -27,11 +27,11 @@ withDigit t d =
     t
     (record { count = t .count; good = t .good; set = t .set; «is_list» = t .«is_list»; begun = true; value = t .value * 10 + d })
 
--- 49: a line is one number: one digit at least, and no more than the most
+-- 8.8: a line is one number: one digit at least, and no more than the most
 unfoldable pub isNumber : Text → Bool
 isNumber t = leb (t .value) most && t .begun
 
--- 53: a number that has begun is at its end: one of 0 to 15 is in the set, and a larger one is a failure
+-- 8.12: a number that has begun is at its end: one of 0 to 15 is in the set, and a larger one is a failure
 unfoldable pub endMember : Text → Text
 endMember t =
     pick (t .begun)
@@ -40,7 +40,7 @@ endMember t =
     (withLine t false))
     t
 
--- 53: after a number stands a space or a line end
+-- 8.12: after a number stands a space or a line end
 unfoldable pub nextInSet : Text → ℕ → Text
 nextInSet t b = pick (not (endMember t .good) || eqb b space) (endMember t) (withLine (endMember t) (eqb b lineFeed))
 
@@ -53,14 +53,14 @@ pub record State : Type 0 where
 abbrev pub state : Text → List ℕ → State
 state t ws = record { text = t; words = ws }
 
--- 49: a line of a list is at its end: its number goes to its place, where there is one
+-- 8.8: a line of a list is at its end: its number goes to its place, where there is one
 unfoldable pub endLine : State → State
 endLine s =
     pick (isNumber (s .text))
     (state (withLine (s .text) true) (set (s .words) (s .text .count) (s .text .value)))
     (state (withLine (s .text) false) (s .words))
 
--- 49: after a number stands a line end
+-- 8.8: after a number stands a line end
 unfoldable pub nextInList : State → ℕ → State
 nextInList s b = pick (eqb b lineFeed) (endLine s) (state (withLine (s .text) false) (s .words))
 
@@ -78,7 +78,7 @@ unfoldable pub steps : State → List ℕ → State
 steps s [] = s
 steps s (b ∷ bs) = steps (next s b) bs
 
--- 49: the last line may lack its line end
+-- 8.8: the last line may lack its line end
 unfoldable pub atEnd : State → State
 atEnd s = pick (s .text .begun) (next s lineFeed) s
 
