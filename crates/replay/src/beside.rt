@@ -1,8 +1,8 @@
 // A search that is made apart from the library's: what the reader says of both files goes through plain simulation and the writer.
 ghost use mathlib.Core.Path.{_≡_};
 ghost use lib.ListN.{length};
-use crate::calls;
-use crate::calls::Outcome;
+use crate::outcome;
+use crate::outcome::Outcome;
 use crate::slices;
 
 fn pattern_words() -> [u32; 114]
@@ -20,9 +20,9 @@ fn record_words() -> [u32; 28674]
 // What is said first of the two files: a refusal, or that both were read.
 fn first_refusal(number: usize, value: usize, other: usize, other_value: usize) -> Outcome {
     if number == 0 {
-        calls::refused(other, other_value)
+        outcome::refused(other, other_value)
     } else {
-        calls::refused(number, value)
+        outcome::refused(number, value)
     }
 }
 
@@ -49,7 +49,7 @@ fn write_sheet(
         return o;
     }
     let r = yuthaqim::yuthaqim_write_sheet(pattern, content, out, work);
-    calls::wrote_bytes(r.number, r.value, out)
+    outcome::sheet(r.number, r.value, out)
 }
 
 fn search_in(

@@ -2,104 +2,116 @@
 ghost use mathlib.Core.Path.{_≡_};
 ghost use lib.ListN.{length};
 
-// The registers. The four files of a case are parts of the memory, each from its start to its end: pattern or question, catalogue, record,
-// sheet, book or index.
+// The registers. The files of a case are parts of the memory, each from its start to its end: pattern or question, catalogue, record,
+// sheet, book or index; there is room for four more.
+pub const PARTS: usize = 8;
+
 pub const START: usize = 0;
 
-pub const END: usize = 4;
+pub const END: usize = 8;
 
-// What is lent: words for a reader, entries for an index and else bytes, bytes for the second record of a showing, words to work in.
-pub const ROOM: usize = 8;
+// What is lent: words for a reader, entries for an index and else bytes, bytes for a second output, words to work in.
+pub const ROOM: usize = 16;
 
-pub const SECOND: usize = 9;
+pub const SECOND: usize = 17;
 
-pub const WORK: usize = 10;
+pub const WORK: usize = 18;
 
 // How many words the content has.
-pub const CONTENT: usize = 11;
+pub const CONTENT: usize = 19;
 
 // By how much a sweep goes on.
-pub const STRIDE: usize = 12;
+pub const STRIDE: usize = 20;
 
 // What content is drawn by: see `content` and `records`.
-pub const SEED: usize = 13;
+pub const SEED: usize = 21;
 
-pub const ITEMS: usize = 14;
+pub const ITEMS: usize = 22;
 
-pub const LINKS: usize = 15;
+pub const LINKS: usize = 23;
 
-pub const KIND: usize = 16;
+pub const KIND: usize = 24;
 
-pub const KINDS: usize = 17;
+pub const KINDS: usize = 25;
 
-pub const ITEM_FORM: usize = 18;
+pub const ITEM_FORM: usize = 26;
 
-pub const LINK_FORM: usize = 19;
+pub const LINK_FORM: usize = 27;
 
-pub const LEAST: usize = 20;
+pub const LEAST: usize = 28;
 
-pub const MOST: usize = 21;
+pub const MOST: usize = 29;
 
-pub const FIRST: usize = 22;
+pub const FIRST: usize = 30;
 
-pub const STEP: usize = 23;
+pub const STEP: usize = 31;
 
-pub const GAP: usize = 24;
+pub const GAP: usize = 32;
+
+pub const LINK_KIND: usize = 33;
+
+pub const LINK_KINDS: usize = 34;
+
+pub const KIND_FORM: usize = 35;
 
 // The set that a client answers from.
-pub const SET: usize = 25;
-
-// What the kinds of links are drawn by: see `records`.
-pub const LINK_KIND: usize = 26;
-
-pub const LINK_KINDS: usize = 27;
-
-pub const KIND_FORM: usize = 28;
+pub const SET: usize = 36;
 
 // So many registers can be set by an instruction.
-pub const REGISTERS: usize = 32;
+pub const REGISTERS: usize = 64;
 
-// The last call and what it answered.
-pub const CALL: usize = 32;
+// What the last call answered.
+pub const FORM: usize = 64;
 
-pub const NUMBER: usize = 33;
+pub const NUMBER: usize = 65;
 
-pub const VALUE: usize = 34;
+pub const VALUE: usize = 66;
 
-pub const OTHER: usize = 35;
+pub const OTHER: usize = 67;
 
-pub const WRITTEN: usize = 36;
+pub const WRITTEN: usize = 68;
 
-pub const DIGEST: usize = 37;
+pub const DIGEST: usize = 69;
 
 // A digest of all outcomes of the last instruction, and one that was held to be compared.
-pub const OUTCOMES: usize = 38;
+pub const OUTCOMES: usize = 70;
 
-pub const HELD: usize = 39;
+pub const HELD: usize = 71;
 
-pub const COMPARED: usize = 40;
+pub const COMPARED: usize = 72;
 
-pub const EQUAL: usize = 41;
+pub const EQUAL: usize = 73;
 
 // What the calls of a round need of their outputs.
-pub const NEEDED: usize = 42;
+pub const NEEDED: usize = 74;
 
-pub const NEEDED_SECOND: usize = 43;
+pub const NEEDED_SECOND: usize = 75;
 
 // The call of the last round or single call, which sweeps make too.
-pub const CHOSEN: usize = 44;
+pub const CHOSEN: usize = 76;
 
-// The counts of a group, and of all groups: so many cells for each of 32 calls.
-pub const GROUP: usize = 64;
+// The counts of a group, and of all groups: so many cells for each of 64 calls.
+pub const GROUP: usize = 128;
 
-pub const ALL: usize = 5248;
+pub const ALL: usize = 10496;
 
 pub const BLOCK: usize = 162;
 
-pub fn none() -> [u64; 10432]
-    ensures { λ r. ⌜ 10432 ≡ length r ⌝ }
+pub const CALLS: usize = 64;
+
+pub fn none() -> [u64; 20864]
+    ensures { λ r. ⌜ 20864 ≡ length r ⌝ }
 {
-    [0; 10432]
+    [0; 20864]
+}
+
+// The registers of a part.
+pub fn start(part: usize) -> usize {
+    START + part % PARTS
+}
+
+pub fn end(part: usize) -> usize {
+    END + part % PARTS
 }
 
 pub fn at(cells: &[u64], i: usize) -> u64 {

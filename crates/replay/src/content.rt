@@ -43,13 +43,6 @@ pub fn add_bytes(fd: i32, size: usize, words: &mut [u32], cells: &mut [u64]) {
     add_bytes_in(fd, size, &mut s, words, cells);
 }
 
-// The last field's upper 8 bits.
-pub fn add_high(words: &mut [u32], cells: &[u64], x: usize) {
-    let last = slices::less(cells::number(cells, cells::CONTENT), 1);
-    let low = slices::word_at(words, last) % 0x100_0000;
-    slices::put_word(words, last, slices::low(x % 256 * 0x100_0000) | low);
-}
-
 // A list is a place in the content and a row of pairs from a code on. A code stands for the pair of its quotient and remainder by `items`;
 // from each to the next it is a step, and something below the gap. Codes from `items` * `items` on are left out.
 struct List {

@@ -1,12 +1,16 @@
 // What is counted of a call: its answer by number and detail, a digest of all answers, and faults.
 use crate::calls;
-use crate::calls::Outcome;
 use crate::cells;
 use crate::digest;
+use crate::outcome;
+use crate::outcome::Outcome;
 use crate::slices;
 
-// The cells of a call's block: 0 what was accepted, 1 what of that lists pairs, or is covered; from 5 on the refusals, five for each number.
+// The cells of a call's block: 0 what was accepted, 1 what of that lists pairs, 2 what is covered; from 5 on the refusals, five for each
+// number.
 pub const LISTING: usize = 1;
+
+pub const COVERED: usize = 2;
 
 pub const REFUSED: usize = 5;
 
@@ -22,23 +26,18 @@ fn cell_of(number: usize, detail: usize) -> usize {
     number % 32 * 5 + detail % 5
 }
 
-// Whether a quote is covered, or a sheet lists pairs, which its first bit says.
-fn is_listing(k: usize, o: Outcome, out: &[u8]) -> bool {
-    if o.number != 0 {
-        return false;
-    }
-    if k == calls::QUOTE {
-        return o.value == 1;
-    }
-    let lists = 127 < slices::byte_at(out, 0);
-    let answer = (k == calls::ANSWER) | (k == calls::ANSWER_FROM);
-    let search = (k == calls::SEARCH) | (k == calls::SEARCH_INDEXED) | (k == calls::PLAIN);
-    (answer | search) & lists
+// Whether a sheet lists pairs, which its first bit says.
+fn is_listing(o: Outcome, out: &[u8]) -> bool {
+    (o.number == 0) & (o.form == outcome::SHEET) & (127 < slices::byte_at(out, 0))
+}
+
+fn is_covered(o: Outcome) -> bool {
+    (o.number == 0) & (o.form == outcome::QUOTE) & (o.value == 1)
 }
 
 // A cell of a call's block, in its group and of all groups.
 fn add(cells: &mut [u64], k: usize, cell: usize, x: usize) {
-    let i = slices::plus(k % 32 * cells::BLOCK, cell);
+    let i = slices::plus(k % cells::CALLS * cells::BLOCK, cell);
     cells::add(cells, slices::plus(cells::GROUP, i), x);
     cells::add(cells, slices::plus(cells::ALL, i), x);
 }
@@ -66,7 +65,7 @@ fn content_after(k: usize, written: usize, before: usize) -> usize {
 }
 
 fn keep(k: usize, o: Outcome, cells: &mut [u64]) {
-    cells::set(cells, cells::CALL, k);
+    cells::set(cells, cells::FORM, o.form);
     cells::set(cells, cells::NUMBER, o.number);
     cells::set(cells, cells::VALUE, o.value);
     cells::set(cells, cells::OTHER, o.other);
@@ -78,9 +77,14 @@ fn keep(k: usize, o: Outcome, cells: &mut [u64]) {
 
 pub fn count(k: usize, o: Outcome, faults: usize, out: &[u8], cells: &mut [u64]) {
     add(cells, k, cell_of(o.number, o.value), 1);
-    add(cells, k, LISTING, slices::one_if(is_listing(k, o, out)));
+    add(cells, k, LISTING, slices::one_if(is_listing(o, out)));
+    add(cells, k, COVERED, slices::one_if(is_covered(o)));
     add(cells, k, FAULTS, faults);
-    digest_on(cells, cells::GROUP + k % 32 * cells::BLOCK + DIGEST, o);
+    digest_on(
+        cells,
+        cells::GROUP + k % cells::CALLS * cells::BLOCK + DIGEST,
+        o,
+    );
     digest_on(cells, cells::OUTCOMES, o);
     keep(k, o, cells);
 }

@@ -2,8 +2,9 @@
 ghost use mathlib.Core.Path.{_≡_};
 ghost use lib.ListN.{length};
 use crate::calls;
-use crate::calls::Outcome;
 use crate::digest;
+use crate::outcome;
+use crate::outcome::Outcome;
 use crate::slices;
 
 // More than an index may have; as bytes they fill the output.
@@ -101,6 +102,7 @@ fn make_in(record: &[u8], s: &mut [u16], out: &mut [u8], work: &mut [u32]) -> Ou
     give(s, n, out);
     let bytes = slices::plus(n, n);
     Outcome {
+        form: outcome::ENTRIES,
         number: r.number,
         value: r.value,
         other: 0,
@@ -127,10 +129,10 @@ fn with(
 ) -> Outcome {
     if k == calls::CHECK_INDEX {
         let r = yuthaqim::yuthaqim_check_index(record, index, work);
-        return calls::refused(r.number, r.value);
+        return outcome::values(outcome::ENTRIES, r.number, r.value, 0, digest::START);
     }
     let r = yuthaqim::yuthaqim_search_indexed(pattern, record, index, out, work);
-    calls::wrote_bytes(r.number, r.value, out)
+    outcome::sheet(r.number, r.value, out)
 }
 
 pub fn call(

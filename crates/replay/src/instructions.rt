@@ -1,4 +1,6 @@
-// The instructions. One below 32 sets the register of its number; for some of the others so many bytes follow as its value says.
+// The instructions: a byte says what to do, the next one the value. A value over 251 stands in bytes of its own, the least first: one where
+// that byte is 252, up to four where it is 255. A number below 64 sets the register of that number; for some of the others so many bytes
+// follow as the value says.
 ghost use mathlib.Core.Path.{_≡_};
 ghost use lib.ListN.{length};
 ghost use Prim.Native.Nat.{_<_};
@@ -14,70 +16,71 @@ use crate::rounds;
 use crate::slices;
 use crate::states;
 
-// Bytes that follow become the part of the last two bits' number.
-const BYTES: usize = 32;
+// Bytes that follow become the part of the last three bits' number.
+const BYTES: usize = 64;
 
 // What the last call wrote is added to the end of a part, which grows by that or by what it needed.
-const KEEP: usize = 36;
-
-// A field is added to the content; the last field gets its upper 8 bits; so many lists are added; the content becomes a record,
-// with the pairs of its links ascending or, where the value isn't 0, as they are drawn.
-const FIELD: usize = 37;
-
-const HIGH: usize = 38;
-
-const LISTS: usize = 39;
-
-const RECORD: usize = 40;
+const KEEP: usize = 72;
 
 // A bit of the memory is turned.
-const FLIP: usize = 41;
+const FLIP: usize = 73;
+
+// The content, which is that of a record, becomes a part, whatever it says; the same as records were stored before links had kinds.
+const PACK: usize = 74;
+
+const PACK_OLD: usize = 75;
+
+// A field is added to the content; the bytes that follow are, a field each; so many lists are.
+const FIELD: usize = 76;
+
+const FIELDS: usize = 77;
+
+const LISTS: usize = 78;
+
+// The content becomes that of a sheet of so many lists; so many pairs; a record, with the pairs of its links ascending or, where the value
+// isn't 0, as they are drawn.
+const SHEET: usize = 79;
+
+const PAIRS: usize = 80;
+
+const RECORD: usize = 81;
 
 // The outcomes of the last instruction are held; they are compared with those that are; what the last call wrote is compared with a part.
-const HOLD: usize = 42;
+const HOLD: usize = 82;
 
-const SAME: usize = 43;
+const SAME: usize = 83;
 
-const MATCH: usize = 44;
+const MATCH: usize = 84;
 
 // The bytes that follow are printed; the last outcome is; the counts of a group are, and of all groups.
-const NAME: usize = 45;
+const NAME: usize = 85;
 
-const OUTCOME: usize = 46;
+const OUTCOME: usize = 86;
 
-const GROUP: usize = 47;
+const GROUP: usize = 87;
 
-const ALL: usize = 48;
+const ALL: usize = 88;
 
-// The bytes that follow are added to the content, a field each; the content becomes so many pairs.
-const FIELDS: usize = 49;
+// A single call, and rounds, of the call that the value says.
+const ONCE: usize = 96;
 
-const PAIRS: usize = 50;
+const ROUND: usize = 97;
 
-// The content, which is that of a record, becomes a part, whatever it says: below 4 as records were stored before links had kinds.
-const PACK: usize = 51;
-
-// The content becomes that of a sheet of so many lists.
-const SHEET: usize = 52;
-
-// A single call, and a round, of the call that the last five bits say.
-const ONCE: usize = 64;
-
-const ROUND: usize = 96;
+const BOTH: usize = 98;
 
 // Sweeps of the same call over a part.
-const CUTS: usize = 128;
+const CUTS: usize = 99;
 
-const FLIPS: usize = 129;
+const FLIPS: usize = 100;
 
-const SHORT: usize = 130;
+const SHORT: usize = 101;
 
 fn keep(part: usize, memory: &mut [u8], out: &[u8], cells: &mut [u64]) {
-    let end = cells::number(cells, cells::END + part % 4);
+    let end = cells::number(cells, cells::end(part));
     let written = cells::number(cells, cells::WRITTEN);
     slices::copy(out, written, memory, end);
     let size = slices::greatest(written, rounds::needed(cells));
-    cells::set(cells, cells::END + part % 4, slices::plus(end, size));
+    cells::set(cells, cells::end(part), slices::plus(end, size));
 }
 
 fn compare(equal: bool, cells: &mut [u64]) {
@@ -94,15 +97,15 @@ fn matches(part: usize, memory: &[u8], cells: &[u64]) -> bool {
     let d = digest::over_bytes(digest::START, &memory[start..end], end - start);
     let bytes = (cells::at(cells, cells::NUMBER) == 0) & (cells::at(cells, cells::DIGEST) == d);
     let no_fit = cells::at(cells, cells::NUMBER) == 12;
-    let from = cells::number(cells, cells::START + part % 4);
-    let size = slices::less(cells::number(cells, cells::END + part % 4), from);
+    let from = cells::number(cells, cells::start(part));
+    let size = slices::less(cells::number(cells, cells::end(part)), from);
     (bytes | no_fit) & (cells::number(cells, cells::VALUE) == size)
 }
 
 fn bytes(fd: i32, part: usize, size: usize, memory: &mut [u8], cells: &mut [u64]) {
-    let start = cells::number(cells, cells::START + part % 4);
+    let start = cells::number(cells, cells::start(part));
     memory::take(fd, memory, start, size);
-    cells::set(cells, cells::END + part % 4, slices::plus(start, size));
+    cells::set(cells, cells::end(part), slices::plus(start, size));
 }
 
 // Those that change the memory.
@@ -118,7 +121,8 @@ fn on_memory(
     match op {
         KEEP => keep(value, memory, out, cells),
         FLIP => memory::flip(memory, value),
-        PACK => pack::record(value, words, memory, cells),
+        PACK => pack::record(value, 3, words, memory, cells),
+        PACK_OLD => pack::record(value, 0, words, memory, cells),
         _ => bytes(fd, op, value, memory, cells),
     }
 }
@@ -127,11 +131,10 @@ fn on_memory(
 fn on_content(fd: i32, op: usize, value: usize, words: &mut [u32], cells: &mut [u64]) {
     match op {
         FIELD => content::add(words, cells, value),
-        HIGH => content::add_high(words, cells, value),
-        LISTS => content::add_lists(value, words, cells),
         FIELDS => content::add_bytes(fd, value, words, cells),
-        PAIRS => states::draw_pairs(value, words, cells),
+        LISTS => content::add_lists(value, words, cells),
         SHEET => content::sheet(value, words, cells),
+        PAIRS => states::draw_pairs(value, words, cells),
         _ => records::draw(value == 0, words, cells),
     }
 }
@@ -153,45 +156,45 @@ fn on_cells(
         MATCH => compare(matches(value, memory, cells), cells),
         NAME => print::name(fd, value),
         OUTCOME => print::outcome(cells, out, words),
-        GROUP => print::group(cells::GROUP, cells),
-        ALL => print::group(cells::ALL, cells),
+        GROUP => print::group(cells::GROUP, memory, cells),
+        ALL => print::group(cells::ALL, memory, cells),
         _ => (),
     }
 }
 
 fn mode_of(op: usize) -> usize {
     match op {
+        ROUND => rounds::ROUND,
+        BOTH => rounds::BOTH,
         CUTS => rounds::CUTS,
         FLIPS => rounds::FLIPS,
         SHORT => rounds::SHORT,
-        _ => {
-            if op < ROUND {
-                rounds::ONCE
-            } else {
-                rounds::ROUND
-            }
-        }
+        _ => rounds::ONCE,
     }
 }
 
 // A sweep is of the call of the last round or single call.
-fn chosen(op: usize, before: usize) -> usize {
-    if op < CUTS { op % 32 } else { before }
+fn chosen(op: usize, value: usize, before: usize) -> usize {
+    if op < CUTS {
+        value % cells::CALLS
+    } else {
+        before
+    }
 }
 
 // Those that make calls.
 fn on_calls(
     op: usize,
-    part: usize,
+    value: usize,
     memory: &mut [u8],
     out: &mut [u8],
     words: &mut [u32],
     work: &mut [u32],
     cells: &mut [u64],
 ) {
-    let k = chosen(op, cells::number(cells, cells::CHOSEN));
+    let k = chosen(op, value, cells::number(cells, cells::CHOSEN));
     cells::set(cells, cells::CHOSEN, k);
-    rounds::calls(mode_of(op), k, part, memory, out, words, work, cells);
+    rounds::calls(mode_of(op), k, value, memory, out, words, work, cells);
 }
 
 fn act(
@@ -206,15 +209,21 @@ fn act(
 ) {
     if op < cells::REGISTERS {
         cells::set(cells, op, value);
-    } else if (op <= KEEP) | (op == FLIP) | (op == PACK) {
+    } else if op < FIELD {
         on_memory(fd, op, value, memory, out, words, cells);
-    } else if (op < FLIP) | (op == FIELDS) | (op == PAIRS) | (op == SHEET) {
+    } else if op < HOLD {
         on_content(fd, op, value, words, cells);
     } else if op < ONCE {
         on_cells(fd, op, value, memory, out, words, cells);
     } else {
         on_calls(op, value, memory, out, words, work, cells);
     }
+}
+
+fn two() -> [u8; 2]
+    ensures { λ r. ⌜ 2 ≡ length r ⌝ }
+{
+    [0; 2]
 }
 
 fn four() -> [u8; 4]
@@ -229,8 +238,14 @@ fn wide(b: u8) -> usize
     b as usize
 }
 
-fn value_of(a: u8, b: u8, c: u8) -> usize {
-    wide(a) + wide(b) * 256 + wide(c) * 65536
+// The value whose first byte is this one.
+fn value_of(fd: i32, first: usize) -> usize {
+    if first < 252 {
+        return first;
+    }
+    let mut s = four();
+    memory::take(fd, &mut s, 0, first - 251);
+    wide(s[0]) + wide(s[1]) * 256 + wide(s[2]) * 65536 + wide(s[3]) * 0x100_0000
 }
 
 // The next instruction: whether there was one.
@@ -242,11 +257,11 @@ pub fn next(
     work: &mut [u32],
     cells: &mut [u64],
 ) -> bool {
-    let mut s = four();
-    if io::read_full(fd, &mut s) < 4 {
+    let mut s = two();
+    if io::read_full(fd, &mut s) < 2 {
         return false;
     }
-    let value = value_of(s[1], s[2], s[3]);
+    let value = value_of(fd, wide(s[1]));
     act(fd, wide(s[0]), value, memory, out, words, work, cells);
     true
 }

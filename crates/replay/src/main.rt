@@ -1,10 +1,11 @@
 // Replays the cases of the file `cases`, which the model writes, through every client call, and prints what they answered.
 //
-// The file is a row of instructions of four bytes, a number for what to do and a value of 24 bits; some have bytes after them. They fill a
-// memory that stays from case to case, say how much is lent, make calls, and print. Any file will do: what isn't there is passed over.
+// The file is a row of instructions, a number for what to do and a value; some have bytes after them. They fill a memory that stays from case
+// to case, say how much is lent, make calls, and print. Any file will do: what isn't there is passed over.
 ghost use Prim.Native.Nat.{_<_};
 
 mod beside;
+mod both;
 mod calls;
 mod cells;
 mod content;
@@ -15,6 +16,7 @@ mod indexed;
 mod instructions;
 mod marks;
 mod memory;
+mod outcome;
 mod pack;
 mod print;
 mod records;

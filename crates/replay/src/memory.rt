@@ -10,11 +10,11 @@ pub fn bytes() -> [u8; 393216]
     [0; 393216]
 }
 
-// More than a sheet or a book may have.
-pub fn output() -> [u8; 66000]
-    ensures { λ r. ⌜ 66000 ≡ length r ⌝ }
+// More than two sheets may have.
+pub fn output() -> [u8; 132000]
+    ensures { λ r. ⌜ 132000 ≡ length r ⌝ }
 {
-    [0; 66000]
+    [0; 132000]
 }
 
 // The content that a reader gives and a writer takes. A sheet has at most 32 lists of 8,192 pairs.

@@ -49,14 +49,13 @@ fn put_fields(
     at
 }
 
-// The content becomes the part of the last two bits' number, with zero bits up to a whole byte. Below 4 the kinds of links are left out, as
-// records were stored before they had them.
-pub fn record(part: usize, words: &[u32], memory: &mut [u8], cells: &mut [u64]) {
-    let start = cells::number(cells, cells::START + part % 4) % 0x1000_0000;
+// The content becomes a part, with zero bits up to a whole byte. The kind of a link has so many bits: none where records are as they were
+// stored before links had kinds.
+pub fn record(part: usize, kind: usize, words: &[u32], memory: &mut [u8], cells: &mut [u64]) {
+    let start = cells::number(cells, cells::start(part)) % 0x1000_0000;
     let count = cells::number(cells, cells::CONTENT);
     let n = slices::word_at(words, 0) as usize;
-    let kind = if part < 4 { 0 } else { 3 };
     let end = put_fields(words, n, kind, count, start * 8, memory);
     let last = put_field(0, 7 - slices::plus(end, 7) % 8, end, memory);
-    cells::set(cells, cells::END + part % 4, last / 8);
+    cells::set(cells, cells::end(part), last / 8);
 }

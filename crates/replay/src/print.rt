@@ -1,10 +1,10 @@
 // What is printed: names from the cases, single outcomes, and the counts of groups.
 ghost use mathlib.Core.Path.{_≡_};
 ghost use lib.ListN.{length};
-use crate::calls;
 use crate::cells;
 use crate::counts;
 use crate::digest;
+use crate::outcome;
 use crate::slices;
 
 fn say(s: &[u8]) {
@@ -66,57 +66,65 @@ fn say_digest(d: u64) {
 }
 
 // A short output whole, a long one by its digest.
-fn say_output(k: usize, cells: &[u64], out: &[u8], words: &[u32]) {
+fn say_output(form: usize, cells: &[u64], out: &[u8], words: &[u32]) {
     let n = cells::number(cells, cells::WRITTEN);
     if 64 < n {
         say_digest(cells::at(cells, cells::DIGEST));
-    } else if k < calls::WRITE_PATTERN {
+    } else if form == outcome::WORDS {
         say_words(words, n);
     } else {
         say_bytes(out, n);
     }
 }
 
-// A quote, or the cheapest set.
-fn say_quote(k: usize, cells: &[u64]) {
-    if k == calls::CHEAPEST {
-        say(b"cost ");
-        say_number(cells::number(cells, cells::VALUE));
-        say(b", set ");
-    } else if cells::at(cells, cells::VALUE) == 1 {
-        say(b"covered, chosen ");
-    } else {
-        say(b"uncovered, lowest ");
+// What is answered by values alone has its digest.
+fn say_values(form: usize, value: usize, other: usize, digest: u64) {
+    match form {
+        outcome::QUOTE => {
+            if value == 1 {
+                say(b"covered, chosen ");
+            } else {
+                say(b"uncovered, lowest ");
+            }
+            say_number(other);
+        }
+        outcome::PRICE => {
+            say(b"cost ");
+            say_number(value);
+            say(b", set ");
+            say_number(other);
+        }
+        _ => {
+            say_number(value);
+            say(b" steps");
+        }
     }
-    say_number(cells::number(cells, cells::OTHER));
-    say_digest(cells::at(cells, cells::DIGEST));
+    say_digest(digest);
 }
 
-fn say_lengths(k: usize, cells: &[u64]) {
-    say_number(cells::number(cells, cells::VALUE));
-    if k < calls::WRITE_PATTERN {
-        say(b" words");
-    } else if (k == calls::MAKE_INDEX) | (k == calls::CHECK_INDEX) {
-        say(b" entries");
-    } else if k == calls::SHOW_UNCOVERED {
-        say(b" and ");
-        say_number(cells::number(cells, cells::OTHER));
-        say(b" bytes");
-    } else {
-        say(b" bytes");
+fn say_lengths(form: usize, value: usize, other: usize) {
+    say_number(value);
+    match form {
+        outcome::WORDS => say(b" words"),
+        outcome::ENTRIES => say(b" entries"),
+        outcome::BOTH => {
+            say(b" and ");
+            say_number(other);
+            say(b" bytes");
+        }
+        _ => say(b" bytes"),
     }
 }
 
-fn say_accepted(k: usize, cells: &[u64], out: &[u8], words: &[u32]) {
-    if (k == calls::QUOTE) | (k == calls::CHEAPEST) {
-        say_quote(k, cells);
-    } else if k == calls::STEPS {
-        say_number(cells::number(cells, cells::VALUE));
-        say(b" steps");
-        say_digest(cells::at(cells, cells::DIGEST));
+fn say_accepted(cells: &[u64], out: &[u8], words: &[u32]) {
+    let form = cells::number(cells, cells::FORM);
+    let value = cells::number(cells, cells::VALUE);
+    let other = cells::number(cells, cells::OTHER);
+    if outcome::BOTH < form {
+        say_values(form, value, other, cells::at(cells, cells::DIGEST));
     } else {
-        say_lengths(k, cells);
-        say_output(k, cells, out, words);
+        say_lengths(form, value, other);
+        say_output(form, cells, out, words);
     }
 }
 
@@ -124,7 +132,7 @@ fn say_accepted(k: usize, cells: &[u64], out: &[u8], words: &[u32]) {
 pub fn outcome(cells: &[u64], out: &[u8], words: &[u32]) {
     let number = cells::number(cells, cells::NUMBER);
     if number == 0 {
-        say_accepted(cells::number(cells, cells::CALL), cells, out, words);
+        say_accepted(cells, out, words);
     } else {
         say(b"refused ");
         say_number(number);
@@ -134,44 +142,27 @@ pub fn outcome(cells: &[u64], out: &[u8], words: &[u32]) {
     say(b"\n");
 }
 
-fn say_call(k: usize) {
-    match k {
-        0 => say(b"  read_pattern: "),
-        1 => say(b"  read_catalogue: "),
-        2 => say(b"  read_record: "),
-        3 => say(b"  read_sheet: "),
-        4 => say(b"  read_book: "),
-        5 => say(b"  write_pattern: "),
-        6 => say(b"  write_catalogue: "),
-        7 => say(b"  write_record: "),
-        8 => say(b"  write_sheet: "),
-        9 => say(b"  write_book: "),
-        10 => say(b"  search: "),
-        11 => say(b"  make_book: "),
-        12 => say(b"  quote: "),
-        13 => say(b"  answer: "),
-        14 => say(b"  show_uncovered: "),
-        15 => say(b"  cheapest: "),
-        16 => say(b"  answer_from: "),
-        17 => say(b"  sort_record: "),
-        18 => say(b"  make_index: "),
-        19 => say(b"  check_index: "),
-        20 => say(b"  search_indexed: "),
-        30 => say(b"  steps: "),
-        _ => say(b"  plain search: "),
-    }
+// The names of the calls stand in the memory from here on, each in 32 bytes: its length, then itself.
+const NAMES: usize = 128000;
+
+fn wide(b: u8) -> usize {
+    b as usize
 }
 
-fn say_listing(k: usize, block: usize, cells: &[u64]) {
-    let n = cells::number(cells, slices::plus(block, counts::LISTING));
+fn say_call(k: usize, memory: &[u8]) {
+    let place = NAMES + k % cells::CALLS * 32;
+    let from = slices::least(place + 1, memory.len());
+    let n = slices::least(wide(slices::byte_at(memory, place)), memory.len() - from);
+    say(b"  ");
+    say(&memory[from..from + n]);
+    say(b": ");
+}
+
+fn say_some(n: usize, what: &[u8]) {
     if n != 0 {
         say(b" (");
         say_number(n);
-        if k == calls::QUOTE {
-            say(b" covered)");
-        } else {
-            say(b" list pairs)");
-        }
+        say(what);
     }
 }
 
@@ -218,15 +209,22 @@ fn clear(block: usize, cells: &mut [u64]) {
 }
 
 // A call's line, where it was made.
-fn say_block(k: usize, block: usize, cells: &[u64]) {
+fn say_block(k: usize, block: usize, memory: &[u8], cells: &[u64]) {
     let n = sum(block, cells);
     if n != 0 {
-        say_call(k);
+        say_call(k, memory);
         say_number(n);
         say(b" calls, ");
         say_number(cells::number(cells, block));
         say(b" accepted");
-        say_listing(k, block, cells);
+        say_some(
+            cells::number(cells, slices::plus(block, counts::LISTING)),
+            b" list pairs)",
+        );
+        say_some(
+            cells::number(cells, slices::plus(block, counts::COVERED)),
+            b" covered)",
+        );
         say_refusals(block, cells);
         say(b"; ");
         say_number(cells::number(cells, slices::plus(block, counts::FAULTS)));
@@ -253,11 +251,11 @@ fn say_compared(cells: &mut [u64]) {
 }
 
 // The lines of a group, from the first block on, after which it is counted anew.
-pub fn group(first: usize, cells: &mut [u64]) {
+pub fn group(first: usize, memory: &[u8], cells: &mut [u64]) {
     let mut k: usize = 0;
-    while k < 32 {
+    while k < cells::CALLS {
         let block = slices::plus(first, k * cells::BLOCK);
-        say_block(k, block, cells);
+        say_block(k, block, memory, cells);
         clear(block, cells);
         k += 1;
     }

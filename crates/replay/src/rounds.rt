@@ -1,25 +1,27 @@
 // Calls one after the other: a single one, a round of what can be lent, and sweeps over damaged files.
 use crate::calls;
-use crate::calls::Outcome;
 use crate::cells;
 use crate::counts;
 use crate::marks;
 use crate::memory;
+use crate::outcome::Outcome;
 use crate::slices;
 
 // A call as the registers say.
 pub const ONCE: usize = 0;
 
-// That; then with a byte or word less than it needs, with too few words to work in, and with just what it needs. A showing is lent a byte
-// less for its second record alone before that.
+// That; then with a byte or word less than it needs, with too few words to work in, and with just what it needs.
 pub const ROUND: usize = 1;
 
+// The same where there are two outputs: before the last a byte less is lent for the second alone.
+pub const BOTH: usize = 2;
+
 // A file cut to each length, with each bit turned, or without its last byte. What a reader accepts is written back.
-pub const CUTS: usize = 2;
+pub const CUTS: usize = 3;
 
-pub const FLIPS: usize = 3;
+pub const FLIPS: usize = 4;
 
-pub const SHORT: usize = 4;
+pub const SHORT: usize = 5;
 
 fn mark_output(k: usize, room: usize, out: &mut [u8], words: &mut [u32]) {
     if k < calls::WRITE_PATTERN {
@@ -70,7 +72,7 @@ fn make(
 
 fn is_written_back(mode: usize, k: usize, cells: &[u64]) -> bool {
     let accepted = cells::at(cells, cells::NUMBER) == 0;
-    (ROUND < mode) & (k < calls::WRITE_PATTERN) & accepted
+    (BOTH < mode) & (k < calls::WRITE_PATTERN) & accepted
 }
 
 fn make_and_write_back(
@@ -120,7 +122,7 @@ fn lend_second(cells: &mut [u64]) {
 
 // What is lent to call i of a round.
 fn lend(mode: usize, i: usize, cells: &mut [u64]) {
-    if mode == ROUND {
+    if (mode == ROUND) | (mode == BOTH) {
         match i {
             0 => (),
             1 => lend_less(cells),
@@ -134,15 +136,15 @@ fn lend(mode: usize, i: usize, cells: &mut [u64]) {
 // A part ends so far from its start.
 fn cut(mode: usize, size: usize, part: usize, cells: &mut [u64]) {
     if (mode == CUTS) | (mode == SHORT) {
-        let start = cells::number(cells, cells::START + part % 4);
-        cells::set(cells, cells::END + part % 4, slices::plus(start, size));
+        let start = cells::number(cells, cells::start(part));
+        cells::set(cells, cells::end(part), slices::plus(start, size));
     }
 }
 
 // A bit of a part is turned.
 fn flip(mode: usize, bit: usize, part: usize, memory: &mut [u8], cells: &[u64]) {
     if mode == FLIPS {
-        let start = cells::number(cells, cells::START + part % 4) % 0x1000_0000;
+        let start = cells::number(cells, cells::start(part)) % 0x1000_0000;
         memory::flip(memory, slices::plus(start * 8, bit));
     }
 }
@@ -205,16 +207,20 @@ fn sweep(size: usize, stride: usize) -> Places {
     }
 }
 
-fn places_of(mode: usize, k: usize, part: usize, cells: &[u64]) -> Places {
-    let start = cells::number(cells, cells::START + part % 4);
-    let size = slices::less(cells::number(cells, cells::END + part % 4), start) % 0x1000_0000;
+fn places_of(mode: usize, part: usize, cells: &[u64]) -> Places {
+    let start = cells::number(cells, cells::start(part));
+    let size = slices::less(cells::number(cells, cells::end(part)), start) % 0x1000_0000;
     let stride = cells::number(cells, cells::STRIDE);
-    let count = if k == calls::SHOW_UNCOVERED { 5 } else { 4 };
     match mode {
         ROUND => Places {
             first: 0,
             stride: 1,
-            count,
+            count: 4,
+        },
+        BOTH => Places {
+            first: 0,
+            stride: 1,
+            count: 5,
         },
         CUTS => sweep(size, stride),
         FLIPS => sweep(size * 8, stride),
@@ -245,8 +251,8 @@ pub fn calls(
     let room = cells::at(cells, cells::ROOM);
     let second = cells::at(cells, cells::SECOND);
     let lent = cells::at(cells, cells::WORK);
-    let end = cells::at(cells, cells::END + part % 4);
-    let p = places_of(mode, k, part, cells);
+    let end = cells::at(cells, cells::end(part));
+    let p = places_of(mode, part, cells);
     cells::put(cells, cells::OUTCOMES, 0);
     turns(
         mode,
@@ -264,5 +270,5 @@ pub fn calls(
     cells::put(cells, cells::ROOM, room);
     cells::put(cells, cells::SECOND, second);
     cells::put(cells, cells::WORK, lent);
-    cells::put(cells, cells::END + part % 4, end);
+    cells::put(cells, cells::end(part), end);
 }

@@ -1,11 +1,11 @@
 // The states of a join, step by step: the pairs that a question's links are left with after each, from the crate `matching` itself.
 //
 // The content is pairs, ascending, two words for each: its code, 4096 * from + to, and the links of the question that it is a candidate for.
-use crate::calls;
-use crate::calls::Outcome;
 use crate::cells;
 use crate::digest;
 use crate::draw;
+use crate::outcome;
+use crate::outcome::Outcome;
 use crate::records;
 use crate::slices;
 use matching::steps;
@@ -160,16 +160,10 @@ fn after_each(question: &[u8], limit: usize, content: &[u32], work: &mut [u32]) 
 // A question of so many links, from no step to all of them: how many there are, and the settled items at the end.
 pub fn each(question: &[u8], links: usize, content: &[u32], work: &mut [u32]) -> Outcome {
     if work.len() < 16384 {
-        return calls::refused(14, 0);
+        return outcome::refused(14, 0);
     }
     let seen = after_each(question, slices::power(links), content, work);
     lay(&content[0..0], work);
-    Outcome {
-        number: 0,
-        value: seen.steps,
-        other: seen.settled as usize,
-        written: 0,
-        digest: seen.digest,
-        faults: 0,
-    }
+    let settled = seen.settled as usize;
+    outcome::values(outcome::STEPS, 0, seen.steps, settled, seen.digest)
 }

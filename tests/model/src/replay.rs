@@ -1,133 +1,72 @@
 //! The file of cases that the program `replay` reads, and what it has to print. Each instruction is written and obeyed:
 //! the model keeps the same memory, makes the same calls of its own, and counts and prints alike.
 
+mod calls;
 mod counts;
 mod outcome;
 
-use crate::answering::{answer, answer_from};
-use crate::cheapest::cheapest;
 use crate::files::*;
-use crate::indexing::{check_index, make_index, search_indexed};
-use crate::matching::{make_book, search};
-use crate::quoting::{quote, show};
 use crate::rule::{Drawn, Lists, Pairs};
 use counts::Counts;
-use outcome::{Outcome, Output, DIGEST_START};
+use outcome::{Form, Outcome, Output, DIGEST_START};
 use std::fmt::Write;
+
+pub use calls::*;
 
 /// The registers.
 pub const START: usize = 0;
-pub const END: usize = 4;
-pub const ROOM: usize = 8;
-pub const SECOND: usize = 9;
-pub const WORK: usize = 10;
-pub const CONTENT: usize = 11;
-pub const STRIDE: usize = 12;
-const SEED: usize = 13;
-const ITEMS: usize = 14;
-const LINKS: usize = 15;
-const KIND: usize = 16;
-const KINDS: usize = 17;
-const ITEM_FORM: usize = 18;
-const LINK_FORM: usize = 19;
-const LEAST: usize = 20;
-const MOST: usize = 21;
-const FIRST: usize = 22;
-const STEP: usize = 23;
-const GAP: usize = 24;
-pub const SET: usize = 25;
-const LINK_KIND: usize = 26;
-const LINK_KINDS: usize = 27;
-const KIND_FORM: usize = 28;
+pub const END: usize = 8;
+pub const ROOM: usize = 16;
+pub const SECOND: usize = 17;
+pub const WORK: usize = 18;
+pub const CONTENT: usize = 19;
+pub const STRIDE: usize = 20;
+const SEED: usize = 21;
+const ITEMS: usize = 22;
+const LINKS: usize = 23;
+const KIND: usize = 24;
+const KINDS: usize = 25;
+const ITEM_FORM: usize = 26;
+const LINK_FORM: usize = 27;
+const LEAST: usize = 28;
+const MOST: usize = 29;
+const FIRST: usize = 30;
+const STEP: usize = 31;
+const GAP: usize = 32;
+const LINK_KIND: usize = 33;
+const LINK_KINDS: usize = 34;
+const KIND_FORM: usize = 35;
+pub const SET: usize = 36;
+const REGISTERS: usize = 64;
 
 /// The instructions.
-const BYTES: usize = 32;
-const KEEP: usize = 36;
-const FIELD: usize = 37;
-const HIGH: usize = 38;
-const LISTS: usize = 39;
-const RECORD_CONTENT: usize = 40;
-const FLIP: usize = 41;
-const HOLD: usize = 42;
-const SAME: usize = 43;
-const MATCH: usize = 44;
-const NAME: usize = 45;
-const OUTCOME: usize = 46;
-const GROUP: usize = 47;
-const ALL: usize = 48;
-const FIELDS: usize = 49;
-const PAIRS: usize = 50;
-const PACK: usize = 51;
-const SHEET: usize = 52;
-const ONCE: usize = 64;
-const ROUND: usize = 96;
-const CUTS: usize = 128;
-const FLIPS: usize = 129;
-const SHORT_BY_ONE: usize = 130;
-
-/// The calls.
-pub const READ_PATTERN: usize = 0;
-pub const READ_CATALOGUE: usize = 1;
-pub const READ_RECORD: usize = 2;
-pub const READ_SHEET: usize = 3;
-pub const READ_BOOK: usize = 4;
-pub const WRITE_PATTERN: usize = 5;
-pub const WRITE_CATALOGUE: usize = 6;
-pub const WRITE_RECORD: usize = 7;
-pub const WRITE_SHEET: usize = 8;
-pub const WRITE_BOOK: usize = 9;
-pub const SEARCH: usize = 10;
-pub const MAKE_BOOK: usize = 11;
-pub const QUOTE: usize = 12;
-pub const ANSWER: usize = 13;
-pub const SHOW_UNCOVERED: usize = 14;
-pub const CHEAPEST: usize = 15;
-pub const ANSWER_FROM: usize = 16;
-pub const SORT_RECORD: usize = 17;
-pub const MAKE_INDEX: usize = 18;
-pub const CHECK_INDEX: usize = 19;
-pub const SEARCH_INDEXED: usize = 20;
-/// The states of a join after each step.
-pub const STEPS: usize = 30;
-/// The search that the program makes apart from the library's. To the model it is the same.
-pub const PLAIN: usize = 31;
+const BYTES: usize = 64;
+const KEEP: usize = 72;
+const FLIP: usize = 73;
+const PACK: usize = 74;
+const PACK_OLD: usize = 75;
+const FIELD: usize = 76;
+const FIELDS: usize = 77;
+const LISTS: usize = 78;
+const SHEET: usize = 79;
+const PAIRS: usize = 80;
+const RECORD_CONTENT: usize = 81;
+const HOLD: usize = 82;
+const SAME: usize = 83;
+const MATCH: usize = 84;
+const NAME: usize = 85;
+const OUTCOME: usize = 86;
+const GROUP: usize = 87;
+const ALL: usize = 88;
+const ONCE: usize = 96;
+const ROUND: usize = 97;
+const BOTH: usize = 98;
+const CUTS: usize = 99;
+const FLIPS: usize = 100;
+const SHORT_BY_ONE: usize = 101;
 
 /// The numbers that calls may have.
-const NUMBERS: usize = 32;
-
-/// The names of the library's calls, in the order of these numbers.
-pub const CALLS: [&str; 21] = [
-    "read_pattern",
-    "read_catalogue",
-    "read_record",
-    "read_sheet",
-    "read_book",
-    "write_pattern",
-    "write_catalogue",
-    "write_record",
-    "write_sheet",
-    "write_book",
-    "search",
-    "make_book",
-    "quote",
-    "answer",
-    "show_uncovered",
-    "cheapest",
-    "answer_from",
-    "sort_record",
-    "make_index",
-    "check_index",
-    "search_indexed",
-];
-
-/// The name of a call, or of what the program does apart from them.
-fn name(call: usize) -> &'static str {
-    match call {
-        STEPS => "steps",
-        PLAIN => "plain search",
-        _ => CALLS[call],
-    }
-}
+const NUMBERS: usize = 64;
 
 /// The parts of the memory that the calls take: a pattern or question, a catalogue, a record, a sheet, book or index.
 pub const QUESTION_PART: usize = 0;
@@ -135,19 +74,20 @@ pub const CATALOGUE_PART: usize = 1;
 pub const RECORD_PART: usize = 2;
 pub const BOOK_PART: usize = 3;
 
-/// Where each part is laid by default, where the memory is zero for ever, and where an index has room beside a book.
+/// Where each part is laid by default, where the memory is zero for ever, where an index has room beside a book, and where the
+/// names of the calls stand.
 pub const PLACES: [usize; 4] = [0, 1_024, 4_096, 131_072];
 pub const ZEROS: usize = 49_152;
 pub const INDEX_PLACE: usize = 118_784;
+const NAMES: usize = 128_000;
 
 /// What the program has.
 const MEMORY: usize = 393_216;
 const WORDS: usize = 524_321;
-const OUTPUT: usize = 66_000;
-const ENTRIES: usize = 33_000;
+const OUTPUT: usize = 132_000;
 
 /// The most that is lent by default. As room it is so many bytes or words.
-pub const ROOM_MOST: usize = OUTPUT;
+pub const ROOM_MOST: usize = 66_000;
 pub const WORK_MOST: usize = 16_400;
 
 /// The cases so far, and what is printed so far.
@@ -156,9 +96,8 @@ pub struct Script {
     pub printed: String,
     memory: Vec<u8>,
     words: Vec<u32>,
-    registers: [usize; 32],
+    registers: [usize; REGISTERS],
     chosen: usize,
-    call: usize,
     last: Outcome,
     outcomes: u64,
     held: u64,
@@ -170,30 +109,47 @@ pub struct Script {
 
 impl Script {
     pub fn new() -> Script {
-        Script {
+        let mut script = Script {
             file: Vec::new(),
             printed: String::new(),
             memory: vec![0; MEMORY],
             words: vec![0; WORDS],
-            registers: [0; 32],
+            registers: [0; REGISTERS],
             chosen: 0,
-            call: 0,
-            last: Outcome { number: 0, value: 0, other: 0, digest: 0, output: Output::Nothing },
+            last: Outcome { form: Form::Words, number: 0, value: 0, other: 0, digest: 0, output: Output::Nothing },
             outcomes: 0,
             held: 0,
             compared: 0,
             equal: 0,
             group: vec![Counts::new(); NUMBERS],
             all: vec![Counts::new(); NUMBERS],
-        }
+        };
+        script.names();
+        script
     }
 
     // What is written.
 
+    /// A value over 251 stands in bytes of its own, the least first: one after 252, up to four after 255.
     fn instruction(&mut self, number: usize, value: usize) {
-        assert!(number < 256 && value < 1 << 24);
-        self.file.push(number as u8);
-        self.file.extend(&(value as u32).to_le_bytes()[..3]);
+        let value = u32::try_from(value).unwrap();
+        let bytes = value.to_le_bytes();
+        self.file.push(u8::try_from(number).unwrap());
+        match 4 - value.leading_zeros() / 8 {
+            _ if value < 252 => self.file.push(bytes[0]),
+            count => {
+                self.file.push(251 + count as u8);
+                self.file.extend(&bytes[..count as usize]);
+            }
+        }
+    }
+
+    /// The names of the calls, each in 32 bytes: its length, then itself.
+    fn names(&mut self) {
+        for Call { number, name, .. } in ROWS {
+            assert!(name.len() < 32);
+            self.bytes_at(QUESTION_PART, NAMES + 32 * number, &[&[name.len() as u8], name.as_bytes()].concat());
+        }
     }
 
     /// Sets a register, unless it has the value.
@@ -216,11 +172,15 @@ impl Script {
 
     /// Bytes become a part, at its place.
     pub fn bytes(&mut self, part: usize, bytes: &[u8]) {
-        self.set(START + part, PLACES[part]);
+        self.bytes_at(part, PLACES[part], bytes);
+    }
+
+    fn bytes_at(&mut self, part: usize, start: usize, bytes: &[u8]) {
+        self.set(START + part, start);
         self.instruction(BYTES + part, bytes.len());
         self.file.extend(bytes);
-        let end = PLACES[part] + bytes.len();
-        self.memory[PLACES[part]..end].copy_from_slice(bytes);
+        let end = start + bytes.len();
+        self.memory[start..end].copy_from_slice(bytes);
         self.registers[END + part] = end;
     }
 
@@ -247,18 +207,11 @@ impl Script {
     pub fn fields(&mut self, fields: &[u32]) {
         for alike in fields.chunk_by(|a, b| *a < 256 && *b < 256) {
             match alike {
-                [field] => self.field(*field),
+                [field] => self.instruction(FIELD, *field as usize),
                 _ => alike.chunks(256).for_each(|bytes| self.small_fields(bytes)),
             }
         }
         self.add(fields);
-    }
-
-    fn field(&mut self, field: u32) {
-        self.instruction(FIELD, field as usize % (1 << 24));
-        if field >> 24 != 0 {
-            self.instruction(HIGH, field as usize >> 24);
-        }
     }
 
     fn small_fields(&mut self, fields: &[u32]) {
@@ -350,17 +303,17 @@ impl Script {
 
     /// The content, which is that of a record, becomes a part whatever it says.
     pub fn pack(&mut self, part: usize) {
-        self.lay_packed(part, part + 4, pack_record);
+        self.lay_packed(part, PACK, pack_record);
     }
 
     /// The same as it was stored before links had an order and kinds, so without their kinds.
     pub fn pack_old(&mut self, part: usize) {
-        self.lay_packed(part, part, pack_old_record);
+        self.lay_packed(part, PACK_OLD, pack_old_record);
     }
 
-    fn lay_packed(&mut self, part: usize, value: usize, packed: impl Fn(&[u32]) -> Vec<u8>) {
+    fn lay_packed(&mut self, part: usize, instruction: usize, packed: impl Fn(&[u32]) -> Vec<u8>) {
         self.set(START + part, PLACES[part]);
-        self.instruction(PACK, value);
+        self.instruction(instruction, part);
         let file = packed(&self.words[..self.registers[CONTENT]]);
         let end = PLACES[part] + file.len();
         self.memory[PLACES[part]..end].copy_from_slice(&file);
@@ -421,47 +374,29 @@ impl Script {
 
     fn answered(&self, call: usize) -> Outcome {
         let [question, catalogue, record, book] = [0, 1, 2, 3].map(|part| self.part(part));
-        let content = &self.words[..self.registers[CONTENT].min(WORDS)];
-        let room = self.registers[ROOM].min(if call < WRITE_PATTERN { WORDS } else { OUTPUT });
-        let work = self.registers[WORK].min(WORK_MOST);
-        match call {
-            READ_PATTERN => Outcome::words(read_pattern(question, room, work)),
-            READ_CATALOGUE => Outcome::words(read_catalogue(catalogue, room, work)),
-            READ_RECORD => Outcome::words(read_record(record, room, work)),
-            READ_SHEET => Outcome::words(read_sheet(question, book, room, work)),
-            READ_BOOK => Outcome::words(read_book(catalogue, book, room, work)),
-            WRITE_PATTERN => Outcome::bytes(write_pattern(content, room, work)),
-            WRITE_CATALOGUE => Outcome::bytes(write_catalogue(content, room, work)),
-            WRITE_RECORD => Outcome::bytes(write_record(content, room, work)),
-            WRITE_SHEET => Outcome::bytes(write_sheet(question, content, room, work)),
-            WRITE_BOOK => Outcome::bytes(write_book(catalogue, content, room, work)),
-            SEARCH | PLAIN => Outcome::bytes(search(question, record, room, work)),
-            MAKE_BOOK => Outcome::bytes(make_book(catalogue, record, room, work)),
-            QUOTE => Outcome::quoted(quote(question, catalogue, work)),
-            ANSWER => Outcome::bytes(answer(question, catalogue, book, room, work)),
-            CHEAPEST => Outcome::priced(cheapest(question, catalogue, content, work)),
-            SORT_RECORD => Outcome::bytes(sort_record(record, room, work)),
-            STEPS => Outcome::stepped(&judge_pattern(question).unwrap(), content),
-            ANSWER_FROM => {
-                let set = self.registers[SET] as u16;
-                Outcome::bytes(answer_from(question, catalogue, set, book, room, work))
-            }
-            MAKE_INDEX => Outcome::entries(make_index(record, room.min(ENTRIES), work)),
-            CHECK_INDEX => Outcome::checked(check_index(record, &entries(book), work)),
-            SEARCH_INDEXED => Outcome::bytes(search_indexed(question, record, &entries(book), room, work)),
-            _ => {
-                let second = self.registers[SECOND];
-                Outcome::shown(show(question, catalogue, room.min(200), second.min(200), work))
-            }
-        }
+        (row(call).answer)(&Lent {
+            question,
+            catalogue,
+            record,
+            book,
+            content: &self.words[..self.registers[CONTENT].min(WORDS)],
+            set: self.registers[SET] as u16,
+            words: self.registers[ROOM].min(WORDS),
+            room: self.registers[ROOM].min(OUTPUT),
+            second: self.registers[SECOND],
+            work: self.registers[WORK].min(WORK_MOST),
+        })
     }
 
     fn make(&mut self, call: usize) {
-        let outcome = self.answered(call);
-        self.group[call].add(call, &outcome);
-        self.all[call].add(call, &outcome);
+        self.take(call, self.answered(call));
+    }
+
+    fn take(&mut self, call: usize, outcome: Outcome) {
+        self.group[call].add(&outcome);
+        self.all[call].add(&outcome);
         self.outcomes = outcome.over(self.outcomes);
-        if call < WRITE_PATTERN {
+        if is_reader(call) {
             self.registers[CONTENT] = outcome.written();
         }
         if call == PLAIN {
@@ -470,15 +405,14 @@ impl Script {
         if let Output::Words(words) = &outcome.output {
             self.words[..words.len()].copy_from_slice(words);
         }
-        self.call = call;
         self.last = outcome;
     }
 
     /// A reader's call on a damaged file: what it accepts is written back, which has to give the same bytes.
     fn make_and_write_back(&mut self, call: usize) {
         self.make(call);
-        if call < WRITE_PATTERN && self.last.number == 0 {
-            self.make(call + 5);
+        if is_reader(call) && self.last.number == 0 {
+            self.make(writer(call));
             assert_eq!(self.last.output, Output::Bytes(self.part(part_of(call)).to_vec()));
         }
     }
@@ -496,18 +430,20 @@ impl Script {
 
     /// A single call.
     pub fn once(&mut self, call: usize) {
-        self.begin(ONCE + call, 0);
+        self.begin(ONCE, call);
         self.chosen = call;
         self.make(call);
     }
 
     /// A call as the registers say; with a byte or word less than it needs; with too few words to work in; with just what
-    /// it needs. A showing is lent a byte less for its second record alone before that.
+    /// it needs. Where it has two outputs, a byte less is lent for the second alone before that.
     pub fn round(&mut self, call: usize) {
-        self.begin(ROUND + call, 0);
+        let outcome = self.answered(call);
+        let both = outcome.form == Form::Both;
+        self.begin(if both { BOTH } else { ROUND }, call);
         self.chosen = call;
         let registers = self.registers;
-        self.make(call);
+        self.take(call, outcome);
         let (first, second) = (self.last.needed(), self.last.other as usize);
         self.registers[ROOM] = first.saturating_sub(1);
         self.registers[SECOND] = second.saturating_sub(1);
@@ -517,7 +453,7 @@ impl Script {
         self.registers[WORK] = WORK_WORDS;
         self.registers[ROOM] = first;
         self.make(call);
-        if call == SHOW_UNCOVERED {
+        if both {
             self.registers[SECOND] = second;
             self.make(call);
         }
@@ -599,16 +535,16 @@ impl Script {
     /// The last outcome: a short output whole, a long one by its digest.
     pub fn outcome(&mut self) {
         self.instruction(OUTCOME, 0);
-        let Outcome { number, value, other, digest, output } = &self.last;
-        let mut line = match (number, self.call) {
-            (0, QUOTE) if *value == 1 => format!("covered, chosen {other}, digest {digest:016x}"),
-            (0, QUOTE) => format!("uncovered, lowest {other}, digest {digest:016x}"),
-            (0, STEPS) => format!("{value} steps, digest {digest:016x}"),
-            (0, CHEAPEST) => format!("cost {value}, set {other}, digest {digest:016x}"),
-            (0, SHOW_UNCOVERED) => format!("{value} and {other} bytes"),
-            (0, MAKE_INDEX | CHECK_INDEX) => format!("{value} entries"),
-            (0, call) if call < WRITE_PATTERN => format!("{value} words"),
-            (0, _) => format!("{value} bytes"),
+        let Outcome { form, number, value, other, digest, output } = &self.last;
+        let mut line = match (number, form) {
+            (0, Form::Words) => format!("{value} words"),
+            (0, Form::Bytes | Form::Sheet) => format!("{value} bytes"),
+            (0, Form::Entries) => format!("{value} entries"),
+            (0, Form::Both) => format!("{value} and {other} bytes"),
+            (0, Form::Quote) if *value == 1 => format!("covered, chosen {other}, digest {digest:016x}"),
+            (0, Form::Quote) => format!("uncovered, lowest {other}, digest {digest:016x}"),
+            (0, Form::Price) => format!("cost {value}, set {other}, digest {digest:016x}"),
+            (0, Form::Steps) => format!("{value} steps, digest {digest:016x}"),
             _ => format!("refused {number} {value}"),
         };
         match output {
@@ -623,7 +559,7 @@ impl Script {
     fn lines(&mut self, counts: Vec<Counts>, with_digest: bool) {
         for (call, counts) in counts.iter().enumerate() {
             if counts.calls != 0 {
-                self.printed += &counts.line(call, with_digest);
+                self.printed += &counts.line(row(call).name, with_digest);
             }
         }
         if self.compared != 0 {
@@ -646,14 +582,4 @@ impl Script {
         let counts = std::mem::replace(&mut self.all, vec![Counts::new(); NUMBERS]);
         self.lines(counts, false);
     }
-}
-
-/// The entries that stand in bytes, two each.
-fn entries(bytes: &[u8]) -> Vec<u16> {
-    bytes.chunks_exact(2).take(ENTRIES).map(|two| u16::from_be_bytes([two[0], two[1]])).collect()
-}
-
-/// The part that a reader reads.
-pub fn part_of(reader: usize) -> usize {
-    [QUESTION_PART, CATALOGUE_PART, RECORD_PART, BOOK_PART, BOOK_PART][reader]
 }

@@ -15,7 +15,7 @@ struct Kind {
 
 impl Kind {
     fn write(self) -> usize {
-        self.read + 5
+        writer(self.read)
     }
 
     fn part(self) -> usize {

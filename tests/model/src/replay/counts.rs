@@ -1,7 +1,6 @@
 //! What is counted of the calls of a group.
 
 use super::outcome::{Outcome, DIGEST_START};
-use super::{name, QUOTE};
 use std::collections::BTreeMap;
 use std::fmt::Write;
 
@@ -11,19 +10,21 @@ pub struct Counts {
     pub calls: u64,
     accepted: u64,
     listing: u64,
+    covered: u64,
     refused: BTreeMap<(u64, Option<u64>), u64>,
     digest: u64,
 }
 
 impl Counts {
     pub fn new() -> Counts {
-        Counts { calls: 0, accepted: 0, listing: 0, refused: BTreeMap::new(), digest: DIGEST_START }
+        Counts { calls: 0, accepted: 0, listing: 0, covered: 0, refused: BTreeMap::new(), digest: DIGEST_START }
     }
 
-    pub fn add(&mut self, call: usize, outcome: &Outcome) {
+    pub fn add(&mut self, outcome: &Outcome) {
         self.calls += 1;
         self.accepted += u64::from(outcome.number == 0);
-        self.listing += u64::from(outcome.is_listing(call));
+        self.listing += u64::from(outcome.is_listing());
+        self.covered += u64::from(outcome.is_covered());
         if outcome.number != 0 {
             let detail = (outcome.number < 11).then_some(outcome.value);
             *self.refused.entry((outcome.number, detail)).or_default() += 1;
@@ -32,11 +33,12 @@ impl Counts {
     }
 
     /// The program counts faults too, of which there are to be none.
-    pub fn line(&self, call: usize, with_digest: bool) -> String {
-        let mut line = format!("  {}: {} calls, {} accepted", name(call), self.calls, self.accepted);
-        if self.listing != 0 {
-            let what = if call == QUOTE { "covered" } else { "list pairs" };
-            write!(line, " ({} {what})", self.listing).unwrap();
+    pub fn line(&self, name: &str, with_digest: bool) -> String {
+        let mut line = format!("  {name}: {} calls, {} accepted", self.calls, self.accepted);
+        for (number, what) in [(self.listing, "list pairs"), (self.covered, "covered")] {
+            if number != 0 {
+                write!(line, " ({number} {what})").unwrap();
+            }
         }
         for (&(number, detail), times) in &self.refused {
             write!(line, ", {times} refused {number}").unwrap();

@@ -1,14 +1,10 @@
 //! What a call answered, as the program has it.
 
-use super::{ANSWER, ANSWER_FROM, PLAIN, QUOTE, SEARCH, SEARCH_INDEXED};
 use crate::answering::Choice;
 use crate::cheapest::Cheapest;
 use crate::files::{Pattern, Refusal};
 use crate::quoting::Quote;
 use crate::steps::{steps, Items};
-
-/// The calls that write a sheet of their own.
-const SHEETS: [usize; 5] = [SEARCH, SEARCH_INDEXED, ANSWER, ANSWER_FROM, PLAIN];
 
 /// FNV-1a, a number at a time.
 pub const DIGEST_START: u64 = 0xcbf2_9ce4_8422_2325;
@@ -39,11 +35,25 @@ pub enum Output {
     Bytes(Vec<u8>),
 }
 
-/// 0 or the refusal's number; the written length, or a refusal's detail; a second length, or what a quote adds; and a
-/// digest of what was written. The cheapest set has its sum in the place of a length, and itself beside it; the steps of a
-/// join have their number, and the settled items beside it.
+/// What the values of an accepted answer are. The first is how much was written: words, bytes, those of a sheet, the entries of
+/// an index, or the bytes of the first of two outputs, with those of the second beside it. A quote has 1 and the chosen set, or 0
+/// and the lowest unmatched link; the cheapest set its sum and itself; the steps of a join their number and the settled items.
+#[derive(Clone, Copy, Debug, PartialEq)]
+pub enum Form {
+    Words,
+    Bytes,
+    Sheet,
+    Entries,
+    Both,
+    Quote,
+    Price,
+    Steps,
+}
+
+/// 0 or the refusal's number; two values, of which a refusal's detail is the first; and a digest of what was written.
 #[derive(Clone, Debug, PartialEq)]
 pub struct Outcome {
+    pub form: Form,
     pub number: u64,
     pub value: u64,
     pub other: u64,
@@ -52,64 +62,71 @@ pub struct Outcome {
 }
 
 impl Outcome {
-    fn refused(refusal: Refusal) -> Outcome {
+    fn refused(form: Form, refusal: Refusal) -> Outcome {
         let (number, value) = (refusal.number.into(), refusal.detail as u64);
-        Outcome { number, value, other: 0, digest: DIGEST_START, output: Output::Nothing }
+        Outcome { form, number, value, other: 0, digest: DIGEST_START, output: Output::Nothing }
+    }
+
+    /// Values, and bytes that were written.
+    fn wrote(form: Form, value: usize, other: usize, bytes: Vec<u8>) -> Outcome {
+        let (value, other, digest) = (value as u64, other as u64, over(DIGEST_START, &bytes));
+        Outcome { form, number: 0, value, other, digest, output: Output::Bytes(bytes) }
     }
 
     pub fn words(result: Result<Vec<u32>, Refusal>) -> Outcome {
         match result {
             Ok(words) => {
                 let (value, digest) = (words.len() as u64, over(DIGEST_START, &words));
-                Outcome { number: 0, value, other: 0, digest, output: Output::Words(words) }
+                Outcome { form: Form::Words, number: 0, value, other: 0, digest, output: Output::Words(words) }
             }
-            Err(refusal) => Outcome::refused(refusal),
+            Err(refusal) => Outcome::refused(Form::Words, refusal),
+        }
+    }
+
+    fn bytes_of(form: Form, result: Result<Vec<u8>, Refusal>) -> Outcome {
+        match result {
+            Ok(bytes) => Outcome::wrote(form, bytes.len(), 0, bytes),
+            Err(refusal) => Outcome::refused(form, refusal),
         }
     }
 
     pub fn bytes(result: Result<Vec<u8>, Refusal>) -> Outcome {
-        match result {
-            Ok(bytes) => {
-                let (value, digest) = (bytes.len() as u64, over(DIGEST_START, &bytes));
-                Outcome { number: 0, value, other: 0, digest, output: Output::Bytes(bytes) }
-            }
-            Err(refusal) => Outcome::refused(refusal),
-        }
+        Outcome::bytes_of(Form::Bytes, result)
+    }
+
+    pub fn sheet(result: Result<Vec<u8>, Refusal>) -> Outcome {
+        Outcome::bytes_of(Form::Sheet, result)
     }
 
     /// An index is written as bytes, two for each entry; its value is the number of entries.
     pub fn entries(result: Result<Vec<u16>, Refusal>) -> Outcome {
         match result {
             Ok(entries) => {
-                let bytes: Vec<u8> = entries.iter().flat_map(|entry| entry.to_be_bytes()).collect();
-                let (value, digest) = (entries.len() as u64, over(DIGEST_START, &bytes));
-                Outcome { number: 0, value, other: 0, digest, output: Output::Bytes(bytes) }
+                let bytes = entries.iter().flat_map(|entry| entry.to_be_bytes()).collect();
+                Outcome::wrote(Form::Entries, entries.len(), 0, bytes)
             }
-            Err(refusal) => Outcome::refused(refusal),
+            Err(refusal) => Outcome::refused(Form::Entries, refusal),
         }
     }
 
     /// An index that was checked is not written.
     pub fn checked(result: Result<usize, Refusal>) -> Outcome {
         match result {
-            Ok(entries) => {
-                let (value, output) = (entries as u64, Output::Nothing);
-                Outcome { number: 0, value, other: 0, digest: DIGEST_START, output }
-            }
-            Err(refusal) => Outcome::refused(refusal),
+            Ok(entries) => Outcome { output: Output::Nothing, ..Outcome::wrote(Form::Entries, entries, 0, Vec::new()) },
+            Err(refusal) => Outcome::refused(Form::Entries, refusal),
         }
     }
 
-    pub fn shown(result: Result<(Vec<u8>, Vec<u8>), Refusal>) -> Outcome {
+    pub fn both(result: Result<(Vec<u8>, Vec<u8>), Refusal>) -> Outcome {
         match result {
-            Ok((first, second)) => {
-                let (value, other) = (first.len() as u64, second.len() as u64);
-                let both = [first, second].concat();
-                let digest = over(DIGEST_START, &both);
-                Outcome { number: 0, value, other, digest, output: Output::Bytes(both) }
-            }
-            Err(refusal) => Outcome::refused(refusal),
+            Ok((first, second)) => Outcome::wrote(Form::Both, first.len(), second.len(), [first, second].concat()),
+            Err(refusal) => Outcome::refused(Form::Both, refusal),
         }
+    }
+
+    /// Values alone, with a digest of all of them.
+    fn values(form: Form, value: u64, other: u64, digest: u64) -> Outcome {
+        Outcome { form, number: 0, value, other, digest, output: Output::Nothing }
     }
 
     /// A quote's digest is that of its mapping, 16 masks of extract links for each of 32 question links, then how many
@@ -129,11 +146,11 @@ impl Outcome {
                 let rest = [quote.mapping.len() as u64, covered, chosen, lowest];
                 let digest = over(over(DIGEST_START, &mapping), &rest);
                 let other = if quote.covered { chosen } else { lowest };
-                Outcome { number: 0, value: covered, other, digest, output: Output::Nothing }
+                Outcome::values(Form::Quote, covered, other, digest)
             }
             Err(refusal) => {
                 let digest = over(over(DIGEST_START, &mapping), &[0u64; 4]);
-                Outcome { digest, ..Outcome::refused(refusal) }
+                Outcome { digest, ..Outcome::refused(Form::Quote, refusal) }
             }
         }
     }
@@ -143,9 +160,12 @@ impl Outcome {
         match result {
             Ok(Cheapest { set, sum, chosen }) => {
                 let digest = over(DIGEST_START, &[bits(&set), sum, bits(&chosen)]);
-                Outcome { number: 0, value: sum, other: bits(&set), digest, output: Output::Nothing }
+                Outcome::values(Form::Price, sum, bits(&set), digest)
             }
-            Err(refusal) => Outcome { digest: over(DIGEST_START, &[0u64; 3]), ..Outcome::refused(refusal) },
+            Err(refusal) => {
+                let digest = over(DIGEST_START, &[0u64; 3]);
+                Outcome { digest, ..Outcome::refused(Form::Price, refusal) }
+            }
         }
     }
 
@@ -169,7 +189,7 @@ impl Outcome {
             digest = over(over(digest, &[items(settled)]), &masks);
         }
         let (settled, _) = &states[steps.len()];
-        Outcome { number: 0, value: steps.len() as u64, other: items(settled), digest, output: Output::Nothing }
+        Outcome::values(Form::Steps, steps.len() as u64, items(settled), digest)
     }
 
     pub fn written(&self) -> usize {
@@ -192,12 +212,16 @@ impl Outcome {
         over(digest, &[self.number, self.value, self.other, self.digest])
     }
 
-    /// Whether a quote is covered, or a sheet lists pairs, which its first bit says.
-    pub fn is_listing(&self, call: usize) -> bool {
+    /// Whether a sheet lists pairs, which its first bit says.
+    pub fn is_listing(&self) -> bool {
         match &self.output {
-            _ if self.number != 0 => false,
-            Output::Bytes(sheet) if SHEETS.contains(&call) => sheet[0] >= 128,
-            _ => call == QUOTE && self.value == 1,
+            Output::Bytes(sheet) => self.form == Form::Sheet && sheet[0] >= 128,
+            _ => false,
         }
+    }
+
+    /// Whether a quote is covered.
+    pub fn is_covered(&self) -> bool {
+        (self.number, self.form, self.value) == (0, Form::Quote, 1)
     }
 }

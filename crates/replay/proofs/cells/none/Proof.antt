@@ -6,7 +6,7 @@ use Rattle.replay.proofs.cells.none.Statement.{statement}
 use Rattle.replay.proofs.cells.none.Tie as tie
 
 returns : tie.Need-returns
-returns c = sym (length-replicate {A = ℕ} 10432 0)
+returns c = sym (length-replicate {A = ℕ} 20864 0)
 
 pub none-spec : {M : Type 1} → statement M
 none-spec = tie.close (tie.spec returns)

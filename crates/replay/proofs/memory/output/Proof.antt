@@ -6,7 +6,7 @@ use Rattle.replay.proofs.memory.output.Statement.{statement}
 use Rattle.replay.proofs.memory.output.Tie as tie
 
 returns : tie.Need-returns
-returns c = sym (length-replicate {A = ℕ} 66000 0)
+returns c = sym (length-replicate {A = ℕ} 132000 0)
 
 pub output-spec : {M : Type 1} → statement M
 output-spec = tie.close (tie.spec returns)

@@ -7,10 +7,10 @@ use Rattle.replay.proofs.print.group.Statement.{statement}
 use Rattle.replay.proofs.print.group.Tie as tie
 
 abbrev Inv-loop : tie.InvT-loop
-Inv-loop first cells₀ k₀ cells k = length cells ≡ length cells₀
+Inv-loop first memory cells₀ k₀ cells k = length cells ≡ length cells₀
 
 abbrev μ-loop : tie.MeasureT-loop
-μ-loop first cells₀ k₀ cells k = 32 - k
+μ-loop first memory cells₀ k₀ cells k = 64 - k
 
 loop-holds : tie.Need-loop-holds Inv-loop μ-loop
 loop-holds c = search needs

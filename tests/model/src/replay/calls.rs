@@ -1,0 +1,141 @@
+//! The calls: for each its number in the cases, its name, and what the model says of it.
+
+use super::outcome::Outcome;
+use crate::answering::{answer, answer_from};
+use crate::cheapest::cheapest;
+use crate::files::*;
+use crate::indexing::{check_index, make_index, search_indexed};
+use crate::matching::{make_book, search};
+use crate::quoting::{quote, show};
+
+/// What is lent to a call: the parts, the content, a set of extracts; how many words are lent to a reader, and how much of an
+/// output and of a second one to the others; and the words to work in.
+pub struct Lent<'a> {
+    pub question: &'a [u8],
+    pub catalogue: &'a [u8],
+    pub record: &'a [u8],
+    pub book: &'a [u8],
+    pub content: &'a [u32],
+    pub set: u16,
+    pub words: usize,
+    pub room: usize,
+    pub second: usize,
+    pub work: usize,
+}
+
+/// The most entries that an index is lent with, and the most bytes of each of two outputs.
+const ENTRIES: usize = 33_000;
+const FIRST: usize = 44_100;
+const SECOND: usize = 66_000;
+
+impl Lent<'_> {
+    /// The index that stands in the place of a book, two bytes for each entry.
+    fn index(&self) -> Vec<u16> {
+        let entries = self.book.chunks_exact(2).take(ENTRIES);
+        entries.map(|two| u16::from_be_bytes([two[0], two[1]])).collect()
+    }
+
+    /// The two outputs.
+    fn rooms(&self) -> (usize, usize) {
+        (self.room.min(FIRST), self.second.min(SECOND))
+    }
+}
+
+pub struct Call {
+    pub number: usize,
+    pub name: &'static str,
+    pub answer: fn(&Lent) -> Outcome,
+}
+
+macro_rules! calls {
+    (
+        client { $($client:ident $client_number:literal $client_name:literal $client_answer:expr;)* }
+        apart { $($apart:ident $apart_number:literal $apart_name:literal $apart_answer:expr;)* }
+    ) => {
+        $(#[allow(dead_code)] pub const $client: usize = $client_number;)*
+        $(pub const $apart: usize = $apart_number;)*
+
+        /// The names of the library's calls, in the order of their numbers.
+        pub const CALLS: &[&str] = &[$($client_name),*];
+
+        pub const ROWS: &[Call] = &[
+            $(Call { number: $client_number, name: $client_name, answer: $client_answer },)*
+            $(Call { number: $apart_number, name: $apart_name, answer: $apart_answer },)*
+        ];
+    };
+}
+
+calls! {
+    client {
+        READ_PATTERN 0 "read_pattern" |l| Outcome::words(read_pattern(l.question, l.words, l.work));
+        READ_CATALOGUE 1 "read_catalogue" |l| Outcome::words(read_catalogue(l.catalogue, l.words, l.work));
+        READ_RECORD 2 "read_record" |l| Outcome::words(read_record(l.record, l.words, l.work));
+        READ_SHEET 3 "read_sheet" |l| Outcome::words(read_sheet(l.question, l.book, l.words, l.work));
+        READ_BOOK 4 "read_book" |l| Outcome::words(read_book(l.catalogue, l.book, l.words, l.work));
+        WRITE_PATTERN 5 "write_pattern" |l| Outcome::bytes(write_pattern(l.content, l.room, l.work));
+        WRITE_CATALOGUE 6 "write_catalogue" |l| Outcome::bytes(write_catalogue(l.content, l.room, l.work));
+        WRITE_RECORD 7 "write_record" |l| Outcome::bytes(write_record(l.content, l.room, l.work));
+        WRITE_SHEET 8 "write_sheet" |l| Outcome::bytes(write_sheet(l.question, l.content, l.room, l.work));
+        WRITE_BOOK 9 "write_book" |l| Outcome::bytes(write_book(l.catalogue, l.content, l.room, l.work));
+        SEARCH 10 "search" |l| Outcome::sheet(search(l.question, l.record, l.room, l.work));
+        MAKE_BOOK 11 "make_book" |l| Outcome::bytes(make_book(l.catalogue, l.record, l.room, l.work));
+        QUOTE 12 "quote" |l| Outcome::quoted(quote(l.question, l.catalogue, l.work));
+        ANSWER 13 "answer" |l| Outcome::sheet(answer(l.question, l.catalogue, l.book, l.room, l.work));
+        SHOW_UNCOVERED 14 "show_uncovered" |l| {
+            let (first, second) = l.rooms();
+            Outcome::both(show(l.question, l.catalogue, first, second, l.work))
+        };
+        CHEAPEST 15 "cheapest" |l| Outcome::priced(cheapest(l.question, l.catalogue, l.content, l.work));
+        ANSWER_FROM 16 "answer_from" |l| {
+            Outcome::sheet(answer_from(l.question, l.catalogue, l.set, l.book, l.room, l.work))
+        };
+        SORT_RECORD 17 "sort_record" |l| Outcome::bytes(sort_record(l.record, l.room, l.work));
+        MAKE_INDEX 18 "make_index" |l| Outcome::entries(make_index(l.record, l.room.min(ENTRIES), l.work));
+        CHECK_INDEX 19 "check_index" |l| Outcome::checked(check_index(l.record, &l.index(), l.work));
+        SEARCH_INDEXED 20 "search_indexed" |l| {
+            Outcome::sheet(search_indexed(l.question, l.record, &l.index(), l.room, l.work))
+        };
+    }
+    // The states of a join after each step, and the search that the program makes apart from the library's, which to the
+    // model is the same.
+    apart {
+        STEPS 62 "steps" |l| Outcome::stepped(&judge_pattern(l.question).unwrap(), l.content);
+        PLAIN 63 "plain search" |l| Outcome::sheet(search(l.question, l.record, l.room, l.work));
+    }
+}
+
+/// The call of a number.
+pub fn row(number: usize) -> &'static Call {
+    ROWS.iter().find(|row| row.number == number).unwrap()
+}
+
+/// Whether a call reads a file into words.
+pub fn is_reader(call: usize) -> bool {
+    call < WRITE_PATTERN
+}
+
+/// The writer of what a reader reads.
+pub fn writer(reader: usize) -> usize {
+    reader + WRITE_PATTERN
+}
+
+/// The part that a reader reads.
+pub fn part_of(reader: usize) -> usize {
+    use super::{BOOK_PART, CATALOGUE_PART, QUESTION_PART, RECORD_PART};
+    [QUESTION_PART, CATALOGUE_PART, RECORD_PART, BOOK_PART, BOOK_PART][reader]
+}
+
+#[cfg(test)]
+mod tests {
+    use super::*;
+
+    #[test]
+    fn the_numbers_are_in_order() {
+        assert!(ROWS.windows(2).all(|two| two[0].number < two[1].number));
+        assert!(ROWS[..CALLS.len()]
+            .iter()
+            .zip(CALLS)
+            .enumerate()
+            .all(|(i, (row, name))| row.number == i && row.name == *name));
+    }
+}
