@@ -1,80 +1,56 @@
 -- The answers of quoting and of showing, from what their parts found.
-use Prim.Native.Nat.{ℕ, _+_, _-_, _<_, _≤_}
-use mathlib.Core.Path.{_≡_, refl, sym, ap, subst, _∙_}
+use Prim.Native.Nat.{ℕ, _<_, _≤_}
+use mathlib.Core.Path.{_≡_, refl, sym, subst, _∙_}
 use mathlib.Core.Bool.{Bool, true, false}
-use mathlib.Core.List.{List, [], _∷_, _++_, map}
-use lib.ListN.{length, take, drop, replicate, length-take, length-drop, length-append, length-map}
-use lib.Seq.{sets, drop-at}
+use mathlib.Core.List.{List, [], _∷_}
+use lib.ListN.{length, replicate, length-map}
+use lib.Seq.{sets}
 use lib.Dec.{ltb}
 use native.Mathlib.Omega.{arith}
 use borrow.Author.Tests.{lt-ltb, le-ltb}
-use borrow.Rule.Slice.PartMut.{putMid, postOf}
 use Rattle.packed.specs.Format.{ok, pick, decode}
 use Rattle.packed.specs.Formats.{pattern, catalogue}
 use Rattle.packed.specs.Contents.{edgesOf, viewsOf}
 use Rattle.packed.specs.ByValue.{HoldsPattern}
 use Rattle.packed.specs.Accepting.{Held, HoldsViews}
 use Rattle.packed.specs.Refusals.{Told, told, numberOf, detailOf}
-use Rattle.packed.specs.Calls.{Outcome, give, refuse, toldOf, fronts, outputsOf, workOf, Settled, withWorkspace, Verdict, accepted, rejected, judged, readPattern, readCatalogue}
+use Rattle.packed.specs.Calls.{Outcome, refuse, toldOf, fronts, outputsOf, Fulfils, Verdict, rejected, judged, readPattern, readCatalogue}
 use Rattle.packed.specs.declared.reply.Refusal.{Refusal}
+use Rattle.packed.specs.declared.reply.Reply.{Reply}
+use Rattle.packed.specs.declared.reply.Reply.the-variants as reply-is
 use Rattle.packed.specs.declared.by_value.Pattern.{Pattern as Given}
 use Rattle.packed.proofs.Sets.{sets-front}
 use Rattle.packed.proofs.AcceptedBounds.{catalogue-views}
-use Rattle.packed.proofs.CallLaws.{judged-accepted, read-says}
-use Rattle.matching.specs.Simulation.{Pattern, patternOf}
-use Rattle.matching.proofs.PatternLaws.{edges-in, pattern-is}
-use Rattle.matching.proofs.EdgeLaws.{edgesIn-length}
-use Rattle.containment.specs.Choice.{everyView, coversIn, lowestUnmatched, chosen}
-use Rattle.containment.specs.Quote.{blank, flat, mapping, valuesFrom, quoteValues, quoteTold}
+use Rattle.packed.proofs.CallLaws.{refusal-answered, read-says}
+use Rattle.matching.specs.Simulation.{patternOf}
+use Rattle.matching.specs.Offered.{viewPatterns}
+use Rattle.containment.specs.Choice.{coversIn, lowestUnmatched, chosen}
+use Rattle.containment.specs.Quote.{blank, flat, Quoted, tableOf, valuesFrom, quoteValues, quoteFor, quoteTold}
 use Rattle.containment.specs.Show.{graphFields, fewerFields, recordBytes, fitBoth, showFor}
-use Rattle.containment.specs.Steps.{Query, Views, ViewCounts, FulfilsAll, shownFields}
-use Rattle.containment.specs.declared.quote_type.Quote.{Quote}
+use Rattle.containment.specs.Steps.{Query, Views, ViewCounts, quotedAs, JudgedTo, shownFields}
+use Rattle.containment.specs.declared.judging.Judged.{Judged}
 use Rattle.containment.specs.declared.quote_type.Coverage.the-variants as coverage-is
-use Rattle.containment.proofs.ChoiceLaws.{chosen-none, lowest-below}
-use Rattle.containment.proofs.QueryLaws.{plain, few-edges, shown-whole}
+use Rattle.containment.proofs.ChoiceLaws.{chosen-none, lowest-leaves, lowest-covers}
+use Rattle.containment.proofs.QueryLaws.{few-edges, shown-whole}
 
--- ---- a file's verdict
+-- ---- what is judged
 
-module _ {none : List ℕ} {r : Told} (k : List ℕ → Outcome) {v : Verdict} where
-  -- it was refused, and the refusal is handed up
-  pub answers-refused : (outs : List (List ℕ)) {n d : ℕ} → v ≡ rejected n d → r ≡ told n (d ∷ none) → FulfilsAll none (judged v k) r outs outs
-  unfolding judged toldOf outputsOf
-  answers-refused outs e q = record {
-    result = q ∙ ap (λ (x : Verdict). toldOf none (judged x k)) (sym e);
-    outputs = ap (λ (x : Verdict). outputsOf (judged x k) outs) (sym e);
-  }
+-- what the client brings was refused, and the refusal is handed up; or it was accepted, and the call goes on
+module _ {none : List ℕ} {r : Told} (f : (Quoted → Outcome) → Outcome) (k : Quoted → Outcome) where
+  pub judged-refused : (outs : List (List ℕ)) {n d : ℕ} → ((k : Quoted → Outcome) → f k ≡ refuse n d) → r ≡ told n (d ∷ none) → Fulfils none (f k) r outs outs
+  judged-refused outs e q = refusal-answered outs (e k) q
 
-  -- it was accepted, and the call goes on with its content
-  pub answers-on : {ws : List ℕ} {outs outs′ : List (List ℕ)} → v ≡ accepted ws → FulfilsAll none (k ws) r outs outs′ → FulfilsAll none (judged v k) r outs outs′
-  answers-on e b = rw (judged-accepted k e) b
+  pub judged-on : {x : Quoted} {outs outs′ : List (List ℕ)} → ((k : Quoted → Outcome) → f k ≡ k x) → Fulfils none (k x) r outs outs′ → Fulfils none (f k) r outs outs′
+  judged-on e b = rw (e k) b
 
--- ---- the workspace
+-- what holds of one way of judging holds of another that agrees with it
+pub judged-by : {f g : (Quoted → Outcome) → Outcome} → ((k : Quoted → Outcome) → f k ≡ g k) → (r : Judged) (v : Reply) → JudgedTo g r v → JudgedTo f r v
+judged-by e r (reply-is.Done n) h = record { query = h .query; views = h .views; on = λ k. e k ∙ h .on k; table = h .table }
+judged-by e r (reply-is.Refused x) h = (λ k. e k ∙ h .0 k, h .1)
 
--- its first words were lent
-module _ (work ys : List ℕ) (h : 16384 ≤ length work) (n : length ys ≡ length (take (16384 - 0) (drop 0 work))) where
-  lent-number : length ys ≡ 16384
-  lent-number = n ∙ simp length-take (omega arith)
-
-  pub lent-long : length (putMid 0 (16384 - 0) work ys) ≡ length work
-  lent-long =
-      let d : length (postOf 0 (16384 - 0) work) ≡ length work - 16384 = length-drop 16384 work in
-      omega (arith, length-append ys (postOf 0 (16384 - 0) work), lent-number)
-
-module _ (none : List ℕ) (a : Outcome) (work : List ℕ) {r : Told} where
-  -- too small
-  pub settles-small : (outs : List (List ℕ)) → length work < 16384 → r ≡ told 14 (0 ∷ none) → Settled none (withWorkspace (length work) a) r outs outs work work
-  unfolding withWorkspace workOf toldOf outputsOf
-  settles-small outs h q = let e = lt-ltb (length work) 16384 h in record { result = rw e q; outputs = rw e; workspace = rw e }
-
-  -- cleared, once its first words were lent
-  pub settles-lent : {outs outs′ : List (List ℕ)} {work′ : List ℕ} (ys : List ℕ) → 16384 ≤ length work → FulfilsAll none a r outs outs′
-      → length ys ≡ length (take (16384 - 0) (drop 0 work)) → work′ ≡ replicate 16384 0 ++ drop 16384 (putMid 0 (16384 - 0) work ys)
-      → Settled none (withWorkspace (length work) a) r outs outs′ work work′
-  unfolding withWorkspace workOf
-  settles-lent ys h b n q =
-      let e = le-ltb (length work) 16384 h in
-      let c = q ∙ ap (λ (t : List ℕ). replicate 16384 0 ++ t) (drop-at ys (postOf 0 (16384 - 0) work) 16384 (lent-number work ys h n)) in
-      record { result = rw e (b .result); outputs = rw e (b .outputs); workspace = rw e c }
+pub judged-rejected : {v : Verdict} {n d : ℕ} (k : List ℕ → Outcome) → v ≡ rejected n d → judged v k ≡ refuse n d
+unfolding judged
+judged-rejected k e = rw e
 
 -- ---- what a quote tells
 
@@ -115,16 +91,6 @@ module _ (s : List ℕ) {n k : ℕ} {w counts : List ℕ} (h : Held (λ cs. Hold
   abbrev pub counts-by : ViewCounts counts k
   counts-by = record { bytes = s; views = views-by; are = h .holds .are; small = h .holds .small }
 
-abbrev pub viewPatterns : List ℕ → List Pattern
-viewPatterns cs = map patternOf (viewsOf cs)
-
--- how the calls go on with an accepted query
-abbrev pub quoteOn : List ℕ → List ℕ → Outcome
-quoteOn c qs = judged (readCatalogue c) (λ cs. give (flat (quoteValues everyView (patternOf qs) (viewPatterns cs))) [])
-
-abbrev pub showOn : List ℕ → ℕ → ℕ → List ℕ → Outcome
-showOn c room room′ qs = judged (readCatalogue c) (λ cs. showFor everyView qs (viewPatterns cs) room room′)
-
 module _ {s : List ℕ} {k : ℕ} (v : Views s k) where
   pub views-few : k ≤ 16
   views-few = let q = catalogue-views s (v .content) (v .is) .most in omega (arith, v .number)
@@ -132,53 +98,39 @@ module _ {s : List ℕ} {k : ℕ} (v : Views s k) where
   pub views-many : length (viewPatterns (v .content)) ≡ k
   views-many = length-map (viewsOf (v .content)) patternOf ∙ catalogue-views s (v .content) (v .is) .many ∙ sym (v .number)
 
-  module _ {q : Given} (t : Query q) where
-    edges-many : length (patternOf (t .content) .edges) ≡ q .edges
-    edges-many =
-        ap (λ (P : Pattern). length (P .edges)) (pattern-is (plain t))
-        ∙ edgesIn-length (plain t .es) (plain t .number) (plain t .edges .among .three-each)
-        ∙ sym (edges-in (plain t))
-        ∙ sym (t .holds .edges)
+module _ {q : Given} (t : Query q) {counts : List ℕ} {k : ℕ} (v : ViewCounts counts k) (usable : ℕ) {table : List ℕ} (e : table ≡ tableOf (quotedAs t v usable)) where
+  pub quote-given : {r : Told} → r ≡ told 0 (flat (valuesFrom table usable (q .edges) k)) → Fulfils blank (quoteFor (quotedAs t v usable)) r [] []
+  unfolding quoteFor quoteValues toldOf outputsOf fronts
+  quote-given h = record { result = rw (← t .holds .edges, views-many (v .views)) (rw e at h); outputs = refl }
 
-    module _ {table : List ℕ} (e : table ≡ mapping (patternOf (t .content)) (viewPatterns (v .content))) (set : ℕ) where
-      pub quote-given : {r : Told} → r ≡ told 0 (flat (valuesFrom table set (q .edges) k))
-          → FulfilsAll blank (give (flat (quoteValues set (patternOf (t .content)) (viewPatterns (v .content)))) []) r [] []
-      unfolding quoteValues toldOf outputsOf fronts
-      quote-given h = record { result = rw (edges-many, views-many) (rw e at h); outputs = refl }
+  module _ (room room′ : ℕ) where
+    show-by : showFor room room′ (quotedAs t v usable)
+        ≡ pick (coversIn table usable k (q .edges)) (refuse 13 0)
+        (fitBoth room room′ (recordBytes (graphFields (t .content))) (recordBytes (fewerFields (t .content) (lowestUnmatched table usable k (q .edges)))))
+    unfolding showFor
+    show-by = rw (e, views-many (v .views), ← t .holds .edges)
 
-      show-by : (room room′ : ℕ)
-          → showFor set (t .content) (viewPatterns (v .content)) room room′
-          ≡ pick (coversIn table set k (q .edges)) (refuse 13 0)
-          (fitBoth room room′ (recordBytes (graphFields (t .content))) (recordBytes (fewerFields (t .content) (lowestUnmatched table set k (q .edges)))))
-      unfolding showFor
-      show-by room room′ = rw (e, views-many, t .holds .edges)
+    module _ {r : Told} {n : ℕ} (is : n ≡ lowestUnmatched table usable k (q .edges)) where
+      pub show-covered : (outs : List (List ℕ)) → q .edges ≤ n → r ≡ told 13 (0 ∷ []) → Fulfils [] (showFor room room′ (quotedAs t v usable)) r outs outs
+      show-covered outs h g = refusal-answered outs (show-by ∙ rw (lowest-covers table usable k (q .edges) is h)) g
 
-      pub show-covered : {r : Told} (room room′ : ℕ) (outs : List (List ℕ)) → coversIn table set k (q .edges) ≡ true → r ≡ told 13 (0 ∷ [])
-          → FulfilsAll [] (showFor set (t .content) (viewPatterns (v .content)) room room′) r outs outs
-      unfolding toldOf outputsOf
-      show-covered room room′ outs h g =
-          let a : showFor set (t .content) (viewPatterns (v .content)) room room′ ≡ refuse 13 0 = show-by room room′ ∙ rw h in
-          record { result = rw a g; outputs = rw a }
-
-      pub show-uncovered : {r : Told} (room room′ n : ℕ) {outs outs′ : List (List ℕ)} → coversIn table set k (q .edges) ≡ false
-          → n ≡ lowestUnmatched table set k (q .edges)
-          → FulfilsAll [] (fitBoth room room′ (recordBytes (shownFields (t .content) 32)) (recordBytes (shownFields (t .content) n))) r outs outs′
-          → FulfilsAll [] (showFor set (t .content) (viewPatterns (v .content)) room room′) r outs outs′
+      pub show-uncovered : {outs outs′ : List (List ℕ)} → n < q .edges
+          → Fulfils [] (fitBoth room room′ (recordBytes (shownFields (t .content) 32)) (recordBytes (shownFields (t .content) n))) r outs outs′
+          → Fulfils [] (showFor room room′ (quotedAs t v usable)) r outs outs′
       unfolding shownFields
-      show-uncovered {r} room room′ n {outs} {outs′} h g b =
-          let l = lowest-below table set k (q .edges) .1 h in
+      show-uncovered {outs} {outs′} h b =
           let x = le-ltb 32 (edgesOf (t .content)) (few-edges t) in
           let y = lt-ltb n (edgesOf (t .content)) (omega (arith, t .holds .edges)) in
-          let d : showFor set (t .content) (viewPatterns (v .content)) room room′ ≡ fitBoth room room′ (recordBytes (graphFields (t .content))) (recordBytes (fewerFields (t .content) n)) =
-          show-by room room′ ∙ rw (h, g) in
-          subst (λ a. FulfilsAll [] a r outs outs′) (sym d) (rw (x, y) at b)
+          let d : showFor room room′ (quotedAs t v usable) ≡ fitBoth room room′ (recordBytes (graphFields (t .content))) (recordBytes (fewerFields (t .content) n)) =
+          show-by ∙ rw (lowest-leaves table usable k (q .edges) is h, is) in
+          subst (λ a. Fulfils [] a r outs outs′) (sym d) (rw (x, y) at b)
 
 -- ---- two outputs
 
 module _ (first second A B : List ℕ) {a : ℕ} (na : a ≡ length A) where
   -- the first doesn't fit
   pub first-tight : {first′ second′ : List ℕ} → length first < a → first′ ≡ first → second′ ≡ second
-      → FulfilsAll [] (fitBoth (length first) (length second) A B) (told 12 (a ∷ [])) (first ∷ second ∷ []) (first′ ∷ second′ ∷ [])
+      → Fulfils [] (fitBoth (length first) (length second) A B) (told 12 (a ∷ [])) (first ∷ second ∷ []) (first′ ∷ second′ ∷ [])
   unfolding fitBoth toldOf outputsOf
   first-tight h p q = let e = lt-ltb (length first) (length A) (omega (arith, na)) in record { result = rw (e, na); outputs = rw (e, p, q) }
 
@@ -188,7 +140,7 @@ module _ (first second A B : List ℕ) {a : ℕ} (na : a ≡ length A) where
   module _ {b : ℕ} (nb : b ≡ length B) (fits : a ≤ length first) where
     -- the second doesn't fit
     pub second-tight : {first′ second′ : List ℕ} → length second < b → first′ ≡ first → second′ ≡ second
-        → FulfilsAll [] (fitBoth (length first) (length second) A B) (told 12 (b ∷ [])) (first ∷ second ∷ []) (first′ ∷ second′ ∷ [])
+        → Fulfils [] (fitBoth (length first) (length second) A B) (told 12 (b ∷ [])) (first ∷ second ∷ []) (first′ ∷ second′ ∷ [])
     unfolding fitBoth toldOf outputsOf
     second-tight h p q =
         let d = fits-first fits in
@@ -197,7 +149,7 @@ module _ (first second A B : List ℕ) {a : ℕ} (na : a ≡ length A) where
 
     -- both are given
     pub both-given : {first′ second′ : List ℕ} → b ≤ length second → first′ ≡ sets first 0 A → second′ ≡ sets second 0 B
-        → FulfilsAll [] (fitBoth (length first) (length second) A B) (told 0 (a ∷ b ∷ [])) (first ∷ second ∷ []) (first′ ∷ second′ ∷ [])
+        → Fulfils [] (fitBoth (length first) (length second) A B) (told 0 (a ∷ b ∷ [])) (first ∷ second ∷ []) (first′ ∷ second′ ∷ [])
     unfolding fitBoth toldOf outputsOf fronts
     both-given h p q =
         let d = fits-first fits in

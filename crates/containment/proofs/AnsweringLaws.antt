@@ -1,7 +1,6 @@
 -- The answers of answering a query from a book, from what their parts found.
 use Prim.Native.Nat.{ℕ, _+_, _*_, _/_, _<_, _≤_}
 use mathlib.Core.Path.{_≡_, refl, sym, ap, subst, _∙_}
-use mathlib.Core.Bool.{Bool, true, false}
 use mathlib.Core.List.{List, map, flatten}
 use lib.ListN.{length, take}
 use native.Mathlib.Omega.{arith}
@@ -12,7 +11,7 @@ use Rattle.packed.specs.Accepting.{ContentTaken}
 use Rattle.packed.specs.Refusals.{Told, numberOf, detailOf, replyTold}
 use Rattle.packed.specs.Matches.{matchesOf, Marked}
 use Rattle.packed.specs.Walks.{bookPairs, Different}
-use Rattle.packed.specs.Calls.{Outcome, refuse, readFile, judged, readCatalogue, readBook, uncrowded, fitFile, Fulfils}
+use Rattle.packed.specs.Calls.{Outcome, refuse, FulfilsOne, readFile, judged, readBook, uncrowded, fitFile}
 use Rattle.packed.specs.declared.reply.Refusal.{Refusal}
 use Rattle.packed.specs.declared.reply.Refusal.the-variants.{TooManyPairs, NotContained}
 use Rattle.packed.specs.declared.reply.Reply.the-variants as reply-is
@@ -20,7 +19,8 @@ use Rattle.packed.specs.declared.by_value.Pattern.{Pattern as Given}
 use Rattle.packed.proofs.WalkLaws.{book-pairs}
 use Rattle.packed.proofs.CallLaws.{read-says, gathered-many, gathered-few, body-declined, body-goes-on}
 use Rattle.packed.proofs.MatchLaws.{matches-encode}
-use Rattle.matching.specs.Simulation.{patternOf, ascending}
+use Rattle.matching.specs.Simulation.{ascending}
+use Rattle.matching.specs.Offered.{viewPatterns}
 use Rattle.matching.specs.Search.{sheetBytes}
 use Rattle.matching.specs.Join.{View, answerSets}
 use Rattle.matching.proofs.ByEdge.{answerTo}
@@ -33,11 +33,12 @@ use Rattle.matching.proofs.JoinLaws.{answer-each}
 use Rattle.matching.proofs.PatternLaws.{pattern-same}
 use Rattle.matching.proofs.SheetBytes.{sheet-is}
 use Rattle.containment.specs.Choice.{coversIn, lowestUnmatched, used}
-use Rattle.containment.specs.Quote.{mapping}
-use Rattle.containment.specs.Answer.{viewsIn, answerBytes, Choose, answerIn, usedFor}
-use Rattle.containment.specs.Steps.{Query, Views, ViewCounts, wholeOrChosen}
+use Rattle.containment.specs.Quote.{tableOf, usedBy}
+use Rattle.containment.specs.Answer.{viewsIn, answerBytes, answerIn}
+use Rattle.containment.specs.Steps.{Query, ViewCounts, quotedAs}
 use Rattle.containment.proofs.QueryLaws.{plain}
-use Rattle.containment.proofs.AnswerLaws.{viewPatterns, views-many}
+use Rattle.containment.proofs.AnswerLaws.{views-many}
+use Rattle.containment.proofs.ChoiceLaws.{lowest-leaves, lowest-covers, lowest-used}
 use Rattle.containment.proofs.BookLaws.{booked-by}
 use Rattle.containment.proofs.CandidateLaws.{agrees-by}
 
@@ -76,29 +77,20 @@ module _ {q : Given} {table : List ℕ} {set : ℕ} {s counts : List ℕ} {k d :
         let x = matches-encode d (q .edges) w′ joined-marked in
         x .is ∙ ap ok (sym (sheet-is (q .edges) kept (x .bytes) kept-long (x .is)) ∙ ap sheetBytes (j .sets vs g))
 
--- ---- how the call goes on, once the files before were accepted
-abbrev pub bookMade : Choose → List ℕ → List ℕ → ℕ → List ℕ → Outcome
-bookMade choose qs b room cs = judged (readBook cs b) (λ bs. answerIn (choose qs cs) qs cs bs room)
-
-abbrev pub answerOn : Choose → List ℕ → List ℕ → ℕ → List ℕ → Outcome
-answerOn choose c b room qs = judged (readCatalogue c) (bookMade choose qs b room)
-
 -- ---- what is answered from an accepted book
 
 -- the sheet by the views in a set
 abbrev bySet : Given → List ℕ → List ℕ → ℕ → ℕ → Outcome
 bySet q cs bs room set = fitFile room (sheetBytes (answerSets (patternIn q) (viewsIn set (viewPatterns cs) (sheetsIn (edgeCounts cs) bs))))
 
-module _ {q : Given} (t : Query q) {c : List ℕ} {k : ℕ} (v : Views c k) {table : List ℕ} (is : table ≡ mapping (patternOf (t .content)) (viewPatterns (v .content))) where
-  answer-by : (set : ℕ) (bs : List ℕ) (room : ℕ) → answerIn set (t .content) (v .content) bs room
-      ≡ uncrowded (v .content) bs (pick (coversIn table set k (q .edges)) (bySet q (v .content) bs room set) (refuse 11 (lowestUnmatched table set k (q .edges))))
-  unfolding answerIn answerBytes
-  answer-by set bs room = rw (pattern-same (plain t) (t .holds), is, views-many v, t .holds .edges)
+-- the views that the quote chooses
+module _ {q : Given} (t : Query q) {counts : List ℕ} {k : ℕ} (v : ViewCounts counts k) (usable : ℕ) {table : List ℕ} (is : table ≡ tableOf (quotedAs t v usable)) {set : ℕ}
+    (chosen : set ≡ used table usable (q .edges) k) where
+  pub used-is : set ≡ usedBy (quotedAs t v usable)
+  used-is = chosen ∙ rw (is, views-many (v .views), ← t .holds .edges)
 
-  -- the views that answer
-  pub used-is : (whole : Bool) (set : ℕ) {r : ℕ} → r ≡ pick whole set (used table set (q .edges) k) → r ≡ wholeOrChosen whole set (t .content) (v .content)
-  unfolding usedFor
-  used-is whole set e = e ∙ rw (is, views-many v, t .holds .edges)
+  pub used-lowest : {lowest : ℕ} → lowest ≡ lowestUnmatched table usable k (q .edges) → lowest ≡ lowestUnmatched table set k (q .edges)
+  used-lowest e = e ∙ sym (ap (λ (s : ℕ). lowestUnmatched table s k (q .edges)) chosen ∙ lowest-used table usable k (q .edges))
 
 -- the book was judged, and its pairs were gathered
 module _ {q : Given} (t : Query q) {counts : List ℕ} {k : ℕ} (v : ViewCounts counts k) (s : List ℕ)
@@ -116,34 +108,35 @@ module _ {q : Given} (t : Query q) {counts : List ℕ} {k : ℕ} (v : ViewCounts
     pub book-booked : d ≤ 8192 → Booked s counts k d w
     book-booked few = booked-by (v .views) counts s (content .fields) (v .are) (book-read .0) g few (book-read .1) (v .small)
 
-    module _ {table : List ℕ} (is : table ≡ mapping (patternOf (t .content)) (viewPatterns (v .views .content))) (set : ℕ) (out : List ℕ) where
+    module _ (usable : ℕ) {table : List ℕ} (is : table ≡ tableOf (quotedAs t v usable)) (set : ℕ) (out : List ℕ) where
       -- what is answered from the content of the book
       abbrev answers : List ℕ → Outcome
-      answers bs = answerIn set (t .content) (v .views .content) bs (length out)
+      answers bs = answerIn set (quotedAs t v usable) bs (length out)
 
       pairs : bookPairs s 0 (take k counts) ≡ flatten (map flatten (sheetsIn (edgeCounts cs) (content .fields)))
       pairs = ap (bookPairs s 0) (v .are) ∙ book-pairs (edgeCounts cs) s (content .fields) (book-read .0)
 
       answer-is : answers (content .fields)
           ≡ uncrowded cs (content .fields) (pick (coversIn table set k (q .edges)) (bySet q cs (content .fields) (length out) set) (refuse 11 (lowestUnmatched table set k (q .edges))))
-      answer-is = answer-by t (v .views) is set (content .fields) (length out)
+      unfolding answerIn answerBytes
+      answer-is = rw (pattern-same (plain t) (t .holds), is, views-many (v .views), ← t .holds .edges)
 
-      declined : (x : Refusal) → answers (content .fields) ≡ refuse (numberOf x) (detailOf x) → Fulfils (judged (readBook cs s) answers) (replyTold (reply-is.Refused x)) out out
+      declined : (x : Refusal) → answers (content .fields) ≡ refuse (numberOf x) (detailOf x) → FulfilsOne (judged (readBook cs s) answers) (replyTold (reply-is.Refused x)) out out
       declined x e = body-declined answers (content .is) out refl x e
 
-      pub crowded-answered : 8192 < d → Fulfils (judged (readBook (v .views .content) s) answers) (replyTold (reply-is.Refused (TooManyPairs 4))) out out
+      pub crowded-answered : 8192 < d → FulfilsOne (judged (readBook (v .views .content) s) answers) (replyTold (reply-is.Refused (TooManyPairs 4))) out out
       crowded-answered h = declined (TooManyPairs 4) (answer-is ∙ gathered-many (edgeCounts cs) (content .fields) g pairs _ h)
 
-      module _ (few : d ≤ 8192) {b : Bool} (is-cover : b ≡ coversIn table set k (q .edges)) where
-        pub uncovered-answered : {e : ℕ} → b ≡ false → e ≡ lowestUnmatched table set k (q .edges)
-            → Fulfils (judged (readBook (v .views .content) s) answers) (replyTold (reply-is.Refused (NotContained e))) out out
-        uncovered-answered {e = e} h l = declined (NotContained e) (answer-is ∙ gathered-few (edgeCounts cs) (content .fields) g pairs _ few ∙ rw (← is-cover, h, l))
+      module _ (few : d ≤ 8192) {lowest : ℕ} (low : lowest ≡ lowestUnmatched table set k (q .edges)) where
+        pub uncovered-answered : lowest < q .edges → FulfilsOne (judged (readBook (v .views .content) s) answers) (replyTold (reply-is.Refused (NotContained lowest))) out out
+        uncovered-answered h =
+            declined (NotContained lowest) (answer-is ∙ gathered-few (edgeCounts cs) (content .fields) g pairs _ few ∙ rw (lowest-leaves table set k (q .edges) low h, low))
 
-        pub covered-answered : {x : Told} {out′ : List ℕ} → b ≡ true
-            → ((vs : List View) → Agrees q table set s counts k vs → Fulfils (fitFile (length out) (sheetBytes (answerSets (patternIn q) vs))) x out out′)
-            → Fulfils (judged (readBook (v .views .content) s) answers) x out out′
+        pub covered-answered : {x : Told} {out′ : List ℕ} → q .edges ≤ lowest
+            → ((vs : List View) → Agrees q table set s counts k vs → FulfilsOne (fitFile (length out) (sheetBytes (answerSets (patternIn q) vs))) x out out′)
+            → FulfilsOne (judged (readBook (v .views .content) s) answers) x out out′
         covered-answered {x} {out′} h f =
             let a : answers (content .fields) ≡ bySet q cs (content .fields) (length out) set =
-            answer-is ∙ gathered-few (edgeCounts cs) (content .fields) g pairs _ few ∙ rw (← is-cover, h) in
+            answer-is ∙ gathered-few (edgeCounts cs) (content .fields) g pairs _ few ∙ rw (lowest-covers table set k (q .edges) low h) in
             body-goes-on answers (content .is)
-            (subst (λ y. Fulfils y x out out′) (sym a) (f _ (agrees-by t (v .views) counts s (content .fields) (v .are) (book-read .0) is set)))
+            (subst (λ y. FulfilsOne y x out out′) (sym a) (f _ (agrees-by t (v .views) counts s (content .fields) (v .are) (book-read .0) is set)))

@@ -26,6 +26,7 @@ use Rattle.matching.proofs.JoinLaws.{match-say, match-by}
 use Rattle.matching.proofs.MatchSetLaws.{view-length}
 use Rattle.matching.proofs.PatternLaws.{edges-many, pattern-same}
 use Rattle.matching.proofs.ViewLaws.{all-ahead, in-follow}
+use Rattle.matching.specs.Offered.{viewPatterns}
 use Rattle.containment.specs.Quote.{noPattern, mapping}
 use Rattle.containment.specs.Answer.{viewsIn}
 use Rattle.containment.specs.Steps.{Query, Views}
@@ -33,7 +34,7 @@ use Rattle.containment.proofs.SetBits.{bit-half}
 use Rattle.containment.proofs.MappingLaws.{rest-at, pick-say, pick-first, pick-rest}
 use Rattle.containment.proofs.QueryLaws.{plain, few-edges, query-number, query-edge}
 use Rattle.containment.proofs.NotingLaws.{views-many as contents-many}
-use Rattle.containment.proofs.AnswerLaws.{viewPatterns, views-few, views-many}
+use Rattle.containment.proofs.AnswerLaws.{views-few, views-many}
 use Rattle.containment.proofs.QuoteLaws.{mapping-exactly}
 use Rattle.containment.proofs.BookLaws.{count-is, sheet-long, list-same, list-there}
 

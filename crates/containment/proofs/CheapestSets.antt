@@ -11,10 +11,11 @@ use Rattle.packed.specs.Contents.{edgesOf}
 use Rattle.packed.specs.Calls.{give, refuse, withWorkspace, judged}
 use Rattle.packed.proofs.OrderCases.{eq-or-ne}
 use Rattle.matching.specs.Simulation.{patternOf}
+use Rattle.matching.specs.Offered.{viewPatterns}
 use Rattle.containment.specs.Choice.{everyView}
 use Rattle.containment.specs.Quote.{mapping}
 use Rattle.containment.specs.Cheapest.{cheapest, cheapestFrom, cheapestFor, cheapestOutcome}
-use Rattle.containment.specs.Demands.{Question, Catalogue, extracts, Covered, Uncovered, lacking, chosenOf, Charged, costOf, CheapestOf, Cheapests}
+use Rattle.containment.specs.Demands.{Question, Catalogue, Covered, Uncovered, lacking, chosenOf, Charged, costOf, CheapestOf, Cheapests}
 use Rattle.containment.proofs.SetBits.{test-cases}
 use Rattle.containment.proofs.ChoiceLaws.{chosen-small, chosen-covers}
 use Rattle.containment.proofs.CoveredBytes.{coveredBy, few-views}
@@ -24,21 +25,21 @@ use Rattle.containment.proofs.CheapestLaws.{cheapest-one, cheapest-cost
 
 -- the cheapest set of an accepted question and catalogue
 abbrev cheapestOf : List ℕ → List ℕ → List ℕ → ℕ
-cheapestOf qs cs charges = cheapest (mapping (patternOf qs) (extracts cs)) (edgesOf qs) charges (length (extracts cs))
+cheapestOf qs cs charges = cheapest (mapping (patternOf qs) (viewPatterns cs)) (edgesOf qs) charges (length (viewPatterns cs))
 
 module _ (q c qs cs charges : List ℕ) (p : Question q qs) (d : Catalogue c cs) where
   given : Charged charges cs → Covered qs cs
       → cheapestOutcome q c charges ≡ give (cheapestOf qs cs charges ∷ costOf charges cs (cheapestOf qs cs charges) ∷ chosenOf qs cs ∷ []) []
   unfolding cheapestOutcome cheapestFor cheapestFrom judged
-  given n h = let e = eq-eqb (length charges) (length (extracts cs)) n in rw (p, d, e, h)
+  given n h = let e = eq-eqb (length charges) (length (viewPatterns cs)) n in rw (p, d, e, h)
 
   lacks : Charged charges cs → Uncovered qs cs → cheapestOutcome q c charges ≡ refuse 11 (lacking qs cs)
   unfolding cheapestOutcome cheapestFor cheapestFrom judged
-  lacks n h = let e = eq-eqb (length charges) (length (extracts cs)) n in rw (p, d, e, h)
+  lacks n h = let e = eq-eqb (length charges) (length (viewPatterns cs)) n in rw (p, d, e, h)
 
   wrong : (Charged charges cs → ⊥) → cheapestOutcome q c charges ≡ refuse 15 (length charges)
   unfolding cheapestOutcome cheapestFor judged
-  wrong n = let e = ne-eqb (length charges) (length (extracts cs)) n in rw (p, d, e)
+  wrong n = let e = ne-eqb (length charges) (length (viewPatterns cs)) n in rw (p, d, e)
 
   wrong-exactly : (words e : ℕ) → (withWorkspace words (cheapestOutcome q c charges) ≡ refuse 15 e) ↔ ((16384 ≤ words) × (Charged charges cs → ⊥) × (e ≡ length charges))
   wrong-exactly words e = (
@@ -47,7 +48,7 @@ module _ (q c qs cs charges : List ℕ) (p : Question q qs) (d : Catalogue c cs)
         ⊎-elim
         (λ n. absurd (⊎-elim (λ h. not-refused (sym (given n h) ∙ w .1)) (λ h. let y = number-same (sym (lacks n h) ∙ w .1) in omega arith) (test-cases (coveredBy qs cs))))
         (λ n. (w .0, n, sym (detail-same (sym (wrong n) ∙ w .1))))
-        (eq-or-ne (length charges) (length (extracts cs))),
+        (eq-or-ne (length charges) (length (viewPatterns cs))),
     λ x. enough-words words _ (x .0) ∙ wrong (x .1) ∙ ap (refuse 15) (sym (x .2)),
   )
 
@@ -58,7 +59,7 @@ module _ (q c qs cs charges : List ℕ) (p : Question q qs) (d : Catalogue c cs)
         ⊎-elim
         (λ n. ⊎-elim (λ h. absurd (not-refused (sym (given n h) ∙ w .1))) (λ h. (w .0, n, h, sym (detail-same (sym (lacks n h) ∙ w .1)))) (test-cases (coveredBy qs cs)))
         (λ n. absurd (let y = number-same (sym (wrong n) ∙ w .1) in omega arith))
-        (eq-or-ne (length charges) (length (extracts cs))),
+        (eq-or-ne (length charges) (length (viewPatterns cs))),
     λ x. enough-words words _ (x .0) ∙ lacks (x .1) (x .2) ∙ ap (refuse 11) (sym (x .3)),
   )
 
@@ -67,12 +68,12 @@ unfolding cheapestOutcome
 cheapests = record {
   gives = λ q c qs cs charges p d n h words l. (
     cheapestOf qs cs charges,
-    cheapest-covered (mapping (patternOf qs) (extracts cs)) (edgesOf qs) charges (length (extracts cs)) (few-views c cs d) h,
+    cheapest-covered (mapping (patternOf qs) (viewPatterns cs)) (edgesOf qs) charges (length (viewPatterns cs)) (few-views c cs d) h,
     enough-words words _ l ∙ given q c qs cs charges p d n h,
   );
-  one = λ c qs cs charges d a b x y. cheapest-one (mapping (patternOf qs) (extracts cs)) (edgesOf qs) charges (length (extracts cs)) (few-views c cs d) a b x y;
-  least = λ qs cs charges set other x l h. cheapest-cost (mapping (patternOf qs) (extracts cs)) (edgesOf qs) charges (length (extracts cs)) set other x l h;
-  chosen = λ qs cs charges set x h. cheapest-cost (mapping (patternOf qs) (extracts cs)) (edgesOf qs) charges (length (extracts cs)) set (chosenOf qs cs) x (chosen-small _ everyView (edgesOf qs) (length (extracts cs))) (chosen-covers _ everyView (edgesOf qs) (length (extracts cs)) h);
+  one = λ c qs cs charges d a b x y. cheapest-one (mapping (patternOf qs) (viewPatterns cs)) (edgesOf qs) charges (length (viewPatterns cs)) (few-views c cs d) a b x y;
+  least = λ qs cs charges set other x l h. cheapest-cost (mapping (patternOf qs) (viewPatterns cs)) (edgesOf qs) charges (length (viewPatterns cs)) set other x l h;
+  chosen = λ qs cs charges set x h. cheapest-cost (mapping (patternOf qs) (viewPatterns cs)) (edgesOf qs) charges (length (viewPatterns cs)) set (chosenOf qs cs) x (chosen-small _ everyView (edgesOf qs) (length (viewPatterns cs))) (chosen-covers _ everyView (edgesOf qs) (length (viewPatterns cs)) h);
   wrong-charges = λ q c qs cs charges p d words e. wrong-exactly q c qs cs charges p d words e;
   refused = λ q c qs cs charges p d words e. lacks-exactly q c qs cs charges p d words e;
   answers = λ way q c r qs cs rs charges p d f set x l room words. demand-3 .covered-by way q c r qs cs rs p d f set (x .covers) l room words;

@@ -349,3 +349,25 @@ module _ (t : List ℕ) (set k : ℕ) where
             (λ (g : m ≤ lowestUnmatched t set k m). never (sym (covers-by t set k m (λ e l. matched-say t set e k (i .lower e (omega arith)))) ∙ n))
             (lt-or-ge (lowestUnmatched t set k m) m),
       )
+
+  module _ (m : ℕ) {r : ℕ} (e : r ≡ lowestUnmatched t set k m) where
+    pub lowest-leaves : r < m → coversIn t set k m ≡ false
+    lowest-leaves l = lowest-below m .0 (omega (arith, e))
+
+    pub lowest-covers : m ≤ r → coversIn t set k m ≡ true
+    lowest-covers h = ⊎-elim (λ y. y) (λ n. absurd (let l = lowest-below m .1 n in omega (arith, e))) (test-cases (coversIn t set k m))
+
+-- the views that answer leave unmatched what the set leaves
+pub lowest-used : (t : List ℕ) (set k m : ℕ) → lowestUnmatched t (used t set m k) k m ≡ lowestUnmatched t set k m
+lowest-used t set k m =
+    ⊎-elim
+    (λ y.
+    let c : coversIn t (used t set m k) k m ≡ true = rw (used-covered t set m k y) (chosen-covers t set m k y) in
+    all-matched (used t set m k) c ∙ sym (all-matched set y))
+    (λ n. ap (λ (s : ℕ). lowestUnmatched t s k m) (used-uncovered t set m k n))
+    (test-cases (coversIn t set k m))
+  where
+    all-matched : (s : ℕ) → coversIn t s k m ≡ true → lowestUnmatched t s k m ≡ m
+    all-matched s y =
+        let i = lowest-is t s k m .within in
+        ⊎-elim (λ (l : lowestUnmatched t s k m < m). never (sym y ∙ lowest-below t s k m .0 l)) (λ (g : m ≤ lowestUnmatched t s k m). omega arith) (lt-or-ge (lowestUnmatched t s k m) m)

@@ -40,10 +40,11 @@ use Rattle.matching.proofs.AnswerLaws.{AnswerStands, answer-all-or-none, answer
 use Rattle.matching.proofs.SimLaws.{not-both}
 use Rattle.matching.proofs.MatchLaws.{Weaker}
 use Rattle.matching.proofs.Covered.{covered-answer}
+use Rattle.matching.specs.Offered.{viewPatterns}
 use Rattle.containment.specs.Choice.{everyView, coversIn}
-use Rattle.containment.specs.Quote.{noPattern, mapping}
-use Rattle.containment.specs.Answer.{viewsIn, answerBytes, Choose, answerIn, answerBy}
-use Rattle.containment.specs.Demands.{Question, Catalogue, Record, Book, extracts, Covers, Leaves, bookOf, lackingIn}
+use Rattle.containment.specs.Quote.{noPattern, mapping, quotedBy}
+use Rattle.containment.specs.Answer.{viewsIn, answerBytes, Choose, answerIn, answerFor, answerBy}
+use Rattle.containment.specs.Demands.{Question, Catalogue, Record, Book, Covers, Leaves, bookOf, lackingIn}
 use Rattle.containment.proofs.ChoiceLaws.{covers-alike, lowest-alike}
 use Rattle.containment.proofs.CandidateLaws.{views-say}
 use Rattle.containment.proofs.QuoteLaws.{place-of, chosenFrom, chosen-say, set-covers-exactly}
@@ -116,7 +117,7 @@ plain-bounds q = record {
 pub question-bounds : (q qs : List ℕ) → Question q qs → QueryBounds qs
 question-bounds q qs h = plain-bounds (pattern-read q qs .0 h .1 .laid)
 
-pub few-views : (c cs : List ℕ) → Catalogue c cs → length (extracts cs) ≤ 16
+pub few-views : (c cs : List ℕ) → Catalogue c cs → length (viewPatterns cs) ≤ 16
 few-views c cs h = let v = catalogue-views c cs (catalogue-is c cs h) in omega (arith, length-map (viewsOf cs) patternOf, v .many, v .most)
 
 -- a view's rule is no stronger than a query's: both are matched one-way
@@ -126,9 +127,9 @@ views-rule [] a = refl
 views-rule (v ∷ vs) zero = refl
 views-rule (v ∷ vs) (suc a) = views-rule vs a
 
-views-weaker : (qs : List ℕ) (set : ℕ) (cs : List ℕ) (P : Pattern) → In P (chosenFrom set (extracts cs)) → Weaker P (patternOf qs)
+views-weaker : (qs : List ℕ) (set : ℕ) (cs : List ℕ) (P : Pattern) → In P (chosenFrom set (viewPatterns cs)) → Weaker P (patternOf qs)
 views-weaker qs set cs P i b =
-    let o = chosen-say set (extracts cs) P i in
+    let o = chosen-say set (viewPatterns cs) P i in
     absurd (not-both (sym (ap (λ (R : Pattern). R .rule) (o .holds .1) ∙ views-rule (viewsOf cs) (o .at)) ∙ b))
 
 -- ---- the book that is made from a record
@@ -148,18 +149,18 @@ module _ (c r cs rs : List ℕ) (d : Catalogue c cs) (f : Record r rs) where
 -- ---- what is answered from an accepted book
 
 -- only the numbers of views count in a set
-pub answer-alike : (set set′ : ℕ) (qs cs bs : List ℕ) (room : ℕ) → ((a : ℕ) → a < length (extracts cs) → bit set a ≡ bit set′ a)
-    → answerIn set qs cs bs room ≡ answerIn set′ qs cs bs room
+pub answer-alike : (set set′ : ℕ) (qs cs bs : List ℕ) (room : ℕ) → ((a : ℕ) → a < length (viewPatterns cs) → bit set a ≡ bit set′ a)
+    → answerIn set (quotedBy qs cs) bs room ≡ answerIn set′ (quotedBy qs cs) bs room
 unfolding answerIn answerBytes
 answer-alike set set′ qs cs bs room f =
-    let Ps = extracts cs in
+    let Ps = viewPatterns cs in
     let t = mapping (patternOf qs) Ps in
     let sheets = sheetsIn (edgeCounts cs) bs in
     rw (covers-alike t set set′ (length Ps) f (edgesOf qs), lowest-alike t set set′ (length Ps) f (edgesOf qs), views-same set set′ Ps sheets sheets f (λ a l _. refl))
 
 -- whether the views in a set cover the query, and whether all do
 abbrev pub coveredIn : ℕ → List ℕ → List ℕ → Bool
-coveredIn set qs cs = coversIn (mapping (patternOf qs) (extracts cs)) set (length (extracts cs)) (edgesOf qs)
+coveredIn set qs cs = coversIn (mapping (patternOf qs) (viewPatterns cs)) set (length (viewPatterns cs)) (edgesOf qs)
 
 abbrev pub coveredBy : List ℕ → List ℕ → Bool
 coveredBy qs cs = coveredIn everyView qs cs
@@ -167,16 +168,16 @@ coveredBy qs cs = coveredIn everyView qs cs
 module _ (q c qs cs : List ℕ) (p : Question q qs) (d : Catalogue c cs) where
   module _ (b bs : List ℕ) (k : Book cs b bs) (choose : Choose) (room : ℕ) where
     answer-by : answerBy choose q c b room
-        ≡ pick (coveredIn (choose qs cs) qs cs) (fitFile room (answerBytes qs (choose qs cs) (extracts cs) (sheetsIn (edgeCounts cs) bs))) (refuse 11 (lackingIn (choose qs cs) qs cs))
-    unfolding answerBy answerIn uncrowdedBy judged
+        ≡ pick (coveredIn (choose (quotedBy qs cs)) qs cs) (fitFile room (answerBytes qs (choose (quotedBy qs cs)) (viewPatterns cs) (sheetsIn (edgeCounts cs) bs))) (refuse 11 (lackingIn (choose (quotedBy qs cs)) qs cs))
+    unfolding answerBy answerFor answerIn uncrowdedBy judged
     answer-by = rw (p, d, k .read, le-ltb 8192 (length (pairsOf (edgeCounts cs) bs)) (k .few))
 
     -- where the set covers the query it is the sheet, fitted
-    pub answer-covered : Covers (choose qs cs) qs cs → answerBy choose q c b room ≡ fitFile room (answerBytes qs (choose qs cs) (extracts cs) (sheetsIn (edgeCounts cs) bs))
+    pub answer-covered : Covers (choose (quotedBy qs cs)) qs cs → answerBy choose q c b room ≡ fitFile room (answerBytes qs (choose (quotedBy qs cs)) (viewPatterns cs) (sheetsIn (edgeCounts cs) bs))
     answer-covered h = answer-by ∙ rw h
 
     -- else 11 with the lowest edge that it leaves unmatched
-    pub answer-uncovered : Leaves (choose qs cs) qs cs → answerBy choose q c b room ≡ refuse 11 (lackingIn (choose qs cs) qs cs)
+    pub answer-uncovered : Leaves (choose (quotedBy qs cs)) qs cs → answerBy choose q c b room ≡ refuse 11 (lackingIn (choose (quotedBy qs cs)) qs cs)
     answer-uncovered h = answer-by ∙ rw h
 
   -- ---- from the book of a record
@@ -186,22 +187,22 @@ module _ (q c qs cs : List ℕ) (p : Question q qs) (d : Catalogue c cs) where
     search-found room = rw (p, f)
 
     -- by the views in a set that covers the query: the sheet that a search gives
-    pub covered-bytes : (set : ℕ) → Covers set qs cs → answerBytes qs set (extracts cs) (viewSheets cs (graphOf rs)) ≡ sheetBytes (matchSets (patternOf qs) (graphOf rs))
+    pub covered-bytes : (set : ℕ) → Covers set qs cs → answerBytes qs set (viewPatterns cs) (viewSheets cs (graphOf rs)) ≡ sheetBytes (matchSets (patternOf qs) (graphOf rs))
     unfolding answerBytes viewSheets
     covered-bytes set h =
         let Q = patternOf qs in
         let z = question-bounds q qs p in
-        let k : T (covered Q (chosenFrom set (extracts cs))) = set-covers-exactly Q (extracts cs) set (few-views c cs d) (z .few-edges) .0 (rw (z .many) h) in
+        let k : T (covered Q (chosenFrom set (viewPatterns cs))) = set-covers-exactly Q (viewPatterns cs) set (few-views c cs d) (z .few-edges) .0 (rw (z .many) h) in
         ap sheetBytes
         (ap (answerSets Q) (sets-chosen set (graphOf rs) (viewsOf cs))
-        ∙ covered-answer Q (chosenFrom set (extracts cs)) (z .sound) (z .few-nodes) (views-weaker qs set cs) k (graphOf rs) (graph-narrow r rs (record-is r rs f)))
+        ∙ covered-answer Q (chosenFrom set (viewPatterns cs)) (z .sound) (z .few-nodes) (views-weaker qs set cs) k (graphOf rs) (graph-narrow r rs (record-is r rs f)))
 
-    pub answer-search : (choose : Choose) → Covers (choose qs cs) qs cs → length (bookOf cs rs) ≤ 65536 → (room : ℕ)
+    pub answer-search : (choose : Choose) → Covers (choose (quotedBy qs cs)) qs cs → length (bookOf cs rs) ≤ 65536 → (room : ℕ)
         → answerBy choose q c (bookOf cs rs) room ≡ searchOutcome q r room
     answer-search choose h l room =
         answer-covered (bookOf cs rs) (bookFields (viewSheets cs (graphOf rs))) (made-book c r cs rs d f l) choose room h
-        ∙ ap (λ (sheets : List (List (List ℕ))). fitFile room (answerBytes qs (choose qs cs) (extracts cs) sheets)) (made-sheets c r cs rs d f)
-        ∙ ap (fitFile room) (covered-bytes (choose qs cs) h)
+        ∙ ap (λ (sheets : List (List (List ℕ))). fitFile room (answerBytes qs (choose (quotedBy qs cs)) (viewPatterns cs) sheets)) (made-sheets c r cs rs d f)
+        ∙ ap (fitFile room) (covered-bytes (choose (quotedBy qs cs)) h)
         ∙ sym (search-found room)
 
 -- ---- an answer from any accepted book is a sheet
@@ -230,20 +231,20 @@ module _ (cs b bs : List ℕ) (k : Book cs b bs) where
       (member-in _ (member-distinct x _ ∙ ap (member x) (sym (book-pairs counts b bs decoded)) ∙ list-in-book counts b bs decoded a f h l x m))
       (lt→ltb x (2 ^ 24) (list-small counts b bs decoded a f h l x m))
 
-  stands-pool : (set : ℕ) (x : ℕ) → AnswerStands (viewsIn set (extracts cs) sheets) x → In x pool
+  stands-pool : (set : ℕ) (x : ℕ) → AnswerStands (viewsIn set (viewPatterns cs) sheets) x → In x pool
   unfolding edgeCounts
   stands-pool set x s =
-      let v = views-say set (extracts cs) sheets (s .given) in
+      let v = views-say set (viewPatterns cs) sheets (s .given) in
       let sheet : s .view .sheet ≡ getD sheets (v .at) [] = ap (λ (w : View). w .sheet) (v .holds .1) in
       let h : v .at < length counts = omega (arith, v .below, length-map (viewsOf cs) patternOf, length-map (viewsOf cs) edgesOf) in
       let o = place-of [] (s .of-view) in
       list-pool (v .at) (o .at) x h
       (subst (λ l. In x l) (o .holds ∙ ap (λ (ls : List (List ℕ)). getD ls (o .at) []) sheet) (s .here))
 
-  pub answer-sheet : (Q : Pattern) (set : ℕ) → SheetFields (answerSets Q (viewsIn set (extracts cs) sheets))
+  pub answer-sheet : (Q : Pattern) (set : ℕ) → SheetFields (answerSets Q (viewsIn set (viewPatterns cs) sheets))
   unfolding pool
   answer-sheet Q set =
-      let vs = viewsIn set (extracts cs) sheets in
+      let vs = viewsIn set (viewPatterns cs) sheets in
       let ls = answerSets Q vs in
       let e = answer-all-or-none Q vs in
       let few : length pool ≤ 8192 = omega (arith, keep-length (λ x. ltb x (2 ^ 24)) (pairsOf counts bs), k .few) in
@@ -252,12 +253,12 @@ module _ (cs b bs : List ℕ) (k : Book cs b bs) where
       (sheet-encodes (length ls) ls refl (fit-by ls (answer-listable Q vs pool few small (stands-pool set))) (ap allOrNone e ∙ all-twice _ ∙ sym e))
 
   -- it is read back beside its query
-  pub answer-back : (q qs : List ℕ) → Question q qs → (set : ℕ) → length (answerBytes qs set (extracts cs) sheets) ≤ 65536
-      → readSheet qs (answerBytes qs set (extracts cs) sheets) ≡ accepted (sheetFields (answerSets (patternOf qs) (viewsIn set (extracts cs) sheets)))
+  pub answer-back : (q qs : List ℕ) → Question q qs → (set : ℕ) → length (answerBytes qs set (viewPatterns cs) sheets) ≤ 65536
+      → readSheet qs (answerBytes qs set (viewPatterns cs) sheets) ≡ accepted (sheetFields (answerSets (patternOf qs) (viewsIn set (viewPatterns cs) sheets)))
   unfolding answerBytes
   answer-back q qs p set h =
       let Q = patternOf qs in
-      let vs = viewsIn set (extracts cs) sheets in
+      let vs = viewsIn set (viewPatterns cs) sheets in
       let ls = answerSets Q vs in
       let n : length ls ≡ edgesOf qs = ap length (answer-each Q vs) ∙ length-each _ (Q .edges) ∙ question-bounds q qs p .many in
       sheet-read qs (sheetBytes ls) (sheetFields ls) .1 (h, sheet-accepted (edgesOf qs) (sheetBytes ls) (sheetFields ls) .0 (rw n at (answer-sheet Q set .back)))

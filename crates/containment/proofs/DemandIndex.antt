@@ -12,8 +12,8 @@ use Rattle.matching.specs.Search.{sheetBytes, searchOutcome}
 use Rattle.matching.specs.Index.{alike, ownIndex, makeIndexOutcome, checkIndexOutcome, searchIndexedOutcome}
 use Rattle.matching.proofs.OwnIndex.{alike-at, alike-all, alike-say, own-accepted, own-number, own-position, own-differs}
 use Rattle.containment.specs.Demands.{Question, Record, ownOf, Way, without-index, with-own, searchBy, sheetOf, Full, FirstDiffers, NotOwn}
-use Rattle.containment.proofs.DemandRules.{number-same, detail-same, not-refused, goes-on, enough-words, enough-for, full-words, full-judged, full-twice, file-number}
-use Rattle.containment.proofs.DemandSheets.{judged-same, searched}
+use Rattle.containment.proofs.DemandRules.{number-same, detail-same, not-refused, judged-same, goes-on, enough-words, enough-for, full-words, full-judged, full-twice, file-number}
+use Rattle.containment.proofs.DemandSheets.{searched}
 
 -- ---- an index beside the record's own
 module _ (own index : List ℕ) (a : Outcome) where
@@ -102,7 +102,7 @@ pub way-same : (way : Way) (p r rs : List ℕ) → Record r rs → (room : ℕ) 
 unfolding searchIndexedOutcome searchOutcome
 way-same without-index p r rs f room = refl
 way-same with-own p r rs f room =
-    judged-same (readPattern p) _ _ (λ ps. goes-on _ f ∙ own-accepted (ownOf rs) (ownOf rs) (fitFile room (sheetBytes (matchSets (patternOf ps) (graphOf rs)))) refl ∙ sym (goes-on _ f))
+    judged-same (readPattern p) (λ ps _. goes-on _ f ∙ own-accepted (ownOf rs) (ownOf rs) (fitFile room (sheetBytes (matchSets (patternOf ps) (graphOf rs)))) refl ∙ sym (goes-on _ f))
 
 pub way-searched : (way : Way) (p r ps rs : List ℕ) → Question p ps → Record r rs → (room : ℕ) → searchBy way p r rs room ≡ fitFile room (sheetOf (patternOf ps) rs)
 way-searched way p r ps rs e f room = way-same way p r rs f room ∙ searched p r ps rs e f room

@@ -14,9 +14,10 @@ use Rattle.matching.proofs.ByEdge.{answerTo}
 use Rattle.matching.proofs.ListLaws.{in-cast, getD-each}
 use Rattle.matching.proofs.CodeLaws.{code-same, ascending-say, ascending-by}
 use Rattle.matching.proofs.JoinLaws.{Supported, supported-one, JoinedPair, join-candidate, join-supported, join-most, complete-say, complete-by, answer-say, answer-by, answer-each, code-pair, pair-code}
+use Rattle.matching.specs.Offered.{viewPatterns}
 use Rattle.containment.specs.Quote.{noPattern}
 use Rattle.containment.specs.Answer.{viewsIn}
-use Rattle.containment.specs.Demands.{extracts, Candidate, SupportsItself, GreatestChoice, Joins}
+use Rattle.containment.specs.Demands.{Candidate, SupportsItself, GreatestChoice, Joins}
 use Rattle.containment.proofs.DemandRules.{place-below, link-below}
 use Rattle.containment.proofs.CandidateLaws.{Offered, offered-say, offered-by}
 
@@ -109,7 +110,7 @@ query-rule qs = refl
 
 pub answer-joins : (set : ℕ) (qs cs bs : List ℕ) → Joins set qs cs bs
 answer-joins set qs cs bs = record {
-  keeps = Keeps (patternOf qs) (extracts cs) (sheetsIn (edgeCounts cs) bs) set (query-rule qs);
-  is = greatest-choice (patternOf qs) (extracts cs) (sheetsIn (edgeCounts cs) bs) set (query-rule qs);
-  lists = answer-lists (patternOf qs) (extracts cs) (sheetsIn (edgeCounts cs) bs) set (query-rule qs);
+  keeps = Keeps (patternOf qs) (viewPatterns cs) (sheetsIn (edgeCounts cs) bs) set (query-rule qs);
+  is = greatest-choice (patternOf qs) (viewPatterns cs) (sheetsIn (edgeCounts cs) bs) set (query-rule qs);
+  lists = answer-lists (patternOf qs) (viewPatterns cs) (sheetsIn (edgeCounts cs) bs) set (query-rule qs);
 }

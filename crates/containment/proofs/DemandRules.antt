@@ -25,11 +25,12 @@ use Rattle.matching.specs.Search.{sheetBytes}
 use Rattle.matching.proofs.ListLaws.{not-in-none}
 use Rattle.matching.proofs.MatchSetLaws.{view-length}
 use Rattle.matching.proofs.JoinLaws.{some-match-say, some-match-by}
+use Rattle.matching.specs.Offered.{viewPatterns}
 use Rattle.containment.specs.Choice.{everyView}
-use Rattle.containment.specs.Quote.{mapping}
-use Rattle.containment.specs.Answer.{answerBytes, Choose, answerIn, answerBy, usedFor}
+use Rattle.containment.specs.Quote.{mapping, quotedBy, usedBy}
+use Rattle.containment.specs.Answer.{answerBytes, Choose, answerIn, answerFor, answerBy}
 use Rattle.containment.specs.Show.{recordBytes, fitBoth, showFor, showOutcome}
-use Rattle.containment.specs.Demands.{Question, Catalogue, Record, Sheet, Uncrowded, Crowded, Book, extracts, extractOf, linkOf, Covers, Leaves, Covered, Uncovered, lackingIn, chosenOf, answerOf, firstOf, secondOf, Full, Over, OverFile, OverEither, Fitted, Reads, Writes, Matched, MatchedIn, LowestUnmatched}
+use Rattle.containment.specs.Demands.{Question, Catalogue, Record, Sheet, Uncrowded, Crowded, Book, extractOf, linkOf, Covers, Leaves, Covered, Uncovered, lackingIn, chosenOf, answerOf, firstOf, secondOf, Full, Over, OverFile, OverEither, Fitted, Reads, Writes, Matched, MatchedIn, LowestUnmatched}
 use Rattle.containment.proofs.SetBits.{test-cases, never}
 use Rattle.containment.proofs.ChoiceLaws.{MatchedBy, matched-say as matched-in-table, matched-by as matched-by-table, covers-exactly, chosen-covers, used-covered, used-uncovered, lowest-is, lowest-below}
 use Rattle.containment.proofs.QuoteLaws.{test-is, matched-exactly, ListedEdge, matched-say, matched-by, listed-whole}
@@ -94,6 +95,17 @@ pub full-judged : (v : Verdict) (k : List ℕ → Outcome) → Full (judged v k)
 unfolding judged
 full-judged (accepted ws) k f = (ws, refl, f)
 full-judged (rejected n d) k f = absurd (no-full f)
+
+-- a file is judged in the same way where the call goes on in the same way
+pub judged-same : (v : Verdict) {k k′ : List ℕ → Outcome} → ((ws : List ℕ) → v ≡ accepted ws → k ws ≡ k′ ws) → judged v k ≡ judged v k′
+unfolding judged
+judged-same (accepted ws) f = f ws refl
+judged-same (rejected n d) f = refl
+
+pub refused-judged : (v : Verdict) (k : List ℕ → Outcome) {n d : ℕ} → judged v k ≡ refuse n d → (v ≡ rejected n d) ⊎ ((ws : List ℕ) × (v ≡ accepted ws) × (k ws ≡ refuse n d))
+unfolding judged
+refused-judged (accepted ws) k e = inr (ws, refl, e)
+refused-judged (rejected m c) k e = inl (cc)
 
 pub full-twice : (v : Verdict) (w : List ℕ → Verdict) (k : List ℕ → List ℕ → Outcome) → Full (judged v (λ x. judged (w x) (k x)))
     → (x : List ℕ) × (y : List ℕ) × (v ≡ accepted x) × (w x ≡ accepted y) × Full (k x y)
@@ -350,7 +362,7 @@ crowded-written c cs s ws e y f room words d =
 
 -- what is answered from a book that isn't crowded
 abbrev uncrowdedAnswer : ℕ → List ℕ → List ℕ → List ℕ → ℕ → Outcome
-uncrowdedAnswer set qs cs bs room = pick (coveredIn set qs cs) (fitFile room (answerBytes qs set (extracts cs) (sheetsIn (edgeCounts cs) bs))) (refuse 11 (lackingIn set qs cs))
+uncrowdedAnswer set qs cs bs room = pick (coveredIn set qs cs) (fitFile room (answerBytes qs set (viewPatterns cs) (sheetsIn (edgeCounts cs) bs))) (refuse 11 (lackingIn set qs cs))
 
 answer-number : (b : Bool) (room : ℕ) (o : List ℕ) (k d : ℕ) → pick b (fitFile room o) (refuse 11 k) ≡ refuse 10 d → ⊥
 answer-number true room o k d e = let z = file-number room o 10 d e in omega arith
@@ -358,10 +370,10 @@ answer-number false room o k d e = let z = number-same e in omega arith
 
 pub crowded-answer : (choose : Choose) (q c b qs cs bs : List ℕ) → Question q qs → Catalogue c cs → readBook cs b ≡ accepted bs → (room words d : ℕ)
     → (withWorkspace words (answerBy choose q c b room) ≡ refuse 10 d) ↔ ((16384 ≤ words) × Crowded cs bs × (d ≡ 4))
-unfolding answerBy answerIn
+unfolding answerBy answerFor answerIn
 crowded-answer choose q c b qs cs bs e f g room words d =
-    crowded-exactly words _ (edgeCounts cs) bs (uncrowdedAnswer (choose qs cs) qs cs bs room) (goes-on _ e ∙ goes-on _ f ∙ goes-on _ g)
-    (λ k x. answer-number (coveredIn (choose qs cs) qs cs) room _ (lackingIn (choose qs cs) qs cs) k x) d
+    crowded-exactly words _ (edgeCounts cs) bs (uncrowdedAnswer (choose (quotedBy qs cs)) qs cs bs room) (goes-on _ e ∙ goes-on _ f ∙ goes-on _ g)
+    (λ k x. answer-number (coveredIn (choose (quotedBy qs cs)) qs cs) room _ (lackingIn (choose (quotedBy qs cs)) qs cs) k x) d
 
 -- no other number
 no-other : {words n e : ℕ} {NoFit : ℕ → Type 0} {outputs : List (List ℕ)} {a : Outcome} → Fitted words NoFit outputs a → a ≡ refuse n e → (n ≡ 14) ⊎ (n ≡ 12)
@@ -397,31 +409,29 @@ link-below Q P f i = omega (arith, place-below (viewSheet P (asGraph Q)) f i, vi
 -- the extracts that answer a query: the chosen ones, or all
 module _ (qs cs : List ℕ) where
   abbrev table : List ℕ
-  table = mapping (patternOf qs) (extracts cs)
+  table = mapping (patternOf qs) (viewPatterns cs)
 
-  pub used-chosen : Covered qs cs → usedFor everyView qs cs ≡ chosenOf qs cs
-  unfolding usedFor
-  used-chosen h = used-covered table everyView (edgesOf qs) (length (extracts cs)) h
+  pub used-chosen : Covered qs cs → usedBy (quotedBy qs cs) ≡ chosenOf qs cs
+  used-chosen h = used-covered table everyView (edgesOf qs) (length (viewPatterns cs)) h
 
-  pub used-all : Uncovered qs cs → usedFor everyView qs cs ≡ everyView
-  unfolding usedFor
-  used-all n = used-uncovered table everyView (edgesOf qs) (length (extracts cs)) n
+  pub used-all : Uncovered qs cs → usedBy (quotedBy qs cs) ≡ everyView
+  used-all n = used-uncovered table everyView (edgesOf qs) (length (viewPatterns cs)) n
 
-  pub used-covers : Covered qs cs → Covers (usedFor everyView qs cs) qs cs
-  used-covers h = rw (used-chosen h) (chosen-covers table everyView (edgesOf qs) (length (extracts cs)) h)
+  pub used-covers : Covered qs cs → Covers (usedBy (quotedBy qs cs)) qs cs
+  used-covers h = rw (used-chosen h) (chosen-covers table everyView (edgesOf qs) (length (viewPatterns cs)) h)
 
   -- all are used where those used leave an edge unmatched
-  pub used-leaves : Leaves (usedFor everyView qs cs) qs cs → Uncovered qs cs
+  pub used-leaves : Leaves (usedBy (quotedBy qs cs)) qs cs → Uncovered qs cs
   used-leaves n = ⊎-elim (λ h. never (sym (used-covers h) ∙ n)) (λ n′. n′) (test-cases (coveredBy qs cs))
 
 module _ (q c qs cs : List ℕ) (p : Question q qs) (d : Catalogue c cs) where
   -- the table says of a set which edges its views match
   module _ (set : ℕ) where
-    matched-plain : (i : ℕ) → i < edgesOf qs → MatchedBy (table qs cs) set i (length (extracts cs)) ↔ MatchedIn (patternOf qs) (extracts cs) set (linkOf qs i)
+    matched-plain : (i : ℕ) → i < edgesOf qs → MatchedBy (table qs cs) set i (length (viewPatterns cs)) ↔ MatchedIn (patternOf qs) (viewPatterns cs) set (linkOf qs i)
     unfolding matchedBy
     matched-plain i l =
         let Q = patternOf qs in
-        let Ps = extracts cs in
+        let Ps = viewPatterns cs in
         let b = question-bounds q qs p in
         let n = few-views c cs d in
         let h : i < length (Q .edges) = omega (arith, b .many) in (
@@ -438,14 +448,14 @@ module _ (q c qs cs : List ℕ) (p : Question q qs) (d : Catalogue c cs) where
               record { at = m .extract; below = k; holds = (test-is _ .1 (m .in-set), t) },
         )
 
-    pub covers-plain : Covers set qs cs ↔ ((i : ℕ) → i < edgesOf qs → MatchedIn (patternOf qs) (extracts cs) set (linkOf qs i))
+    pub covers-plain : Covers set qs cs ↔ ((i : ℕ) → i < edgesOf qs → MatchedIn (patternOf qs) (viewPatterns cs) set (linkOf qs i))
     covers-plain =
-        let x = covers-exactly (table qs cs) set (length (extracts cs)) (edgesOf qs) in
+        let x = covers-exactly (table qs cs) set (length (viewPatterns cs)) (edgesOf qs) in
         (λ h i l. matched-plain i l .0 (x .0 h i l), λ f. x .1 (λ i l. matched-plain i l .1 (f i l)))
 
-    pub lowest-plain : Leaves set qs cs → LowestUnmatched qs (MatchedIn (patternOf qs) (extracts cs) set) (lackingIn set qs cs)
+    pub lowest-plain : Leaves set qs cs → LowestUnmatched qs (MatchedIn (patternOf qs) (viewPatterns cs) set) (lackingIn set qs cs)
     lowest-plain n =
-        let k = length (extracts cs) in
+        let k = length (viewPatterns cs) in
         let l = lowest-below (table qs cs) set k (edgesOf qs) .1 n in
         let f = lowest-is (table qs cs) set k (edgesOf qs) in
         record {
@@ -480,26 +490,26 @@ module _ (q c qs cs : List ℕ) (p : Question q qs) (d : Catalogue c cs) where
 
   -- ---- accepted books, by a set of views
   module _ (b bs : List ℕ) (k : Book cs b bs) (choose : Choose) (room : ℕ) where
-    pub given-by : Covers (choose qs cs) qs cs → answerBy choose q c b room ≡ fitFile room (sheetBytes (answerOf (choose qs cs) qs cs bs))
+    pub given-by : Covers (choose (quotedBy qs cs)) qs cs → answerBy choose q c b room ≡ fitFile room (sheetBytes (answerOf (choose (quotedBy qs cs)) qs cs bs))
     unfolding answerBytes
     given-by h = answer-covered q c qs cs p d b bs k choose room h
 
-    pub refused-by : Leaves (choose qs cs) qs cs → answerBy choose q c b room ≡ refuse 11 (lackingIn (choose qs cs) qs cs)
+    pub refused-by : Leaves (choose (quotedBy qs cs)) qs cs → answerBy choose q c b room ≡ refuse 11 (lackingIn (choose (quotedBy qs cs)) qs cs)
     refused-by n = answer-uncovered q c qs cs p d b bs k choose room n
 
     -- 11 falls exactly to a set that leaves an edge unmatched
     pub refused-exactly : (words e : ℕ)
-        → (withWorkspace words (answerBy choose q c b room) ≡ refuse 11 e) ↔ ((16384 ≤ words) × Leaves (choose qs cs) qs cs × (e ≡ lackingIn (choose qs cs) qs cs))
+        → (withWorkspace words (answerBy choose q c b room) ≡ refuse 11 e) ↔ ((16384 ≤ words) × Leaves (choose (quotedBy qs cs)) qs cs × (e ≡ lackingIn (choose (quotedBy qs cs)) qs cs))
     refused-exactly words e = (
       λ x.
           let w = enough-for words (answerBy choose q c b room) (λ z. let y = number-same z in omega arith) x in
           ⊎-elim
           (λ h. absurd (⊎-elim (λ y. omega arith) (λ y. omega arith) (no-other (fitted-file (answerBy choose q c b room) words room _ (given-by h)) x)))
           (λ n. (w .0, n, sym (detail-same (sym (refused-by n) ∙ w .1))))
-          (test-cases (coveredIn (choose qs cs) qs cs)),
+          (test-cases (coveredIn (choose (quotedBy qs cs)) qs cs)),
       λ x. enough-words words _ (x .0) ∙ refused-by (x .1) ∙ ap (refuse 11) (sym (x .2)),
     )
 
     -- an answer is given by a set that covers the query alone
-    pub full-answered : Full (answerBy choose q c b room) → Covers (choose qs cs) qs cs
-    full-answered f = ⊎-elim (λ h. h) (λ n. absurd (no-full (full-same (refused-by n) f))) (test-cases (coveredIn (choose qs cs) qs cs))
+    pub full-answered : Full (answerBy choose q c b room) → Covers (choose (quotedBy qs cs)) qs cs
+    full-answered f = ⊎-elim (λ h. h) (λ n. absurd (no-full (full-same (refused-by n) f))) (test-cases (coveredIn (choose (quotedBy qs cs)) qs cs))

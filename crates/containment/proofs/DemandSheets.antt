@@ -1,4 +1,4 @@
--- Sheets from a record: read back as the match sets, of the length that is told, the same for every order of the record's edges.
+-- Sheets from a record: read back as the match sets, of the length that is told.
 use Prim.Native.Nat.{ℕ, _/_, _%_, _<_}
 use mathlib.Core.Path.{_≡_, refl, sym, ap, _∙_}
 use mathlib.Core.List.{List, [], _∷_}
@@ -7,19 +7,18 @@ use lib.Dec.{T}
 use native.Mathlib.Omega.{arith}
 use Rattle.packed.specs.Formats.{code}
 use Rattle.packed.specs.Contents.{edgesOf, viewsOf, edgeCounts, ends, pairCount, sheetFields, sheetLength, sheetsIn}
-use Rattle.packed.specs.Calls.{Outcome, give, withWorkspace, Verdict, accepted, rejected, judged, readPattern, readCatalogue, fitFile}
+use Rattle.packed.specs.Calls.{give, withWorkspace, fitFile}
 use Rattle.matching.specs.Lists.{In}
 use Rattle.matching.specs.Simulation.{Pattern, patternOf, graphOf, sound, matchSets}
 use Rattle.matching.specs.Search.{sheetBytes, bookBytes, viewSheets, searchOutcome, makeBookOutcome}
 use Rattle.matching.proofs.ListLaws.{in-at, length-each}
-use Rattle.matching.proofs.MatchSetLaws.{view-same, order-free}
 use Rattle.matching.proofs.PatternLaws.{sound-of}
 use Rattle.matching.proofs.ViewLaws.{all-ahead, in-follow}
 use Rattle.matching.proofs.SheetBytes.{search-back, search-size}
-use Rattle.matching.proofs.BookBytes.{map-same}
 use Rattle.matching.proofs.JoinLaws.{answer-each}
+use Rattle.matching.specs.Offered.{viewPatterns}
 use Rattle.containment.specs.Answer.{viewsIn}
-use Rattle.containment.specs.Demands.{Question, Catalogue, Record, Sheet, Book, extracts, sheetOf, bookOf, answerOf, SameLinks}
+use Rattle.containment.specs.Demands.{Question, Catalogue, Record, Sheet, Book, sheetOf, bookOf, answerOf}
 use Rattle.containment.proofs.QuoteLaws.{place-of}
 use Rattle.containment.proofs.CoveredBytes.{question-is, catalogue-is, record-is, question-bounds, answer-sheet, given-file}
 use Rattle.containment.proofs.DemandRules.{goes-on, enough-for, not-refused}
@@ -54,38 +53,12 @@ pub answer-size : (q qs cs b bs : List ℕ) → Question q qs → Book cs b bs �
     → length (sheetBytes (answerOf set qs cs bs)) ≡ sheetLength (edgesOf qs) (pairCount (answerOf set qs cs bs))
 answer-size q qs cs b bs p k set =
     let Q = patternOf qs in
-    let vs = viewsIn set (extracts cs) (sheetsIn (edgeCounts cs) bs) in
+    let vs = viewsIn set (viewPatterns cs) (sheetsIn (edgeCounts cs) bs) in
     let n : length (answerOf set qs cs bs) ≡ edgesOf qs = ap length (answer-each Q vs) ∙ length-each _ (Q .edges) ∙ question-bounds q qs p .many in
     rw n at (answer-sheet cs b bs k Q set .size)
 
--- ---- the order of a record's edges
-pub judged-same : (v : Verdict) (k l : List ℕ → Outcome) → ((ws : List ℕ) → k ws ≡ l ws) → judged v k ≡ judged v l
-unfolding judged
-judged-same (accepted ws) k l h = h ws
-judged-same (rejected n d) k l h = refl
-
-module _ (r r′ rs rs′ : List ℕ) (e : Record r rs) (e′ : Record r′ rs′) (s : SameLinks rs rs′) where
-  same-sets : (P : Pattern) → matchSets P (graphOf rs) ≡ matchSets P (graphOf rs′)
-  same-sets P =
-      order-free P (graphOf rs) (graphOf rs′)
-      (record { same-labels = s .kinds; more = s .there }) (record { same-labels = sym (s .kinds); more = s .back })
-
-  pub order-sheets : (p : List ℕ) (room : ℕ) → searchOutcome p r room ≡ searchOutcome p r′ room
-  unfolding searchOutcome
-  order-sheets p room =
-      judged-same (readPattern p) _ _
-      (λ ps. goes-on _ e ∙ ap (λ (ls : List (List ℕ)). fitFile room (sheetBytes ls)) (same-sets (patternOf ps)) ∙ sym (goes-on _ e′))
-
-  pub order-books : (c : List ℕ) (room : ℕ) → makeBookOutcome c r room ≡ makeBookOutcome c r′ room
-  unfolding makeBookOutcome viewSheets
-  order-books c room =
-      judged-same (readCatalogue c) _ _
-      (λ cs. goes-on _ e
-      ∙ ap (λ (ls : List (List (List ℕ))). fitFile room (bookBytes ls)) (map-same _ _ (viewsOf cs) (λ v i. view-same (patternOf v) (graphOf rs) (graphOf rs′) (same-sets (patternOf v))))
-      ∙ sym (goes-on _ e′))
-
 -- ---- the patterns of a catalogue
-pub views-sound : (c cs : List ℕ) → Catalogue c cs → (P : Pattern) → In P (extracts cs) → T (sound P)
+pub views-sound : (c cs : List ℕ) → Catalogue c cs → (P : Pattern) → In P (viewPatterns cs) → T (sound P)
 views-sound c cs e P i =
     let o = place-of (patternOf []) i in
     let l : o .at < length (viewsOf cs) = omega (arith, o .below, length-map (viewsOf cs) patternOf) in

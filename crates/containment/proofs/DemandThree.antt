@@ -15,14 +15,16 @@ use Rattle.matching.specs.Search.{sheetBytes, viewSheets}
 use Rattle.matching.proofs.BookBytes.{bookFields}
 use Rattle.matching.proofs.SortedGraphs.{alike-views, alike-without}
 use Rattle.matching.proofs.Uncovered.{uncovered-views}
+use Rattle.matching.specs.Offered.{viewPatterns}
 use Rattle.containment.specs.Choice.{everyView}
-use Rattle.containment.specs.Answer.{answerBytes, Choose, answerBy, answerFrom, usedFor, answerOutcome}
+use Rattle.containment.specs.Quote.{quotedBy, usedBy}
+use Rattle.containment.specs.Answer.{answerBytes, Choose, answerFor, answerBy, answerFrom, answerOutcome}
 use Rattle.containment.specs.Show.{recordBytes}
-use Rattle.containment.specs.Demands.{Question, Catalogue, Record, Sheet, Book, extracts, Covers, Uncovered, answerOf, lackingIn, lacking, linkOf, firstOf, secondOf, Matched, LowestUnmatched, Showing, Demand3, Answering}
+use Rattle.containment.specs.Demands.{Question, Catalogue, Record, Sheet, Book, Covers, Uncovered, answerOf, lackingIn, lacking, linkOf, firstOf, secondOf, Matched, LowestUnmatched, Showing, Demand3, Answering}
 use Rattle.containment.proofs.SetBits.{test-cases}
 use Rattle.containment.proofs.ShowLaws.{lowest-of, shows, shows-book}
 use Rattle.containment.proofs.CoveredBytes.{views-same, question-is, catalogue-is, question-bounds, made-sheets, made-book, answer-alike, coveredIn, answer-search, answer-back, given-file}
-use Rattle.containment.proofs.DemandRules.{not-refused, matched-whole, shown-both, shown-exactly, used-chosen, used-all, used-covers, used-leaves, lowest-plain, refused-by, given-by, refused-exactly}
+use Rattle.containment.proofs.DemandRules.{not-refused, judged-same, matched-whole, shown-both, shown-exactly, used-chosen, used-all, used-covers, used-leaves, lowest-plain, refused-by, given-by, refused-exactly}
 use Rattle.containment.proofs.DemandSheets.{answer-size}
 use Rattle.containment.proofs.DemandIndex.{way-same}
 use Rattle.containment.proofs.DemandJoin.{answer-joins}
@@ -47,10 +49,10 @@ module _ (q c qs cs : List ℕ) (p : Question q qs) (d : Catalogue c cs) where
       }
 
   -- the link that the second record lacks
-  lowest-whole : Uncovered qs cs → LowestUnmatched qs (Matched (patternOf qs) (extracts cs)) (lacking qs cs)
+  lowest-whole : Uncovered qs cs → LowestUnmatched qs (Matched (patternOf qs) (viewPatterns cs)) (lacking qs cs)
   lowest-whole n =
       let Q = patternOf qs in
-      let Ps = extracts cs in
+      let Ps = viewPatterns cs in
       let l = lowest-of q c qs cs (question-is q qs p) (catalogue-is c cs d) n in
       record {
         below = omega (arith, l .below, question-bounds q qs p .many);
@@ -59,34 +61,34 @@ module _ (q c qs cs : List ℕ) (p : Question q qs) (d : Catalogue c cs) where
       }
 
   -- the two shown records have the same lists
-  same-lists : Uncovered qs cs → (P : Pattern) → In P (extracts cs) → viewSheet P (graphOf (firstOf qs)) ≡ viewSheet P (graphOf (secondOf qs cs))
+  same-lists : Uncovered qs cs → (P : Pattern) → In P (viewPatterns cs) → viewSheet P (graphOf (firstOf qs)) ≡ viewSheet P (graphOf (secondOf qs cs))
   same-lists n P i =
       let s = shows q c qs cs (question-is q qs p) (catalogue-is c cs d) n in
       let e = linkOf qs (lacking qs cs) in
       let G = graphOf (firstOf qs) in
       let H = asGraph (patternOf qs) in
       alike-views P G H (s .means)
-      ∙ uncovered-views (patternOf qs) (extracts cs) e (lowest-of q c qs cs (question-is q qs p) (catalogue-is c cs d) n .unmatched) P i
+      ∙ uncovered-views (patternOf qs) (viewPatterns cs) e (lowest-of q c qs cs (question-is q qs p) (catalogue-is c cs d) n .unmatched) P i
       ∙ sym (ap (viewSheet P) (s .lacks) ∙ alike-views P (without e G) (without e H) (alike-without e G H (s .means)))
 
   -- ---- accepted books
   module _ (b bs : List ℕ) (k : Book cs b bs) where
     read-back : (choose : Choose) (out : List ℕ) (room : ℕ) → answerBy choose q c b room ≡ give [] (out ∷ [])
-        → Sheet qs out (sheetFields (answerOf (choose qs cs) qs cs bs))
+        → Sheet qs out (sheetFields (answerOf (choose (quotedBy qs cs)) qs cs bs))
     unfolding answerBytes
     read-back choose out room e =
         ⊎-elim
         (λ h.
         let g = given-file room _ out (sym (given-by q c qs cs p d b bs k choose room h) ∙ e) in
-        ap (readSheet qs) (g .0) ∙ answer-back cs b bs k q qs p (choose qs cs) (g .1))
+        ap (readSheet qs) (g .0) ∙ answer-back cs b bs k q qs p (choose (quotedBy qs cs)) (g .1))
         (λ n. absurd (not-refused (sym e ∙ refused-by q c qs cs p d b bs k choose room n)))
-        (test-cases (coveredIn (choose qs cs) qs cs))
+        (test-cases (coveredIn (choose (quotedBy qs cs)) qs cs))
 
     -- 11 without a set of the client's
     refused-whole : (room words e : ℕ) → (withWorkspace words (answerOutcome q c b room) ≡ refuse 11 e) ↔ ((16384 ≤ words) × Uncovered qs cs × (e ≡ lacking qs cs))
     refused-whole room words e =
-        let x = refused-exactly q c qs cs p d b bs k (usedFor everyView) room words e in
-        let all : Uncovered qs cs → lackingIn (usedFor everyView qs cs) qs cs ≡ lacking qs cs = λ n. ap (λ (set : ℕ). lackingIn set qs cs) (used-all qs cs n) in (
+        let x = refused-exactly q c qs cs p d b bs k usedBy room words e in
+        let all : Uncovered qs cs → lackingIn (usedBy (quotedBy qs cs)) qs cs ≡ lacking qs cs = λ n. ap (λ (set : ℕ). lackingIn set qs cs) (used-all qs cs n) in (
           λ y. let z = x .0 y in let n = used-leaves qs cs (z .1) in (z .0, n, z .2 ∙ all n),
           λ z. x .1 (z .0, rw (used-all qs cs (z .1)) (z .1), z .2 ∙ sym (all (z .1))),
         )
@@ -98,28 +100,23 @@ same-sheets G H [] h = refl
 same-sheets G H (v ∷ vs) h = ap₂ (λ (x : List (List ℕ)) (l : List (List (List ℕ))). x ∷ l) (h (patternOf v) (here refl)) (same-sheets G H vs (λ P i. h P (there i)))
 
 same-answer : (choose : Choose) (q c qs cs b b′ bs bs′ : List ℕ) → Question q qs → Catalogue c cs → Book cs b bs → Book cs b′ bs′
-    → (Covers (choose qs cs) qs cs → (a : ℕ) → a < length (extracts cs) → T (bit (choose qs cs) a)
+    → (Covers (choose (quotedBy qs cs)) qs cs → (a : ℕ) → a < length (viewPatterns cs) → T (bit (choose (quotedBy qs cs)) a)
     → getD (sheetsIn (edgeCounts cs) bs) a [] ≡ getD (sheetsIn (edgeCounts cs) bs′) a [])
     → (room : ℕ) → answerBy choose q c b room ≡ answerBy choose q c b′ room
 same-answer choose q c qs cs b b′ bs bs′ p d k k′ s room =
-    let set = choose qs cs in
+    let set = choose (quotedBy qs cs) in
     ⊎-elim
     (λ h.
     given-by q c qs cs p d b bs k choose room h
-    ∙ ap (λ vs. fitFile room (sheetBytes (answerSets (patternOf qs) vs))) (views-same set set (extracts cs) (sheetsIn (edgeCounts cs) bs) (sheetsIn (edgeCounts cs) bs′) (λ a l. refl) (s h))
+    ∙ ap (λ vs. fitFile room (sheetBytes (answerSets (patternOf qs) vs))) (views-same set set (viewPatterns cs) (sheetsIn (edgeCounts cs) bs) (sheetsIn (edgeCounts cs) bs′) (λ a l. refl) (s h))
     ∙ sym (given-by q c qs cs p d b′ bs′ k′ choose room h))
     (λ n. refused-by q c qs cs p d b bs k choose room n ∙ sym (refused-by q c qs cs p d b′ bs′ k′ choose room n))
     (test-cases (coveredIn set qs cs))
 
 -- bits that name no view count for nothing
-judged-same : (v : Verdict) {k k′ : List ℕ → Outcome} → ((ws : List ℕ) → v ≡ accepted ws → k ws ≡ k′ ws) → judged v k ≡ judged v k′
-unfolding judged
-judged-same (accepted ws) f = f ws refl
-judged-same (rejected n d) f = refl
-
-ignored : (c cs : List ℕ) → Catalogue c cs → (set set′ : ℕ) → ((a : ℕ) → a < length (extracts cs) → bit set a ≡ bit set′ a) → (q b : List ℕ) (room : ℕ)
+ignored : (c cs : List ℕ) → Catalogue c cs → (set set′ : ℕ) → ((a : ℕ) → a < length (viewPatterns cs) → bit set a ≡ bit set′ a) → (q b : List ℕ) (room : ℕ)
     → answerFrom q c set b room ≡ answerFrom q c set′ b room
-unfolding answerBy judged
+unfolding answerBy answerFor judged
 ignored c cs d set set′ f q b room = rw d (judged-same (readPattern q) (λ qs _. judged-same (readBook cs b) (λ bs _. answer-alike set set′ qs cs bs room f)))
 
 no-function : (q c qs cs : List ℕ) → Question q qs → Catalogue c cs → Uncovered qs cs → (F : List (List (List ℕ)) → List ℕ)
@@ -134,11 +131,11 @@ no-function q c qs cs p d n F h =
 
 pub demand-3 : Demand3
 demand-3 = record {
-  covered-by = λ way q c r qs cs rs p d f set h l room words. ap (withWorkspace words) (answer-search q c qs cs p d r rs f (λ _ _. set) h l room ∙ sym (way-same way q r rs f room));
-  refused-by = λ q c b qs cs bs p d k set room words e. refused-exactly q c qs cs p d b bs k (λ _ _. set) room words e;
+  covered-by = λ way q c r qs cs rs p d f set h l room words. ap (withWorkspace words) (answer-search q c qs cs p d r rs f (λ _. set) h l room ∙ sym (way-same way q r rs f room));
+  refused-by = λ q c b qs cs bs p d k set room words e. refused-exactly q c qs cs p d b bs k (λ _. set) room words e;
   lowest-by = λ q c qs cs p d set n. lowest-plain q c qs cs p d set n;
   covered = λ way q c r qs cs rs p d f h l room words.
-      ap (withWorkspace words) (answer-search q c qs cs p d r rs f (usedFor everyView) (used-covers qs cs h) l room ∙ sym (way-same way q r rs f room));
+      ap (withWorkspace words) (answer-search q c qs cs p d r rs f usedBy (used-covers qs cs h) l room ∙ sym (way-same way q r rs f room));
   fits = λ c r cs rs d f l. (bookFields (viewSheets cs (graphOf rs)), made-book c r cs rs d f l, made-sheets c r cs rs d f);
   shows = λ q c qs cs p d n room room′ words. ap (withWorkspace words) (shown-both q c qs cs p d n room room′);
   uncovered = λ q c qs cs p d n. shown-by q c qs cs p d n;

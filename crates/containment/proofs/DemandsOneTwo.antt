@@ -2,7 +2,7 @@
 use Prim.Native.Nat.{ℕ, _+_, _*_, _<_, _≤_}
 use mathlib.Core.Path.{_≡_, refl, sym, ap, _∙_}
 use mathlib.Core.Bool.{Bool, true, false}
-use mathlib.Core.Logic.{_↔_}
+use mathlib.Core.Logic.{⊎-elim, _↔_}
 use mathlib.Core.List.{List, [], _∷_, _++_}
 use lib.ListN.{length, getD}
 use lib.Dec.{T, eqb}
@@ -13,35 +13,40 @@ use Rattle.packed.specs.Formats.{code}
 use Rattle.packed.specs.Contents.{edgesOf, edgeCounts, ends, fieldsOf}
 use Rattle.packed.specs.Plain.{BookFile}
 use Rattle.packed.specs.OldRecord.{sortedFields, recordSorted}
-use Rattle.packed.specs.Calls.{Outcome, give, toldOf, fronts, outputsOf, workOf, withWorkspace, judged, readPattern, readCatalogue, readRecord, patternRead, catalogueRead, recordRead, sheetRead, bookRead, patternWritten, catalogueWritten, recordWritten, sheetWritten, bookWritten}
+use Rattle.packed.specs.Calls.{Outcome, give, refuse, toldOf, fronts, outputsOf, workOf, withWorkspace, judged, readPattern, readCatalogue, readRecord, readSheet, readBook, writeSheet, writeBook, patternRead, catalogueRead, recordRead, sheetRead, bookRead, patternWritten, catalogueWritten, recordWritten, sheetWritten, bookWritten}
 use Rattle.packed.proofs.SheetLaws.{fields-none, fields-some}
 use Rattle.packed.proofs.Accepted.{pattern-read, catalogue-read, record-read, sheet-read, book-read}
 use Rattle.packed.proofs.CallRoundTrips.{pattern-back, pattern-again, catalogue-back, catalogue-again, record-back, record-again, sheet-back, sheet-again, book-back, book-again}
 use Rattle.matching.specs.Lists.{In}
-use Rattle.matching.specs.Simulation.{Pair, Edge, noEdge, Pattern, bit, patternOf, graphOf, asGraph, matchSets, viewSheet}
+use Rattle.matching.specs.Simulation.{Pair, Edge, noEdge, Pattern, Graph, bit, patternOf, graphOf, asGraph, matchSets, viewSheet}
 use Rattle.matching.specs.Search.{searchOutcome, makeBookOutcome}
 use Rattle.matching.specs.Index.{makeIndexOutcome, checkIndexOutcome, searchIndexedOutcome}
 use Rattle.matching.proofs.SimLaws.{sim-is, sim-most}
-use Rattle.matching.proofs.MatchSetLaws.{view-sheet}
+use Rattle.matching.proofs.MatchLaws.{sound-say}
+use Rattle.matching.proofs.MatchSetLaws.{Narrow, view-sheet}
+use Rattle.matching.proofs.Covered.{narrow-query}
+use Rattle.matching.proofs.SortedGraphs.{alike-sets}
 use Rattle.matching.proofs.Listed.{listed-exactly, matches-related, related-matches}
 use Rattle.matching.proofs.SheetBytes.{none-bytes}
 use Rattle.matching.proofs.AllOrNone.{sets-even}
 use Rattle.matching.proofs.RecordLaws.{graph-narrow}
+use Rattle.matching.specs.Offered.{viewPatterns}
 use Rattle.containment.specs.Choice.{everyView, coversIn}
-use Rattle.containment.specs.Quote.{QuoteValues, flat, one, mapping, valuesFrom, quoteValues, quoteOutcome}
-use Rattle.containment.specs.Answer.{answerIn, answerBy}
+use Rattle.containment.specs.Quote.{Quoted, quotedBy, covering, QuoteValues, flat, one, mapping, valuesFrom, quoteValues, quoteFor, quoteOutcome}
+use Rattle.containment.specs.Answer.{answerIn, answerFor, answerBy}
 use Rattle.containment.specs.Cheapest.{cheapestFrom, cheapestFor, cheapestOutcome}
 use Rattle.containment.specs.Show.{showFor, showOutcome}
 use Rattle.containment.specs.Listing.{lineOf, lineOutcome}
-use Rattle.containment.specs.Demands.{Full, Settles, Worked, Demand1, Question, Catalogue, Record, ownOf, Uncrowded, Book, extracts, extractOf, linkOf, Covered, lacking, chosenOf, Matching, Matched, Demand2}
-use Rattle.containment.proofs.Numbered.{numbered, pattern-faults, catalogue-faults, record-faults, old-faults, sheet-faults, book-faults, gives, refuses, either, workspace-settles, uncrowded-settles, own-settles, fit-settles, fitFile-settles, fitBoth-settles, read-settles, write-settles}
+use Rattle.containment.specs.Demands.{Full, Settles, writePattern, writeCatalogue, writeRecord, Worked, Demand1, Question, Catalogue, Record, ownOf, Uncrowded, Book, extractOf, linkOf, Covered, lacking, chosenOf, Matching, Matched, Demand2}
+use Rattle.containment.proofs.Numbered.{numbered, pattern-faults, catalogue-faults, record-faults, old-faults, sheet-faults, book-faults, gives, refuses, either, workspace-settles, uncrowded-settles, own-settles, fit-settles, fitFile-settles, fitBoth-settles, read-settles, write-settles, write-short, read-few}
 use Rattle.containment.proofs.SetBits.{never}
 use Rattle.containment.proofs.ChoiceLaws.{chosen-none, chosen-covers, chosen-needed}
 use Rattle.containment.proofs.CoveredBytes.{coveredBy, question-bounds, few-views, record-is}
 use Rattle.containment.proofs.QuoteLaws.{test-is, mapping-exactly, quote-says-covered}
-use Rattle.containment.proofs.DemandRules.{not-refused, goes-on, bytes-by, few-words, enough-words, enough-for, full-words, full-judged, full-twice, full-uncrowded, fitted, fitted-file, fitted-both, pattern-reads, catalogue-reads, record-reads, sheet-reads, book-reads, pattern-writes, catalogue-writes, record-writes, sheet-writes, book-writes, crowded-read, crowded-written, crowded-answer, listed-matched, matched-listed, covers-plain, shown-both, full-shown, given-by, full-answered}
+use Rattle.containment.proofs.DemandRules.{number-same, not-refused, refused-judged, goes-on, bytes-by, few-words, enough-words, enough-for, full-words, full-judged, full-twice, full-uncrowded, fitted, fitted-file, fitted-both, pattern-reads, catalogue-reads, record-reads, sheet-reads, book-reads, pattern-writes, catalogue-writes, record-writes, sheet-writes, book-writes, crowded-read, crowded-written, crowded-answer, listed-matched, matched-listed, covers-plain, shown-both, full-shown, given-by, full-answered}
+use Rattle.containment.proofs.DemandFiles.{hands-up, says-judged, says-quoted, says-give, says-fit, says-fit-file, says-uncrowded, says-own, says-quote, says-cheapest, says-answer, says-show}
 use Rattle.containment.proofs.DemandIndex.{index-made, check-exactly, check-yes, search-exactly, check-whole, search-whole, way-same, way-searched}
-use Rattle.containment.proofs.DemandSheets.{pair-fields, searched-back, searched-length, book-made, order-sheets, order-books, views-sound}
+use Rattle.containment.proofs.DemandSheets.{pair-fields, searched-back, searched-length, book-made, views-sound}
 
 -- ---- demand 1
 
@@ -55,27 +60,22 @@ catalogue-first s h = read-settles 897 2 catalogue-faults s h
 record-first : (s : List ℕ) {k : List ℕ → Outcome} → ((ws : List ℕ) → Settles (k ws)) → Settles (judged (readRecord s) k)
 record-first s h = read-settles 44036 3 record-faults s h
 
--- whether the views in a set cover the query
-abbrev covers : ℕ → List ℕ → List Pattern → Bool
-covers set qs Ps = coversIn (mapping (patternOf qs) Ps) set (length Ps) (edgesOf qs)
-
-answer-settles : (set : ℕ) (qs cs bs : List ℕ) (room : ℕ) → Settles (answerIn set qs cs bs room)
+answer-settles : (set : ℕ) (x : Quoted) (bs : List ℕ) (room : ℕ) → Settles (answerIn set x bs room)
 unfolding answerIn
-answer-settles set qs cs bs room =
-    uncrowded-settles (edgeCounts cs) bs (either (covers set qs (extracts cs)) (fitFile-settles room _) (refuses _ (numbered 11 refl refl)))
+answer-settles set x bs room = uncrowded-settles (edgeCounts (x .offer .content)) bs (either (covering x set) (fitFile-settles room _) (refuses _ (numbered 11 refl refl)))
 
-cheapest-settles : (qs cs charges : List ℕ) → Settles (cheapestFor qs cs charges)
+cheapest-settles : (charges : List ℕ) (x : Quoted) → Settles (cheapestFor charges x)
 unfolding cheapestFor cheapestFrom
-cheapest-settles qs cs charges =
-    either (eqb (length charges) (length (extracts cs))) (either (covers everyView qs (extracts cs)) (gives _ []) (refuses _ (numbered 11 refl refl))) (refuses _ (numbered 15 refl refl))
+cheapest-settles charges x =
+    either (eqb (length charges) (length (x .offer .views))) (either (covering x (x .usable)) (gives _ []) (refuses _ (numbered 11 refl refl))) (refuses _ (numbered 15 refl refl))
 
-show-settles : (set : ℕ) (qs : List ℕ) (Ps : List Pattern) (room room′ : ℕ) → Settles (showFor set qs Ps room room′)
+show-settles : (room room′ : ℕ) (x : Quoted) → Settles (showFor room room′ x)
 unfolding showFor
-show-settles set qs Ps room room′ = either (covers set qs Ps) (refuses 0 (numbered 13 refl refl)) (fitBoth-settles room room′ _ _)
+show-settles room room′ x = either (covering x (x .usable)) (refuses 0 (numbered 13 refl refl)) (fitBoth-settles room room′ _ _)
 
-full-answer : (set : ℕ) (qs cs bs : List ℕ) (room : ℕ) → Full (answerIn set qs cs bs room) → Uncrowded cs bs
+full-answer : (set : ℕ) (x : Quoted) (bs : List ℕ) (room : ℕ) → Full (answerIn set x bs room) → Uncrowded (x .offer .content) bs
 unfolding answerIn
-full-answer set qs cs bs room f = full-uncrowded (edgeCounts cs) bs _ f
+full-answer set x bs room f = full-uncrowded (edgeCounts (x .offer .content)) bs _ f
 
 -- what a workspace holds afterwards
 worked : (work work′ : List ℕ) → work′ ≡ workOf work → Worked work work′
@@ -85,6 +85,14 @@ worked work work′ e = record {
   as-came = λ h. e ∙ rw (lt-ltb (length work) 16384 h);
 }
 
+-- a quote refuses what a file is refused with, and nothing else
+quote-few : (q c : List ℕ) {n d : ℕ} → quoteOutcome q c ≡ refuse n d → n ≤ 9
+unfolding quoteOutcome quoteFor
+quote-few q c e =
+    ⊎-elim (read-few 56 1 pattern-faults q)
+    (λ x. ⊎-elim (read-few 897 2 catalogue-faults c) (λ y. absurd (not-refused (y .2))) (refused-judged (readCatalogue c) _ (x .2)))
+    (refused-judged (readPattern q) _ e)
+
 -- a book is accepted if none of 1 to 9 falls to it, and 10 doesn't
 book-exactly : (cs s ws : List ℕ) → Book cs s ws ↔ ((length s ≤ 65536) × BookFile (edgeCounts cs) s ws × Uncrowded cs ws)
 book-exactly cs s ws = (
@@ -93,7 +101,7 @@ book-exactly cs s ws = (
 )
 
 pub demand-1 : Demand1
-unfolding recordSorted fronts patternRead catalogueRead recordRead sheetRead bookRead patternWritten catalogueWritten recordWritten sheetWritten bookWritten searchOutcome makeBookOutcome makeIndexOutcome checkIndexOutcome searchIndexedOutcome quoteOutcome cheapestOutcome answerBy showOutcome lineOutcome toldOf outputsOf
+unfolding recordSorted fronts patternRead catalogueRead recordRead sheetRead bookRead patternWritten catalogueWritten recordWritten sheetWritten bookWritten searchOutcome makeBookOutcome makeIndexOutcome checkIndexOutcome searchIndexedOutcome quoteFor quoteOutcome cheapestOutcome answerFor answerBy showOutcome lineOutcome toldOf outputsOf
 demand-1 = record {
   read-pattern = λ s room words. workspace-settles words (pattern-first s (fit-settles room));
   read-catalogue = λ s room words. workspace-settles words (catalogue-first s (fit-settles room));
@@ -116,12 +124,35 @@ demand-1 = record {
   search-indexed = λ p r index room words. workspace-settles words (pattern-first p (λ ps. record-first r (λ rs. own-settles (ownOf rs) index (fitFile-settles room _))));
   make-book = λ c r room words. workspace-settles words (catalogue-first c (λ cs. record-first r (λ rs. fitFile-settles room _)));
   quote = λ q c words. workspace-settles words (pattern-first q (λ qs. catalogue-first c (λ cs. gives _ [])));
-  cheapest = λ q c charges words. workspace-settles words (pattern-first q (λ qs. catalogue-first c (λ cs. cheapest-settles qs cs charges)));
+  cheapest = λ q c charges words. workspace-settles words (pattern-first q (λ qs. catalogue-first c (λ cs. cheapest-settles charges (quotedBy qs cs))));
   answer = λ choose q c b room words.
       workspace-settles words
-      (pattern-first q (λ qs. catalogue-first c (λ cs. read-settles 65536 4 (book-faults (edgeCounts cs)) b (λ bs. answer-settles (choose qs cs) qs cs bs room))));
-  show = λ q c room room′ words. workspace-settles words (pattern-first q (λ qs. catalogue-first c (λ cs. show-settles everyView qs (extracts cs) room room′)));
+      (pattern-first q (λ qs. catalogue-first c (λ cs. read-settles 65536 4 (book-faults (edgeCounts cs)) b (λ bs. answer-settles (choose (quotedBy qs cs)) (quotedBy qs cs) bs room))));
+  show = λ q c room room′ words. workspace-settles words (pattern-first q (λ qs. catalogue-first c (λ cs. show-settles room room′ (quotedBy qs cs))));
   line = λ q k room. fit-settles room (lineOf q k);
+  read-pattern-files = λ s room. hands-up (says-judged (readPattern s) (λ ws _. says-fit room ws));
+  read-catalogue-files = λ s room. hands-up (says-judged (readCatalogue s) (λ ws _. says-fit room ws));
+  read-record-files = λ s room. hands-up (says-judged (readRecord s) (λ ws _. says-fit room ws));
+  read-sheet-files = λ p s room. hands-up (says-judged (readPattern p) (λ ps _. says-judged (readSheet ps s) (λ ws _. says-fit room ws)));
+  read-book-files = λ c s room. hands-up (says-judged (readCatalogue c) (λ cs _. says-judged (readBook cs s) (λ ws _. says-uncrowded (edgeCounts cs) ws (says-fit room ws))));
+  write-pattern-files = λ ws room. hands-up (says-judged (writePattern ws) (λ s _. says-fit room s));
+  write-catalogue-files = λ ws room. hands-up (says-judged (writeCatalogue ws) (λ s _. says-fit room s));
+  write-record-files = λ ws room. hands-up (says-judged (writeRecord ws) (λ s _. says-fit room s));
+  write-sheet-files = λ p ws room. hands-up (says-judged (readPattern p) (λ ps _. says-judged (writeSheet ps ws) (λ s _. says-fit-file room s)));
+  write-book-files = λ c ws room. hands-up (says-judged (readCatalogue c) (λ cs _. says-judged (writeBook cs ws) (λ s _. says-uncrowded (edgeCounts cs) ws (says-fit-file room s))));
+  search-files = λ p r room. hands-up (says-judged (readPattern p) (λ ps _. says-judged (readRecord r) (λ rs _. says-fit-file room _)));
+  make-index-files = λ r room. hands-up (says-judged (readRecord r) (λ rs _. says-fit room _));
+  check-index-files = λ r index. hands-up (says-judged (readRecord r) (λ rs _. says-own (ownOf rs) index (says-give _ _)));
+  search-indexed-files = λ p r index room. hands-up (says-judged (readPattern p) (λ ps _. says-judged (readRecord r) (λ rs _. says-own (ownOf rs) index (says-fit-file room _))));
+  make-book-files = λ c r room. hands-up (says-judged (readCatalogue c) (λ cs _. says-judged (readRecord r) (λ rs _. says-fit-file room _)));
+  quote-files = λ q c. hands-up (says-quoted q c quoteFor (λ qs cs. says-quote (quotedBy qs cs)));
+  cheapest-files = λ q c charges. hands-up (says-quoted q c (cheapestFor charges) (λ qs cs. says-cheapest charges (quotedBy qs cs)));
+  answer-files = λ choose q c b room.
+      hands-up (says-quoted q c (answerFor choose b room) (λ qs cs. says-judged (readBook cs b) (λ bs _. says-answer (choose (quotedBy qs cs)) (quotedBy qs cs) bs room)));
+  show-files = λ q c room room′. hands-up (says-quoted q c (showFor room room′) (λ qs cs. says-show room room′ (quotedBy qs cs)));
+  never-long = λ ws d. (write-short 1 pattern-faults ws d, write-short 2 catalogue-faults ws d, write-short 3 record-faults ws d);
+  never-long-beside = λ cs ws d. (write-short 4 (sheet-faults (edgesOf cs)) ws d, write-short 4 (book-faults (edgeCounts cs)) ws d);
+  quote-never = λ q c words d e. let l = quote-few q c (enough-for words _ (λ z. let y = number-same z in omega arith) e .1) in omega arith;
   desk = λ a words. few-words words a;
   enough = λ a words. enough-words words a;
   accepts-pattern = pattern-read;
@@ -159,7 +190,7 @@ demand-1 = record {
       let w = full-words words (answerBy choose q c b room) f in
       let t = full-twice _ _ _ w in
       let z = full-judged _ _ (t .4) in
-      let k : Book (t .1) b (z .0) = record { read = z .1; few = full-answer _ _ _ _ room (z .2) } in
+      let k : Book (t .1) b (z .0) = record { read = z .1; few = full-answer _ (quotedBy (t .0) (t .1)) _ room (z .2) } in
       (t .0, t .1, z .0, t .2, t .3, k, full-answered q c (t .0) (t .1) (t .2) (t .3) b (z .0) k choose room w);
   show-gives = λ q c qs cs e f n room room′ words. fitted-both _ words room room′ _ _ (shown-both q c qs cs e f n room room′);
   show-only = λ q c room room′ words f.
@@ -174,42 +205,45 @@ demand-1 = record {
 
 -- ---- demand 2
 
-pub lists-exactly : (r rs : List ℕ) → Record r rs → (P : Pattern) (i : ℕ) → i < length (P .edges) → (f : Pair) → f .1 < 4096
-    → In (code (f .0) (f .1)) (getD (matchSets P (graphOf rs)) i []) ↔ Matching P (graphOf rs) (getD (P .edges) i noEdge) f
-lists-exactly r rs e P i h f k =
-    let d = record-is r rs e in
-    let x = listed-exactly P (graphOf rs) (graph-narrow r rs d) i h f k in (
-      λ j. let m = related-matches P (graphOf rs) (x .0 j) in record { whole = m .whole; link = m .link; edge = m .edge; kind = m .kind; ends = m .ends; tail = m .tail; head = m .head },
-      λ m. x .1 (matches-related P (graphOf rs) (record { whole = m .whole; link = m .link; edge = m .edge; kind = m .kind; ends = m .ends; tail = m .tail; head = m .head })),
+matching-exactly : (G : Graph) → Narrow G → (P : Pattern) (i : ℕ) → i < length (P .edges) → (f : Pair) → f .1 < 4096
+    → In (code (f .0) (f .1)) (getD (matchSets P G) i []) ↔ Matching P G (getD (P .edges) i noEdge) f
+matching-exactly G n P i h f k =
+    let x = listed-exactly P G n i h f k in (
+      λ j. let m = related-matches P G (x .0 j) in record { whole = m .whole; link = m .link; edge = m .edge; kind = m .kind; ends = m .ends; tail = m .tail; head = m .head },
+      λ m. x .1 (matches-related P G (record { whole = m .whole; link = m .link; edge = m .edge; kind = m .kind; ends = m .ends; tail = m .tail; head = m .head })),
     )
 
-quote-exactly : (q c qs cs : List ℕ) → Question q qs → Catalogue c cs → Covered qs cs ↔ ((e : Edge) → In e (patternOf qs .edges) → Matched (patternOf qs) (extracts cs) e)
+pub lists-exactly : (r rs : List ℕ) → Record r rs → (P : Pattern) (i : ℕ) → i < length (P .edges) → (f : Pair) → f .1 < 4096
+    → In (code (f .0) (f .1)) (getD (matchSets P (graphOf rs)) i []) ↔ Matching P (graphOf rs) (getD (P .edges) i noEdge) f
+lists-exactly r rs e P i h f k = matching-exactly (graphOf rs) (graph-narrow r rs (record-is r rs e)) P i h f k
+
+quote-exactly : (q c qs cs : List ℕ) → Question q qs → Catalogue c cs → Covered qs cs ↔ ((e : Edge) → In e (patternOf qs .edges) → Matched (patternOf qs) (viewPatterns cs) e)
 quote-exactly q c qs cs eq ec =
-    let x = quote-says-covered (patternOf qs) (extracts cs) (few-views c cs ec) (question-bounds q qs eq .few-edges) in
+    let x = quote-says-covered (patternOf qs) (viewPatterns cs) (few-views c cs ec) (question-bounds q qs eq .few-edges) in
     let m : length (patternOf qs .edges) ≡ edgesOf qs = question-bounds q qs eq .many in
-    let same = ap (coversIn (mapping (patternOf qs) (extracts cs)) everyView (length (extracts cs))) m in (
-      λ h e i. listed-matched (patternOf qs) (extracts cs) e (x .0 (same ∙ h) e i),
-      λ f. sym same ∙ x .1 (λ e i. matched-listed (patternOf qs) (extracts cs) e (f e i)),
+    let same = ap (coversIn (mapping (patternOf qs) (viewPatterns cs)) everyView (length (viewPatterns cs))) m in (
+      λ h e i. listed-matched (patternOf qs) (viewPatterns cs) e (x .0 (same ∙ h) e i),
+      λ f. sym same ∙ x .1 (λ e i. matched-listed (patternOf qs) (viewPatterns cs) e (f e i)),
     )
 
 -- the masks of a quote
-maps-exactly : (q c qs cs : List ℕ) → Question q qs → Catalogue c cs → (i a f : ℕ) → i < edgesOf qs → a < length (extracts cs) → f < length (extractOf cs a .edges)
-    → T (bit (getD (mapping (patternOf qs) (extracts cs)) (16 * i + a) 0) f)
+maps-exactly : (q c qs cs : List ℕ) → Question q qs → Catalogue c cs → (i a f : ℕ) → i < edgesOf qs → a < length (viewPatterns cs) → f < length (extractOf cs a .edges)
+    → T (bit (getD (mapping (patternOf qs) (viewPatterns cs)) (16 * i + a) 0) f)
     ↔ ((getD (extractOf cs a .edges) f noEdge .kind ≡ linkOf qs i .kind) × In (code (linkOf qs i .from) (linkOf qs i .to)) (getD (viewSheet (extractOf cs a) (asGraph (patternOf qs))) f []))
 maps-exactly q c qs cs eq ec i a f h l k =
     let b = question-bounds q qs eq in
     let n = few-views c cs ec in
-    mapping-exactly (patternOf qs) (extracts cs) (b .few-edges) i a (omega (arith, b .many)) l (omega arith) f k
+    mapping-exactly (patternOf qs) (viewPatterns cs) (b .few-edges) i a (omega (arith, b .many)) l (omega arith) f k
 
 -- the values of a quote
 abbrev valuesBy : List ℕ → List ℕ → Bool → ℕ → QuoteValues
 valuesBy qs cs b set =
-    record { covered = one b; mapping = mapping (patternOf qs) (extracts cs); edges = edgesOf qs; chosen = set; lowest = pick b 0 (lacking qs cs) }
+    record { covered = one b; mapping = mapping (patternOf qs) (viewPatterns cs); edges = edgesOf qs; chosen = set; lowest = pick b 0 (lacking qs cs) }
 
 quote-values : (q c qs cs : List ℕ) → Question q qs → Catalogue c cs → (b : Bool) → coveredBy qs cs ≡ b
     → quoteOutcome q c ≡ give (flat (valuesBy qs cs b (chosenOf qs cs))) []
-unfolding quoteOutcome quoteValues valuesFrom
-quote-values q c qs cs eq ec b h = goes-on _ eq ∙ goes-on _ ec ∙ rw (question-bounds q qs eq .many, h)
+unfolding quoteOutcome quoteFor quoteValues valuesFrom
+quote-values q c qs cs eq ec b h = goes-on _ eq ∙ goes-on _ ec ∙ rw h
 
 one-same : (a b : Bool) → one a ≡ one b → a ≡ b
 one-same true true e = refl
@@ -238,6 +272,9 @@ demand-2 = record {
   books = book-made;
   same-either-way = λ way p r rs f room words. ap (withWorkspace words) (way-same way p r rs f room);
   lists = lists-exactly;
+  lists-in-question = λ q qs e P i h f k.
+      let b = question-bounds q qs e in
+      matching-exactly (asGraph (patternOf qs)) (narrow-query (patternOf qs) (sound-say (patternOf qs) (b .sound)) (b .few-nodes)) P i h f k;
   of-extracts = view-sheet;
   sheet-back = λ p r ps rs out e f room words. searched-back p r ps rs e f out room words;
   none-found = fields-none;
@@ -248,8 +285,8 @@ demand-2 = record {
   no-pairs = refl;
   zero-byte = none-bytes;
   sheet-length = searched-length;
-  any-order = λ r r′ rs rs′ e e′ s p room words. ap (withWorkspace words) (order-sheets r r′ rs rs′ e e′ s p room);
-  any-order-books = λ r r′ rs rs′ e e′ s c room words. ap (withWorkspace words) (order-books r r′ rs rs′ e e′ s c room);
+  any-order = λ G H s P.
+      alike-sets P G H (record { same-labels = s .kinds; more = λ f. s .links f .0 }, record { same-labels = sym (s .kinds); more = λ f. s .links f .1 });
   all-or-none = sets-even;
   patterns-sound = λ p ps e. question-bounds p ps e .sound;
   extracts-sound = views-sound;
@@ -261,11 +298,11 @@ demand-2 = record {
   values-uncovered = λ q c qs cs eq ec n.
       quote-values q c qs cs eq ec false n
       ∙ ap (λ (set : ℕ). give (flat (valuesBy qs cs false set)) [])
-      (chosen-none (mapping (patternOf qs) (extracts cs)) everyView (edgesOf qs) (length (extracts cs)) n);
+      (chosen-none (mapping (patternOf qs) (viewPatterns cs)) everyView (edgesOf qs) (length (viewPatterns cs)) n);
   maps = maps-exactly;
-  choice-covers = λ qs cs h. chosen-covers (mapping (patternOf qs) (extracts cs)) everyView (edgesOf qs) (length (extracts cs)) h;
+  choice-covers = λ qs cs h. chosen-covers (mapping (patternOf qs) (viewPatterns cs)) everyView (edgesOf qs) (length (viewPatterns cs)) h;
   choice-needs = λ qs cs a t h.
-      never (sym h ∙ chosen-needed (mapping (patternOf qs) (extracts cs)) everyView (edgesOf qs) (length (extracts cs)) a (test-is _ .1 t));
+      never (sym h ∙ chosen-needed (mapping (patternOf qs) (viewPatterns cs)) everyView (edgesOf qs) (length (viewPatterns cs)) a (test-is _ .1 t));
   patterns = record { back = λ s ws room room′ words y. pattern-back s ws room room′ words (bytes-by s y); again = pattern-again };
   catalogues = record { back = λ s ws room room′ words y. catalogue-back s ws room room′ words (bytes-by s y); again = catalogue-again };
   records = record { back = λ s ws room room′ words y. record-back s ws room room′ words (bytes-by s y); again = record-again };

@@ -25,6 +25,7 @@ pub mod CostingLaws
 pub mod Numbered
 -- the demands
 pub mod DemandRules
+pub mod DemandFiles
 pub mod DemandSheets
 pub mod DemandIndex
 pub mod DemandJoin

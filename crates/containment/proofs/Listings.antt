@@ -7,12 +7,13 @@ use native.Mathlib.Omega.{arith}
 use borrow.Author.Tests.{lt-ltb, le-ltb}
 use Rattle.packed.specs.Contents.{edgesOf}
 use Rattle.packed.specs.Refusals.{Told, told, numberOf}
-use Rattle.packed.specs.Calls.{give, toldOf, fronts, outputsOf, fit, judged, Settled, Fulfils, withWorkspace}
+use Rattle.packed.specs.Calls.{give, toldOf, fronts, outputsOf, fit, judged, Settled, FulfilsOne, withWorkspace}
 use Rattle.matching.specs.Simulation.{patternOf}
+use Rattle.matching.specs.Offered.{viewPatterns}
 use Rattle.containment.specs.Choice.{everyView, coversIn}
-use Rattle.containment.specs.Quote.{QuoteValues, flat, blank, one, mapping, valuesFrom, quoteValues, quoteOutcome, quoteTold}
+use Rattle.containment.specs.Quote.{quotedBy, QuoteValues, flat, blank, one, mapping, valuesFrom, quoteValues, quoteFor, quoteOutcome, quoteTold}
 use Rattle.containment.specs.Listing.{linesAfter, chosenLine, lineOf, lineOutcome}
-use Rattle.containment.specs.Demands.{Question, Catalogue, extracts, Uncovered, UncoveredListing, Listings}
+use Rattle.containment.specs.Demands.{Question, Catalogue, Uncovered, UncoveredListing, Listings}
 use Rattle.containment.specs.declared.quote_type.Coverage.{Coverage}
 use Rattle.containment.specs.declared.quote_type.Coverage.the-variants as coverage-is
 use Rattle.containment.specs.declared.quote_type.Quote.{Quote}
@@ -50,30 +51,27 @@ module _ (v : QuoteValues) (none : v .covered ≡ 0) where
 
 -- ---- the listing
 abbrev values : List ℕ → List ℕ → QuoteValues
-values qs cs = quoteValues everyView (patternOf qs) (extracts cs)
+values qs cs = quoteValues (quotedBy qs cs)
 
 module _ (q c qs cs : List ℕ) (eq : Question q qs) (ec : Catalogue c cs) (no : Uncovered qs cs) (r : Quote) where
-  many : length (patternOf qs .edges) ≡ edgesOf qs
-  many = question-bounds q qs eq .many
-
   given : quoteOutcome q c ≡ give (flat (values qs cs)) []
-  unfolding quoteOutcome judged
+  unfolding quoteOutcome quoteFor judged
   given = rw (eq, ec)
 
   tells : {work work′ : List ℕ} → 16384 ≤ length work → Settled blank (withWorkspace (length work) (quoteOutcome q c)) (quoteTold r) [] [] work work′ → Tells r (values qs cs)
   unfolding withWorkspace toldOf quoteValues valuesFrom
   tells {work} l s =
-      let none : values qs cs .covered ≡ 0 = ap one (ap (coversIn (mapping (patternOf qs) (extracts cs)) everyView (length (extracts cs))) many ∙ no) in
+      let none : values qs cs .covered ≡ 0 = ap one no in
       let h : quoteTold r ≡ told 0 (flat (values qs cs)) = s .result ∙ rw (le-ltb (length work) 16384 l, given) in
       told-by (values qs cs) none (r .coverage) (r .mapping) (r .edges) (r .chosen) (r .lowest) h
 
-  listing : Tells r (values qs cs) → UncoveredListing r (mapping (patternOf qs) (extracts cs)) (edgesOf qs)
+  listing : Tells r (values qs cs) → UncoveredListing r (mapping (patternOf qs) (viewPatterns cs)) (edgesOf qs)
   unfolding quoteValues valuesFrom chosenLine
   listing t =
-      let t′ = mapping (patternOf qs) (extracts cs) in
-      let k = length (extracts cs) in
-      let last : linesAfter r ≡ edgesOf qs + 1 = rw (t .coverage) (ap (λ (m : ℕ). m + 1) (t .edges ∙ many)) in
-      let none : r .chosen ≡ 0 = t .chosen ∙ chosen-none t′ everyView _ k (ap (coversIn t′ everyView k) many ∙ no) in
+      let t′ = mapping (patternOf qs) (viewPatterns cs) in
+      let k = length (viewPatterns cs) in
+      let last : linesAfter r ≡ edgesOf qs + 1 = rw (t .coverage) (ap (λ (m : ℕ). m + 1) (t .edges)) in
+      let none : r .chosen ≡ 0 = t .chosen ∙ chosen-none t′ everyView _ k no in
       record {
         first = line-first r 0 refl ∙ rw (t .coverage);
         links = λ e h. let n : e + 1 - 1 ≡ e = omega arith in line-link r (e + 1) (λ z. omega arith) (omega arith) ∙ rw (t .mapping, n);
@@ -82,19 +80,19 @@ module _ (q c qs cs : List ℕ) (eq : Question q qs) (ec : Catalogue c cs) (no :
       }
 
 -- ---- the call
-module _ (q : Quote) (k : ℕ) (r : Told) (out out′ : List ℕ) (a : Fulfils (lineOutcome q k (length out)) r out out′) where
+module _ (q : Quote) (k : ℕ) (r : Told) (out out′ : List ℕ) (a : FulfilsOne (lineOutcome q k (length out)) r out out′) where
   refuses : length out < length (lineOf q k) → (r ≡ told 12 (length (lineOf q k) ∷ [])) × (out′ ≡ out)
   unfolding lineOutcome fit toldOf outputsOf
   refuses h =
       let e = lt-ltb (length out) (length (lineOf q k)) h in
-      let o : out′ ∷ [] ≡ out ∷ [] = a .output ∙ rw e in
+      let o : out′ ∷ [] ≡ out ∷ [] = a .outputs ∙ rw e in
       (a .result ∙ rw e, cc)
 
   writes : length (lineOf q k) ≤ length out → (r ≡ told 0 (length (lineOf q k) ∷ [])) × (out′ ≡ lineOf q k ++ drop (length (lineOf q k)) out)
   unfolding lineOutcome fit toldOf outputsOf fronts
   writes h =
       let e = le-ltb (length out) (length (lineOf q k)) h in
-      let o : out′ ∷ [] ≡ (lineOf q k ++ drop (length (lineOf q k)) out) ∷ [] = a .output ∙ rw e in
+      let o : out′ ∷ [] ≡ (lineOf q k ++ drop (length (lineOf q k)) out) ∷ [] = a .outputs ∙ rw e in
       (a .result ∙ rw e, cc)
 
 pub listings : Listings

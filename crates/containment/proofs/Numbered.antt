@@ -6,6 +6,7 @@ use mathlib.Core.List.{List, [], _∷_, _++_}
 use mathlib.Core.Bool.{Bool, true, false, _&&_, _||_}
 use lib.ListN.{length, take, drop}
 use lib.Dec.{eqb, leb, ltb}
+use native.Mathlib.Omega.{arith}
 use borrow.Author.Tests.{leb-true}
 use Rattle.packed.specs.Bits.{bitsOf, num, bits, zeros, gap}
 use Rattle.packed.specs.Format.{Format, done, ask, test, pad, then, times, whole, Got, got, fault, pick, push, within, scan, lay, Result, ok, bad, ended, inBytes, decode, encode}
@@ -44,13 +45,24 @@ refusal-numbered SmallWorkspace = numbered 14 refl refl
 refusal-numbered (WrongCharges d) = numbered 15 refl refl
 refusal-numbered (WrongIndex d) = numbered 16 refl refl
 
+-- the numbers that fall to what stands in a file, or in content
+pub record FileFault (n : ℕ) : Type 0 where
+  pub least : 2 ≤ n
+  pub most : n ≤ 9
+
+file-fault : (n : ℕ) → leb 2 n ≡ true → leb n 9 ≡ true → FileFault n
+file-fault n p q = record { least = leb-true 2 n p; most = leb-true n 9 q }
+
+fault-numbered : {n : ℕ} → FileFault n → Numbered n
+fault-numbered f = record { least = omega (arith, f .least); most = omega (arith, f .most) }
+
 -- ---- formats
 
 -- the format's own faults are such numbers, whatever its fields hold
 pub data Faults : Format → Type 0 where
   ends : Faults done
-  asks : {w low bound n : ℕ} {f : ℕ → Format} → Numbered n → ((v : ℕ) → Faults (f v)) → Faults (ask w low bound n f)
-  tests : {b : Bool} {n : ℕ} {f : Format} → Numbered n → Faults f → Faults (test b n f)
+  asks : {w low bound n : ℕ} {f : ℕ → Format} → FileFault n → ((v : ℕ) → Faults (f v)) → Faults (ask w low bound n f)
+  tests : {b : Bool} {n : ℕ} {f : Format} → FileFault n → Faults f → Faults (test b n f)
   pads : {f : Format} → Faults f → Faults (pad f)
 
 pub then-faults : {f g : Format} → Faults f → Faults g → Faults (then f g)
@@ -74,10 +86,10 @@ whole-faults h = then-faults h (pads ends)
 -- what it gives, if it is a fault, is such a number
 data Passes {A B : Type 0} : Got A B → Type 0 where
   gets : {xs : List A} {r : List B} → Passes (got xs r)
-  faults : {n : ℕ} → Numbered n → Passes (fault n)
+  faults : {n : ℕ} → FileFault n → Passes (fault n)
 
 module _ {A B : Type 0} where
-  picked : (b : Bool) {r : Got A B} {n : ℕ} → Passes r → Numbered n → Passes (pick b r (fault n))
+  picked : (b : Bool) {r : Got A B} {n : ℕ} → Passes r → FileFault n → Passes (pick b r (fault n))
   picked true h n = h
   picked false h n = faults n
 
@@ -90,14 +102,14 @@ unfolding scan
 scan-passes ends bs = gets
 scan-passes (asks {w} {low} {bound} n k) bs =
     let v : ℕ = num (take w bs) in
-    picked (leb w (length bs)) (picked (within low bound v) (pushed (v ∷ []) (scan-passes (k v) (drop w bs))) n) (numbered 2 refl refl)
+    picked (leb w (length bs)) (picked (within low bound v) (pushed (v ∷ []) (scan-passes (k v) (drop w bs))) n) (file-fault 2 refl refl)
 scan-passes (tests {b} n k) bs = picked b (scan-passes k bs) n
-scan-passes (pads k) bs = let j : ℕ = length bs % 8 in picked (zeros (take j bs)) (scan-passes k (drop j bs)) (numbered 9 refl refl)
+scan-passes (pads k) bs = let j : ℕ = length bs % 8 in picked (zeros (take j bs)) (scan-passes k (drop j bs)) (file-fault 9 refl refl)
 
 lay-passes : {f : Format} → Faults f → (at : ℕ) (ws : List ℕ) → Passes (lay f at ws)
 unfolding lay
 lay-passes ends at ws = gets
-lay-passes (asks n k) at [] = faults (numbered 2 refl refl)
+lay-passes (asks n k) at [] = faults (file-fault 2 refl refl)
 lay-passes (asks {w} {low} {bound} n k) at (v ∷ ws) = picked (within low bound v && ltb v (2 ^ w)) (pushed (bitsOf w v) (lay-passes (k v) (at + w) ws)) n
 lay-passes (tests {b} n k) at ws = picked b (lay-passes k at ws) n
 lay-passes (pads k) at ws = pushed _ (lay-passes k (at + gap at) ws)
@@ -106,11 +118,11 @@ lay-passes (pads k) at ws = pushed _ (lay-passes k (at + gap at) ws)
 
 pub data Results {A : Type 0} : Result A → Type 0 where
   is-ok : {xs : List A} → Results (ok xs)
-  is-bad : {n : ℕ} → Numbered n → Results (bad n)
+  is-bad : {n : ℕ} → FileFault n → Results (bad n)
 
 ended-results : {A B : Type 0} {r : Got A B} → Passes r → Results (ended r)
 ended-results (gets {r = []}) = is-ok
-ended-results (gets {r = y ∷ ys}) = is-bad (numbered 9 refl refl)
+ended-results (gets {r = y ∷ ys}) = is-bad (file-fault 9 refl refl)
 ended-results (faults n) = is-bad n
 
 in-bytes : {r : Result Bool} → Results r → Results (inBytes r)
@@ -127,21 +139,21 @@ encode-results h ws = in-bytes (ended-results (lay-passes (whole-faults h) 0 ws)
 
 -- ---- the five formats
 
-three : Numbered 3
-three = numbered 3 refl refl
+three : FileFault 3
+three = file-fault 3 refl refl
 
 edges-faults : (w wide nodes : ℕ) (last : List ℕ → Format) → ((es : List ℕ) → Faults (last es)) → (more : ℕ) (es : List ℕ) → Faults (edges w wide nodes last more es)
 unfolding edges
 edges-faults w wide nodes last h zero es = h es
 edges-faults w wide nodes last h (suc more) es =
-    asks (numbered 4 refl refl) (λ from. asks (numbered 4 refl refl) (λ to. asks three (λ kind.
-    tests (numbered 5 refl refl) (edges-faults w wide nodes last h more (es ++ (from ∷ to ∷ kind ∷ []))))))
+    asks (file-fault 4 refl refl) (λ from. asks (file-fault 4 refl refl) (λ to. asks three (λ kind.
+    tests (file-fault 5 refl refl) (edges-faults w wide nodes last h more (es ++ (from ∷ to ∷ kind ∷ []))))))
 
 pub pattern-faults : Faults pattern
 unfolding pattern label joined
 pattern-faults =
     asks three (λ nodes. asks three (λ number.
-    then-faults (times-faults nodes (asks three (λ v. ends))) (edges-faults 4 3 nodes (joined nodes) (λ es. tests (numbered 7 refl refl) ends) number [])))
+    then-faults (times-faults nodes (asks three (λ v. ends))) (edges-faults 4 3 nodes (joined nodes) (λ es. tests (file-fault 7 refl refl) ends) number [])))
 
 pub catalogue-faults : Faults catalogue
 unfolding catalogue
@@ -151,8 +163,8 @@ rising-faults : (nodes n least : ℕ) → Faults (rising nodes n least)
 unfolding rising
 rising-faults nodes zero least = ends
 rising-faults nodes (suc n) least =
-    asks (numbered 4 refl refl) (λ a. asks (numbered 4 refl refl) (λ b. asks three (λ k.
-    tests (numbered 6 refl refl) (rising-faults nodes n (suc (rank a b k))))))
+    asks (file-fault 4 refl refl) (λ a. asks (file-fault 4 refl refl) (λ b. asks three (λ k.
+    tests (file-fault 6 refl refl) (rising-faults nodes n (suc (rank a b k))))))
 
 pub record-faults : Faults record′
 unfolding record′ labels
@@ -170,12 +182,12 @@ old-faults =
 pairs-faults : (k least : ℕ) → Faults (pairs k least)
 unfolding pairs
 pairs-faults zero least = ends
-pairs-faults (suc k) least = asks three (λ a. asks three (λ b. tests (numbered 6 refl refl) (pairs-faults k (suc (code a b)))))
+pairs-faults (suc k) least = asks three (λ a. asks three (λ b. tests (file-fault 6 refl refl) (pairs-faults k (suc (code a b)))))
 
 lists-faults : (m : ℕ) → Faults (lists m)
 unfolding lists
 lists-faults zero = ends
-lists-faults (suc m) = asks three (λ n. tests (numbered 8 refl refl) (then-faults (pairs-faults n 0) (lists-faults m)))
+lists-faults (suc m) = asks three (λ n. tests (file-fault 8 refl refl) (then-faults (pairs-faults n 0) (lists-faults m)))
 
 pub sheet-faults : (m : ℕ) → Faults (sheet m)
 unfolding sheet
@@ -234,7 +246,7 @@ read-settles most file {F} f s {k} h = go (ltb most (length s)) (decode-results 
     go : (b : Bool) {r : Result ℕ} → Results r → Settles (judged (pick b (rejected 1 file) (inFile file r)) k)
     go true q = refuses file (numbered 1 refl refl)
     go false (is-ok {xs}) = h xs
-    go false (is-bad n) = refuses file n
+    go false (is-bad n) = refuses file (fault-numbered n)
 
 pub write-settles : (file : ℕ) {F : Format} → Faults F → (ws : List ℕ) {k : List ℕ → Outcome} → ((s : List ℕ) → Settles (k s)) → Settles (judged (writeFile file F ws) k)
 unfolding writeFile judged
@@ -242,4 +254,23 @@ write-settles file {F} f ws {k} h = go (encode-results f ws)
   where
     go : {r : Result ℕ} → Results r → Settles (judged (inFile file r) k)
     go (is-ok {xs}) = h xs
-    go (is-bad n) = refuses file n
+    go (is-bad n) = refuses file (fault-numbered n)
+
+-- a writer never gives 1 of the content that it is handed
+pub write-short : (file : ℕ) {F : Format} → Faults F → (ws : List ℕ) (d : ℕ) → writeFile file F ws ≡ rejected 1 d → ⊥
+unfolding writeFile
+write-short file {F} f ws d = go (encode-results f ws)
+  where
+    go : {r : Result ℕ} → Results r → inFile file r ≡ rejected 1 d → ⊥
+    go is-ok e = let z : _≡_ {A = ℕ} 0 1 = cc in omega arith
+    go (is-bad {n} x) e = let z : n ≡ 1 = cc in let l = x .least in omega arith
+
+-- what falls to a file has a number up to 9
+pub read-few : (most file : ℕ) {F : Format} → Faults F → (s : List ℕ) {n d : ℕ} → readFile most file F s ≡ rejected n d → n ≤ 9
+unfolding readFile
+read-few most file {F} f s {n} {d} = go (ltb most (length s)) (decode-results f s)
+  where
+    go : (b : Bool) {r : Result ℕ} → Results r → pick b (rejected 1 file) (inFile file r) ≡ rejected n d → n ≤ 9
+    go true q e = let z : 1 ≡ n = cc in omega arith
+    go false is-ok e = absurd (let z : _≡_ {A = ℕ} 0 1 = cc in omega arith)
+    go false (is-bad {n = m} x) e = let z : m ≡ n = cc in let l = x .most in omega arith

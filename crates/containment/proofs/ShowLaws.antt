@@ -28,10 +28,11 @@ use Rattle.matching.proofs.PatternLaws.{pattern-is, edges-in, edges-many, sound
 use Rattle.matching.proofs.RecordLaws.{graph-narrow, graph-few}
 use Rattle.matching.proofs.SheetBytes.{SheetFields, sets-sheet}
 use Rattle.matching.proofs.Uncovered.{uncovered-views, uncovered-query}
+use Rattle.matching.specs.Offered.{viewPatterns}
 use Rattle.containment.specs.Choice.{everyView, lowestUnmatched}
 use Rattle.containment.specs.Quote.{mapping}
 use Rattle.containment.specs.Show.{graphFields, fewerFields, recordBytes}
-use Rattle.containment.specs.Demands.{extracts, Leaves, lackingIn}
+use Rattle.containment.specs.Demands.{Leaves, lackingIn}
 use Rattle.containment.proofs.QueryGraph.{Made, edge-at, graph-made, fewer-made, graph-means, fewer-means}
 use Rattle.containment.proofs.QuoteLaws.{chosenFrom, chosen-every, LowestEdge, lowest-edge}
 
@@ -127,30 +128,30 @@ module _ {qs : List ℕ} {bs : List Bool} (q : PlainPattern qs bs) where
 
 -- ---- of an accepted question and an accepted catalogue
 module _ (s c qs cs : List ℕ) (p : decode pattern s ≡ ok qs) (d : decode catalogue c ≡ ok cs) where
-  few-views : length (extracts cs) ≤ 16
+  few-views : length (viewPatterns cs) ≤ 16
   few-views = let v = catalogue-views c cs d in omega (arith, length-map (viewsOf cs) patternOf, v .many, v .most)
 
   -- the lowest edge that no view in a set matches
-  lowest-in : (set : ℕ) → Leaves set qs cs → LowestEdge (patternOf qs) (chosenFrom set (extracts cs)) (lackingIn set qs cs)
+  lowest-in : (set : ℕ) → Leaves set qs cs → LowestEdge (patternOf qs) (chosenFrom set (viewPatterns cs)) (lackingIn set qs cs)
   lowest-in set n =
       let q = pattern-accepted s qs .0 p .laid in
       let m = edges-many q in
-      subst (λ (k : ℕ). LowestEdge (patternOf qs) (chosenFrom set (extracts cs)) (lowestUnmatched (mapping (patternOf qs) (extracts cs)) set (length (extracts cs)) k)) m
-      (lowest-edge (patternOf qs) (extracts cs) set few-views (omega (arith, number-is q, q .most-edges)) (rw m n))
+      subst (λ (k : ℕ). LowestEdge (patternOf qs) (chosenFrom set (viewPatterns cs)) (lowestUnmatched (mapping (patternOf qs) (viewPatterns cs)) set (length (viewPatterns cs)) k)) m
+      (lowest-edge (patternOf qs) (viewPatterns cs) set few-views (omega (arith, number-is q, q .most-edges)) (rw m n))
 
   -- where the views in a set don't cover the query, two accepted records on which each of them has the same sheet, byte for byte, and the query
   -- has not
-  shows-in : (set : ℕ) → Leaves set qs cs → Shows qs (chosenFrom set (extracts cs)) (lackingIn set qs cs)
+  shows-in : (set : ℕ) → Leaves set qs cs → Shows qs (chosenFrom set (viewPatterns cs)) (lackingIn set qs cs)
   shows-in set n =
       let o = lowest-in set n in
-      shows-by (pattern-accepted s qs .0 p .laid) (chosenFrom set (extracts cs)) (lackingIn set qs cs) (o .below) (o .unmatched)
+      shows-by (pattern-accepted s qs .0 p .laid) (chosenFrom set (viewPatterns cs)) (lackingIn set qs cs) (o .below) (o .unmatched)
 
   -- of all views
-  pub lowest-of : Leaves everyView qs cs → LowestEdge (patternOf qs) (extracts cs) (lackingIn everyView qs cs)
-  lowest-of n = rw (chosen-every (extracts cs) few-views) at (lowest-in everyView n)
+  pub lowest-of : Leaves everyView qs cs → LowestEdge (patternOf qs) (viewPatterns cs) (lackingIn everyView qs cs)
+  lowest-of n = rw (chosen-every (viewPatterns cs) few-views) at (lowest-in everyView n)
 
-  pub shows : Leaves everyView qs cs → Shows qs (extracts cs) (lackingIn everyView qs cs)
-  shows n = rw (chosen-every (extracts cs) few-views) at (shows-in everyView n)
+  pub shows : Leaves everyView qs cs → Shows qs (viewPatterns cs) (lackingIn everyView qs cs)
+  shows n = rw (chosen-every (viewPatterns cs) few-views) at (shows-in everyView n)
 
 -- ---- how long the sheets and the book are on these records
 

@@ -10,9 +10,9 @@ use native.Mathlib.Omega.{arith}
 use Rattle.packed.specs.Formats.{code, record′}
 use Rattle.packed.specs.Contents.{sortedEdges}
 use Rattle.packed.specs.Plain.{PlainEdges, PlainGraph}
-use Rattle.packed.specs.OldRecord.{oldRecord, sortedFields, recordSorted}
+use Rattle.packed.specs.OldRecord.{oldRecord, readOldRecord, sortedFields, recordSorted}
 use Rattle.packed.specs.Calls.{accepted, readRecord, recordWritten, fit}
-use Rattle.packed.proofs.CallLaws.{read-says, write-finds, accepted-by, judged-accepted}
+use Rattle.packed.proofs.CallLaws.{read-says, read-finds, write-finds, accepted-by, judged-accepted}
 use Rattle.packed.proofs.Accepted.{old-accepted, record-accepted, record-read}
 use Rattle.packed.proofs.SortedEdges.{sorted-plain}
 use Rattle.matching.specs.Lists.{In}
@@ -23,8 +23,10 @@ use Rattle.matching.proofs.ListLaws.{in-at}
 use Rattle.matching.proofs.SimLaws.{not-both}
 use Rattle.matching.proofs.SortedGraphs.{Alike, ends-narrow, sorted-in, alike-sets, alike-views}
 use Rattle.containment.specs.Show.{recordBytes}
-use Rattle.containment.specs.Demands.{Matching, OldFile, EndsSim, EndsMatching, AllKind0, Sorting}
+use Rattle.containment.specs.Demands.{no-more, Matching, OldFile, EndsSim, EndsMatching, AllKind0, Sorting}
 use Rattle.containment.proofs.QueryGraph.{Made, record-made, made-within, graph, graph-is}
+use Rattle.containment.proofs.DemandRules.{full-words, full-judged}
+use Rattle.containment.proofs.DemandFiles.{Says, hands-up, says-judged, says-fit}
 use Rattle.containment.proofs.DemandsOneTwo.{lists-exactly}
 
 -- the content of an old record by its parts
@@ -121,7 +123,14 @@ lists-before s ws o P p i l f k =
     (λ j. y .0 (x .0 j), λ m. x .1 (y .1 m))
 
 pub sorting : Sorting
+unfolding recordSorted
 sorting = record {
+  accepts = λ s ws. (
+    λ e. let r = read-says 40964 3 oldRecord s ws e in (r .1, old-accepted s ws .0 (r .0)),
+    λ q. accepted-by (read-finds 40964 3 oldRecord s (q .0)) (old-accepted s ws .1 (q .1)),
+  );
+  files = λ s room. hands-up (says-judged (readOldRecord s) (λ ws e. subst (Says no-more) (sym (sym (judged-accepted _ e) ∙ gives s ws e room)) (says-fit room _)));
+  only = λ s room words f. let t = full-judged _ _ (full-words words _ f) in (t .0, t .1);
   gives = gives;
   is-record = is-record;
   items = λ s ws o. alike s ws o .0 .same-labels;

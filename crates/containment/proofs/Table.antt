@@ -19,10 +19,10 @@ use Rattle.matching.specs.Simulation.{same, has, sameEdge, everyPair as allPair
 use Rattle.matching.specs.Search.{sheetBytes, bookBytes, searchOutcome, viewSheets, makeBookOutcome}
 use Rattle.matching.specs.Index.{beginBelow, indexFor, alike, ownIndex, makeIndexOutcome, checkIndexOutcome, searchIndexedOutcome}
 use Rattle.matching.specs.Join.{pairOf, isMatch, under, candidates, supportedOut, supportedIn, supported, join, complete, keptFor, answerSets}
-use Rattle.containment.specs.Choice.{matches, matchedIn, coversIn, lowestUnmatched, addsTo, taken, kept, chosen, used}
-use Rattle.containment.specs.Quote.{maskIn, matchMask, maskAt, mapping, valuesFrom, quoteValues, flat, quoteOutcome}
+use Rattle.containment.specs.Choice.{everyView, matches, matchedIn, coversIn, lowestUnmatched, addsTo, taken, kept, chosen, used}
+use Rattle.containment.specs.Quote.{maskIn, matchMask, maskAt, mapping, valuesFrom, quoteValues, flat, quoteFor, quoteOutcome}
 use Rattle.containment.specs.Cheapest.{weigh, cost, lesser, better, misses, ahead, foremost, cheapest, cheapestFrom, cheapestFor, cheapestOutcome}
-use Rattle.containment.specs.Answer.{viewsIn, answerBytes, answerIn, answerBy, answerFrom, usedFor, answerOutcome}
+use Rattle.containment.specs.Answer.{viewsIn, answerBytes, answerIn, answerFor, answerBy, answerFrom, answerOutcome}
 use Rattle.containment.specs.Show.{asRecord, graphFields, fewerFields, recordBytes, fitBoth, showFor, showOutcome}
 
 -- ---- how a case is written
@@ -766,12 +766,12 @@ cheapests =
     ∷ call (cheapestOutcome twoKinds ck (fields "2 2 3")) (give (4 ∷ 3 ∷ 3 ∷ []) [])
     ∷ call (cheapestOutcome twoKinds ck1 (fields "1")) (refuse 11 0)
     -- the least sum, beside a chosen set that costs more
-    ∷ case (cheapestFrom both3 2 (fields "1 1 3") 3) (give (3 ∷ 2 ∷ 3 ∷ []) [])
-    ∷ case (cheapestFrom both3 2 (fields "2 2 3") 3) (give (4 ∷ 3 ∷ 3 ∷ []) [])
+    ∷ case (cheapestFrom both3 everyView 2 (fields "1 1 3") 3) (give (3 ∷ 2 ∷ 3 ∷ []) [])
+    ∷ case (cheapestFrom both3 everyView 2 (fields "2 2 3") 3) (give (4 ∷ 3 ∷ 3 ∷ []) [])
     -- ties: fewer extracts, also where all cost nothing; then {0, 3} before {1, 2}
-    ∷ case (cheapestFrom both3 2 (fields "1 1 2") 3) (give (4 ∷ 2 ∷ 3 ∷ []) [])
-    ∷ case (cheapestFrom both3 2 (fields "0 0 0") 3) (give (4 ∷ 0 ∷ 3 ∷ []) [])
-    ∷ case (cheapestFrom pairs4 4 (fields "5 5 5 5") 4) (give (9 ∷ 10 ∷ 6 ∷ []) [])
+    ∷ case (cheapestFrom both3 everyView 2 (fields "1 1 2") 3) (give (4 ∷ 2 ∷ 3 ∷ []) [])
+    ∷ case (cheapestFrom both3 everyView 2 (fields "0 0 0") 3) (give (4 ∷ 0 ∷ 3 ∷ []) [])
+    ∷ case (cheapestFrom pairs4 everyView 4 (fields "5 5 5 5") 4) (give (9 ∷ 10 ∷ 6 ∷ []) [])
     -- sixteen of the highest charges
     ∷ case (number (cost (replicate 16 4294967295) 65535 16)) (number 68719476720)
     -- the files are judged first, then 15, then 11; too few words
@@ -858,5 +858,5 @@ unfoldable pub table : List (List Case)
 table = patterns ∷ catalogues ∷ records ∷ sortings ∷ sheets ∷ books ∷ searches ∷ indexes ∷ quotes ∷ cheapests ∷ showings ∷ answers ∷ []
 
 pub cases : Agree table
-unfolding Agree table flatten patterns catalogues records sortings sheets books searches indexes quotes cheapests showings answers digit hex next turned numbers bitsOf num numFrom bits zeros gap then times whole within scan lay bytesOf decode encode linked edges isEnd allEnds label joined pattern catalogue pairs labels rising record′ lists standing sheet book patternSize patternsIn viewsOf edgeCounts codesIn listsIn afterLists sheetLists afterSheet ends fieldsOf pairCount sheetFields sheetsIn member insert distinct eachEdge fromRanks sortedEdges oldRecord sortedFields recordSorted withWorkspace readFile writeFile judged pairsOf uncrowdedBy fit fitFile patternRead catalogueRead recordRead sheetRead bookRead patternWritten catalogueWritten recordWritten sheetWritten bookWritten _and_ _or_ _implies_ every some keep gather each below upTo settle greatest same has sameEdge allPairs bit edgesIn patternOf graphOf asGraph fits asksArrivals followsOut followsIn follows sim total row ascending matchSets viewSheet sheetBytes bookBytes searchOutcome viewSheets makeBookOutcome beginBelow indexFor alike ownIndex makeIndexOutcome checkIndexOutcome searchIndexedOutcome pairOf isMatch under candidates supportedOut supportedIn supported join complete keptFor answerSets matches matchedIn coversIn lowestUnmatched addsTo taken kept chosen used maskIn matchMask maskAt mapping valuesFrom quoteValues flat quoteOutcome viewsIn answerBytes answerIn answerBy usedFor asRecord graphFields fewerFields recordBytes fitBoth showFor showOutcome weigh lesser better misses ahead foremost cheapest cheapestFrom cheapestFor cheapestOutcome
+unfolding Agree table flatten patterns catalogues records sortings sheets books searches indexes quotes cheapests showings answers digit hex next turned numbers bitsOf num numFrom bits zeros gap then times whole within scan lay bytesOf decode encode linked edges isEnd allEnds label joined pattern catalogue pairs labels rising record′ lists standing sheet book patternSize patternsIn viewsOf edgeCounts codesIn listsIn afterLists sheetLists afterSheet ends fieldsOf pairCount sheetFields sheetsIn member insert distinct eachEdge fromRanks sortedEdges oldRecord sortedFields recordSorted withWorkspace readFile writeFile judged pairsOf uncrowdedBy fit fitFile patternRead catalogueRead recordRead sheetRead bookRead patternWritten catalogueWritten recordWritten sheetWritten bookWritten _and_ _or_ _implies_ every some keep gather each below upTo settle greatest same has sameEdge allPairs bit edgesIn patternOf graphOf asGraph fits asksArrivals followsOut followsIn follows sim total row ascending matchSets viewSheet sheetBytes bookBytes searchOutcome viewSheets makeBookOutcome beginBelow indexFor alike ownIndex makeIndexOutcome checkIndexOutcome searchIndexedOutcome pairOf isMatch under candidates supportedOut supportedIn supported join complete keptFor answerSets matches matchedIn coversIn lowestUnmatched addsTo taken kept chosen used maskIn matchMask maskAt mapping valuesFrom quoteValues flat quoteFor quoteOutcome viewsIn answerBytes answerIn answerFor answerBy asRecord graphFields fewerFields recordBytes fitBoth showFor showOutcome weigh lesser better misses ahead foremost cheapest cheapestFrom cheapestFor cheapestOutcome
 cases = (refl, (refl, (refl, (refl, (refl, (refl, (refl, (refl, (refl, (refl, (refl, (refl, tt))))))))))))

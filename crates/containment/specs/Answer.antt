@@ -1,15 +1,14 @@
 -- Answering a query from a book: the views in a set, each with its sheet, are joined.
 use Prim.Native.Nat.{ℕ, _/_}
-use mathlib.Core.List.{List, [], _∷_, map}
-use lib.ListN.{length, drop, getD}
+use mathlib.Core.List.{List, [], _∷_}
+use lib.ListN.{drop, getD}
 use Rattle.packed.specs.Format.{pick}
-use Rattle.packed.specs.Contents.{edgesOf, edgeCounts, viewsOf, sheetsIn}
-use Rattle.packed.specs.Calls.{Outcome, refuse, judged, readPattern, readCatalogue, readBook, uncrowded, fitFile}
+use Rattle.packed.specs.Contents.{edgeCounts, sheetsIn}
+use Rattle.packed.specs.Calls.{Outcome, refuse, judged, readBook, uncrowded, fitFile}
 use Rattle.matching.specs.Simulation.{Pattern, bit, patternOf}
 use Rattle.matching.specs.Join.{View, answerSets}
 use Rattle.matching.specs.Search.{sheetBytes}
-use Rattle.containment.specs.Choice.{everyView, coversIn, lowestUnmatched, used}
-use Rattle.containment.specs.Quote.{mapping}
+use Rattle.containment.specs.Quote.{Quoted, quoted, covering, lowestLeft, usedBy}
 
 -- those of the views that are in the set, each with its sheet
 unfoldable pub viewsIn : ℕ → List Pattern → List (List (List ℕ)) → List View
@@ -22,31 +21,28 @@ unfoldable pub answerBytes : List ℕ → ℕ → List Pattern → List (List (L
 answerBytes qs set Ps sheets = sheetBytes (answerSets (patternOf qs) (viewsIn set Ps sheets))
 
 -- answering by the views in a set: 10, 11 with the lowest edge that they leave unmatched, 12
-unfoldable pub answerIn : ℕ → List ℕ → List ℕ → List ℕ → ℕ → Outcome
-answerIn set qs cs bs room =
-    let Ps = map patternOf (viewsOf cs) in
-    let t = mapping (patternOf qs) Ps in
-    uncrowded cs bs
-    (pick (coversIn t set (length Ps) (edgesOf qs))
-    (fitFile room (answerBytes qs set Ps (sheetsIn (edgeCounts cs) bs)))
-    (refuse 11 (lowestUnmatched t set (length Ps) (edgesOf qs))))
+unfoldable pub answerIn : ℕ → Quoted → List ℕ → ℕ → Outcome
+answerIn set x bs room =
+    uncrowded (x .offer .content) bs
+    (pick (covering x set)
+    (fitFile room (answerBytes (x .content) set (x .offer .views) (sheetsIn (edgeCounts (x .offer .content)) bs)))
+    (refuse 11 (lowestLeft x set)))
 
--- a set of views, from the contents of the query and the catalogue
+-- a set of views, from what was judged
 abbrev pub Choose : Type 0
-Choose = List ℕ → List ℕ → ℕ
+Choose = Quoted → ℕ
 
--- the files are judged first: the question, the catalogue, the book
+-- the book is judged after the question and the catalogue
+unfoldable pub answerFor : Choose → List ℕ → ℕ → Quoted → Outcome
+answerFor choose b room x = judged (readBook (x .offer .content) b) (λ bs. answerIn (choose x) x bs room)
+
 unfoldable pub answerBy : Choose → List ℕ → List ℕ → List ℕ → ℕ → Outcome
-answerBy choose q c b room = judged (readPattern q) (λ qs. judged (readCatalogue c) (λ cs. judged (readBook cs b) (λ bs. answerIn (choose qs cs) qs cs bs room)))
+answerBy choose q c b room = quoted q c (answerFor choose b room)
 
 -- answering by a set that the client names: all of it gives the candidates
 abbrev pub answerFrom : List ℕ → List ℕ → ℕ → List ℕ → ℕ → Outcome
-answerFrom q c set b room = answerBy (λ qs cs. set) q c b room
-
--- those chosen from a set; for a query that it doesn't cover, all of it, so that 11 has the lowest edge that none of them matches
-unfoldable pub usedFor : ℕ → Choose
-usedFor set qs cs = used (mapping (patternOf qs) (map patternOf (viewsOf cs))) set (edgesOf qs) (length (map patternOf (viewsOf cs)))
+answerFrom q c set b room = answerBy (λ x. set) q c b room
 
 -- answering by those chosen from all views
 abbrev pub answerOutcome : List ℕ → List ℕ → List ℕ → ℕ → Outcome
-answerOutcome q c b room = answerBy (usedFor everyView) q c b room
+answerOutcome q c b room = answerBy usedBy q c b room

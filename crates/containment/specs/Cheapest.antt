@@ -3,16 +3,16 @@ use Prim.Native.Nat.{ℕ, zero, suc, _+_, _-_, _^_, _<_}
 use mathlib.Core.Path.{_≡_}
 use mathlib.Core.Logic.{_⊎_}
 use mathlib.Core.Bool.{Bool, true, false, _&&_, _||_}
-use mathlib.Core.List.{List, [], _∷_, map}
+use mathlib.Core.List.{List, [], _∷_}
 use lib.ListN.{length, getD}
 use lib.Dec.{eqb, ltb}
 use Rattle.packed.specs.Format.{pick}
-use Rattle.packed.specs.Contents.{edgesOf, viewsOf}
-use Rattle.packed.specs.Calls.{Outcome, give, refuse, judged, readPattern, readCatalogue}
+use Rattle.packed.specs.Contents.{edgesOf}
+use Rattle.packed.specs.Calls.{Outcome, give, refuse}
 use Rattle.packed.specs.Refusals.{Told, told, numberOf, detailOf}
-use Rattle.matching.specs.Simulation.{bit, patternOf}
-use Rattle.containment.specs.Choice.{everyView, coversIn, lowestUnmatched, chosen}
-use Rattle.containment.specs.Quote.{mapping}
+use Rattle.matching.specs.Simulation.{bit}
+use Rattle.containment.specs.Choice.{coversIn, lowestUnmatched, chosen}
+use Rattle.containment.specs.Quote.{Quoted, quoted, tableOf}
 use Rattle.containment.specs.declared.costing.Cheapest.{Cheapest}
 use Rattle.containment.specs.declared.costing.Cheapest.the-variants as cheapest-is
 
@@ -88,22 +88,20 @@ cheapest t m charges k = foremost (ahead t m charges k) k 0
 -- ---- what the call answers
 
 -- from the table of a quote: the cheapest set, its sum, and "the chosen set of the ordinary quote stays beside it"; "an uncovered question gets 11"
-unfoldable pub cheapestFrom : List ℕ → ℕ → List ℕ → ℕ → Outcome
-cheapestFrom t m charges k =
-    pick (coversIn t everyView k m)
-    (give (cheapest t m charges k ∷ cost charges (cheapest t m charges k) k ∷ chosen t everyView m k ∷ []) [])
-    (refuse 11 (lowestUnmatched t everyView k m))
+unfoldable pub cheapestFrom : List ℕ → ℕ → ℕ → List ℕ → ℕ → Outcome
+cheapestFrom t usable m charges k =
+    pick (coversIn t usable k m)
+    (give (cheapest t m charges k ∷ cost charges (cheapest t m charges k) k ∷ chosen t usable m k ∷ []) [])
+    (refuse 11 (lowestUnmatched t usable k m))
 
 -- "15 when the number of charges differs from the number of extracts, after all papers are read and before 11, detail the number of charges"
-unfoldable pub cheapestFor : List ℕ → List ℕ → List ℕ → Outcome
-cheapestFor qs cs charges =
-    let Ps = map patternOf (viewsOf cs) in
-    pick (eqb (length charges) (length Ps)) (cheapestFrom (mapping (patternOf qs) Ps) (edgesOf qs) charges (length Ps))
+unfoldable pub cheapestFor : List ℕ → Quoted → Outcome
+cheapestFor charges x =
+    pick (eqb (length charges) (length (x .offer .views))) (cheapestFrom (tableOf x) (x .usable) (edgesOf (x .content)) charges (length (x .offer .views)))
     (refuse 15 (length charges))
 
--- the files are judged first: the question, the catalogue
 unfoldable pub cheapestOutcome : List ℕ → List ℕ → List ℕ → Outcome
-cheapestOutcome q c charges = judged (readPattern q) (λ qs. judged (readCatalogue c) (λ cs. cheapestFor qs cs charges))
+cheapestOutcome q c charges = quoted q c (cheapestFor charges)
 
 -- what its result tells
 abbrev pub cheapestTold : Cheapest → Told

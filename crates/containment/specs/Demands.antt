@@ -12,21 +12,22 @@ use mathlib.Core.Bool.{true, false}
 use mathlib.Core.List.{List, [], _∷_, _++_, map}
 use lib.ListN.{length, getD, drop, replicate}
 use lib.Dec.{T}
-use Rattle.packed.specs.Limits.{patternMost, catalogueMost, recordMost, bookMost, pairsMost, workspace}
-use Rattle.packed.specs.Formats.{code}
+use Rattle.packed.specs.Limits.{patternMost, catalogueMost, recordMost, oldRecordMost, bookMost, pairsMost, workspace}
+use Rattle.packed.specs.Formats.{code, pattern, catalogue, record′}
 use Rattle.packed.specs.Plain.{Below, PatternFile, CatalogueFile, RecordFile, SheetFile, BookFile}
-use Rattle.packed.specs.Contents.{edgesOf, viewsOf, edgeCounts, sheetsIn, ends, fieldsOf, pairCount, sheetFields, sheetLength}
+use Rattle.packed.specs.Contents.{edgesOf, edgeCounts, sheetsIn, ends, fieldsOf, pairCount, sheetFields, sheetLength}
 use Rattle.packed.specs.Refusals.{Told, told}
-use Rattle.packed.specs.OldRecord.{readOldRecord, sortedFields, recordSorted}
-use Rattle.packed.specs.Calls.{Outcome, give, refuse, fronts, Settled, Fulfils, withWorkspace, accepted, readPattern, readCatalogue, readRecord, readSheet, readBook, pairsOf, fit, fitFile, patternRead, catalogueRead, recordRead, sheetRead, bookRead, patternWritten, catalogueWritten, recordWritten, sheetWritten, bookWritten}
+use Rattle.packed.specs.OldRecord.{readOldRecord, OldRecordFile, sortedFields, recordSorted}
+use Rattle.packed.specs.Calls.{Outcome, give, refuse, fronts, Settled, FulfilsOne, withWorkspace, Verdict, accepted, rejected, readPattern, readCatalogue, readRecord, readSheet, readBook, writeFile, writeSheet, writeBook, pairsOf, fit, fitFile, patternRead, catalogueRead, recordRead, sheetRead, bookRead, patternWritten, catalogueWritten, recordWritten, sheetWritten, bookWritten}
 use Rattle.matching.specs.Lists.{In}
 use Rattle.matching.specs.Simulation.{Pair, Edge, asPair, noEdge, oneWay, Pattern, Graph, patternOf, graphOf, asGraph, bit, fits, IsSim, sim, sound, matchSets, viewSheet}
 use Rattle.matching.specs.Join.{without, answerSets}
+use Rattle.matching.specs.Offered.{viewPatterns}
 use Rattle.matching.specs.Search.{sheetBytes, bookBytes, viewSheets, searchOutcome, makeBookOutcome}
 use Rattle.matching.specs.Index.{indexOf, makeIndexOutcome, checkIndexOutcome, searchIndexedOutcome}
 use Rattle.containment.specs.Choice.{everyView, coversIn, lowestUnmatched, chosen}
-use Rattle.containment.specs.Quote.{noPattern, mapping, QuoteValues, flat, blank, quoteOutcome, quoteTold}
-use Rattle.containment.specs.Answer.{viewsIn, Choose, answerBy, answerFrom, usedFor, answerOutcome}
+use Rattle.containment.specs.Quote.{noPattern, mapping, quotedBy, usedBy, QuoteValues, flat, blank, quoteOutcome, quoteTold}
+use Rattle.containment.specs.Answer.{viewsIn, Choose, answerBy, answerFrom, answerOutcome}
 use Rattle.containment.specs.Cheapest.{cost, IsCheapest, cheapestOutcome}
 use Rattle.containment.specs.Show.{graphFields, fewerFields, recordBytes, fitBoth, showOutcome}
 use Rattle.containment.specs.Listing.{bytes, linkLine, lineOf, lineOutcome}
@@ -58,25 +59,22 @@ pub record Book (cs b bs : List ℕ) : Type 0 where
   pub read : readBook cs b ≡ accepted bs
   pub few : Uncrowded cs bs
 
-abbrev pub extracts : List ℕ → List Pattern
-extracts cs = map patternOf (viewsOf cs)
-
 abbrev pub extractOf : List ℕ → ℕ → Pattern
-extractOf cs a = getD (extracts cs) a noPattern
+extractOf cs a = getD (viewPatterns cs) a noPattern
 
 abbrev pub linkOf : List ℕ → ℕ → Edge
 linkOf qs e = getD (patternOf qs .edges) e noEdge
 
 -- the extracts in a set match every link of the question, or leave one unmatched
 abbrev pub Covers : ℕ → List ℕ → List ℕ → Type 0
-Covers set qs cs = coversIn (mapping (patternOf qs) (extracts cs)) set (length (extracts cs)) (edgesOf qs) ≡ true
+Covers set qs cs = coversIn (mapping (patternOf qs) (viewPatterns cs)) set (length (viewPatterns cs)) (edgesOf qs) ≡ true
 
 abbrev pub Leaves : ℕ → List ℕ → List ℕ → Type 0
-Leaves set qs cs = coversIn (mapping (patternOf qs) (extracts cs)) set (length (extracts cs)) (edgesOf qs) ≡ false
+Leaves set qs cs = coversIn (mapping (patternOf qs) (viewPatterns cs)) set (length (viewPatterns cs)) (edgesOf qs) ≡ false
 
 -- the lowest link of the question that no extract of a set matches
 abbrev pub lackingIn : ℕ → List ℕ → List ℕ → ℕ
-lackingIn set qs cs = lowestUnmatched (mapping (patternOf qs) (extracts cs)) set (length (extracts cs)) (edgesOf qs)
+lackingIn set qs cs = lowestUnmatched (mapping (patternOf qs) (viewPatterns cs)) set (length (viewPatterns cs)) (edgesOf qs)
 
 -- what a quote says, by all extracts: covered or uncovered
 abbrev pub Covered : List ℕ → List ℕ → Type 0
@@ -91,7 +89,7 @@ lacking qs cs = lackingIn everyView qs cs
 
 -- the set that a quote chooses
 abbrev pub chosenOf : List ℕ → List ℕ → ℕ
-chosenOf qs cs = chosen (mapping (patternOf qs) (extracts cs)) everyView (edgesOf qs) (length (extracts cs))
+chosenOf qs cs = chosen (mapping (patternOf qs) (viewPatterns cs)) everyView (edgesOf qs) (length (viewPatterns cs))
 
 -- a pattern's sheet from a record
 abbrev pub sheetOf : Pattern → List ℕ → List ℕ
@@ -119,7 +117,7 @@ searchBy with-own q r rs room = searchIndexedOutcome q r (ownOf rs) room
 
 -- the lists of the answer from a book by the extracts in a set
 abbrev pub answerOf : ℕ → List ℕ → List ℕ → List ℕ → List (List ℕ)
-answerOf set qs cs bs = answerSets (patternOf qs) (viewsIn set (extracts cs) (sheetsIn (edgeCounts cs) bs))
+answerOf set qs cs bs = answerSets (patternOf qs) (viewsIn set (viewPatterns cs) (sheetsIn (edgeCounts cs) bs))
 
 -- the content of "the two shown records": the question read as a record, and the same without its lowest unmatched link
 abbrev pub firstOf : List ℕ → List ℕ
@@ -147,6 +145,38 @@ pub record Refused (a : Outcome) : Type 0 where
 
 abbrev pub Settles : Outcome → Type 0
 Settles a = Full a ⊎ Refused a
+
+-- "question, catalogue, record, book, as far as the call has them": the files of a call in the order in which they are judged, each by what the accepted
+-- ones before it say
+pub data Files : Type 0 where
+  no-more : Files
+  first : Verdict → (List ℕ → Files) → Files
+
+-- the first of them that isn't accepted has the number n and the detail d
+pub data FirstRejected : Files → ℕ → ℕ → Type 0 where
+  here : {v : Verdict} {next : List ℕ → Files} {n d : ℕ} → v ≡ rejected n d → FirstRejected (first v next) n d
+  later : {v : Verdict} {next : List ℕ → Files} {ws : List ℕ} {n d : ℕ} → v ≡ accepted ws → FirstRejected (next ws) n d → FirstRejected (first v next) n d
+
+-- "each refusal is given in its case and no other": a call gives 1 to 9 exactly as the first of its files that isn't accepted has it
+abbrev pub HandsUp : Files → Outcome → Type 0
+HandsUp files a = (n d words : ℕ) → n ≤ 9 → (withWorkspace words a ≡ refuse n d) ↔ ((workspace ≤ words) × FirstRejected files n d)
+
+-- what is judged of the content that a writer is handed, beside no other file
+abbrev pub writePattern : List ℕ → Verdict
+writePattern ws = writeFile 1 pattern ws
+
+abbrev pub writeCatalogue : List ℕ → Verdict
+writeCatalogue ws = writeFile 2 catalogue ws
+
+abbrev pub writeRecord : List ℕ → Verdict
+writeRecord ws = writeFile 3 record′ ws
+
+-- no file follows; the two files of the calls that quote, and what follows them
+abbrev pub thenNone : List ℕ → Files
+thenNone ws = no-more
+
+abbrev pub quotedFiles : List ℕ → List ℕ → (List ℕ → Files) → Files
+quotedFiles q c next = first (readPattern q) (λ qs. first (readCatalogue c) next)
 
 -- 12: "an output needs more bytes than were lent"; "where content is the output, 12 counts words", and "where an index is the output, 12 counts entries".
 -- It needs d.
@@ -219,6 +249,31 @@ pub record Demand1 : Type 0 where
   pub show : (q c : List ℕ) (room room′ words : ℕ) → Settles (withWorkspace words (showOutcome q c room room′))
   pub cheapest : (q c charges : List ℕ) (words : ℕ) → Settles (withWorkspace words (cheapestOutcome q c charges))
   pub line : (q : Quote) (k room : ℕ) → Settles (lineOutcome q k room)
+  -- "within a paper: 1, then front to back": what falls to each file is in packed/specs/Formats.antt; here, that it is handed up
+  pub read-pattern-files : (s : List ℕ) (room : ℕ) → HandsUp (first (readPattern s) thenNone) (patternRead s room)
+  pub read-catalogue-files : (s : List ℕ) (room : ℕ) → HandsUp (first (readCatalogue s) thenNone) (catalogueRead s room)
+  pub read-record-files : (s : List ℕ) (room : ℕ) → HandsUp (first (readRecord s) thenNone) (recordRead s room)
+  pub read-sheet-files : (p s : List ℕ) (room : ℕ) → HandsUp (first (readPattern p) (λ ps. first (readSheet ps s) thenNone)) (sheetRead p s room)
+  pub read-book-files : (c s : List ℕ) (room : ℕ) → HandsUp (first (readCatalogue c) (λ cs. first (readBook cs s) thenNone)) (bookRead c s room)
+  pub write-pattern-files : (ws : List ℕ) (room : ℕ) → HandsUp (first (writePattern ws) thenNone) (patternWritten ws room)
+  pub write-catalogue-files : (ws : List ℕ) (room : ℕ) → HandsUp (first (writeCatalogue ws) thenNone) (catalogueWritten ws room)
+  pub write-record-files : (ws : List ℕ) (room : ℕ) → HandsUp (first (writeRecord ws) thenNone) (recordWritten ws room)
+  pub write-sheet-files : (p ws : List ℕ) (room : ℕ) → HandsUp (first (readPattern p) (λ ps. first (writeSheet ps ws) thenNone)) (sheetWritten p ws room)
+  pub write-book-files : (c ws : List ℕ) (room : ℕ) → HandsUp (first (readCatalogue c) (λ cs. first (writeBook cs ws) thenNone)) (bookWritten c ws room)
+  pub search-files : (p r : List ℕ) (room : ℕ) → HandsUp (first (readPattern p) (λ ps. first (readRecord r) thenNone)) (searchOutcome p r room)
+  pub make-index-files : (r : List ℕ) (room : ℕ) → HandsUp (first (readRecord r) thenNone) (makeIndexOutcome r room)
+  pub check-index-files : (r index : List ℕ) → HandsUp (first (readRecord r) thenNone) (checkIndexOutcome r index)
+  pub search-indexed-files : (p r index : List ℕ) (room : ℕ) → HandsUp (first (readPattern p) (λ ps. first (readRecord r) thenNone)) (searchIndexedOutcome p r index room)
+  pub make-book-files : (c r : List ℕ) (room : ℕ) → HandsUp (first (readCatalogue c) (λ cs. first (readRecord r) thenNone)) (makeBookOutcome c r room)
+  pub quote-files : (q c : List ℕ) → HandsUp (quotedFiles q c thenNone) (quoteOutcome q c)
+  pub cheapest-files : (q c charges : List ℕ) → HandsUp (quotedFiles q c thenNone) (cheapestOutcome q c charges)
+  pub answer-files : (choose : Choose) (q c b : List ℕ) (room : ℕ) → HandsUp (quotedFiles q c (λ cs. first (readBook cs b) thenNone)) (answerBy choose q c b room)
+  pub show-files : (q c : List ℕ) (room room′ : ℕ) → HandsUp (quotedFiles q c thenNone) (showOutcome q c room room′)
+  -- "a writer never gives 1" of the content that it is handed
+  pub never-long : (ws : List ℕ) (d : ℕ) → (writePattern ws ≡ rejected 1 d → ⊥) × (writeCatalogue ws ≡ rejected 1 d → ⊥) × (writeRecord ws ≡ rejected 1 d → ⊥)
+  pub never-long-beside : (cs ws : List ℕ) (d : ℕ) → (writeSheet cs ws ≡ rejected 1 d → ⊥) × (writeBook cs ws ≡ rejected 1 d → ⊥)
+  -- "a quote never gives 11: uncovered is one of its results"
+  pub quote-never : (q c : List ℕ) (words d : ℕ) → withWorkspace words (quoteOutcome q c) ≡ refuse 11 d → ⊥
   -- "under a fixed rule": 14, "fewer than 16,384 work words were lent", stands before all else
   pub desk : (a : Outcome) (words : ℕ) → words < workspace → withWorkspace words a ≡ refuse 14 0
   pub enough : (a : Outcome) (words : ℕ) → workspace ≤ words → withWorkspace words a ≡ a
@@ -272,11 +327,11 @@ pub record Demand1 : Type 0 where
   -- a quote is given of accepted files alone (what it says is in demand 2); it has no output to fit
   pub quote-only : (q c : List ℕ) (words : ℕ) → Full (withWorkspace words (quoteOutcome q c)) → (qs : List ℕ) × (cs : List ℕ) × Question q qs × Catalogue c cs
   -- answering gives the answer from the book by a set that covers the question, showing the two records of an uncovered one
-  pub answer-gives : (choose : Choose) (q c b qs cs bs : List ℕ) → Question q qs → Catalogue c cs → Book cs b bs → Covers (choose qs cs) qs cs → (room words : ℕ)
-      → Fitted words (OverFile room (sheetBytes (answerOf (choose qs cs) qs cs bs))) (sheetBytes (answerOf (choose qs cs) qs cs bs) ∷ [])
+  pub answer-gives : (choose : Choose) (q c b qs cs bs : List ℕ) → Question q qs → Catalogue c cs → Book cs b bs → Covers (choose (quotedBy qs cs)) qs cs → (room words : ℕ)
+      → Fitted words (OverFile room (sheetBytes (answerOf (choose (quotedBy qs cs)) qs cs bs))) (sheetBytes (answerOf (choose (quotedBy qs cs)) qs cs bs) ∷ [])
       (withWorkspace words (answerBy choose q c b room))
   pub answer-only : (choose : Choose) (q c b : List ℕ) (room words : ℕ) → Full (withWorkspace words (answerBy choose q c b room))
-      → (qs : List ℕ) × (cs : List ℕ) × (bs : List ℕ) × Question q qs × Catalogue c cs × Book cs b bs × Covers (choose qs cs) qs cs
+      → (qs : List ℕ) × (cs : List ℕ) × (bs : List ℕ) × Question q qs × Catalogue c cs × Book cs b bs × Covers (choose (quotedBy qs cs)) qs cs
   pub show-gives : (q c qs cs : List ℕ) → Question q qs → Catalogue c cs → Uncovered qs cs → (room room′ words : ℕ)
       → Fitted words (OverEither room room′ (recordBytes (firstOf qs)) (recordBytes (secondOf qs cs))) (recordBytes (firstOf qs) ∷ recordBytes (secondOf qs cs) ∷ [])
       (withWorkspace words (showOutcome q c room room′))
@@ -306,11 +361,10 @@ pub record Matching (P : Pattern) (G : Graph) (e : Edge) (f : Pair) : Type 0 whe
   pub tail : In (e .from, f .0) (sim P G)
   pub head : In (e .to, f .1) (sim P G)
 
--- two records with the same kinds and the same links, in whatever order
-pub record SameLinks (rs rs′ : List ℕ) : Type 0 where
-  pub kinds : graphOf rs .labels ≡ graphOf rs′ .labels
-  pub there : (f : Edge) → In f (graphOf rs .edges) → In f (graphOf rs′ .edges)
-  pub back : (f : Edge) → In f (graphOf rs′ .edges) → In f (graphOf rs .edges)
+-- the same kinds and the same links, in whatever order
+pub record SameLinks (G H : Graph) : Type 0 where
+  pub kinds : G .labels ≡ H .labels
+  pub links : (f : Edge) → In f (G .edges) ↔ In f (H .edges)
 
 -- the link e of the question Q stands in the list of a link of its kind of an extract that fits Q, read as a record, as a whole
 pub record Matched (Q : Pattern) (Ps : List Pattern) (e : Edge) : Type 0 where
@@ -350,6 +404,8 @@ pub record Demand2 : Type 1 where
   -- "matches": the match sets list exactly what the greatest simulation matches
   pub lists : (r rs : List ℕ) → Record r rs → (P : Pattern) (i : ℕ) → i < length (P .edges) → (f : Pair) → f .1 < 4096
       → In (code (f .0) (f .1)) (getD (matchSets P (graphOf rs)) i []) ↔ Matching P (graphOf rs) (getD (P .edges) i noEdge) f
+  pub lists-in-question : (q qs : List ℕ) → Question q qs → (P : Pattern) (i : ℕ) → i < length (P .edges) → (f : Pair) → f .1 < 4096
+      → In (code (f .0) (f .1)) (getD (matchSets P (asGraph (patternOf qs))) i []) ↔ Matching P (asGraph (patternOf qs)) (getD (P .edges) i noEdge) f
   -- and so do the lists of an extract, in a book as on a question read as a record
   pub of-extracts : (P : Pattern) (G : Graph) → viewSheet P G ≡ matchSets P G
   -- the sheet that a search gives is read back as its match sets: a 0 where nothing was found, else a 1, and for each link the number of its
@@ -367,19 +423,16 @@ pub record Demand2 : Type 1 where
   -- "its length is 1 byte, or (1 + 14·m + 24·t)/8 rounded up", with m links and t pairs
   pub sheet-length : (p r ps rs : List ℕ) → Question p ps → Record r rs
       → length (sheetOf (patternOf ps) rs) ≡ sheetLength (edgesOf ps) (pairCount (matchSets (patternOf ps) (graphOf rs)))
-  -- "links stand in any order, and that order never alters a sheet"
-  pub any-order : (r r′ rs rs′ : List ℕ) → Record r rs → Record r′ rs′ → SameLinks rs rs′ → (p : List ℕ) (room words : ℕ)
-      → withWorkspace words (searchOutcome p r room) ≡ withWorkspace words (searchOutcome p r′ room)
-  pub any-order-books : (r r′ rs rs′ : List ℕ) → Record r rs → Record r′ rs′ → SameLinks rs rs′ → (c : List ℕ) (room words : ℕ)
-      → withWorkspace words (makeBookOutcome c r room) ≡ withWorkspace words (makeBookOutcome c r′ room)
+  -- the order of links "never alters a sheet": said of graphs, since an accepted record has one order alone
+  pub any-order : (G H : Graph) → SameLinks G H → (P : Pattern) → matchSets P G ≡ matchSets P H
   -- "all links or none", of a lone pattern and of each extract of a catalogue: each link lists a pair, or nothing is found
   pub all-or-none : (P : Pattern) (G : Graph) → T (sound P) → ((l : List ℕ) → In l (matchSets P G) → 0 < length l) ⊎ (pairCount (matchSets P G) ≡ 0)
   pub patterns-sound : (p ps : List ℕ) → Question p ps → T (sound (patternOf ps))
-  pub extracts-sound : (c cs : List ℕ) → Catalogue c cs → (P : Pattern) → In P (extracts cs) → T (sound P)
+  pub extracts-sound : (c cs : List ℕ) → Catalogue c cs → (P : Pattern) → In P (viewPatterns cs) → T (sound P)
   -- "a quote says covered exactly when .."
-  pub quotes : (q c qs cs : List ℕ) → Question q qs → Catalogue c cs → Covered qs cs ↔ ((e : Edge) → In e (patternOf qs .edges) → Matched (patternOf qs) (extracts cs) e)
+  pub quotes : (q c qs cs : List ℕ) → Question q qs → Catalogue c cs → Covered qs cs ↔ ((e : Edge) → In e (patternOf qs .edges) → Matched (patternOf qs) (viewPatterns cs) e)
   pub covers : (q c qs cs : List ℕ) → Question q qs → Catalogue c cs → (set : ℕ)
-      → Covers set qs cs ↔ ((i : ℕ) → i < edgesOf qs → MatchedIn (patternOf qs) (extracts cs) set (linkOf qs i))
+      → Covers set qs cs ↔ ((i : ℕ) → i < edgesOf qs → MatchedIn (patternOf qs) (viewPatterns cs) set (linkOf qs i))
   -- which is the first value that the call gives, where enough words are lent: 1, or 0 for an uncovered question
   pub says-covered : (q c qs cs : List ℕ) → Question q qs → Catalogue c cs → (words : ℕ)
       → ((v : QuoteValues) × (withWorkspace words (quoteOutcome q c) ≡ give (flat v) []) × (v .covered ≡ 1)) ↔ ((workspace ≤ words) × Covered qs cs)
@@ -387,12 +440,12 @@ pub record Demand2 : Type 1 where
       → ((v : QuoteValues) × (withWorkspace words (quoteOutcome q c) ≡ give (flat v) []) × (v .covered ≡ 0)) ↔ ((workspace ≤ words) × Uncovered qs cs)
   -- the other values: the masks of what matches each link, the number of links, the chosen set, the lowest unmatched link; what has no meaning is 0
   pub values-covered : (q c qs cs : List ℕ) → Question q qs → Catalogue c cs → Covered qs cs
-      → quoteOutcome q c ≡ give (flat (record { covered = 1; mapping = mapping (patternOf qs) (extracts cs); edges = edgesOf qs; chosen = chosenOf qs cs; lowest = 0 })) []
+      → quoteOutcome q c ≡ give (flat (record { covered = 1; mapping = mapping (patternOf qs) (viewPatterns cs); edges = edgesOf qs; chosen = chosenOf qs cs; lowest = 0 })) []
   pub values-uncovered : (q c qs cs : List ℕ) → Question q qs → Catalogue c cs → Uncovered qs cs
-      → quoteOutcome q c ≡ give (flat (record { covered = 0; mapping = mapping (patternOf qs) (extracts cs); edges = edgesOf qs; chosen = 0; lowest = lacking qs cs })) []
+      → quoteOutcome q c ≡ give (flat (record { covered = 0; mapping = mapping (patternOf qs) (viewPatterns cs); edges = edgesOf qs; chosen = 0; lowest = lacking qs cs })) []
   -- "for each question link, the extract links that match it": bit f in the mask of link i and extract a says that link f of a has the kind of i and lists i
-  pub maps : (q c qs cs : List ℕ) → Question q qs → Catalogue c cs → (i a f : ℕ) → i < edgesOf qs → a < length (extracts cs) → f < length (extractOf cs a .edges)
-      → T (bit (getD (mapping (patternOf qs) (extracts cs)) (16 * i + a) 0) f)
+  pub maps : (q c qs cs : List ℕ) → Question q qs → Catalogue c cs → (i a f : ℕ) → i < edgesOf qs → a < length (viewPatterns cs) → f < length (extractOf cs a .edges)
+      → T (bit (getD (mapping (patternOf qs) (viewPatterns cs)) (16 * i + a) 0) f)
       ↔ ((getD (extractOf cs a .edges) f noEdge .kind ≡ linkOf qs i .kind) × In (code (linkOf qs i .from) (linkOf qs i .to)) (getD (viewSheet (extractOf cs a) (asGraph (patternOf qs))) f []))
   -- the chosen set covers the question, and "drop an extract if those still kept cover the question without it" has left none to drop
   pub choice-covers : (qs cs : List ℕ) → Covered qs cs → Covers (chosenOf qs cs) qs cs
@@ -430,6 +483,10 @@ abbrev pub AllKind0 : Pattern → Type 0
 AllKind0 P = (e : Edge) → In e (P .edges) → e .kind ≡ 0
 
 pub record Sorting : Type 1 where
+  -- "read by the old rules": these are said plainly in packed/specs/OldRecord.antt
+  pub accepts : (s ws : List ℕ) → OldFile s ws ↔ ((length s ≤ oldRecordMost) × OldRecordFile s ws)
+  pub files : (s : List ℕ) (room : ℕ) → HandsUp (first (readOldRecord s) thenNone) (recordSorted s room)
+  pub only : (s : List ℕ) (room words : ℕ) → Full (withWorkspace words (recordSorted s room)) → (ws : List ℕ) × OldFile s ws
   -- the converter writes the record with the sorted content, or gives 12
   pub gives : (s ws : List ℕ) → OldFile s ws → (room : ℕ) → recordSorted s room ≡ fit room (recordBytes (sortedFields ws))
   -- which is accepted
@@ -472,7 +529,7 @@ pub record Showing (qs cs : List ℕ) : Type 0 where
   pub in-first : In (linkOf qs (lacking qs cs)) (graphOf (firstOf qs) .edges)
   pub not-in-second : In (linkOf qs (lacking qs cs)) (graphOf (secondOf qs cs) .edges) → ⊥
   -- "every extract's lists are byte for byte equal on both", and so are the books
-  pub equal : (P : Pattern) → In P (extracts cs) → extractSheetOf P (firstOf qs) ≡ extractSheetOf P (secondOf qs cs)
+  pub equal : (P : Pattern) → In P (viewPatterns cs) → extractSheetOf P (firstOf qs) ≡ extractSheetOf P (secondOf qs cs)
   pub equal-books : bookOf cs (firstOf qs) ≡ bookOf cs (secondOf qs cs)
   -- "the question's sheets differ"
   pub differ : sheetOf (patternOf qs) (firstOf qs) ≡ sheetOf (patternOf qs) (secondOf qs cs) → ⊥
@@ -487,7 +544,7 @@ pub record Demand3 : Type 0 where
   pub refused-by : (q c b qs cs bs : List ℕ) → Question q qs → Catalogue c cs → Book cs b bs → (set room words d : ℕ)
       → (withWorkspace words (answerFrom q c set b room) ≡ refuse 11 d) ↔ ((workspace ≤ words) × Leaves set qs cs × (d ≡ lackingIn set qs cs))
   pub lowest-by : (q c qs cs : List ℕ) → Question q qs → Catalogue c cs → (set : ℕ) → Leaves set qs cs
-      → LowestUnmatched qs (MatchedIn (patternOf qs) (extracts cs) set) (lackingIn set qs cs)
+      → LowestUnmatched qs (MatchedIn (patternOf qs) (viewPatterns cs) set) (lackingIn set qs cs)
   -- the same by the chosen set, which answers where the client names none
   pub covered : (way : Way) (q c r qs cs rs : List ℕ) → Question q qs → Catalogue c cs → Record r rs → Covered qs cs → length (bookOf cs rs) ≤ bookMost
       → (room words : ℕ) → withWorkspace words (answerOutcome q c (bookOf cs rs) room) ≡ withWorkspace words (searchBy way q r rs room)
@@ -499,7 +556,7 @@ pub record Demand3 : Type 0 where
       → withWorkspace words (showOutcome q c room room′) ≡ withWorkspace words (fitBoth room room′ (recordBytes (firstOf qs)) (recordBytes (secondOf qs cs)))
   pub uncovered : (q c qs cs : List ℕ) → Question q qs → Catalogue c cs → Uncovered qs cs → Showing qs cs
   -- "its lowest unmatched link", which the second record lacks
-  pub lowest : (q c qs cs : List ℕ) → Question q qs → Catalogue c cs → Uncovered qs cs → LowestUnmatched qs (Matched (patternOf qs) (extracts cs)) (lacking qs cs)
+  pub lowest : (q c qs cs : List ℕ) → Question q qs → Catalogue c cs → Uncovered qs cs → LowestUnmatched qs (Matched (patternOf qs) (viewPatterns cs)) (lacking qs cs)
   -- 13, "a showing was wanted for a covered question", exactly then
   pub shows-covered : (q c qs cs : List ℕ) → Question q qs → Catalogue c cs → (room room′ words d : ℕ)
       → (withWorkspace words (showOutcome q c room room′) ≡ refuse 13 d) ↔ ((workspace ≤ words) × Covered qs cs × (d ≡ 0))
@@ -535,7 +592,7 @@ pub record GreatestChoice (Q : Pattern) (Candidates K : Edge → Pair → Type 0
 -- the answer lists, for each link, what the greatest choice keeps; "if any link keeps none", nothing is found
 pub record Joins (set : ℕ) (qs cs bs : List ℕ) : Type 1 where
   pub keeps : Edge → Pair → Type 0
-  pub is : GreatestChoice (patternOf qs) (Candidate (patternOf qs) (extracts cs) (sheetsIn (edgeCounts cs) bs) set) keeps
+  pub is : GreatestChoice (patternOf qs) (Candidate (patternOf qs) (viewPatterns cs) (sheetsIn (edgeCounts cs) bs) set) keeps
   pub lists : (i : ℕ) → i < length (patternOf qs .edges) → (f : Pair) → f .1 < 4096
       → In (code (f .0) (f .1)) (getD (answerOf set qs cs bs) i []) ↔ (((e : Edge) → In e (patternOf qs .edges) → (h : Pair) × keeps e h) × keeps (linkOf qs i) f)
 
@@ -544,18 +601,18 @@ pub record Answering : Type 1 where
   pub joins : (set : ℕ) (qs cs bs : List ℕ) → Joins set qs cs bs
   -- "two accepted books that agree on the chosen sheets give the same answer": on those of the set that answers, where it covers the question
   pub same : (choose : Choose) (q c qs cs b b′ bs bs′ : List ℕ) → Question q qs → Catalogue c cs → Book cs b bs → Book cs b′ bs′
-      → (Covers (choose qs cs) qs cs → (a : ℕ) → a < length (extracts cs) → T (bit (choose qs cs) a)
+      → (Covers (choose (quotedBy qs cs)) qs cs → (a : ℕ) → a < length (viewPatterns cs) → T (bit (choose (quotedBy qs cs)) a)
       → getD (sheetsIn (edgeCounts cs) bs) a [] ≡ getD (sheetsIn (edgeCounts cs) bs′) a [])
       → (room : ℕ) → answerBy choose q c b room ≡ answerBy choose q c b′ room
   -- the set that answers where the client names none: the chosen one, or all extracts for an uncovered question
-  pub chooses : (qs cs : List ℕ) → Covered qs cs → usedFor everyView qs cs ≡ chosenOf qs cs
-  pub chooses-all : (qs cs : List ℕ) → Uncovered qs cs → usedFor everyView qs cs ≡ everyView
+  pub chooses : (qs cs : List ℕ) → Covered qs cs → usedBy (quotedBy qs cs) ≡ chosenOf qs cs
+  pub chooses-all : (qs cs : List ℕ) → Uncovered qs cs → usedBy (quotedBy qs cs) ≡ everyView
   -- of a set that the client names, "bits that name no extract are ignored"
-  pub ignores : (c cs : List ℕ) → Catalogue c cs → (set set′ : ℕ) → ((a : ℕ) → a < length (extracts cs) → bit set a ≡ bit set′ a) → (q b : List ℕ) (room : ℕ)
+  pub ignores : (c cs : List ℕ) → Catalogue c cs → (set set′ : ℕ) → ((a : ℕ) → a < length (viewPatterns cs) → bit set a ≡ bit set′ a) → (q b : List ℕ) (room : ℕ)
       → answerFrom q c set b room ≡ answerFrom q c set′ b room
   -- an answer, also from a book of no record, is read back as its content, and is as long as such a sheet
   pub back : (choose : Choose) (q c b qs cs bs out : List ℕ) → Question q qs → Catalogue c cs → Book cs b bs → (room : ℕ)
-      → answerBy choose q c b room ≡ give [] (out ∷ []) → Sheet qs out (sheetFields (answerOf (choose qs cs) qs cs bs))
+      → answerBy choose q c b room ≡ give [] (out ∷ []) → Sheet qs out (sheetFields (answerOf (choose (quotedBy qs cs)) qs cs bs))
   pub answer-length : (q qs cs b bs : List ℕ) → Question q qs → Book cs b bs → (set : ℕ)
       → length (sheetBytes (answerOf set qs cs bs)) ≡ sheetLength (edgesOf qs) (pairCount (answerOf set qs cs bs))
   -- for an uncovered question no function whatsoever of the extracts' lists gives the question's sheet on every record
@@ -566,15 +623,15 @@ pub record Answering : Type 1 where
 
 -- one charge for each extract
 abbrev pub Charged : List ℕ → List ℕ → Type 0
-Charged charges cs = length charges ≡ length (extracts cs)
+Charged charges cs = length charges ≡ length (viewPatterns cs)
 
 -- the sum of the charges of a set of extracts
 abbrev pub costOf : List ℕ → List ℕ → ℕ → ℕ
-costOf charges cs set = cost charges set (length (extracts cs))
+costOf charges cs set = cost charges set (length (viewPatterns cs))
 
 -- "the covering set whose charges sum to the least", with the ties: it covers, and no set that covers is better (specs/Cheapest.antt)
 abbrev pub CheapestOf : List ℕ → List ℕ → List ℕ → ℕ → Type 0
-CheapestOf qs cs charges set = IsCheapest (mapping (patternOf qs) (extracts cs)) (edgesOf qs) charges (length (extracts cs)) set
+CheapestOf qs cs charges set = IsCheapest (mapping (patternOf qs) (viewPatterns cs)) (edgesOf qs) charges (length (viewPatterns cs)) set
 
 pub record Cheapests : Type 0 where
   -- for a covered question the call gives that set, its sum, and beside them "the chosen set of the ordinary quote"
@@ -583,7 +640,7 @@ pub record Cheapests : Type 0 where
   -- one set at most is so
   pub one : (c qs cs charges : List ℕ) → Catalogue c cs → (a b : ℕ) → CheapestOf qs cs charges a → CheapestOf qs cs charges b → a ≡ b
   -- "no covering set may cost less than the one returned", the chosen set among them
-  pub least : (qs cs charges : List ℕ) (set other : ℕ) → CheapestOf qs cs charges set → other < 2 ^ length (extracts cs) → Covers other qs cs
+  pub least : (qs cs charges : List ℕ) (set other : ℕ) → CheapestOf qs cs charges set → other < 2 ^ length (viewPatterns cs) → Covers other qs cs
       → costOf charges cs set ≤ costOf charges cs other
   pub chosen : (qs cs charges : List ℕ) (set : ℕ) → CheapestOf qs cs charges set → Covered qs cs → costOf charges cs set ≤ costOf charges cs (chosenOf qs cs)
   -- 15, "when the number of charges differs from the number of extracts", exactly then
@@ -613,11 +670,11 @@ pub record Listings : Type 0 where
   -- "an uncovered quote": any that the call gives for an uncovered question
   pub uncovered : (q c qs cs work work′ : List ℕ) → Question q qs → Catalogue c cs → Uncovered qs cs → (r : Quote) → workspace ≤ length work
       → Settled blank (withWorkspace (length work) (quoteOutcome q c)) (quoteTold r) [] [] work work′
-      → UncoveredListing r (mapping (patternOf qs) (extracts cs)) (edgesOf qs)
+      → UncoveredListing r (mapping (patternOf qs) (viewPatterns cs)) (edgesOf qs)
   -- "an output needs more bytes than were lent": 12 with the length of the line, and the buffer is untouched; else the whole line
-  pub refuses : (q : Quote) (k : ℕ) (r : Told) (out out′ : List ℕ) → Fulfils (lineOutcome q k (length out)) r out out′ → length out < length (lineOf q k)
+  pub refuses : (q : Quote) (k : ℕ) (r : Told) (out out′ : List ℕ) → FulfilsOne (lineOutcome q k (length out)) r out out′ → length out < length (lineOf q k)
       → (r ≡ told 12 (length (lineOf q k) ∷ [])) × (out′ ≡ out)
-  pub writes : (q : Quote) (k : ℕ) (r : Told) (out out′ : List ℕ) → Fulfils (lineOutcome q k (length out)) r out out′ → length (lineOf q k) ≤ length out
+  pub writes : (q : Quote) (k : ℕ) (r : Told) (out out′ : List ℕ) → FulfilsOne (lineOutcome q k (length out)) r out out′ → length (lineOf q k) ≤ length out
       → (r ≡ told 0 (length (lineOf q k) ∷ [])) × (out′ ≡ lineOf q k ++ drop (length (lineOf q k)) out)
   -- 4,096 bytes take every line
   pub longest : (q : Quote) (k : ℕ) → length (lineOf q k) ≤ 4096

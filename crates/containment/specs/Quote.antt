@@ -1,18 +1,19 @@
 -- What a quote answers: which edges of each view match each edge of the query, whether the query is covered, and the chosen views.
 use Prim.Native.Nat.{ℕ, _+_, _*_, _/_, _%_}
-use mathlib.Core.List.{List, [], _∷_, _++_, map}
-use mathlib.Core.Bool.{_&&_}
+use mathlib.Core.List.{List, [], _∷_, _++_}
+use mathlib.Core.Bool.{Bool, _&&_}
 use lib.ListN.{length, getD, replicate}
 use lib.Dec.{ltb}
 pub use Rattle.packed.specs.Bits.{one}
 use Rattle.packed.specs.Format.{pick}
-use Rattle.packed.specs.Contents.{viewsOf}
+use Rattle.packed.specs.Contents.{edgesOf}
 use Rattle.packed.specs.Refusals.{Told, told, numberOf, detailOf}
-use Rattle.packed.specs.Calls.{Outcome, give, judged, readPattern, readCatalogue}
+use Rattle.packed.specs.Calls.{Outcome, give, judged, readPattern}
 use Rattle.matching.specs.Simulation.{Edge, noEdge, oneWay, Pattern, patternOf, asGraph, viewSheet}
 use Rattle.matching.specs.Lists.{upTo}
 use Rattle.matching.specs.Join.{isMatch}
-use Rattle.containment.specs.Choice.{everyView, coversIn, lowestUnmatched, chosen}
+use Rattle.matching.specs.Offered.{Offered, offeredBy, offered}
+use Rattle.containment.specs.Choice.{everyView, coversIn, lowestUnmatched, chosen, used}
 use Rattle.containment.specs.declared.quote_type.Coverage.{Coverage}
 use Rattle.containment.specs.declared.quote_type.Coverage.the-variants as coverage-is
 use Rattle.containment.specs.declared.quote_type.Quote.{Quote}
@@ -39,7 +40,42 @@ maskAt Q Ps k =
 unfoldable pub mapping : Pattern → List Pattern → List ℕ
 mapping Q Ps = upTo (maskAt Q Ps) 512
 
--- what a quote gives by value
+-- ---- what is judged before a call quotes
+
+-- an accepted question and what a client brings beside it
+pub record Quoted : Type 0 where
+  -- the content of the question
+  pub content : List ℕ
+  pub offer : Offered
+  -- which of the views may be used, as a set
+  pub usable : ℕ
+
+-- the contents of a question and of a catalogue, all of whose views may be used
+abbrev pub quotedBy : List ℕ → List ℕ → Quoted
+quotedBy qs cs = record { content = qs; offer = offeredBy cs; usable = everyView }
+
+-- the question is judged, then the catalogue, and both are handed on: every call that quotes judges them here
+abbrev pub quoted : List ℕ → List ℕ → (Quoted → Outcome) → Outcome
+quoted q c k = judged (readPattern q) (λ qs. offered c (λ o. k (record { content = qs; offer = o; usable = everyView })))
+
+-- its table, and what the views in a set do by it
+abbrev pub tableOf : Quoted → List ℕ
+tableOf x = mapping (patternOf (x .content)) (x .offer .views)
+
+abbrev pub covering : Quoted → ℕ → Bool
+covering x set = coversIn (tableOf x) set (length (x .offer .views)) (edgesOf (x .content))
+
+abbrev pub lowestLeft : Quoted → ℕ → ℕ
+lowestLeft x set = lowestUnmatched (tableOf x) set (length (x .offer .views)) (edgesOf (x .content))
+
+-- the views that answer: those chosen from the usable ones; where these don't cover the query all of them, so that 11 has the lowest edge that
+-- none of them matches
+abbrev pub usedBy : Quoted → ℕ
+usedBy x = used (tableOf x) (x .usable) (edgesOf (x .content)) (length (x .offer .views))
+
+-- ---- what a quote answers
+
+-- what it gives by value
 pub record QuoteValues : Type 0 where
   -- "covered if every link is matched by at least one": 1 if so, 0 if not
   pub covered : ℕ
@@ -63,17 +99,19 @@ valuesFrom t set m k =
       lowest = pick (coversIn t set k m) 0 (lowestUnmatched t set k m);
     }
 
-unfoldable pub quoteValues : ℕ → Pattern → List Pattern → QuoteValues
-quoteValues set Q Ps = valuesFrom (mapping Q Ps) set (length (Q .edges)) (length Ps)
+unfoldable pub quoteValues : Quoted → QuoteValues
+quoteValues x = valuesFrom (tableOf x) (x .usable) (edgesOf (x .content)) (length (x .offer .views))
 
 -- the list of them that the protocol of a call carries
 unfoldable pub flat : QuoteValues → List ℕ
 flat v = v .covered ∷ (v .mapping ++ (v .edges ∷ v .chosen ∷ v .lowest ∷ []))
 
--- quoting, by all views: 14, the question's refusals, the catalogue's
+unfoldable pub quoteFor : Quoted → Outcome
+quoteFor x = give (flat (quoteValues x)) []
+
+-- quoting: the question's refusals, the catalogue's
 unfoldable pub quoteOutcome : List ℕ → List ℕ → Outcome
-quoteOutcome q c =
-    judged (readPattern q) (λ qs. judged (readCatalogue c) (λ cs. give (flat (quoteValues everyView (patternOf qs) (map patternOf (viewsOf cs)))) []))
+quoteOutcome q c = quoted q c quoteFor
 
 -- on a refusal each of them is zero
 abbrev pub blank : List ℕ

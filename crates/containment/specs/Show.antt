@@ -5,13 +5,11 @@ use lib.ListN.{length, take, drop}
 use lib.Dec.{ltb}
 use Rattle.packed.specs.Format.{pick, encode}
 use Rattle.packed.specs.Formats.{record′}
-use Rattle.packed.specs.Contents.{nodesOf, edgesOf, viewsOf, sortedEdges}
-use Rattle.packed.specs.Calls.{Outcome, give, refuse, judged, readPattern, readCatalogue}
+use Rattle.packed.specs.Contents.{nodesOf, sortedEdges}
+use Rattle.packed.specs.Calls.{Outcome, give, refuse}
 use Rattle.packed.specs.Refusals.{Told, told, numberOf, detailOf}
 use Rattle.matching.specs.Search.{bytesIn}
-use Rattle.matching.specs.Simulation.{Pattern, patternOf}
-use Rattle.containment.specs.Choice.{everyView, coversIn, lowestUnmatched}
-use Rattle.containment.specs.Quote.{mapping}
+use Rattle.containment.specs.Quote.{Quoted, quoted, covering, lowestLeft}
 use Rattle.containment.specs.declared.showing.Shown.{Shown}
 use Rattle.containment.specs.declared.showing.Shown.the-variants as shown-is
 
@@ -37,15 +35,14 @@ fitBoth room room′ a b =
     pick (ltb room (length a)) (refuse 12 (length a))
     (pick (ltb room′ (length b)) (refuse 12 (length b)) (give [] (a ∷ b ∷ [])))
 
--- for the query with content qs and the views in a set: 13 where they cover it
-unfoldable pub showFor : ℕ → List ℕ → List Pattern → ℕ → ℕ → Outcome
-showFor set qs Ps room room′ =
-    pick (coversIn (mapping (patternOf qs) Ps) set (length Ps) (edgesOf qs)) (refuse 13 0)
-    (fitBoth room room′ (recordBytes (graphFields qs)) (recordBytes (fewerFields qs (lowestUnmatched (mapping (patternOf qs) Ps) set (length Ps) (edgesOf qs)))))
+-- 13 where the usable views cover the query
+unfoldable pub showFor : ℕ → ℕ → Quoted → Outcome
+showFor room room′ x =
+    pick (covering x (x .usable)) (refuse 13 0)
+    (fitBoth room room′ (recordBytes (graphFields (x .content))) (recordBytes (fewerFields (x .content) (lowestLeft x (x .usable)))))
 
--- showing, by all views
 unfoldable pub showOutcome : List ℕ → List ℕ → ℕ → ℕ → Outcome
-showOutcome q c room room′ = judged (readPattern q) (λ qs. judged (readCatalogue c) (λ cs. showFor everyView qs (map patternOf (viewsOf cs)) room room′))
+showOutcome q c room room′ = quoted q c (showFor room room′)
 
 -- what a showing tells: the lengths of the two outputs, or the refusal with its detail
 abbrev pub shownTold : Shown → Told

@@ -1,22 +1,26 @@
 -- inner: what the steps of quoting, of answering and of showing promise one another.
 use Prim.Native.Nat.{ℕ, zero, suc, _+_, _*_, _/_, _%_, _^_, _<_, _≤_}
 use mathlib.Core.Path.{_≡_}
-use mathlib.Core.Bool.{Bool}
 use mathlib.Core.List.{List, [], _∷_, _++_, map}
-use lib.ListN.{length, getD, take}
+use lib.ListN.{length, getD, take, replicate}
 use lib.Seq.{sets}
 use lib.Dec.{eqb, ltb}
 use Rattle.packed.specs.Format.{ok, pick, decode}
 use Rattle.packed.specs.Formats.{pattern, catalogue}
 use Rattle.packed.specs.Contents.{edgesOf, edgeCounts, edgeWord, wordKind, sortedEdges}
-use Rattle.packed.specs.ByValue.{HoldsPattern, Small}
-use Rattle.packed.specs.Calls.{Outcome, toldOf, outputsOf}
-use Rattle.packed.specs.Refusals.{Told}
+use Rattle.packed.specs.ByValue.{HoldsPattern, NoPattern, Small}
+use Rattle.packed.specs.Accepting.{NoViews}
+use Rattle.packed.specs.Calls.{Outcome, refuse}
+use Rattle.packed.specs.Refusals.{numberOf, detailOf}
+use Rattle.packed.specs.declared.reply.Reply.{Reply}
+use Rattle.packed.specs.declared.reply.Reply.the-variants as reply-is
 use Rattle.packed.specs.declared.by_value.Pattern.{Pattern as Given}
 use Rattle.matching.specs.Sweeps.{OneOf, Has}
-use Rattle.containment.specs.Answer.{Choose, usedFor}
+use Rattle.matching.specs.Offered.{offeredBy}
+use Rattle.containment.specs.Quote.{Quoted, tableOf}
 use Rattle.containment.specs.Show.{graphFields, fewerFields, recordBytes}
 use Rattle.containment.specs.declared.query.Fields.{Fields}
+use Rattle.containment.specs.declared.judging.Judged.{Judged}
 
 -- an accepted pattern by value
 pub record Query (q : Given) : Type 0 where
@@ -38,14 +42,28 @@ pub record ViewCounts (counts : List ℕ) (k : ℕ) : Type 0 where
   pub are : take k counts ≡ edgeCounts (views .content)
   pub small : Small counts
 
--- the views of a set that answer a query: all of them, or those chosen from them
-abbrev pub wholeOrChosen : Bool → ℕ → Choose
-wholeOrChosen whole set qs cs = pick whole set (usedFor set qs cs)
+-- what was judged, by value
+abbrev pub quotedAs : {q : Given} → Query q → {counts : List ℕ} {k : ℕ} → ViewCounts counts k → ℕ → Quoted
+quotedAs t v usable = record { content = t .content; offer = offeredBy (v .views .content); usable = usable }
 
--- with the workspace aside: the result and the outputs
-pub record FulfilsAll (blank : List ℕ) (a : Outcome) (r : Told) (outs outs′ : List (List ℕ)) : Type 0 where
-  pub result : r ≡ toldOf blank a
-  pub outputs : outs′ ≡ outputsOf a outs
+-- nothing was refused: r holds what is handed on
+pub record Handed (f : (Quoted → Outcome) → Outcome) (r : Judged) : Type 0 where
+  pub query : Query (r .query)
+  pub views : ViewCounts (r .edges) (r .views)
+  pub on : (k : Quoted → Outcome) → f k ≡ k (quotedAs query views (r .usable))
+  pub table : r .table ≡ tableOf (quotedAs query views (r .usable))
+
+-- what is given beside a refusal: nothing
+pub record NoQuery (r : Judged) : Type 0 where
+  pub query : NoPattern (r .query)
+  pub views : NoViews (r .views) (r .edges)
+  pub usable : r .usable ≡ 0
+  pub table : r .table ≡ replicate 512 0
+
+-- what the calls that judge by f go on with, or what each of them refuses
+abbrev pub JudgedTo : ((Quoted → Outcome) → Outcome) → Judged → Reply → Type 0
+JudgedTo f r (reply-is.Done n) = Handed f r
+JudgedTo f r (reply-is.Refused x) = ((k : Quoted → Outcome) → f k ≡ refuse (numberOf x) (detailOf x)) × NoQuery r
 
 -- ---- a query read as a record
 

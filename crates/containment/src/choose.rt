@@ -1,7 +1,7 @@
 // Coverage and the chosen views, from the masks of a quote. A set says which views may be used.
 ghost use mathlib.Core.Path.{_≡_};
 ghost use Prim.Native.Nat.{_^_, _<_, _≤_};
-ghost use Rattle.packed.specs.Format.{pick};
+ghost use mathlib.Core.Bool.{true};
 ghost use Rattle.matching.specs.Simulation.{bit};
 ghost use Rattle.containment.specs.Choice.{matchedIn, coversIn, lowestUnmatched, addsTo, taken, kept, chosen, used};
 
@@ -121,27 +121,22 @@ fn drop_views(mapping: &[u32; 512], first: u32, k: usize, m: usize) -> u32
     set
 }
 
-// The views chosen from the set: none for a query that it doesn't cover.
+// The views chosen from a set that covers the query.
 pub fn choose(mapping: &[u32; 512], set: u32, k: usize, m: usize) -> u32
-    requires { ⌜ (m ≤ 32) × (k ≤ 16) ⌝ }
+    requires { ⌜ (m ≤ 32) × (k ≤ 16) × (coversIn (now mapping) set k m ≡ true) ⌝ }
     ensures { λ r. ⌜ r ≡ chosen (now (mapping .entry)) set m k ⌝ }
 {
-    if is_cover(mapping, set, k, m) {
-        return drop_views(mapping, take_views(mapping, set, k, m), k, m);
-    }
-    0
+    drop_views(mapping, take_views(mapping, set, k, m), k, m)
 }
 
-// The views that answer a query: the whole set where that is asked for, or where it doesn't cover the query; else those chosen from it.
-pub fn use_views(mapping: &[u32; 512], set: u32, whole: bool, k: usize, m: usize) -> u32
-    requires { ⌜ (m ≤ 32) × (k ≤ 16) ⌝ }
-    ensures { λ r. ⌜ r ≡ pick whole set (used (now (mapping .entry)) set m k) ⌝ }
+// The views that answer a query whose lowest edge that the set leaves unmatched is known: those chosen from the set, or all of it where it doesn't
+// cover the query.
+pub fn use_views(mapping: &[u32; 512], set: u32, lowest: usize, k: usize, m: usize) -> u32
+    requires { ⌜ (m ≤ 32) × (k ≤ 16) × (lowest ≡ lowestUnmatched (now mapping) set k m) ⌝ }
+    ensures { λ r. ⌜ r ≡ used (now (mapping .entry)) set m k ⌝ }
 {
-    if whole {
+    if lowest < m {
         return set;
     }
-    if is_cover(mapping, set, k, m) {
-        return choose(mapping, set, k, m);
-    }
-    set
+    choose(mapping, set, k, m)
 }

@@ -3,15 +3,12 @@ ghost use mathlib.Core.Path.{_≡_};
 ghost use mathlib.Core.List.{[]};
 ghost use Prim.Native.Nat.{ℕ, _+_, _-_, _^_, _≤_, _<_};
 ghost use lib.ListN.{length, getD};
-ghost use Rattle.packed.specs.Calls.{judged, readCatalogue, toldOf};
+ghost use Rattle.packed.specs.Calls.{Fulfils, toldOf};
 ghost use Rattle.matching.specs.Sweeps.{Mask};
-ghost use Rattle.containment.specs.Cheapest.{cheapestFrom, cheapestFor, cheapestOutcome, cheapestTold};
-ghost use Rattle.containment.specs.Steps.{Query, FulfilsAll};
+ghost use Rattle.containment.specs.Cheapest.{cheapestFrom, cheapestOutcome, cheapestTold};
 ghost use Rattle.containment.specs.Tries.{EdgeMatchedBy, TriedRoom, taking, isFirst, foremostTried, settled};
 use crate::choose;
-use crate::mapping;
-use packed::accept;
-use packed::by_value::Pattern;
+use crate::judging;
 use packed::reply::Refusal;
 use packed::reply::Reply;
 
@@ -123,44 +120,26 @@ fn settle(masks: &[u32; 16], charges: &[u32], all: u32, u: usize, taken: Tried) 
     first_of(with, without, all)
 }
 
-// The cheapest set from the table of a quote, by the charges of k views.
-fn cheapest_of(mapping: &[u32; 512], charges: &[u32], k: usize, m: usize) -> Cheapest
+// The cheapest set from the table of a quote, by the charges of k views; beside it the set that a quote by the usable views chooses.
+fn cheapest_of(mapping: &[u32; 512], usable: u32, charges: &[u32], k: usize, m: usize) -> Cheapest
     requires { ⌜ (k ≤ 16) × (m ≤ 32) × (length (now charges) ≡ k) ⌝ }
-    ensures { λ r. ⌜ cheapestTold r ≡ toldOf [] (cheapestFrom (now (mapping .entry)) m (now (charges .entry)) k) ⌝ }
+    ensures { λ r. ⌜ cheapestTold r ≡ toldOf [] (cheapestFrom (now (mapping .entry)) usable m (now (charges .entry)) k) ⌝ }
 {
-    if choose::is_cover(mapping, choose::EVERY_VIEW, k, m) {
-        let masks = masks_of(mapping, k, m);
-        let none = Tried {
-            set: 0,
-            sum: 0,
-            number: 0,
-            turned: 0,
-            matched: 0,
-        };
-        let x = settle(&masks, charges, first_edges(m), k, none);
-        let chosen = choose::choose(mapping, choose::EVERY_VIEW, k, m);
-        return Cheapest::Of(x.set as u16, x.sum, chosen as u16);
+    let e = choose::lowest_unmatched(mapping, usable, k, m);
+    if e < m {
+        return Cheapest::Refused(Refusal::NotContained(e as u32));
     }
-    let e = choose::lowest_unmatched(mapping, choose::EVERY_VIEW, k, m);
-    Cheapest::Refused(Refusal::NotContained(e as u32))
-}
-
-fn cheapest_for(q: Pattern, catalogue: &[u8], charges: &[u32], work: &mut [u32]) -> Cheapest
-    requires { ⌜ Query q × (length (now work) ≡ 16384) ⌝ }
-    ensures { λ r. ⌜ ((t : Query q) → FulfilsAll [] (judged (readCatalogue (now (catalogue .entry))) (λ cs. cheapestFor (t .content) cs (now (charges .entry)))) (cheapestTold r) [] []) ⌝ }
-{
-    let f = accept::accept_catalogue(catalogue, work);
-    let verdict = f.verdict;
-    if let Reply::Refused(x) = verdict {
-        return Cheapest::Refused(x);
-    }
-    let k = f.views;
-    let number = charges.len();
-    if number != k {
-        return Cheapest::Refused(Refusal::WrongCharges(number));
-    }
-    let table = mapping::map_views(q, catalogue, k, work);
-    cheapest_of(&table, charges, k, q.edges)
+    let masks = masks_of(mapping, k, m);
+    let none = Tried {
+        set: 0,
+        sum: 0,
+        number: 0,
+        turned: 0,
+        matched: 0,
+    };
+    let x = settle(&masks, charges, first_edges(m), k, none);
+    let chosen = choose::choose(mapping, usable, k, m);
+    Cheapest::Of(x.set as u16, x.sum, chosen as u16)
 }
 
 pub(crate) fn find_cheapest(
@@ -170,12 +149,19 @@ pub(crate) fn find_cheapest(
     work: &mut [u32],
 ) -> Cheapest
     requires { ⌜ length (now work) ≡ 16384 ⌝ }
-    ensures { λ r. ⌜ FulfilsAll [] (cheapestOutcome (now (question .entry)) (now (catalogue .entry)) (now (charges .entry))) (cheapestTold r) [] [] ⌝ }
+    ensures { λ r. ⌜ Fulfils [] (cheapestOutcome (now (question .entry)) (now (catalogue .entry)) (now (charges .entry))) (cheapestTold r) [] [] ⌝ }
 {
-    let f = accept::accept_pattern(question, work);
+    let f = judging::judge(question, catalogue, work);
     let verdict = f.verdict;
     if let Reply::Refused(x) = verdict {
         return Cheapest::Refused(x);
     }
-    cheapest_for(f.pattern, catalogue, charges, work)
+    let k = f.views;
+    let number = charges.len();
+    if number != k {
+        return Cheapest::Refused(Refusal::WrongCharges(number));
+    }
+    let table = f.table;
+    let q = f.query;
+    cheapest_of(&table, f.usable, charges, k, q.edges)
 }

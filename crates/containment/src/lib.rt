@@ -2,6 +2,7 @@
 mod answering;
 mod choose;
 pub mod costing;
+mod judging;
 mod mapping;
 mod query;
 pub mod quote_type;
@@ -12,11 +13,10 @@ ghost use mathlib.Core.List.{[], _∷_};
 ghost use lib.ListN.{length};
 ghost use Rattle.packed.specs.Calls.{OneOutput, Settled, withWorkspace};
 ghost use Rattle.packed.specs.Refusals.{replyTold};
-ghost use Rattle.containment.specs.Answer.{answerBy, answerFrom, answerOutcome};
+ghost use Rattle.containment.specs.Answer.{answerFrom, answerOutcome};
 ghost use Rattle.containment.specs.Cheapest.{cheapestOutcome, cheapestTold};
 ghost use Rattle.containment.specs.Quote.{quoteOutcome, quoteTold, blank};
 ghost use Rattle.containment.specs.Show.{showOutcome, shownTold};
-ghost use Rattle.containment.specs.Steps.{wholeOrChosen};
 use costing::Cheapest;
 use packed::limits;
 use packed::reply::Refusal;
@@ -54,34 +54,6 @@ pub fn cheapest(question: &[u8], catalogue: &[u8], charges: &[u32], work: &mut [
     r
 }
 
-// Answers a question from a book by the extracts in a set: all of them, or those chosen from them.
-fn answer_by(
-    question: &[u8],
-    catalogue: &[u8],
-    set: u32,
-    whole: bool,
-    book: &[u8],
-    out: &mut [u8],
-    work: &mut [u32],
-) -> Reply
-    ensures { λ r. ⌜ OneOutput (answerBy (wholeOrChosen whole set) (now (question .entry)) (now (catalogue .entry)) (now (book .entry))) (replyTold r) (now (out .entry)) (now (out .exit)) (now (work .entry)) (now (work .exit)) ⌝ }
-{
-    if work.len() < limits::WORKSPACE {
-        return Reply::Refused(Refusal::SmallWorkspace);
-    }
-    let r = answering::answer(
-        question,
-        catalogue,
-        set,
-        whole,
-        book,
-        out,
-        &mut work[0..limits::WORKSPACE],
-    );
-    workspace::clear(work, limits::WORKSPACE);
-    r
-}
-
 // Answers a question from a book by the extracts that its quote chooses: writes the question's sheet.
 pub fn answer(
     question: &[u8],
@@ -92,15 +64,18 @@ pub fn answer(
 ) -> Reply
     ensures { λ r. ⌜ OneOutput (answerOutcome (now (question .entry)) (now (catalogue .entry)) (now (book .entry))) (replyTold r) (now (out .entry)) (now (out .exit)) (now (work .entry)) (now (work .exit)) ⌝ }
 {
-    answer_by(
+    if work.len() < limits::WORKSPACE {
+        return Reply::Refused(Refusal::SmallWorkspace);
+    }
+    let r = answering::answer(
         question,
         catalogue,
-        choose::EVERY_VIEW,
-        false,
         book,
         out,
-        work,
-    )
+        &mut work[0..limits::WORKSPACE],
+    );
+    workspace::clear(work, limits::WORKSPACE);
+    r
 }
 
 // The same by the extracts in a set that the client names: the bit worth 2^j for extract j. Bits that name no extract count for nothing.
@@ -114,7 +89,19 @@ pub fn answer_from(
 ) -> Reply
     ensures { λ r. ⌜ OneOutput (answerFrom (now (question .entry)) (now (catalogue .entry)) set (now (book .entry))) (replyTold r) (now (out .entry)) (now (out .exit)) (now (work .entry)) (now (work .exit)) ⌝ }
 {
-    answer_by(question, catalogue, set as u32, true, book, out, work)
+    if work.len() < limits::WORKSPACE {
+        return Reply::Refused(Refusal::SmallWorkspace);
+    }
+    let r = answering::answer_from(
+        question,
+        catalogue,
+        set as u32,
+        book,
+        out,
+        &mut work[0..limits::WORKSPACE],
+    );
+    workspace::clear(work, limits::WORKSPACE);
+    r
 }
 
 // Shows why a question is not covered: writes it as a record, and the same without its lowest unmatched link.

@@ -73,8 +73,8 @@ fn note_view(table: &mut [u32; 512], a: usize, q: Pattern, m: usize, p: Pattern,
     note_masks(table, a, q, m, work);
 }
 
-// A word for each node that a query can have.
-fn no_words() -> [u32; 16]
+// A word for each node that a query can have, or for each view.
+pub fn no_words() -> [u32; 16]
     ensures { λ r. ⌜ r ≡ replicate 16 0 ⌝ }
 {
     [0u32; 16]

@@ -1,17 +1,13 @@
 // A showing of why a query is not covered, with room to work in: 16,384 words, which are left in any state.
 ghost use mathlib.Core.Path.{_≡_};
-ghost use mathlib.Core.List.{[], _∷_, map};
+ghost use mathlib.Core.List.{[], _∷_};
 ghost use lib.ListN.{length};
-ghost use Rattle.packed.specs.Contents.{viewsOf};
-ghost use Rattle.packed.specs.Calls.{judged, readCatalogue};
-ghost use Rattle.matching.specs.Simulation.{patternOf};
-ghost use Rattle.containment.specs.Choice.{everyView};
-ghost use Rattle.containment.specs.Show.{recordBytes, fitBoth, showFor, showOutcome, shownTold};
-ghost use Rattle.containment.specs.Steps.{Query, FulfilsAll, shownFields};
+ghost use Rattle.packed.specs.Calls.{Fulfils};
+ghost use Rattle.containment.specs.Show.{recordBytes, fitBoth, showOutcome, shownTold};
+ghost use Rattle.containment.specs.Steps.{Query, shownFields};
 use crate::choose;
-use crate::mapping;
+use crate::judging;
 use crate::query;
-use packed::accept;
 use packed::by_value::Pattern;
 use packed::reply::Refusal;
 use packed::reply::Reply;
@@ -25,7 +21,7 @@ pub enum Shown {
 // The two records of a query that is not covered, whose lowest unmatched edge is e.
 fn show_both(q: Pattern, e: usize, first: &mut [u8], second: &mut [u8], work: &mut [u32]) -> Shown
     requires { ⌜ Query q × (length (now work) ≡ 16384) ⌝ }
-    ensures { λ r. ⌜ ((t : Query q) → FulfilsAll [] (fitBoth (length (now (first .entry))) (length (now (second .entry))) (recordBytes (shownFields (t .content) 32)) (recordBytes (shownFields (t .content) e))) (shownTold r) (now (first .entry) ∷ now (second .entry) ∷ []) (now (first .exit) ∷ now (second .exit) ∷ [])) ⌝ }
+    ensures { λ r. ⌜ ((t : Query q) → Fulfils [] (fitBoth (length (now (first .entry))) (length (now (second .entry))) (recordBytes (shownFields (t .content) 32)) (recordBytes (shownFields (t .content) e))) (shownTold r) (now (first .entry) ∷ now (second .entry) ∷ []) (now (first .exit) ∷ now (second .exit) ∷ [])) ⌝ }
 {
     let a = query::write_graph(q, 32, &mut first[0..0], work);
     if first.len() < a {
@@ -40,30 +36,6 @@ fn show_both(q: Pattern, e: usize, first: &mut [u8], second: &mut [u8], work: &m
     Shown::Done(a, b)
 }
 
-fn show_for(
-    q: Pattern,
-    catalogue: &[u8],
-    first: &mut [u8],
-    second: &mut [u8],
-    work: &mut [u32],
-) -> Shown
-    requires { ⌜ Query q × (length (now work) ≡ 16384) ⌝ }
-    ensures { λ r. ⌜ ((t : Query q) → FulfilsAll [] (judged (readCatalogue (now (catalogue .entry))) (λ cs. showFor everyView (t .content) (map patternOf (viewsOf cs)) (length (now (first .entry))) (length (now (second .entry))))) (shownTold r) (now (first .entry) ∷ now (second .entry) ∷ []) (now (first .exit) ∷ now (second .exit) ∷ [])) ⌝ }
-{
-    let f = accept::accept_catalogue(catalogue, work);
-    let verdict = f.verdict;
-    if let Reply::Refused(x) = verdict {
-        return Shown::Refused(x);
-    }
-    let k = f.views;
-    let mapping = mapping::map_views(q, catalogue, k, work);
-    if choose::is_cover(&mapping, choose::EVERY_VIEW, k, q.edges) {
-        return Shown::Refused(Refusal::Contained);
-    }
-    let e = choose::lowest_unmatched(&mapping, choose::EVERY_VIEW, k, q.edges);
-    show_both(q, e, first, second, work)
-}
-
 pub(crate) fn show(
     question: &[u8],
     catalogue: &[u8],
@@ -72,12 +44,18 @@ pub(crate) fn show(
     work: &mut [u32],
 ) -> Shown
     requires { ⌜ length (now work) ≡ 16384 ⌝ }
-    ensures { λ r. ⌜ FulfilsAll [] (showOutcome (now (question .entry)) (now (catalogue .entry)) (length (now (first .entry))) (length (now (second .entry)))) (shownTold r) (now (first .entry) ∷ now (second .entry) ∷ []) (now (first .exit) ∷ now (second .exit) ∷ []) ⌝ }
+    ensures { λ r. ⌜ Fulfils [] (showOutcome (now (question .entry)) (now (catalogue .entry)) (length (now (first .entry))) (length (now (second .entry)))) (shownTold r) (now (first .entry) ∷ now (second .entry) ∷ []) (now (first .exit) ∷ now (second .exit) ∷ []) ⌝ }
 {
-    let f = accept::accept_pattern(question, work);
+    let f = judging::judge(question, catalogue, work);
     let verdict = f.verdict;
     if let Reply::Refused(x) = verdict {
         return Shown::Refused(x);
     }
-    show_for(f.pattern, catalogue, first, second, work)
+    let table = f.table;
+    let q = f.query;
+    let e = choose::lowest_unmatched(&table, f.usable, f.views, q.edges);
+    if e < q.edges {
+        return show_both(q, e, first, second, work);
+    }
+    Shown::Refused(Refusal::Contained)
 }

@@ -9,7 +9,7 @@ use native.Mathlib.Omega.{arith}
 use native.Mathlib.Nat.{add-zero, zero-add}
 use native.Mathlib.Numerals.{add-one}
 use borrow.Author.Tests.{lt-ltb, le-ltb, eq-eqb, ne-eqb}
-use Rattle.packed.specs.Calls.{toldOf, fronts, outputsOf, fit, Fulfils}
+use Rattle.packed.specs.Calls.{toldOf, fronts, outputsOf, fit, FulfilsOne}
 use Rattle.packed.specs.Format.{pick}
 use Rattle.packed.specs.Refusals.{told, numberOf, detailOf}
 use Rattle.packed.specs.declared.reply.Refusal.{Refusal}
@@ -134,28 +134,28 @@ is-line line e w = rw e w
 
 -- ---- the call: the whole line, or 12 and its length
 module _ (out text : List ℕ) {n : ℕ} (long : n ≡ 0 + length text) where
-  pub line-tight : length out < n → Fulfils (fit (length out) text) (told 12 (n ∷ [])) out out
+  pub line-tight : length out < n → FulfilsOne (fit (length out) text) (told 12 (n ∷ [])) out out
   unfolding fit toldOf outputsOf
-  line-tight h = let e = lt-ltb (length out) (length text) (omega (arith, long)) in record { result = rw (e, long, zero-add (length text)); output = rw e }
+  line-tight h = let e = lt-ltb (length out) (length text) (omega (arith, long)) in record { result = rw (e, long, zero-add (length text)); outputs = rw e }
 
-  pub line-given : {out′ : List ℕ} → n ≤ length out → out′ ≡ sets out 0 text → Fulfils (fit (length out) text) (told 0 (n ∷ [])) out out′
+  pub line-given : {out′ : List ℕ} → n ≤ length out → out′ ≡ sets out 0 text → FulfilsOne (fit (length out) text) (told 0 (n ∷ [])) out out′
   unfolding fit toldOf outputsOf fronts
   line-given h p =
       let e = le-ltb (length out) (length text) (omega (arith, long)) in
-      record { result = rw (e, long, zero-add (length text)); output = rw (e, p, sets-front out text (omega (arith, long))) }
+      record { result = rw (e, long, zero-add (length text)); outputs = rw (e, p, sets-front out text (omega (arith, long))) }
 
 -- 4,096 bytes take every line, which then stands at the front
 module _ (q : Quote) (k : ℕ) (out : List ℕ) (room : 4096 ≤ length out) where
   fits : length (lineOf q k) ≤ length out
   fits = omega (arith, listings .longest q k)
 
-  pub line-whole : {n : ℕ} {out′ : List ℕ} → Fulfils (lineOutcome q k (length out)) (told 0 (n ∷ [])) out out′ → (take n out′ ≡ lineOf q k) × (n ≤ 4096)
+  pub line-whole : {n : ℕ} {out′ : List ℕ} → FulfilsOne (lineOutcome q k (length out)) (told 0 (n ∷ [])) out out′ → (take n out′ ≡ lineOf q k) × (n ≤ 4096)
   line-whole {n} {out′} a =
       let w = listings .writes q k (told 0 (n ∷ [])) out out′ a fits in
       let e : n ≡ length (lineOf q k) = cc (w .0) in
       (ap (take n) (w .1) ∙ take-at (lineOf q k) (drop (length (lineOf q k)) out) n (sym e), omega (arith, listings .longest q k))
 
-  pub line-never-refused : (x : Refusal) {out′ : List ℕ} → Fulfils (lineOutcome q k (length out)) (told (numberOf x) (detailOf x ∷ [])) out out′ → ⊥
+  pub line-never-refused : (x : Refusal) {out′ : List ℕ} → FulfilsOne (lineOutcome q k (length out)) (told (numberOf x) (detailOf x ∷ [])) out out′ → ⊥
   line-never-refused x {out′} a =
       let w = listings .writes q k (told (numberOf x) (detailOf x ∷ [])) out out′ a fits in
       let z : numberOf x ≡ 0 = cc (w .0) in

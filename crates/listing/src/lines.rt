@@ -3,7 +3,7 @@ ghost use mathlib.Core.Path.{_≡_};
 ghost use Prim.Native.Nat.{_+_, _*_, _%_, _^_, _<_, _≤_};
 ghost use lib.ListN.{length, getD, set};
 ghost use lib.Dec.{eqb};
-ghost use Rattle.packed.specs.Calls.{Fulfils};
+ghost use Rattle.packed.specs.Calls.{FulfilsOne};
 ghost use Rattle.packed.specs.Format.{pick};
 ghost use Rattle.packed.specs.Refusals.{replyTold};
 ghost use Rattle.matching.specs.Simulation.{bit};
@@ -249,7 +249,7 @@ fn put_line(out: &mut [u8], q: Quote, k: usize) -> usize
 
 // Writes line k of the listing, empty beyond the last line: whole, or not at all if the buffer is too short for it.
 pub fn line(q: Quote, k: usize, out: &mut [u8]) -> Reply
-    ensures { λ r. ⌜ Fulfils (lineOutcome q k (length (now (out .entry)))) (replyTold r) (now (out .entry)) (now (out .exit)) ⌝ }
+    ensures { λ r. ⌜ FulfilsOne (lineOutcome q k (length (now (out .entry)))) (replyTold r) (now (out .entry)) (now (out .exit)) ⌝ }
 {
     let n = put_line(&mut out[0..0], q, k);
     if out.len() < n {

@@ -15,12 +15,12 @@ use Rattle.packed.specs.declared.reply.Refusal.{Refusal}
 use Rattle.packed.specs.declared.reply.Refusal.the-variants.{NoRoom}
 use Rattle.packed.specs.declared.reply.Reply.{Reply}
 use Rattle.packed.specs.declared.reply.Reply.the-variants as reply-is
-use Rattle.packed.specs.Calls.{Outcome, give, refuse, toldOf, fronts, outputsOf, Settled, judged, readPattern, readRecord, fit, fitFile, Fulfils}
+use Rattle.packed.specs.Calls.{Outcome, give, refuse, toldOf, fronts, outputsOf, Fulfils, FulfilsOne, judged, readPattern, readRecord, fit, fitFile}
 use Rattle.packed.specs.Accepting.{Held}
 use Rattle.packed.specs.LoadedGraph.{Holds}
 use Rattle.packed.specs.declared.by_value.Pattern.{Pattern as Given}
 use Rattle.packed.proofs.Accepted.{pattern-accepted}
-use Rattle.packed.proofs.CallLaws.{read-finds, accepted-by, read-says, judged-accepted, fit-fits, fitted-tight, fitted-given}
+use Rattle.packed.proofs.CallLaws.{read-finds, accepted-by, read-says, judged-accepted, refusal-answered, fit-fits, fitted-tight, fitted-given}
 use Rattle.matching.specs.Simulation.{Pattern, patternOf, graphOf, matchSets, viewSheet}
 use Rattle.matching.specs.Search.{sheetBytes, bookBytes, viewSheets, searchFor, bookFor}
 use Rattle.matching.specs.Index.{indexFor, indexOf, ownIndex, makeIndexOutcome, checkIndexOutcome, searchIndexedFor}
@@ -82,40 +82,25 @@ module _ {s : List ℕ} {n m : ℕ} {w : List ℕ} (l : length s ≤ 44036) (h :
     indexed-wrong P room = own-found index (λ rs. fitFile room (sheetBytes (matchSets P (graphOf rs)))) ∙ e (fitFile room (sheetBytes (matchSets P (graphOf (h .fields)))))
 
   -- the index is made, if there is room
-  pub made-tight : (out : List ℕ) → length out < n + 1 → Fulfils (makeIndexOutcome s (length out)) (replyTold (reply-is.Refused (NoRoom (n + 1)))) out out
+  pub made-tight : (out : List ℕ) → length out < n + 1 → FulfilsOne (makeIndexOutcome s (length out)) (replyTold (reply-is.Refused (NoRoom (n + 1)))) out out
   made-tight out q = fitted-tight fit-fits out (indexFor n (edgesAt m w)) refl (made-found (length out)) (sym (index-long n (edgesAt m w))) (lt-ltb (length out) (n + 1) q)
 
-  pub made-given : (out : List ℕ) {out′ : List ℕ} → n + 1 ≤ length out → FirstsMade m n w out out′ → Fulfils (makeIndexOutcome s (length out)) (replyTold (reply-is.Done (n + 1))) out out′
+  pub made-given : (out : List ℕ) {out′ : List ℕ} → n + 1 ≤ length out → FirstsMade m n w out out′ → FulfilsOne (makeIndexOutcome s (length out)) (replyTold (reply-is.Done (n + 1))) out out′
   made-given out q F =
       fitted-given fit-fits out (indexFor n (edgesAt m w)) refl (made-found (length out)) (sym (index-long n (edgesAt m w))) (le-ltb (length out) (n + 1) q)
       (firsts-front (ready-ends (ready-by h (omega arith))) F (omega arith))
 
   -- a lent one is judged
-  pub checked-by : (index : List ℕ) (r : Reply) → IndexJudged m n w index r → Fulfils (checkIndexOutcome s index) (replyTold r) [] []
+  pub checked-by : (index : List ℕ) (r : Reply) → IndexJudged m n w index r → Fulfils [] (checkIndexOutcome s index) (replyTold r) [] []
   unfolding toldOf outputsOf fronts
   checked-by index (reply-is.Done k) j =
       let e = sym (checked-found (j .3)) in
-      record { result = ap (λ (x : ℕ). told 0 (x ∷ [])) (j .0) ∙ ap (toldOf []) e; output = ap (λ (a : Outcome). outputsOf a ([] ∷ [])) e }
-  checked-by index (reply-is.Refused x) j =
-      let e = sym (checked-wrong index j) in
-      record { result = ap (toldOf []) e; output = ap (λ (a : Outcome). outputsOf a ([] ∷ [])) e }
+      record { result = ap (λ (x : ℕ). told 0 (x ∷ [])) (j .0) ∙ ap (toldOf []) e; outputs = ap (λ (a : Outcome). outputsOf a []) e }
+  checked-by index (reply-is.Refused x) j = refusal-answered [] (checked-wrong index j) refl
 
   pub indexed-refused : (P : Pattern) (index out : List ℕ) (x : Refusal) → IndexJudged m n w index (reply-is.Refused x)
-      → Fulfils (searchIndexedFor P s index (length out)) (replyTold (reply-is.Refused x)) out out
-  unfolding toldOf outputsOf
-  indexed-refused P index out x j =
-      let e = sym (indexed-wrong index j P (length out)) in
-      record { result = ap (toldOf []) e; output = ap (λ (a : Outcome). outputsOf a (out ∷ [])) e }
-
--- a call without an output settles what one with an output does, but for that
-pub no-output : {a : Outcome} {r : Told} {out out′ work work′ : List ℕ} → Settled [] a r (out ∷ []) (out′ ∷ []) work work′ → Settled [] a r [] [] work work′
-unfolding outputsOf fronts
-no-output {a} s = record { result = s .result; outputs = none a; workspace = s .workspace }
-  where
-    none : (b : Outcome) → [] ≡ outputsOf b []
-    none (give vs []) = refl
-    none (give vs (o ∷ os)) = refl
-    none (refuse k x) = refl
+      → FulfilsOne (searchIndexedFor P s index (length out)) (replyTold (reply-is.Refused x)) out out
+  indexed-refused P index out x j = refusal-answered (out ∷ []) (indexed-wrong index j P (length out)) refl
 
 -- ---- a pattern that was accepted, by value
 module _ (s : List ℕ) {p : Given} {n : ℕ} {w : List ℕ} (q : Held (λ ws. HoldsPattern ws p) (readPattern s) n w) where

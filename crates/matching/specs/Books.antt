@@ -8,7 +8,7 @@ use Rattle.packed.specs.Format.{ok, decode}
 use Rattle.packed.specs.Formats.{catalogue}
 use Rattle.packed.specs.Contents.{viewsOf, pairCount, sheetLength}
 use Rattle.packed.specs.Refusals.{Told}
-use Rattle.packed.specs.Calls.{Fulfils}
+use Rattle.packed.specs.Calls.{FulfilsOne}
 use Rattle.matching.specs.Simulation.{patternOf, viewSheet}
 use Rattle.matching.specs.Search.{bookBytes, viewSheets, bookFor}
 use Rattle.matching.specs.Steps.{graphIn, Ready, Edges}
@@ -52,4 +52,4 @@ Filled c s n m w out out′ = (cs : List ℕ) → decode catalogue c ≡ ok cs �
 
 -- what making a book answers, once the catalogue was accepted
 abbrev pub BookAnswered : List ℕ → List ℕ → Told → List ℕ → List ℕ → Type 0
-BookAnswered c s r out out′ = (cs : List ℕ) → decode catalogue c ≡ ok cs → Fulfils (bookFor cs s (length out)) r out out′
+BookAnswered c s r out out′ = (cs : List ℕ) → decode catalogue c ≡ ok cs → FulfilsOne (bookFor cs s (length out)) r out out′

@@ -1,6 +1,7 @@
 pub mod Lists
 pub mod Greatest
 pub mod Simulation
+pub mod Offered
 pub mod Search
 pub mod Index
 pub mod Join

@@ -5,8 +5,9 @@ use lib.ListN.{length}
 use Rattle.packed.specs.Format.{Result, ok, bad, encode}
 use Rattle.packed.specs.Formats.{sheet}
 use Rattle.packed.specs.Contents.{viewsOf, sheetFields}
-use Rattle.packed.specs.Calls.{Outcome, judged, readPattern, readCatalogue, readRecord, fitFile}
+use Rattle.packed.specs.Calls.{Outcome, judged, readPattern, readRecord, fitFile}
 use Rattle.matching.specs.Simulation.{Pattern, Graph, patternOf, graphOf, matchSets, viewSheet}
+use Rattle.matching.specs.Offered.{offered}
 
 abbrev pub bytesIn : Result ℕ → List ℕ
 bytesIn (ok s) = s
@@ -37,4 +38,4 @@ abbrev pub bookFor : List ℕ → List ℕ → ℕ → Outcome
 bookFor cs r room = judged (readRecord r) (λ rs. fitFile room (bookBytes (viewSheets cs (graphOf rs))))
 
 unfoldable pub makeBookOutcome : List ℕ → List ℕ → ℕ → Outcome
-makeBookOutcome c r room = judged (readCatalogue c) (λ cs. bookFor cs r room)
+makeBookOutcome c r room = offered c (λ o. bookFor (o .content) r room)

@@ -2,7 +2,7 @@
 ghost use mathlib.Core.Path.{_≡_};
 ghost use lib.ListN.{length, replicate};
 ghost use Rattle.packed.specs.Refusals.{replyTold};
-ghost use Rattle.packed.specs.Calls.{Fulfils};
+ghost use Rattle.packed.specs.Calls.{FulfilsOne};
 ghost use Rattle.matching.specs.Search.{searchFor, searchOutcome, makeBookOutcome};
 ghost use Rattle.matching.specs.Steps.{patternIn, Fair};
 ghost use Rattle.matching.specs.Starting.{NodeRoom};
@@ -31,7 +31,7 @@ pub fn no_words() -> [u32; 4096]
 // Searches a record for a pattern by value.
 fn search_for(p: Pattern, record: &[u8], out: &mut [u8], work: &mut [u32]) -> Reply
     requires { ⌜ (length (now work) ≡ 16384) × Fair p × Proper p ⌝ }
-    ensures { λ r. ⌜ Fulfils (searchFor (patternIn p) (now («record» .entry)) (length (now (out .entry)))) (replyTold r) (now (out .entry)) (now (out .exit)) ⌝ }
+    ensures { λ r. ⌜ FulfilsOne (searchFor (patternIn p) (now («record» .entry)) (length (now (out .entry)))) (replyTold r) (now (out .entry)) (now (out .exit)) ⌝ }
 {
     let g = graph::load_record(record, work);
     match g {
@@ -58,7 +58,7 @@ fn search_for(p: Pattern, record: &[u8], out: &mut [u8], work: &mut [u32]) -> Re
 
 pub fn search(pattern: &[u8], record: &[u8], out: &mut [u8], work: &mut [u32]) -> Reply
     requires { ⌜ length (now work) ≡ 16384 ⌝ }
-    ensures { λ r. ⌜ Fulfils (searchOutcome (now (pattern .entry)) (now («record» .entry)) (length (now (out .entry)))) (replyTold r) (now (out .entry)) (now (out .exit)) ⌝ }
+    ensures { λ r. ⌜ FulfilsOne (searchOutcome (now (pattern .entry)) (now («record» .entry)) (length (now (out .entry)))) (replyTold r) (now (out .entry)) (now (out .exit)) ⌝ }
 {
     let f = accept::accept_pattern(pattern, work);
     let verdict = f.verdict;
@@ -213,7 +213,7 @@ fn make_book_of(
 
 pub fn make_book(catalogue: &[u8], record: &[u8], out: &mut [u8], work: &mut [u32]) -> Reply
     requires { ⌜ length (now work) ≡ 16384 ⌝ }
-    ensures { λ r. ⌜ Fulfils (makeBookOutcome (now (catalogue .entry)) (now («record» .entry)) (length (now (out .entry)))) (replyTold r) (now (out .entry)) (now (out .exit)) ⌝ }
+    ensures { λ r. ⌜ FulfilsOne (makeBookOutcome (now (catalogue .entry)) (now («record» .entry)) (length (now (out .entry)))) (replyTold r) (now (out .entry)) (now (out .exit)) ⌝ }
 {
     let f = accept::accept_catalogue(catalogue, work);
     let verdict = f.verdict;

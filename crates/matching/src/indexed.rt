@@ -3,7 +3,7 @@ ghost use mathlib.Core.Path.{_≡_};
 ghost use mathlib.Core.List.{[]};
 ghost use lib.ListN.{length};
 ghost use Rattle.packed.specs.Refusals.{replyTold};
-ghost use Rattle.packed.specs.Calls.{Fulfils};
+ghost use Rattle.packed.specs.Calls.{Fulfils, FulfilsOne};
 ghost use Rattle.matching.specs.Index.{makeIndexOutcome, checkIndexOutcome, searchIndexedFor, searchIndexedOutcome};
 ghost use Rattle.matching.specs.Steps.{patternIn, Fair};
 ghost use Rattle.matching.specs.Matched.{Proper};
@@ -21,7 +21,7 @@ use packed::reply::Reply;
 // Makes the index of a record.
 pub fn make(record: &[u8], out: &mut [u16], work: &mut [u32]) -> Reply
     requires { ⌜ length (now work) ≡ 16384 ⌝ }
-    ensures { λ r. ⌜ Fulfils (makeIndexOutcome (now («record» .entry)) (length (now (out .entry)))) (replyTold r) (now (out .entry)) (now (out .exit)) ⌝ }
+    ensures { λ r. ⌜ FulfilsOne (makeIndexOutcome (now («record» .entry)) (length (now (out .entry)))) (replyTold r) (now (out .entry)) (now (out .exit)) ⌝ }
 {
     let g = graph::load_record(record, work);
     match g {
@@ -40,7 +40,7 @@ pub fn make(record: &[u8], out: &mut [u16], work: &mut [u32]) -> Reply
 // Checks an index against a record.
 pub fn check(record: &[u8], index: &[u16], work: &mut [u32]) -> Reply
     requires { ⌜ length (now work) ≡ 16384 ⌝ }
-    ensures { λ r. ⌜ Fulfils (checkIndexOutcome (now («record» .entry)) (now (index .entry))) (replyTold r) [] [] ⌝ }
+    ensures { λ r. ⌜ Fulfils [] (checkIndexOutcome (now («record» .entry)) (now (index .entry))) (replyTold r) [] [] ⌝ }
 {
     let g = graph::load_record(record, work);
     match g {
@@ -52,7 +52,7 @@ pub fn check(record: &[u8], index: &[u16], work: &mut [u32]) -> Reply
 // Searches a record for a pattern by value, by the record's index.
 fn search_for(p: Pattern, record: &[u8], index: &[u16], out: &mut [u8], work: &mut [u32]) -> Reply
     requires { ⌜ (length (now work) ≡ 16384) × Fair p × Proper p ⌝ }
-    ensures { λ r. ⌜ Fulfils (searchIndexedFor (patternIn p) (now («record» .entry)) (now (index .entry)) (length (now (out .entry)))) (replyTold r) (now (out .entry)) (now (out .exit)) ⌝ }
+    ensures { λ r. ⌜ FulfilsOne (searchIndexedFor (patternIn p) (now («record» .entry)) (now (index .entry)) (length (now (out .entry)))) (replyTold r) (now (out .entry)) (now (out .exit)) ⌝ }
 {
     let g = graph::load_record(record, work);
     match g {
@@ -91,7 +91,7 @@ pub fn search(
     work: &mut [u32],
 ) -> Reply
     requires { ⌜ length (now work) ≡ 16384 ⌝ }
-    ensures { λ r. ⌜ Fulfils (searchIndexedOutcome (now (pattern .entry)) (now («record» .entry)) (now (index .entry)) (length (now (out .entry)))) (replyTold r) (now (out .entry)) (now (out .exit)) ⌝ }
+    ensures { λ r. ⌜ FulfilsOne (searchIndexedOutcome (now (pattern .entry)) (now («record» .entry)) (now (index .entry)) (length (now (out .entry)))) (replyTold r) (now (out .entry)) (now (out .exit)) ⌝ }
 {
     let f = accept::accept_pattern(pattern, work);
     let verdict = f.verdict;

@@ -3,7 +3,7 @@ use Prim.Native.Nat.{ℕ, zero, suc, _+_, _-_, _<_, _≤_}
 use mathlib.Core.Path.{_≡_, refl, ap, sym, _∙_}
 use mathlib.Core.List.{List, [], _∷_, _++_, map, flatten}
 use mathlib.Core.Bool.{Bool, true, false, _||_}
-use lib.ListN.{length, take, drop, getD, replicate, length-take}
+use lib.ListN.{length, take, drop, getD, replicate, length-take, length-drop, length-append}
 use lib.Seq.{sets, take-at, drop-at}
 use lib.Dec.{ltb}
 use native.Mathlib.Omega.{arith}
@@ -13,11 +13,11 @@ use borrow.Rule.Slice.PartMut.{putMid, postOf}
 use Rattle.packed.specs.Format.{Format, Result, ok, bad, pick, decode, encode}
 use Rattle.packed.specs.Contents.{edgeCounts, sheetsIn}
 use Rattle.packed.specs.ByValue.{CountTable, Small}
-use Rattle.packed.specs.Refusals.{Told, numberOf, detailOf, replyTold}
+use Rattle.packed.specs.Refusals.{Told, told, numberOf, detailOf, replyTold}
 use Rattle.packed.specs.Reading.{Content, Judges}
 use Rattle.packed.specs.Writing.{JudgesFields}
 use Rattle.packed.specs.Walks.{Different}
-use Rattle.packed.specs.Calls.{Outcome, give, refuse, toldOf, fronts, outputsOf, workOf, Settled, withWorkspace, Verdict, accepted, rejected, inFile, readFile, writeFile, judged, pairsOf, uncrowdedBy, fit, fitFile, Fulfils}
+use Rattle.packed.specs.Calls.{Outcome, give, refuse, toldOf, fronts, outputsOf, workOf, Settled, withWorkspace, Fulfils, FulfilsOne, Verdict, accepted, rejected, inFile, readFile, writeFile, judged, pairsOf, uncrowdedBy, fit, fitFile}
 use Rattle.packed.specs.Accepting.{replyOf, AcceptsFile}
 use Rattle.packed.specs.declared.reply.Refusal.{Refusal}
 use Rattle.packed.specs.declared.reply.Refusal.the-variants.{NoRoom, SmallWorkspace}
@@ -117,16 +117,19 @@ module _ {codes w : List ℕ} {n : ℕ} (ms ws : List ℕ) (d : Different codes 
 
 -- ---- what is answered
 
+-- a refusal leaves the outputs
+pub refusal-answered : {none : List ℕ} {a : Outcome} {r : Told} {n d : ℕ} (outs : List (List ℕ)) → a ≡ refuse n d → r ≡ told n (d ∷ none) → Fulfils none a r outs outs
+unfolding toldOf outputsOf
+refusal-answered outs e q = record { result = rw e q; outputs = rw e }
+
 module _ {a : Outcome} (out : List ℕ) {out′ : List ℕ} where
-  -- a refusal leaves the output
-  answers-refusal : (x : Refusal) → a ≡ refuse (numberOf x) (detailOf x) → out′ ≡ out → Fulfils a (replyTold (reply-is.Refused x)) out out′
-  unfolding toldOf outputsOf
-  answers-refusal x e q = record { result = rw e; output = rw (e, q) }
+  answers-refusal : (x : Refusal) → a ≡ refuse (numberOf x) (detailOf x) → out′ ≡ out → FulfilsOne a (replyTold (reply-is.Refused x)) out out′
+  answers-refusal x e q = rw q (refusal-answered (out ∷ []) e refl)
 
   -- an output stands at the front of what was lent
-  answers-given : {o : List ℕ} {n : ℕ} → a ≡ give [] (o ∷ []) → n ≡ length o → out′ ≡ o ++ drop (length o) out → Fulfils a (replyTold (reply-is.Done n)) out out′
+  answers-given : {o : List ℕ} {n : ℕ} → a ≡ give [] (o ∷ []) → n ≡ length o → out′ ≡ o ++ drop (length o) out → FulfilsOne a (replyTold (reply-is.Done n)) out out′
   unfolding toldOf outputsOf fronts
-  answers-given e m q = record { result = rw (e, m); output = rw (e, q) }
+  answers-given e m q = record { result = rw (e, m); outputs = rw (e, q) }
 
 -- an output that was found is fitted
 module _ {g : ℕ → List ℕ → Outcome} {t : ℕ → ℕ → Bool} (z : FitsRoom g t) {a : Outcome} (out o : List ℕ) {lent : List ℕ} (same : lent ≡ out) (e : a ≡ g (length out) o)
@@ -139,34 +142,41 @@ module _ {g : ℕ → List ℕ → Outcome} {t : ℕ → ℕ → Bool} (z : Fits
       ∙ ap (λ (l : List ℕ). pick (t (length l) n) (refuse 12 n) (give [] (o ∷ []))) (sym same)
       ∙ ap (λ (s : Bool). pick s (refuse 12 n) (give [] (o ∷ []))) h
 
-  pub fitted-tight : t (length lent) n ≡ true → Fulfils a (replyTold (reply-is.Refused (NoRoom n))) out lent
+  pub fitted-tight : t (length lent) n ≡ true → FulfilsOne a (replyTold (reply-is.Refused (NoRoom n))) out lent
   fitted-tight h = answers-refusal out (NoRoom n) (fitted true h) same
 
-  pub fitted-given : {out′ : List ℕ} → t (length lent) n ≡ false → out′ ≡ sets lent 0 o → Fulfils a (replyTold (reply-is.Done n)) out out′
+  pub fitted-given : {out′ : List ℕ} → t (length lent) n ≡ false → out′ ≡ sets lent 0 o → FulfilsOne a (replyTold (reply-is.Done n)) out out′
   fitted-given h q =
       let l : n ≤ length out = rw same at (z .within (length lent) n h) in
       answers-given out (fitted false h) number (q ∙ ap (λ (l : List ℕ). sets l 0 o) same ∙ sets-front out o (omega (arith, number)))
 
   -- a file that was accepted is read once more, with the output lent
-  pub fitted-again : {v : Verdict} (r : Reply) (out′ : List ℕ) → t (length lent) n ≡ false → v ≡ accepted o → AcceptsFile v r lent out′ → Fulfils a (replyTold r) out out′
+  pub fitted-again : {v : Verdict} (r : Reply) (out′ : List ℕ) → t (length lent) n ≡ false → v ≡ accepted o → AcceptsFile v r lent out′ → FulfilsOne a (replyTold r) out out′
   fitted-again (reply-is.Done m) out′ h is c =
       let f : c .fields ≡ o = cc (c .is) in
       rw (c .number ∙ ap length f ∙ sym number) (fitted-given h (c .front ∙ ap (sets lent 0) f))
   fitted-again (reply-is.Refused x) out′ h is c = absurd (let z : _≡_ {A = ℕ} 0 1 = cc in omega arith)
 
-module _ {v : Verdict} (k : List ℕ → Outcome) where
-  -- a file was refused, and the refusal is handed up
-  pub body-refused : (out : List ℕ) {lent : List ℕ} → lent ≡ out → (x : Refusal) → v ≡ rejected (numberOf x) (detailOf x) → Fulfils (judged v k) (replyTold (reply-is.Refused x)) out lent
+-- a file was refused, and the refusal is handed up; or it was accepted, and the call goes on with its content
+module _ {none : List ℕ} {r : Told} (k : List ℕ → Outcome) {v : Verdict} where
+  pub answers-refused : (outs : List (List ℕ)) {n d : ℕ} → v ≡ rejected n d → r ≡ told n (d ∷ none) → Fulfils none (judged v k) r outs outs
   unfolding judged
-  body-refused out same x e = answers-refusal out x (rw e) same
+  answers-refused outs e q = refusal-answered outs (rw e) q
 
-  -- it was accepted, and the call goes on with its content
+  pub answers-on : {ws : List ℕ} {outs outs′ : List (List ℕ)} → v ≡ accepted ws → Fulfils none (k ws) r outs outs′ → Fulfils none (judged v k) r outs outs′
+  answers-on e b = rw (judged-accepted k e) b
+
+-- the same with one output
+module _ {v : Verdict} (k : List ℕ → Outcome) where
+  pub body-refused : (out : List ℕ) {lent : List ℕ} → lent ≡ out → (x : Refusal) → v ≡ rejected (numberOf x) (detailOf x) → FulfilsOne (judged v k) (replyTold (reply-is.Refused x)) out lent
+  body-refused out same x e = rw same (answers-refused k (out ∷ []) e refl)
+
   module _ {ws : List ℕ} (e : v ≡ accepted ws) where
-    pub body-goes-on : {told : Told} {out out′ : List ℕ} → Fulfils (k ws) told out out′ → Fulfils (judged v k) told out out′
-    body-goes-on b = rw (judged-accepted k e) b
+    pub body-goes-on : {told : Told} {out out′ : List ℕ} → FulfilsOne (k ws) told out out′ → FulfilsOne (judged v k) told out out′
+    body-goes-on b = answers-on k e b
 
     -- to a refusal
-    pub body-declined : (out : List ℕ) {lent : List ℕ} → lent ≡ out → (x : Refusal) → k ws ≡ refuse (numberOf x) (detailOf x) → Fulfils (judged v k) (replyTold (reply-is.Refused x)) out lent
+    pub body-declined : (out : List ℕ) {lent : List ℕ} → lent ≡ out → (x : Refusal) → k ws ≡ refuse (numberOf x) (detailOf x) → FulfilsOne (judged v k) (replyTold (reply-is.Refused x)) out lent
     body-declined out same x q = body-goes-on (answers-refusal out x q same)
 
 -- ---- how the output came about
@@ -222,25 +232,42 @@ module _ {ws counts : List ℕ} (c : CountTable ws counts) (few : getD ws 0 0 �
 
 -- ---- the workspace
 
-module _ (a : Outcome) (out work : List ℕ) where
+-- its first words were lent
+module _ (work ys : List ℕ) (h : 16384 ≤ length work) (n : length ys ≡ length (take (16384 - 0) (drop 0 work))) where
+  lent-number : length ys ≡ 16384
+  lent-number = n ∙ simp length-take (omega arith)
+
+  pub lent-long : length (putMid 0 (16384 - 0) work ys) ≡ length work
+  lent-long =
+      let d : length (postOf 0 (16384 - 0) work) ≡ length work - 16384 = length-drop 16384 work in
+      omega (arith, length-append ys (postOf 0 (16384 - 0) work), lent-number)
+
+module _ (none : List ℕ) (a : Outcome) (work : List ℕ) {r : Told} where
   -- too small
-  pub settles-small : length work < 16384 → Settled [] (withWorkspace (length work) a) (replyTold (reply-is.Refused SmallWorkspace)) (out ∷ []) (out ∷ []) work work
+  pub small-settled : (outs : List (List ℕ)) → length work < 16384 → r ≡ told 14 (0 ∷ none) → Settled none (withWorkspace (length work) a) r outs outs work work
   unfolding withWorkspace workOf toldOf outputsOf
-  settles-small h =
-      let e = lt-ltb (length work) 16384 h in
-      record { result = rw e; outputs = rw e; workspace = rw e }
+  small-settled outs h q = let e = lt-ltb (length work) 16384 h in record { result = rw e q; outputs = rw e; workspace = rw e }
 
-  -- cleared
-  pub settles : {r : Told} {out′ work′ : List ℕ} → 16384 ≤ length work → Fulfils a r out out′ → work′ ≡ replicate 16384 0 ++ drop 16384 work
+  module _ {outs outs′ : List (List ℕ)} {work′ : List ℕ} (h : 16384 ≤ length work) (b : Fulfils none a r outs outs′) where
+    -- cleared
+    pub cleared-settled : work′ ≡ replicate 16384 0 ++ drop 16384 work → Settled none (withWorkspace (length work) a) r outs outs′ work work′
+    unfolding withWorkspace workOf
+    cleared-settled q = let e = le-ltb (length work) 16384 h in record { result = rw e (b .result); outputs = rw e (b .outputs); workspace = rw e q }
+
+    -- cleared, once its first words were lent
+    pub lent-settled : (ys : List ℕ) → length ys ≡ length (take (16384 - 0) (drop 0 work)) → work′ ≡ replicate 16384 0 ++ drop 16384 (putMid 0 (16384 - 0) work ys)
+        → Settled none (withWorkspace (length work) a) r outs outs′ work work′
+    lent-settled ys n q = cleared-settled (q ∙ ap (λ (t : List ℕ). replicate 16384 0 ++ t) (drop-at ys (postOf 0 (16384 - 0) work) 16384 (lent-number work ys h n)))
+
+-- the same of a call with one output
+module _ (a : Outcome) (out work : List ℕ) where
+  pub settles-small : length work < 16384 → Settled [] (withWorkspace (length work) a) (replyTold (reply-is.Refused SmallWorkspace)) (out ∷ []) (out ∷ []) work work
+  settles-small h = small-settled [] a work (out ∷ []) h refl
+
+  pub settles : {r : Told} {out′ work′ : List ℕ} → 16384 ≤ length work → FulfilsOne a r out out′ → work′ ≡ replicate 16384 0 ++ drop 16384 work
       → Settled [] (withWorkspace (length work) a) r (out ∷ []) (out′ ∷ []) work work′
-  unfolding withWorkspace workOf
-  settles h b q =
-      let e = le-ltb (length work) 16384 h in
-      record { result = rw e (b .result); outputs = rw e (b .output); workspace = rw e q }
+  settles h b q = cleared-settled [] a work h b q
 
-  -- cleared, once its first words were lent
-  pub settles-lent : {r : Told} {out′ work′ : List ℕ} (ys : List ℕ) → 16384 ≤ length work → Fulfils a r out out′ → length ys ≡ length (take (16384 - 0) (drop 0 work))
+  pub settles-lent : {r : Told} {out′ work′ : List ℕ} (ys : List ℕ) → 16384 ≤ length work → FulfilsOne a r out out′ → length ys ≡ length (take (16384 - 0) (drop 0 work))
       → work′ ≡ replicate 16384 0 ++ drop 16384 (putMid 0 (16384 - 0) work ys) → Settled [] (withWorkspace (length work) a) r (out ∷ []) (out′ ∷ []) work work′
-  settles-lent ys h b n q =
-      let l : length ys ≡ 16384 = n ∙ simp length-take (omega arith) in
-      settles h b (q ∙ ap (λ (t : List ℕ). replicate 16384 0 ++ t) (drop-at ys (postOf 0 (16384 - 0) work) 16384 l))
+  settles-lent ys h b n q = lent-settled [] a work h b ys n q

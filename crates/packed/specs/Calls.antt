@@ -44,6 +44,15 @@ pub record Settled (blank : List ℕ) (a : Outcome) (r : Told) (outs outs′ : L
   pub outputs : outs′ ≡ outputsOf a outs
   pub workspace : work′ ≡ workOf work
 
+-- the same of a call that is lent no workspace: its result and its outputs
+pub record Fulfils (blank : List ℕ) (a : Outcome) (r : Told) (outs outs′ : List (List ℕ)) : Type 0 where
+  pub result : r ≡ toldOf blank a
+  pub outputs : outs′ ≡ outputsOf a outs
+
+-- with one output and no values
+abbrev pub FulfilsOne : Outcome → Told → List ℕ → List ℕ → Type 0
+FulfilsOne a r out out′ = Fulfils [] a r (out ∷ []) (out′ ∷ [])
+
 -- a call refuses with 14 where it is lent too few words to work in
 unfoldable pub withWorkspace : ℕ → Outcome → Outcome
 withWorkspace words a = pick (ltb words workspace) (refuse 14 0) a
@@ -148,8 +157,3 @@ sheetWritten p ws room = judged (readPattern p) (λ ps. judged (writeSheet ps ws
 
 unfoldable pub bookWritten : List ℕ → List ℕ → ℕ → Outcome
 bookWritten c ws room = judged (readCatalogue c) (λ cs. judged (writeBook cs ws) (λ s. uncrowded cs ws (fitFile room s)))
-
--- inner: with the workspace aside, the result and the one output
-pub record Fulfils (a : Outcome) (r : Told) (out out′ : List ℕ) : Type 0 where
-  pub result : r ≡ toldOf [] a
-  pub output : out′ ∷ [] ≡ outputsOf a (out ∷ [])

@@ -6,7 +6,7 @@ ghost use Rattle.packed.specs.Formats.{sheet, book};
 ghost use Rattle.packed.specs.ByValue.{Small};
 ghost use Rattle.packed.specs.Refusals.{replyTold};
 ghost use Rattle.packed.specs.OldRecord.{recordSorted};
-ghost use Rattle.packed.specs.Calls.{Fulfils, writeFile, judged, fit, fitFile, uncrowdedBy, patternRead, catalogueRead, recordRead, sheetRead, bookRead, patternWritten, catalogueWritten, recordWritten, sheetWritten, bookWritten};
+ghost use Rattle.packed.specs.Calls.{FulfilsOne, writeFile, judged, fit, fitFile, uncrowdedBy, patternRead, catalogueRead, recordRead, sheetRead, bookRead, patternWritten, catalogueWritten, recordWritten, sheetWritten, bookWritten};
 use crate::accept;
 use crate::accept::CatalogueFile;
 use crate::catalogue;
@@ -27,7 +27,7 @@ use crate::workspace;
 // The first n words are given as the output.
 fn give_words(words: &[u32], n: usize, out: &mut [u32]) -> Reply
     requires { ⌜ n ≤ length (now words) ⌝ }
-    ensures { λ r. ⌜ Fulfils (fit (length (now (out .entry))) (take n (now (words .entry)))) (replyTold r) (now (out .entry)) (now (out .exit)) ⌝ }
+    ensures { λ r. ⌜ FulfilsOne (fit (length (now (out .entry))) (take n (now (words .entry)))) (replyTold r) (now (out .entry)) (now (out .exit)) ⌝ }
 {
     if out.len() < n {
         return Reply::Refused(Refusal::NoRoom(n));
@@ -38,7 +38,7 @@ fn give_words(words: &[u32], n: usize, out: &mut [u32]) -> Reply
 
 pub fn read_pattern(bytes: &[u8], out: &mut [u32], work: &mut [u32]) -> Reply
     requires { ⌜ length (now work) ≡ 16384 ⌝ }
-    ensures { λ r. ⌜ Fulfils (patternRead (now (bytes .entry)) (length (now (out .entry)))) (replyTold r) (now (out .entry)) (now (out .exit)) ⌝ }
+    ensures { λ r. ⌜ FulfilsOne (patternRead (now (bytes .entry)) (length (now (out .entry)))) (replyTold r) (now (out .entry)) (now (out .exit)) ⌝ }
 {
     let f = accept::accept_pattern(bytes, work);
     let verdict = f.verdict;
@@ -50,7 +50,7 @@ pub fn read_pattern(bytes: &[u8], out: &mut [u32], work: &mut [u32]) -> Reply
 
 pub fn read_catalogue(bytes: &[u8], out: &mut [u32], work: &mut [u32]) -> Reply
     requires { ⌜ length (now work) ≡ 16384 ⌝ }
-    ensures { λ r. ⌜ Fulfils (catalogueRead (now (bytes .entry)) (length (now (out .entry)))) (replyTold r) (now (out .entry)) (now (out .exit)) ⌝ }
+    ensures { λ r. ⌜ FulfilsOne (catalogueRead (now (bytes .entry)) (length (now (out .entry)))) (replyTold r) (now (out .entry)) (now (out .exit)) ⌝ }
 {
     let f = accept::accept_catalogue(bytes, work);
     let verdict = f.verdict;
@@ -63,7 +63,7 @@ pub fn read_catalogue(bytes: &[u8], out: &mut [u32], work: &mut [u32]) -> Reply
 // A record is judged with the words of its edges going to the workspace, and once it is accepted and fits its content is stored.
 pub fn read_record(bytes: &[u8], out: &mut [u32], work: &mut [u32]) -> Reply
     requires { ⌜ length (now work) ≡ 16384 ⌝ }
-    ensures { λ r. ⌜ Fulfils (recordRead (now (bytes .entry)) (length (now (out .entry)))) (replyTold r) (now (out .entry)) (now (out .exit)) ⌝ }
+    ensures { λ r. ⌜ FulfilsOne (recordRead (now (bytes .entry)) (length (now (out .entry)))) (replyTold r) (now (out .entry)) (now (out .exit)) ⌝ }
 {
     let g = graph::load_record(bytes, work);
     match g {
@@ -82,7 +82,7 @@ pub fn read_record(bytes: &[u8], out: &mut [u32], work: &mut [u32]) -> Reply
 // A sheet or a book is judged with no output at first, and once it is accepted and fits it is read again into the output.
 pub fn read_sheet(pattern: &[u8], bytes: &[u8], out: &mut [u32], work: &mut [u32]) -> Reply
     requires { ⌜ length (now work) ≡ 16384 ⌝ }
-    ensures { λ r. ⌜ Fulfils (sheetRead (now (pattern .entry)) (now (bytes .entry)) (length (now (out .entry)))) (replyTold r) (now (out .entry)) (now (out .exit)) ⌝ }
+    ensures { λ r. ⌜ FulfilsOne (sheetRead (now (pattern .entry)) (now (bytes .entry)) (length (now (out .entry)))) (replyTold r) (now (out .entry)) (now (out .exit)) ⌝ }
 {
     let f = accept::accept_pattern(pattern, work);
     let first = f.verdict;
@@ -102,7 +102,7 @@ pub fn read_sheet(pattern: &[u8], bytes: &[u8], out: &mut [u32], work: &mut [u32
 
 pub fn read_book(catalogue: &[u8], bytes: &[u8], out: &mut [u32], work: &mut [u32]) -> Reply
     requires { ⌜ length (now work) ≡ 16384 ⌝ }
-    ensures { λ r. ⌜ Fulfils (bookRead (now (catalogue .entry)) (now (bytes .entry)) (length (now (out .entry)))) (replyTold r) (now (out .entry)) (now (out .exit)) ⌝ }
+    ensures { λ r. ⌜ FulfilsOne (bookRead (now (catalogue .entry)) (now (bytes .entry)) (length (now (out .entry)))) (replyTold r) (now (out .entry)) (now (out .exit)) ⌝ }
 {
     let CatalogueFile {
         verdict: first,
@@ -128,7 +128,7 @@ pub fn read_book(catalogue: &[u8], bytes: &[u8], out: &mut [u32], work: &mut [u3
 // ---- writers
 
 pub fn write_pattern(fields: &[u32], out: &mut [u8]) -> Reply
-    ensures { λ r. ⌜ Fulfils (patternWritten (now (fields .entry)) (length (now (out .entry)))) (replyTold r) (now (out .entry)) (now (out .exit)) ⌝ }
+    ensures { λ r. ⌜ FulfilsOne (patternWritten (now (fields .entry)) (length (now (out .entry)))) (replyTold r) (now (out .entry)) (now (out .exit)) ⌝ }
 {
     let p = pattern::judge_pattern_fields(fields, &mut out[0..0]);
     match p {
@@ -144,7 +144,7 @@ pub fn write_pattern(fields: &[u32], out: &mut [u8]) -> Reply
 }
 
 pub fn write_catalogue(fields: &[u32], out: &mut [u8]) -> Reply
-    ensures { λ r. ⌜ Fulfils (catalogueWritten (now (fields .entry)) (length (now (out .entry)))) (replyTold r) (now (out .entry)) (now (out .exit)) ⌝ }
+    ensures { λ r. ⌜ FulfilsOne (catalogueWritten (now (fields .entry)) (length (now (out .entry)))) (replyTold r) (now (out .entry)) (now (out .exit)) ⌝ }
 {
     let p = catalogue::judge_catalogue_fields(fields, &mut out[0..0]);
     match p {
@@ -160,7 +160,7 @@ pub fn write_catalogue(fields: &[u32], out: &mut [u8]) -> Reply
 }
 
 pub fn write_record(fields: &[u32], out: &mut [u8]) -> Reply
-    ensures { λ r. ⌜ Fulfils (recordWritten (now (fields .entry)) (length (now (out .entry)))) (replyTold r) (now (out .entry)) (now (out .exit)) ⌝ }
+    ensures { λ r. ⌜ FulfilsOne (recordWritten (now (fields .entry)) (length (now (out .entry)))) (replyTold r) (now (out .entry)) (now (out .exit)) ⌝ }
 {
     let p = record::judge_record_fields(fields, &mut out[0..0]);
     match p {
@@ -178,7 +178,7 @@ pub fn write_record(fields: &[u32], out: &mut [u8]) -> Reply
 // A sheet for a pattern with m edges.
 fn write_sheet_of(fields: &[u32], m: u32, out: &mut [u8]) -> Reply
     requires { ⌜ m ≤ 32 ⌝ }
-    ensures { λ r. ⌜ Fulfils (judged (writeFile 4 (sheet m) (now (fields .entry))) (fitFile (length (now (out .entry))))) (replyTold r) (now (out .entry)) (now (out .exit)) ⌝ }
+    ensures { λ r. ⌜ FulfilsOne (judged (writeFile 4 (sheet m) (now (fields .entry))) (fitFile (length (now (out .entry))))) (replyTold r) (now (out .entry)) (now (out .exit)) ⌝ }
 {
     let p = sheet::judge_sheet_fields(fields, m, &mut out[0..0]);
     match p {
@@ -195,7 +195,7 @@ fn write_sheet_of(fields: &[u32], m: u32, out: &mut [u8]) -> Reply
 
 pub fn write_sheet(pattern: &[u8], fields: &[u32], out: &mut [u8], work: &mut [u32]) -> Reply
     requires { ⌜ length (now work) ≡ 16384 ⌝ }
-    ensures { λ r. ⌜ Fulfils (sheetWritten (now (pattern .entry)) (now (fields .entry)) (length (now (out .entry)))) (replyTold r) (now (out .entry)) (now (out .exit)) ⌝ }
+    ensures { λ r. ⌜ FulfilsOne (sheetWritten (now (pattern .entry)) (now (fields .entry)) (length (now (out .entry)))) (replyTold r) (now (out .entry)) (now (out .exit)) ⌝ }
 {
     let f = accept::accept_pattern(pattern, work);
     let verdict = f.verdict;
@@ -214,7 +214,7 @@ fn write_book_of(
     work: &mut [u32],
 ) -> Reply
     requires { ⌜ (length (now work) ≡ 16384) × (k ≤ 16) × Small counts ⌝ }
-    ensures { λ r. ⌜ Fulfils (judged (writeFile 4 (book (take k counts)) (now (fields .entry))) (λ s. uncrowdedBy (take k counts) (now (fields .entry)) (fitFile (length (now (out .entry))) s))) (replyTold r) (now (out .entry)) (now (out .exit)) ⌝ }
+    ensures { λ r. ⌜ FulfilsOne (judged (writeFile 4 (book (take k counts)) (now (fields .entry))) (λ s. uncrowdedBy (take k counts) (now (fields .entry)) (fitFile (length (now (out .entry))) s))) (replyTold r) (now (out .entry)) (now (out .exit)) ⌝ }
 {
     let p = sheet::judge_book_fields(fields, counts, k, &mut out[0..0]);
     match p {
@@ -235,7 +235,7 @@ fn write_book_of(
 
 pub fn write_book(catalogue: &[u8], fields: &[u32], out: &mut [u8], work: &mut [u32]) -> Reply
     requires { ⌜ length (now work) ≡ 16384 ⌝ }
-    ensures { λ r. ⌜ Fulfils (bookWritten (now (catalogue .entry)) (now (fields .entry)) (length (now (out .entry)))) (replyTold r) (now (out .entry)) (now (out .exit)) ⌝ }
+    ensures { λ r. ⌜ FulfilsOne (bookWritten (now (catalogue .entry)) (now (fields .entry)) (length (now (out .entry)))) (replyTold r) (now (out .entry)) (now (out .exit)) ⌝ }
 {
     let CatalogueFile {
         verdict,
@@ -260,7 +260,7 @@ fn no_fields() -> [u32; 28674]
 // Sorts the edges of an old record: its content, with the edges in the order in which they stand in the workspace, is written as a record.
 pub fn sort_record(old: &[u8], out: &mut [u8], work: &mut [u32]) -> Reply
     requires { ⌜ length (now work) ≡ 16384 ⌝ }
-    ensures { λ r. ⌜ Fulfils (recordSorted (now (old .entry)) (length (now (out .entry)))) (replyTold r) (now (out .entry)) (now (out .exit)) ⌝ }
+    ensures { λ r. ⌜ FulfilsOne (recordSorted (now (old .entry)) (length (now (out .entry)))) (replyTold r) (now (out .entry)) (now (out .exit)) ⌝ }
 {
     let mut fields = no_fields();
     let verdict = accept::accept_old_record(old, &mut fields, work);

@@ -9,7 +9,7 @@ ghost use Rattle.packed.specs.Formats.{sheet};
 ghost use Rattle.packed.specs.Matches.{matchesOf, Marked, Counts, SheetWritten, Added, CountsWritten, PairPut, PairsWritten, ListsWritten, ListingWritten, Listed, anyZero, sumOf};
 ghost use Rattle.packed.specs.Contents.{pairCount, sheetFields, sheetLength};
 ghost use Rattle.packed.specs.Refusals.{replyTold};
-ghost use Rattle.packed.specs.Calls.{Fulfils, fitFile};
+ghost use Rattle.packed.specs.Calls.{FulfilsOne, fitFile};
 use crate::bits;
 use crate::cursor;
 use crate::field;
@@ -238,7 +238,7 @@ pub fn write_sheet(work: &[u32], n: usize, m: u32, out: &mut [u8]) -> usize
 // The sheet for m edges as an output, whose lists are counted once: 12 where it is too long.
 pub fn give_sheet(work: &[u32], n: usize, m: u32, out: &mut [u8]) -> Reply
     requires { ⌜ Marked n (now work) × (m ≤ 32) ⌝ }
-    ensures { λ r. ⌜ ((bytes : List ℕ) → encode (sheet m) (sheetFields (matchesOf n m (now (work .entry)))) ≡ ok bytes → Fulfils (fitFile (length (now (out .entry))) bytes) (replyTold r) (now (out .entry)) (now (out .exit))) ⌝ }
+    ensures { λ r. ⌜ ((bytes : List ℕ) → encode (sheet m) (sheetFields (matchesOf n m (now (work .entry)))) ≡ ok bytes → FulfilsOne (fitFile (length (now (out .entry))) bytes) (replyTold r) (now (out .entry)) (now (out .exit))) ⌝ }
 {
     let l = listing_of(work, n, m);
     let c = l.counts;

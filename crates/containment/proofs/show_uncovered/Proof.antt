@@ -2,7 +2,7 @@
 use mathlib.Core.Path.{refl, _∙_}
 use mathlib.Core.List.{[], _∷_}
 use lib.ListN.{length}
-use Rattle.containment.proofs.AnswerLaws.{lent-long, settles-small, settles-lent}
+use Rattle.packed.proofs.CallLaws.{lent-long, small-settled, lent-settled}
 use Rattle.containment.specs.Show.{showOutcome}
 use borrow.Author.Needs.{needs}
 use Rattle.containment.proofs.show_uncovered.Statement.{statement}
@@ -12,7 +12,7 @@ returns : tie.Need-returns
 returns c =
     let args = c .before .before .before .before .before .before .args in
     let a = args in
-    settles-small [] (showOutcome (a .question .now) (a .catalogue .now) (length (a .first .now)) (length (a .second .now))) (a .work .now) (a .first .now ∷ a .second .now ∷ []) (c .if1 .taken) refl
+    small-settled [] (showOutcome (a .question .now) (a .catalogue .now) (length (a .first .now)) (length (a .second .now))) (a .work .now) (a .first .now ∷ a .second .now ∷ []) (c .if1 .taken) refl
 
 sub-show : tie.Need-sub-show
 sub-show c = search needs
@@ -52,7 +52,7 @@ returns-2 c =
     let clear = c .before .before .clear in
     let a = args in
     let k = show in
-    settles-lent [] (showOutcome (a .question .now) (a .catalogue .now) (length (a .first .now)) (length (a .second .now))) (a .work .now) (k .last .1 .1 .1 .1 .0) (if1 .left) (k .ensures) (k .kept .1 .1 .1 .1 .0) (clear .ensures)
+    lent-settled [] (showOutcome (a .question .now) (a .catalogue .now) (length (a .first .now)) (length (a .second .now))) (a .work .now) (if1 .left) (k .ensures) (k .last .1 .1 .1 .1 .0) (k .kept .1 .1 .1 .1 .0) (clear .ensures)
 
 pub show-uncovered-spec : {M : Type 1} → statement M
 show-uncovered-spec =

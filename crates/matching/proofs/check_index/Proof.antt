@@ -1,8 +1,8 @@
 -- `matching::check_index` meets its contract.
+use mathlib.Core.Path.{refl}
 use mathlib.Core.List.{[]}
-use Rattle.packed.proofs.CallLaws.{settles-small, settles-lent}
+use Rattle.packed.proofs.CallLaws.{small-settled, lent-settled}
 use Rattle.matching.specs.Index.{checkIndexOutcome}
-use Rattle.matching.proofs.AnswerFits.{no-output}
 use borrow.Author.Needs.{needs}
 use Rattle.matching.proofs.check_index.Statement.{statement}
 use Rattle.matching.proofs.check_index.Tie as tie
@@ -10,7 +10,7 @@ use Rattle.matching.proofs.check_index.Tie as tie
 returns : tie.Need-returns
 returns c =
     let args = c .before .before .before .before .args in
-    no-output (settles-small (checkIndexOutcome (args .«record» .now) (args .index .now)) [] (args .work .now) (c .if1 .taken))
+    small-settled [] (checkIndexOutcome (args .«record» .now) (args .index .now)) (args .work .now) [] (c .if1 .taken) refl
 
 sub-check : tie.Need-sub-check
 sub-check c = search needs
@@ -36,7 +36,7 @@ returns-2 c =
     let if1 = c .before .before .before .before .before .before .before .before .if1 in
     let check = c .before .before .before .before .before .before .check in
     let clear = c .before .before .clear in
-    no-output (settles-lent (checkIndexOutcome (args .«record» .now) (args .index .now)) [] (args .work .now) (check .last .1 .1 .0) (if1 .left) (check .ensures) (check .kept .1 .1 .0) (clear .ensures))
+    lent-settled [] (checkIndexOutcome (args .«record» .now) (args .index .now)) (args .work .now) (if1 .left) (check .ensures) (check .last .1 .1 .0) (check .kept .1 .1 .0) (clear .ensures)
 
 pub check-index-spec : {M : Type 1} → statement M
 check-index-spec =

@@ -1,17 +1,17 @@
 -- `containment::answering::answer` meets its contract.
 use mathlib.Core.Path.{refl, _∙_}
+use mathlib.Core.List.{[], _∷_}
 use lib.ListN.{length}
-use Rattle.packed.proofs.CallLaws.{body-refused, body-goes-on}
-use Rattle.containment.specs.Answer.{answerBy}
-use Rattle.containment.specs.Steps.{wholeOrChosen}
-use Rattle.containment.proofs.AnswerLaws.{query-by}
-use Rattle.containment.proofs.AnsweringLaws.{answerOn}
+use Rattle.containment.specs.Quote.{quoted, usedBy}
+use Rattle.containment.specs.Answer.{answerFor, answerBy}
+use Rattle.containment.proofs.AnswerLaws.{judged-refused, judged-on, query-few, views-few}
+use Rattle.containment.proofs.AnsweringLaws.{used-is, used-lowest}
 use borrow.Author.Needs.{needs}
 use Rattle.containment.proofs.answering.answer.Statement.{statement}
 use Rattle.containment.proofs.answering.answer.Tie as tie
 
-accept-pattern-requires : tie.Need-accept-pattern-requires
-accept-pattern-requires c κs = search needs
+judge-requires : tie.Need-judge-requires
+judge-requires c κs = search needs
 
 enum-told : tie.Need-enum-told
 enum-told c = search needs
@@ -25,20 +25,24 @@ same-length c = search needs
 returns : tie.Need-returns
 unfolding answerBy
 returns c =
-    let args = c .before .before .before .before .before .before .before .before .before .before .before .args in
-    let accept-pattern = c .before .before .before .before .accept-pattern in
-    let a = args in
+    let a = c .before .before .before .before .before .before .before .before .before .before .before .args in
     let e = c .enum-told2 .given .1 in
-    rw e (body-refused (answerOn (wholeOrChosen (a .whole) (a .set)) (a .catalogue .now) (a .book .now) (length (a .out .now))) (a .out .now) refl (c .enum-told2 .given .0 .0) ((rw e at (accept-pattern .ensures)) .0))
+    rw e (judged-refused (quoted (a .question .now) (a .catalogue .now)) (answerFor usedBy (a .book .now) (length (a .out .now))) (a .out .now ∷ []) ((rw e at (c .before .before .before .before .judge .ensures)) .0) refl)
 
-answer-for-requires : tie.Need-answer-for-requires
-answer-for-requires c κs =
-    let args = c .before .before .before .before .before .before .before .before .before .before .before .before .before .args in
-    let pre = c .before .before .before .before .before .before .before .before .before .before .before .before .before .pre in
-    let accept-pattern = c .before .before .before .before .before .before .accept-pattern in
-    let enum-told = c .before .before .enum-told in
-    let q = rw (enum-told .given .1) at (accept-pattern .ensures) in
-    (query-by (args .question .now) q, accept-pattern .kept .1 .0 ∙ pre)
+lowest-unmatched-requires : tie.Need-lowest-unmatched-requires
+lowest-unmatched-requires c κs =
+    let h = rw (c .before .before .before .before .enum-told .given .1) at (c .before .before .before .before .before .before .before .before .judge .ensures) in
+    (query-few (h .query), views-few (h .views .views))
+
+use-views-requires : tie.Need-use-views-requires
+use-views-requires c κs =
+    let h = rw (c .before .before .before .before .before .before .enum-told .given .1) at (c .before .before .before .before .before .before .before .before .before .before .judge .ensures) in
+    (query-few (h .query), views-few (h .views .views), c .before .lowest-unmatched .ensures)
+
+answer-book-requires : tie.Need-answer-book-requires
+answer-book-requires c κs =
+    let h = rw (c .before .before .before .before .before .before .before .before .before .before .enum-told .given .1) at (c .before .before .before .before .before .before .before .before .before .before .before .before .before .before .judge .ensures) in
+    (h .query, h .views, used-lowest (h .query) (h .views) _ (h .table) (c .before .before .before .use-views .ensures) (c .before .before .before .before .before .lowest-unmatched .ensures), c .before .before .before .before .before .before .before .before .before .before .before .before .before .before .judge .kept .1 .1 .0 ∙ c .before .before .before .before .before .before .before .before .before .before .before .before .before .before .before .before .before .before .before .before .before .pre)
 
 same-length-2 : tie.Need-same-length-2
 same-length-2 c = search needs
@@ -47,26 +51,25 @@ same-length-3 : tie.Need-same-length-3
 same-length-3 c = search needs
 
 returns-2 : tie.Need-returns-2
-unfolding answerBy
+unfolding answerBy answerFor
 returns-2 c =
-    let args = c .before .before .before .before .before .before .before .before .before .before .before .before .before .before .before .before .before .before .args in
-    let accept-pattern = c .before .before .before .before .before .before .before .before .before .before .before .accept-pattern in
-    let enum-told = c .before .before .before .before .before .before .before .enum-told in
-    let answer-for = c .before .before .before .before .answer-for in
-    let a = args in
-    let q = rw (enum-told .given .1) at (accept-pattern .ensures) in
-    body-goes-on (answerOn (wholeOrChosen (a .whole) (a .set)) (a .catalogue .now) (a .book .now) (length (a .out .now))) (q .is) (answer-for .ensures (query-by (a .question .now) q))
+    let a = c .before .before .before .before .before .before .before .before .before .before .before .before .before .before .before .before .before .before .before .before .before .before .before .before .before .before .args in
+    let h = rw (c .before .before .before .before .before .before .before .before .before .before .before .before .before .before .before .enum-told .given .1) at (c .before .before .before .before .before .before .before .before .before .before .before .before .before .before .before .before .before .before .before .judge .ensures) in
+    judged-on (quoted (a .question .now) (a .catalogue .now)) (answerFor usedBy (a .book .now) (length (a .out .now))) (h .on)
+    (rw (used-is (h .query) (h .views) (c .before .before .before .before .before .before .before .before .before .before .before .before .before .before .before .before .before .before .before .judge .result .usable) (h .table) (c .before .before .before .before .before .before .before .before .use-views .ensures)) at (c .before .before .before .before .answer-book .ensures (h .query) (h .views) (c .before .before .before .before .before .before .before .before .before .before .before .before .before .before .before .before .before .before .before .judge .result .usable) (h .table)))
 
 pub answer-spec : {M : Type 1} → statement M
 answer-spec =
     tie.close
     (tie.spec
-    accept-pattern-requires
+    judge-requires
     enum-told
     enum-told-2
     same-length
     returns
-    answer-for-requires
+    lowest-unmatched-requires
+    use-views-requires
+    answer-book-requires
     same-length-2
     same-length-3
     returns-2)

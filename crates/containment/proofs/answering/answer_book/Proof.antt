@@ -5,7 +5,7 @@ use lib.ListN.{length, take}
 use Rattle.packed.specs.Formats.{book}
 use Rattle.packed.proofs.CallLaws.{read-says, body-refused, none-lent}
 use Rattle.containment.specs.Answer.{answerIn}
-use Rattle.containment.proofs.ChoiceLaws.{lowest-most}
+use Rattle.containment.specs.Steps.{quotedAs}
 use Rattle.containment.proofs.QueryLaws.{fair}
 use Rattle.containment.proofs.AnswerLaws.{views-few, query-few}
 use Rattle.containment.proofs.AnsweringLaws.{book-booked, crowded-answered, uncovered-answered, covered-answered}
@@ -23,9 +23,7 @@ part-accept-book-end : tie.Need-part-accept-book-end
 part-accept-book-end c = search needs
 
 accept-book-requires : tie.Need-accept-book-requires
-accept-book-requires c κs =
-    let pre = c .before .before .before .before .pre in
-    views-few (pre .1 .views)
+accept-book-requires c κs = views-few (c .before .before .before .before .pre .1 .views)
 
 enum-told : tie.Need-enum-told
 enum-told c = search needs
@@ -38,25 +36,19 @@ same-length c = search needs
 
 returns : tie.Need-returns
 returns c =
-    let args = c .before .before .before .before .before .before .before .before .before .args in
-    let accept-book = c .before .before .before .before .accept-book in
-    let a = args in
+    let a = c .before .before .before .before .before .before .before .before .before .args in
     let e = c .enum-told2 .given .1 in
-    λ t v g. rw e (body-refused (λ bs. answerIn (a .set) (t .content) (v .views .content) bs (length (a .out .now))) (a .out .now) refl (c .enum-told2 .given .0 .0) (rw (v .are) at (rw e at (accept-book .ensures))))
+    λ t v u g. rw e (body-refused (λ bs. answerIn (a .set) (quotedAs t v u) bs (length (a .out .now))) (a .out .now) refl (c .enum-told2 .given .0 .0) (rw (v .are) at (rw e at (c .before .before .before .before .accept-book .ensures))))
 
 gather-book-requires : tie.Need-gather-book-requires
 gather-book-requires c κs =
-    let args = c .before .before .before .before .before .before .before .before .before .before .args in
-    let pre = c .before .before .before .before .before .before .before .before .before .before .pre in
-    let accept-book = c .before .before .before .before .before .accept-book in
-    let enum-told = c .before .enum-told in
-    let a = args in
-    let r = rw (enum-told .given .1) at (accept-book .ensures) in
-    let j = accept-book in (
+    let a = c .before .before .before .before .before .before .before .before .before .before .args in
+    let r = rw (c .before .enum-told .given .1) at (c .before .before .before .before .before .accept-book .ensures) in
+    let j = c .before .before .before .before .before .accept-book in (
       read-says 65536 4 (book (take (a .k) (a .counts))) (a .book .now) (r .fields) (r .is) .1,
-      views-few (pre .1 .views),
-      pre .1 .small,
-      ap length (none-lent (a .work .now) (j .last .1 .1 .1 .0) (j .kept .1 .1 .1 .0)) ∙ pre .2,
+      views-few (c .before .before .before .before .before .before .before .before .before .before .pre .1 .views),
+      c .before .before .before .before .before .before .before .before .before .before .pre .1 .small,
+      ap length (none-lent (a .work .now) (j .last .1 .1 .1 .0) (j .kept .1 .1 .1 .0)) ∙ c .before .before .before .before .before .before .before .before .before .before .pre .3,
     )
 
 same-length-2 : tie.Need-same-length-2
@@ -64,77 +56,39 @@ same-length-2 c = search needs
 
 returns-2 : tie.Need-returns-2
 returns-2 c =
-    let args = c .before .before .before .before .before .before .before .before .before .before .before .before .before .before .args in
-    let accept-book = c .before .before .before .before .before .before .before .before .before .accept-book in
-    let enum-told = c .before .before .before .before .before .enum-told in
-    let gather-book = c .before .before .before .gather-book in
-    let a = args in
-    let r = rw (enum-told .given .1) at (accept-book .ensures) in
-    λ t v e. crowded-answered t v (a .book .now) r (gather-book .ensures) e (a .set) (a .out .now) (c .if1 .taken)
+    let a = c .before .before .before .before .before .before .before .before .before .before .before .before .before .before .args in
+    let r = rw (c .before .before .before .before .before .enum-told .given .1) at (c .before .before .before .before .before .before .before .before .before .accept-book .ensures) in
+    λ t v u e. crowded-answered t v (a .book .now) r (c .before .before .before .gather-book .ensures) u e (a .set) (a .out .now) (c .if1 .taken)
 
-is-cover-requires : tie.Need-is-cover-requires
-is-cover-requires c κs =
-    let pre = c .before .before .before .before .before .before .before .before .before .before .before .before .before .before .pre in
-    (query-few (pre .0), views-few (pre .1 .views))
-
-answer-pairs-requires : tie.Need-answer-pairs-requires
-answer-pairs-requires c κs =
-    let args = c .before .before .before .before .before .before .before .before .before .before .before .before .before .before .before .before .before .before .args in
-    let pre = c .before .before .before .before .before .before .before .before .before .before .before .before .before .before .before .before .before .before .pre in
-    let accept-book = c .before .before .before .before .before .before .before .before .before .before .before .before .before .accept-book in
-    let enum-told = c .before .before .before .before .before .before .before .before .before .enum-told in
-    let gather-book = c .before .before .before .before .before .before .before .gather-book in
-    let if1 = c .before .before .before .before .if1 in
-    let a = args in
-    let r = rw (enum-told .given .1) at (accept-book .ensures) in
-    (fair (pre .0), book-booked (pre .0) (pre .1) (a .book .now) r (gather-book .ensures) (if1 .left))
+cast-t20 : tie.Need-cast-t20
+cast-t20 c = let l = c .if2 .taken in let q = query-few (c .before .before .before .before .before .before .before .before .before .before .before .before .before .before .before .before .pre .0) in omega arith
 
 same-length-3 : tie.Need-same-length-3
 same-length-3 c = search needs
 
-same-length-4 : tie.Need-same-length-4
-same-length-4 c = search needs
-
 returns-3 : tie.Need-returns-3
 returns-3 c =
-    let args = c .before .before .before .before .before .before .before .before .before .before .before .before .before .before .before .before .before .before .before .before .before .before .before .args in
-    let accept-book = c .before .before .before .before .before .before .before .before .before .before .before .before .before .before .before .before .before .before .accept-book in
-    let enum-told = c .before .before .before .before .before .before .before .before .before .before .before .before .before .before .enum-told in
-    let gather-book = c .before .before .before .before .before .before .before .before .before .before .before .before .gather-book in
-    let if1 = c .before .before .before .before .before .before .before .before .before .if1 in
-    let is-cover = c .before .before .before .before .before .before .before .before .is-cover in
-    let if2 = c .before .before .before .before .before .before .before .if2 in
-    let answer-pairs = c .before .before .before .before .answer-pairs in
-    let a = args in
-    let r = rw (enum-told .given .1) at (accept-book .ensures) in
-    λ t v e. covered-answered t v (a .book .now) r (gather-book .ensures) e (a .set) (a .out .now) (if1 .left) (is-cover .ensures) (if2 .taken) (answer-pairs .ensures)
+    let a = c .before .before .before .before .before .before .before .before .before .before .before .before .before .before .before .before .args in
+    let r = rw (c .before .before .before .before .before .before .before .enum-told .given .1) at (c .before .before .before .before .before .before .before .before .before .before .before .accept-book .ensures) in
+    λ t v u e. uncovered-answered t v (a .book .now) r (c .before .before .before .before .before .gather-book .ensures) u e (a .set) (a .out .now) (c .before .before .if1 .left) (c .before .before .before .before .before .before .before .before .before .before .before .before .before .before .before .before .pre .2) (c .if2 .taken)
 
-lowest-unmatched-requires : tie.Need-lowest-unmatched-requires
-lowest-unmatched-requires c κs = (query-few (c .before .before .before .before .before .before .before .before .before .before .before .before .before .before .before .before .pre .0), (let k = views-few (c .before .before .before .before .before .before .before .before .before .before .before .before .before .before .before .before .pre .1 .views) in omega arith))
+answer-pairs-requires : tie.Need-answer-pairs-requires
+answer-pairs-requires c κs =
+    let a = c .before .before .before .before .before .before .before .before .before .before .before .before .before .before .before .before .before .before .args in
+    let r = rw (c .before .before .before .before .before .before .before .before .before .enum-told .given .1) at (c .before .before .before .before .before .before .before .before .before .before .before .before .before .accept-book .ensures) in
+    (fair (c .before .before .before .before .before .before .before .before .before .before .before .before .before .before .before .before .before .before .pre .0), book-booked (c .before .before .before .before .before .before .before .before .before .before .before .before .before .before .before .before .before .before .pre .0) (c .before .before .before .before .before .before .before .before .before .before .before .before .before .before .before .before .before .before .pre .1) (a .book .now) r (c .before .before .before .before .before .before .before .gather-book .ensures) (c .before .before .before .before .if1 .left))
 
-cast-e : tie.Need-cast-e
-cast-e c =
-    let args = c .before .before .before .before .before .before .before .before .before .before .before .before .before .before .before .before .before .args in
-    let pre = c .before .before .before .before .before .before .before .before .before .before .before .before .before .before .before .before .before .pre in
-    let a = args in
-    let l = lowest-most (a .table .now) _ _ (a .q .edges) (c .lowest-unmatched .ensures) in
-    omega (arith, l, query-few (pre .0))
+same-length-4 : tie.Need-same-length-4
+same-length-4 c = search needs
 
 same-length-5 : tie.Need-same-length-5
 same-length-5 c = search needs
 
 returns-4 : tie.Need-returns-4
 returns-4 c =
-    let args = c .before .before .before .before .before .before .before .before .before .before .before .before .before .before .before .before .before .args in
-    let accept-book = c .before .before .before .before .before .before .before .before .before .before .before .before .accept-book in
-    let enum-told = c .before .before .before .before .before .before .before .before .enum-told in
-    let gather-book = c .before .before .before .before .before .before .gather-book in
-    let if1 = c .before .before .before .if1 in
-    let is-cover = c .before .before .is-cover in
-    let if2 = c .before .if2 in
-    let a = args in
-    let r = rw (enum-told .given .1) at (accept-book .ensures) in
-    λ t v e. uncovered-answered t v (a .book .now) r (gather-book .ensures) e (a .set) (a .out .now) (if1 .left) (is-cover .ensures) (if2 .left) (c .lowest-unmatched .ensures)
+    let a = c .before .before .before .before .before .before .before .before .before .before .before .before .before .before .before .before .before .before .before .before .before .before .before .args in
+    let r = rw (c .before .before .before .before .before .before .before .before .before .before .before .before .before .before .enum-told .given .1) at (c .before .before .before .before .before .before .before .before .before .before .before .before .before .before .before .before .before .before .accept-book .ensures) in
+    λ t v u e. covered-answered t v (a .book .now) r (c .before .before .before .before .before .before .before .before .before .before .before .before .gather-book .ensures) u e (a .set) (a .out .now) (c .before .before .before .before .before .before .before .before .before .if1 .left) (c .before .before .before .before .before .before .before .before .before .before .before .before .before .before .before .before .before .before .before .before .before .before .before .pre .2) (c .before .before .before .before .before .before .before .if2 .left) (c .before .before .before .before .answer-pairs .ensures)
 
 pub answer-book-spec : {M : Type 1} → statement M
 answer-book-spec =
@@ -151,12 +105,10 @@ answer-book-spec =
     gather-book-requires
     same-length-2
     returns-2
-    is-cover-requires
-    answer-pairs-requires
+    cast-t20
     same-length-3
-    same-length-4
     returns-3
-    lowest-unmatched-requires
-    cast-e
+    answer-pairs-requires
+    same-length-4
     same-length-5
     returns-4)

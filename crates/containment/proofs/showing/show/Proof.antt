@@ -2,14 +2,15 @@
 use mathlib.Core.Path.{refl, _∙_}
 use mathlib.Core.List.{[], _∷_}
 use lib.ListN.{length}
-use Rattle.containment.proofs.AnswerLaws.{answers-refused, answers-on, query-by, showOn}
-use Rattle.containment.specs.Show.{showOutcome}
+use Rattle.containment.specs.Quote.{quoted}
+use Rattle.containment.specs.Show.{showFor, showOutcome}
+use Rattle.containment.proofs.AnswerLaws.{judged-refused, judged-on, query-few, views-few, show-covered, show-uncovered}
 use borrow.Author.Needs.{needs}
 use Rattle.containment.proofs.showing.show.Statement.{statement}
 use Rattle.containment.proofs.showing.show.Tie as tie
 
-accept-pattern-requires : tie.Need-accept-pattern-requires
-accept-pattern-requires c κs = search needs
+judge-requires : tie.Need-judge-requires
+judge-requires c κs = search needs
 
 enum-known-verdict : tie.Need-enum-known-verdict
 enum-known-verdict c = search needs
@@ -20,23 +21,21 @@ same-length c = search needs
 returns : tie.Need-returns
 unfolding showOutcome
 returns c =
-    let args = c .before .before .before .before .before .before .before .before .before .before .before .before .args in
-    let accept-pattern = c .before .before .before .before .before .accept-pattern in
-    let verdict = c .before .verdict in
-    let a = args in
-    answers-refused (showOn (a .catalogue .now) (length (a .first .now)) (length (a .second .now))) (a .first .now ∷ a .second .now ∷ []) ((rw (verdict .given .1) at (accept-pattern .ensures)) .0) refl
+    let a = c .before .before .before .before .before .before .before .before .before .before .before .before .args in
+    judged-refused (quoted (a .question .now) (a .catalogue .now)) (showFor (length (a .first .now)) (length (a .second .now))) (a .first .now ∷ a .second .now ∷ []) ((rw (c .before .verdict .given .1) at (c .before .before .before .before .before .judge .ensures)) .0) refl
 
 enum-told : tie.Need-enum-told
 enum-told c = search needs
 
-show-for-requires : tie.Need-show-for-requires
-show-for-requires c κs =
-    let args = c .before .before .before .before .before .before .before .before .before .before .before .before .before .before .args in
-    let pre = c .before .before .before .before .before .before .before .before .before .before .before .before .before .before .pre in
-    let accept-pattern = c .before .before .before .before .before .before .before .accept-pattern in
-    let enum-told = c .before .before .before .enum-told in
-    let q = rw (enum-told .given .1) at (accept-pattern .ensures) in
-    (query-by (args .question .now) q, accept-pattern .kept .1 .0 ∙ pre)
+lowest-unmatched-requires : tie.Need-lowest-unmatched-requires
+lowest-unmatched-requires c κs =
+    let h = rw (c .before .before .before .enum-told .given .1) at (c .before .before .before .before .before .before .before .judge .ensures) in
+    (query-few (h .query), views-few (h .views .views))
+
+show-both-requires : tie.Need-show-both-requires
+show-both-requires c κs =
+    let h = rw (c .before .before .before .before .before .before .before .before .before .enum-told .given .1) at (c .before .before .before .before .before .before .before .before .before .before .before .before .before .judge .ensures) in
+    (h .query, c .before .before .before .before .before .before .before .before .before .before .before .before .before .judge .kept .1 .1 .0 ∙ c .before .before .before .before .before .before .before .before .before .before .before .before .before .before .before .before .before .before .before .before .pre)
 
 same-length-2 : tie.Need-same-length-2
 same-length-2 c = search needs
@@ -50,25 +49,36 @@ same-length-4 c = search needs
 returns-2 : tie.Need-returns-2
 unfolding showOutcome
 returns-2 c =
-    let args = c .before .before .before .before .before .before .before .before .before .before .before .before .before .before .before .before .before .before .before .before .before .args in
-    let accept-pattern = c .before .before .before .before .before .before .before .before .before .before .before .before .before .before .accept-pattern in
-    let enum-told = c .before .before .before .before .before .before .before .before .before .before .enum-told in
-    let show-for = c .before .before .before .before .before .before .show-for in
-    let a = args in
-    let q = rw (enum-told .given .1) at (accept-pattern .ensures) in
-    answers-on (showOn (a .catalogue .now) (length (a .first .now)) (length (a .second .now))) (q .is) (show-for .ensures (query-by (a .question .now) q))
+    let a = c .before .before .before .before .before .before .before .before .before .before .before .before .before .before .before .before .before .before .before .before .before .before .before .before .before .before .before .args in
+    let h = rw (c .before .before .before .before .before .before .before .before .before .before .before .before .before .before .before .before .enum-told .given .1) at (c .before .before .before .before .before .before .before .before .before .before .before .before .before .before .before .before .before .before .before .before .judge .ensures) in
+    judged-on (quoted (a .question .now) (a .catalogue .now)) (showFor (length (a .first .now)) (length (a .second .now))) (h .on)
+    (show-uncovered (h .query) (h .views) _ (h .table) (length (a .first .now)) (length (a .second .now)) (c .before .before .before .before .before .before .before .before .before .before .before .before .lowest-unmatched .ensures) (c .before .before .before .before .before .before .before .before .before .before .if1 .taken) (c .before .before .before .before .before .before .show-both .ensures (h .query)))
+
+same-length-5 : tie.Need-same-length-5
+same-length-5 c = search needs
+
+returns-3 : tie.Need-returns-3
+unfolding showOutcome
+returns-3 c =
+    let a = c .before .before .before .before .before .before .before .before .before .before .before .before .before .before .before .before .before .args in
+    let h = rw (c .before .before .before .before .before .before .enum-told .given .1) at (c .before .before .before .before .before .before .before .before .before .before .judge .ensures) in
+    judged-on (quoted (a .question .now) (a .catalogue .now)) (showFor (length (a .first .now)) (length (a .second .now))) (h .on)
+    (show-covered (h .query) (h .views) _ (h .table) (length (a .first .now)) (length (a .second .now)) (c .before .before .lowest-unmatched .ensures) (a .first .now ∷ a .second .now ∷ []) (c .if1 .left) refl)
 
 pub show-spec : {M : Type 1} → statement M
 show-spec =
     tie.close
     (tie.spec
-    accept-pattern-requires
+    judge-requires
     enum-known-verdict
     same-length
     returns
     enum-told
-    show-for-requires
+    lowest-unmatched-requires
+    show-both-requires
     same-length-2
     same-length-3
     same-length-4
-    returns-2)
+    returns-2
+    same-length-5
+    returns-3)

@@ -4,7 +4,7 @@ use mathlib.Core.List.{[], _∷_}
 use native.Mathlib.Omega.{arith}
 use lib.ListN.{length}
 use Rattle.packed.specs.Calls.{give}
-use Rattle.packed.proofs.CallLaws.{body-refused}
+use Rattle.packed.proofs.CallLaws.{answers-refused}
 use Rattle.matching.specs.Simulation.{graphOf}
 use Rattle.matching.specs.Index.{indexOf, ownIndex, checkIndexOutcome}
 use Rattle.matching.proofs.RecordLaws.{ready-by, ready-ends, order-by}
@@ -52,7 +52,7 @@ returns-2 c =
     let load-record = c .before .before .before .before .before .load-record in
     let g2 = c .before .g2 in
     let q = rw (g2 .given .1) at (load-record .ensures) in
-    body-refused (λ rs. ownIndex (indexOf (graphOf rs)) (args .index .now) (give (length (args .index .now) ∷ []) [])) [] refl (g2 .given .0 .0) q
+    answers-refused (λ rs. ownIndex (indexOf (graphOf rs)) (args .index .now) (give (length (args .index .now) ∷ []) [])) [] q refl
 
 pub check-spec : {M : Type 1} → statement M
 check-spec =

@@ -1,17 +1,16 @@
--- `containment::answer_by` meets its contract.
+-- `containment::answer` meets its contract.
 use lib.ListN.{length}
 use Rattle.packed.proofs.CallLaws.{settles-small, settles-lent}
-use Rattle.containment.specs.Answer.{answerBy}
-use Rattle.containment.specs.Steps.{wholeOrChosen}
+use Rattle.containment.specs.Answer.{answerOutcome}
 use borrow.Author.Needs.{needs}
-use Rattle.containment.proofs.answer_by.Statement.{statement}
-use Rattle.containment.proofs.answer_by.Tie as tie
+use Rattle.containment.proofs.answer.Statement.{statement}
+use Rattle.containment.proofs.answer.Tie as tie
 
 returns : tie.Need-returns
 returns c =
     let args = c .before .before .before .before .before .before .args in
     let a = args in
-    settles-small (answerBy (wholeOrChosen (a .whole) (a .set)) (a .question .now) (a .catalogue .now) (a .book .now) (length (a .out .now))) (a .out .now) (a .work .now) (c .if1 .taken)
+    settles-small (answerOutcome (a .question .now) (a .catalogue .now) (a .book .now) (length (a .out .now))) (a .out .now) (a .work .now) (c .if1 .taken)
 
 sub-answer : tie.Need-sub-answer
 sub-answer c = search needs
@@ -42,11 +41,11 @@ returns-2 c =
     let clear = c .before .before .clear in
     let a = args in
     let k = answer in
-    settles-lent (answerBy (wholeOrChosen (a .whole) (a .set)) (a .question .now) (a .catalogue .now) (a .book .now) (length (a .out .now))) (a .out .now) (a .work .now) (k .last .1 .1 .1 .1 .1 .1 .0) (if1 .left)
-    (k .ensures) (k .kept .1 .1 .1 .1 .1 .1 .0) (clear .ensures)
+    settles-lent (answerOutcome (a .question .now) (a .catalogue .now) (a .book .now) (length (a .out .now))) (a .out .now) (a .work .now) (k .last .1 .1 .1 .1 .0) (if1 .left)
+    (k .ensures) (k .kept .1 .1 .1 .1 .0) (clear .ensures)
 
-pub answer-by-spec : {M : Type 1} → statement M
-answer-by-spec =
+pub answer-spec : {M : Type 1} → statement M
+answer-spec =
     tie.close
     (tie.spec
     returns

@@ -1,0 +1,105 @@
+-- Which refusals are those of files: 1 to 9, of the first that isn't accepted.
+use Prim.Native.Nat.{ℕ, _<_, _≤_}
+use mathlib.Core.Path.{_≡_, refl, sym, ap, subst, _∙_}
+use mathlib.Core.Logic.{_↔_}
+use mathlib.Core.Bool.{Bool, true, false, _||_}
+use mathlib.Core.List.{List}
+use lib.ListN.{length}
+use lib.Dec.{ltb, eqb}
+use native.Mathlib.Omega.{arith}
+use Rattle.packed.specs.Format.{pick}
+use Rattle.packed.specs.Calls.{Outcome, give, refuse, withWorkspace, Verdict, accepted, rejected, judged, readPattern, readCatalogue, pairsOf, uncrowdedBy, fit, fitFile}
+use Rattle.matching.specs.Index.{alike, ownIndex}
+use Rattle.containment.specs.Quote.{Quoted, quotedBy, quoted, covering, quoteFor, quoteOutcome}
+use Rattle.containment.specs.Answer.{answerIn}
+use Rattle.containment.specs.Cheapest.{cheapestFrom, cheapestFor}
+use Rattle.containment.specs.Show.{fitBoth, showFor}
+use Rattle.containment.specs.Demands.{Files, no-more, first, FirstRejected, here, later, HandsUp, quotedFiles}
+use Rattle.containment.proofs.DemandRules.{number-same, detail-same, not-refused, enough-words, enough-for}
+
+-- with the workspace aside
+abbrev pub Says : Files → Outcome → Type 0
+Says fs a = (n d : ℕ) → n ≤ 9 → (a ≡ refuse n d) ↔ FirstRejected fs n d
+
+pub hands-up : {fs : Files} {a : Outcome} → Says fs a → HandsUp fs a
+hands-up {a = a} s n d words l = (
+  λ e. let w = enough-for words a (λ z. let y = number-same z in omega arith) e in (w .0, s n d l .0 (w .1)),
+  λ x. enough-words words a (x .0) ∙ s n d l .1 (x .1),
+)
+
+-- ---- a file is judged first
+not-accepted : {ws : List ℕ} {n d : ℕ} → accepted ws ≡ rejected n d → ⊥
+not-accepted e = let z : _≡_ {A = ℕ} 0 1 = cc in omega arith
+
+content-same : {ws vs : List ℕ} → accepted ws ≡ accepted vs → ws ≡ vs
+content-same e = cc
+
+pub says-judged : (v : Verdict) {next : List ℕ → Files} {k : List ℕ → Outcome} → ((ws : List ℕ) → v ≡ accepted ws → Says (next ws) (k ws)) → Says (first v next) (judged v k)
+unfolding judged
+says-judged (accepted ws) {next} {k} h n d l = (λ e. later refl (h ws refl n d l .0 e), back)
+  where
+    back : FirstRejected (first (accepted ws) next) n d → k ws ≡ refuse n d
+    back (here e) = absurd (not-accepted e)
+    back (later {ws = vs} e r) = h ws refl n d l .1 (subst (λ us. FirstRejected (next us) n d) (sym (content-same e)) r)
+says-judged (rejected m c) {next} {k} h n d l = (λ e. here {v = rejected m c} {next = next} {n = n} {d = d} (cc), back)
+  where
+    back : FirstRejected (first (rejected m c) next) n d → refuse m c ≡ refuse n d
+    back (here e) = cc
+    back (later e r) = absurd (not-accepted (sym e))
+
+-- ---- after the files
+none-first : {n d : ℕ} → FirstRejected no-more n d → ⊥
+none-first = elim [ ]
+
+pub says-give : (vs : List ℕ) (outs : List (List ℕ)) → Says no-more (give vs outs)
+says-give vs outs n d l = (λ e. absurd (not-refused e), λ r. absurd (none-first r))
+
+pub says-late : (m c : ℕ) → 9 < m → Says no-more (refuse m c)
+says-late m c h n d l = (λ e. absurd (let z = number-same e in omega arith), λ r. absurd (none-first r))
+
+pub says-either : {fs : Files} {a b : Outcome} (t : Bool) → Says fs a → Says fs b → Says fs (pick t a b)
+says-either true x y = x
+says-either false x y = y
+
+pub says-fit : (room : ℕ) (o : List ℕ) → Says no-more (fit room o)
+unfolding fit
+says-fit room o = says-either (ltb room (length o)) (says-late 12 _ (omega arith)) (says-give _ _)
+
+pub says-fit-file : (room : ℕ) (o : List ℕ) → Says no-more (fitFile room o)
+unfolding fitFile
+says-fit-file room o = says-either (ltb room (length o) || ltb 65536 (length o)) (says-late 12 _ (omega arith)) (says-give _ _)
+
+pub says-fit-both : (room room′ : ℕ) (a b : List ℕ) → Says no-more (fitBoth room room′ a b)
+unfolding fitBoth
+says-fit-both room room′ a b = says-either (ltb room (length a)) (says-late 12 _ (omega arith)) (says-either (ltb room′ (length b)) (says-late 12 _ (omega arith)) (says-give _ _))
+
+pub says-uncrowded : (ms ws : List ℕ) {a : Outcome} → Says no-more a → Says no-more (uncrowdedBy ms ws a)
+unfolding uncrowdedBy
+says-uncrowded ms ws h = says-either (ltb 8192 (length (pairsOf ms ws))) (says-late 10 _ (omega arith)) h
+
+pub says-own : (own index : List ℕ) {a : Outcome} → Says no-more a → Says no-more (ownIndex own index a)
+unfolding ownIndex
+says-own own index h =
+    says-either (eqb (length index) (length own)) (says-either (eqb (alike own index) (length own)) h (says-late 16 _ (omega arith))) (says-late 16 _ (omega arith))
+
+-- ---- what the calls that quote go on with
+pub says-quote : (x : Quoted) → Says no-more (quoteFor x)
+unfolding quoteFor
+says-quote x = says-give _ _
+
+pub says-cheapest : (charges : List ℕ) (x : Quoted) → Says no-more (cheapestFor charges x)
+unfolding cheapestFor cheapestFrom
+says-cheapest charges x =
+    says-either (eqb (length charges) (length (x .offer .views))) (says-either (covering x (x .usable)) (says-give _ _) (says-late 11 _ (omega arith))) (says-late 15 _ (omega arith))
+
+pub says-answer : (set : ℕ) (x : Quoted) (bs : List ℕ) (room : ℕ) → Says no-more (answerIn set x bs room)
+unfolding answerIn
+says-answer set x bs room = says-uncrowded _ bs (says-either (covering x set) (says-fit-file room _) (says-late 11 _ (omega arith)))
+
+pub says-show : (room room′ : ℕ) (x : Quoted) → Says no-more (showFor room room′ x)
+unfolding showFor
+says-show room room′ x = says-either (covering x (x .usable)) (says-late 13 _ (omega arith)) (says-fit-both room room′ _ _)
+
+-- with the two files that they have
+pub says-quoted : (q c : List ℕ) {next : List ℕ → Files} (k : Quoted → Outcome) → ((qs cs : List ℕ) → Says (next cs) (k (quotedBy qs cs))) → Says (quotedFiles q c next) (quoted q c k)
+says-quoted q c k h = says-judged (readPattern q) (λ qs _. says-judged (readCatalogue c) (λ cs _. h qs cs))
