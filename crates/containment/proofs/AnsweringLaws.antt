@@ -11,7 +11,7 @@ use Rattle.packed.specs.Accepting.{ContentTaken}
 use Rattle.packed.specs.Refusals.{Told, numberOf, detailOf, replyTold}
 use Rattle.packed.specs.Matches.{matchesOf, Marked}
 use Rattle.packed.specs.Walks.{bookPairs, Different}
-use Rattle.packed.specs.Calls.{Outcome, refuse, FulfilsOne, readFile, judged, readBook, uncrowded, fitFile}
+use Rattle.packed.specs.Calls.{Outcome, refuse, FulfilsOne, readFile, judged, readBook, withinPairs, fitFile}
 use Rattle.packed.specs.declared.reply.Refusal.{Refusal}
 use Rattle.packed.specs.declared.reply.Refusal.the-variants.{TooManyPairs, NotContained}
 use Rattle.packed.specs.declared.reply.Reply.the-variants as reply-is
@@ -24,7 +24,7 @@ use Rattle.matching.specs.Offered.{viewPatterns}
 use Rattle.matching.specs.Search.{sheetBytes}
 use Rattle.matching.specs.Join.{View, answerSets}
 use Rattle.matching.proofs.ByEdge.{answerTo}
-use Rattle.matching.specs.Steps.{patternIn}
+use Rattle.matching.specs.Loaded.{patternIn}
 use Rattle.matching.specs.Candidates.{Pool, Booked}
 use Rattle.matching.specs.Joining.{Agrees, Joined}
 use Rattle.matching.proofs.ListLaws.{length-each}
@@ -117,15 +117,15 @@ module _ {q : Given} (t : Query q) {counts : List ℕ} {k : ℕ} (v : ViewCounts
       pairs = ap (bookPairs s 0) (v .are) ∙ book-pairs (edgeCounts cs) s (content .fields) (book-read .0)
 
       answer-is : answers (content .fields)
-          ≡ uncrowded cs (content .fields) (pick (coversIn table set k (q .edges)) (bySet q cs (content .fields) (length out) set) (refuse 11 (lowestUnmatched table set k (q .edges))))
+          ≡ withinPairs cs (content .fields) (pick (coversIn table set k (q .edges)) (bySet q cs (content .fields) (length out) set) (refuse 11 (lowestUnmatched table set k (q .edges))))
       unfolding answerIn answerBytes
       answer-is = rw (pattern-same (plain t) (t .holds), is, views-many (v .views), ← t .holds .edges)
 
       declined : (x : Refusal) → answers (content .fields) ≡ refuse (numberOf x) (detailOf x) → FulfilsOne (judged (readBook cs s) answers) (replyTold (reply-is.Refused x)) out out
       declined x e = body-declined answers (content .is) out refl x e
 
-      pub crowded-answered : 8192 < d → FulfilsOne (judged (readBook (v .views .content) s) answers) (replyTold (reply-is.Refused (TooManyPairs 4))) out out
-      crowded-answered h = declined (TooManyPairs 4) (answer-is ∙ gathered-many (edgeCounts cs) (content .fields) g pairs _ h)
+      pub many-pairs-answered : 8192 < d → FulfilsOne (judged (readBook (v .views .content) s) answers) (replyTold (reply-is.Refused (TooManyPairs 4))) out out
+      many-pairs-answered h = declined (TooManyPairs 4) (answer-is ∙ gathered-many (edgeCounts cs) (content .fields) g pairs _ h)
 
       module _ (few : d ≤ 8192) {lowest : ℕ} (low : lowest ≡ lowestUnmatched table set k (q .edges)) where
         pub uncovered-answered : lowest < q .edges → FulfilsOne (judged (readBook (v .views .content) s) answers) (replyTold (reply-is.Refused (NotContained lowest))) out out

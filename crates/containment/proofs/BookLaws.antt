@@ -18,7 +18,7 @@ use Rattle.packed.proofs.Walks.{standing-most}
 use Rattle.packed.proofs.AcceptedBounds.{catalogue-bounds}
 use Rattle.packed.proofs.BookSheetLaws.{sheet-many, list-is, list-stands, list-increasing, list-small, list-in-book, lists-begin, list-fits}
 use Rattle.matching.specs.Lists.{In}
-use Rattle.matching.specs.Sweeps.{OneOf}
+use Rattle.matching.specs.Masks.{OneOf}
 use Rattle.matching.specs.Candidates.{Pool, SheetedAt, Booked}
 use Rattle.matching.proofs.ListLaws.{not-in-none, in-at, append-in}
 use Rattle.matching.proofs.CodeLaws.{in-member, member-in}

@@ -17,10 +17,10 @@ use Rattle.packed.specs.declared.by_value.Pattern.{Pattern as Given}
 use Rattle.matching.specs.Lists.{In, gather}
 use Rattle.matching.specs.Simulation.{Pair, Edge, noEdge, Pattern, bit, edgesIn, patternOf, asGraph, viewSheet}
 use Rattle.matching.specs.Join.{isMatch, View, pairOf, under, candidates}
-use Rattle.matching.specs.Sweeps.{Has, OneOf}
+use Rattle.matching.specs.Masks.{Has, OneOf}
 use Rattle.matching.specs.Candidates.{SheetListingAt, BookListing}
 use Rattle.matching.specs.Joining.{Agrees}
-use Rattle.matching.specs.Steps.{givenEdge}
+use Rattle.matching.specs.Loaded.{givenEdge}
 use Rattle.matching.proofs.ListLaws.{cond-case, not-in-none, in-cast, in-at, append-in, in-append-left, in-append-right, gather-in, in-gather, each-in, in-each}
 use Rattle.matching.proofs.JoinLaws.{match-say, match-by}
 use Rattle.matching.proofs.MatchSetLaws.{view-length}

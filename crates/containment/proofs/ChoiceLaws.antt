@@ -13,7 +13,7 @@ use borrow.Author.Tests.{ltb-true, ltb-false}
 use Rattle.packed.specs.Format.{pick}
 use Rattle.packed.proofs.OrderCases.{lt-or-ge, trichotomy, or-cases, and-both, and-cases}
 use Rattle.matching.specs.Simulation.{bit}
-use Rattle.matching.specs.Sweeps.{OneOf}
+use Rattle.matching.specs.Masks.{OneOf}
 use Rattle.containment.specs.Choice.{matches, matchedIn, coversIn, lowestUnmatched, addsTo, taken, kept, chosen, used}
 use Rattle.containment.proofs.SetBits.{test-cases, never, bit-lt, bit-over, bit-zero, more-self, more-has, more-other, less-self, less-say, less-by}
 

@@ -16,7 +16,7 @@ use Rattle.packed.specs.Walks.{listsFirst}
 use Rattle.packed.specs.BookSheets.{listAt, sheetAt}
 use Rattle.packed.specs.Matches.{allOrNone}
 use Rattle.packed.specs.Plain.{PlainPattern}
-use Rattle.packed.specs.Calls.{give, refuse, accepted, judged, readSheet, pairsOf, uncrowdedBy, fitFile}
+use Rattle.packed.specs.Calls.{give, refuse, accepted, judged, readSheet, pairsOf, withinPairsBy, fitFile}
 use Rattle.packed.proofs.DistinctLaws.{member-distinct}
 use Rattle.packed.proofs.SheetLaws.{all-twice, sheet-encodes}
 use Rattle.packed.proofs.Accepted.{pattern-accepted, catalogue-accepted, record-accepted, sheet-accepted, book-accepted, pattern-read, catalogue-read, record-read, sheet-read, book-read}
@@ -169,7 +169,7 @@ module _ (q c qs cs : List ℕ) (p : Question q qs) (d : Catalogue c cs) where
   module _ (b bs : List ℕ) (k : Book cs b bs) (choose : Choose) (room : ℕ) where
     answer-by : answerBy choose q c b room
         ≡ pick (coveredIn (choose (quotedBy qs cs)) qs cs) (fitFile room (answerBytes qs (choose (quotedBy qs cs)) (viewPatterns cs) (sheetsIn (edgeCounts cs) bs))) (refuse 11 (lackingIn (choose (quotedBy qs cs)) qs cs))
-    unfolding answerBy answerFor answerIn uncrowdedBy judged
+    unfolding answerBy answerFor answerIn withinPairsBy judged
     answer-by = rw (p, d, k .read, le-ltb 8192 (length (pairsOf (edgeCounts cs) bs)) (k .few))
 
     -- where the set covers the query it is the sheet, fitted

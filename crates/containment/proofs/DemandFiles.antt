@@ -8,7 +8,7 @@ use lib.ListN.{length}
 use lib.Dec.{ltb, eqb}
 use native.Mathlib.Omega.{arith}
 use Rattle.packed.specs.Format.{pick}
-use Rattle.packed.specs.Calls.{Outcome, give, refuse, withWorkspace, Verdict, accepted, rejected, judged, readPattern, readCatalogue, pairsOf, uncrowdedBy, fit, fitFile}
+use Rattle.packed.specs.Calls.{Outcome, give, refuse, withWorkspace, Verdict, accepted, rejected, judged, readPattern, readCatalogue, pairsOf, withinPairsBy, fit, fitFile}
 use Rattle.matching.specs.Index.{alike, ownIndex}
 use Rattle.containment.specs.Quote.{Quoted, quotedBy, quoted, covering, quoteFor, quoteOutcome}
 use Rattle.containment.specs.Answer.{answerIn}
@@ -73,9 +73,9 @@ pub says-fit-both : (room room′ : ℕ) (a b : List ℕ) → Says no-more (fitB
 unfolding fitBoth
 says-fit-both room room′ a b = says-either (ltb room (length a)) (says-late 12 _ (omega arith)) (says-either (ltb room′ (length b)) (says-late 12 _ (omega arith)) (says-give _ _))
 
-pub says-uncrowded : (ms ws : List ℕ) {a : Outcome} → Says no-more a → Says no-more (uncrowdedBy ms ws a)
-unfolding uncrowdedBy
-says-uncrowded ms ws h = says-either (ltb 8192 (length (pairsOf ms ws))) (says-late 10 _ (omega arith)) h
+pub says-within-pairs : (ms ws : List ℕ) {a : Outcome} → Says no-more a → Says no-more (withinPairsBy ms ws a)
+unfolding withinPairsBy
+says-within-pairs ms ws h = says-either (ltb 8192 (length (pairsOf ms ws))) (says-late 10 _ (omega arith)) h
 
 pub says-own : (own index : List ℕ) {a : Outcome} → Says no-more a → Says no-more (ownIndex own index a)
 unfolding ownIndex
@@ -94,7 +94,7 @@ says-cheapest charges x =
 
 pub says-answer : (set : ℕ) (x : Quoted) (bs : List ℕ) (room : ℕ) → Says no-more (answerIn set x bs room)
 unfolding answerIn
-says-answer set x bs room = says-uncrowded _ bs (says-either (covering x set) (says-fit-file room _) (says-late 11 _ (omega arith)))
+says-answer set x bs room = says-within-pairs _ bs (says-either (covering x set) (says-fit-file room _) (says-late 11 _ (omega arith)))
 
 pub says-show : (room room′ : ℕ) (x : Quoted) → Says no-more (showFor room room′ x)
 unfolding showFor

@@ -12,9 +12,9 @@ use Rattle.packed.specs.Format.{Format, Result, ok, bad, pick, decode, encode}
 use Rattle.packed.specs.Contents.{edgesOf, edgeCounts, sheetsIn}
 use Rattle.packed.specs.Plain.{Below, PatternFile, CatalogueFile, RecordFile, SheetFile, BookFile}
 use Rattle.packed.specs.Formats.{pattern, catalogue, record′, sheet, book}
-use Rattle.packed.specs.Calls.{Outcome, give, refuse, withWorkspace, Verdict, accepted, rejected, inFile, writeFile, judged, readPattern, readCatalogue, readRecord, readBook, pairsOf, uncrowdedBy, fit, fitFile, patternRead, catalogueRead, recordRead, sheetRead, bookRead, patternWritten, catalogueWritten, recordWritten, sheetWritten, bookWritten}
+use Rattle.packed.specs.Calls.{Outcome, give, refuse, withWorkspace, Verdict, accepted, rejected, inFile, writeFile, judged, readPattern, readCatalogue, readRecord, readBook, pairsOf, withinPairsBy, fit, fitFile, patternRead, catalogueRead, recordRead, sheetRead, bookRead, patternWritten, catalogueWritten, recordWritten, sheetWritten, bookWritten}
 use Rattle.packed.proofs.OrderCases.{lt-or-ge}
-use Rattle.packed.proofs.CallLaws.{crowded, uncrowded-is}
+use Rattle.packed.proofs.CallLaws.{many-pairs, within-pairs-is}
 use Rattle.packed.proofs.CallRoundTrips.{fit-given, fitFile-given}
 use Rattle.packed.proofs.RoundTrip.{Bytes}
 use Rattle.packed.proofs.Accepted.{pattern-accepted, catalogue-accepted, record-accepted, sheet-accepted, book-accepted, written-accepted}
@@ -30,7 +30,7 @@ use Rattle.containment.specs.Choice.{everyView}
 use Rattle.containment.specs.Quote.{mapping, quotedBy, usedBy}
 use Rattle.containment.specs.Answer.{answerBytes, Choose, answerIn, answerFor, answerBy}
 use Rattle.containment.specs.Show.{recordBytes, fitBoth, showFor, showOutcome}
-use Rattle.containment.specs.Demands.{Question, Catalogue, Record, Sheet, Uncrowded, Crowded, Book, extractOf, linkOf, Covers, Leaves, Covered, Uncovered, lackingIn, chosenOf, answerOf, firstOf, secondOf, Full, Over, OverFile, OverEither, Fitted, Reads, Writes, Matched, MatchedIn, LowestUnmatched}
+use Rattle.containment.specs.Demands.{Question, Catalogue, Record, Sheet, FewPairs, ManyPairs, Book, extractOf, linkOf, Covers, Leaves, Covered, Uncovered, lackingIn, chosenOf, answerOf, firstOf, secondOf, Full, Over, OverFile, OverEither, Fitted, Reads, Writes, Matched, MatchedIn, LowestUnmatched}
 use Rattle.containment.proofs.SetBits.{test-cases, never}
 use Rattle.containment.proofs.ChoiceLaws.{MatchedBy, matched-say as matched-in-table, matched-by as matched-by-table, covers-exactly, chosen-covers, used-covered, used-uncovered, lowest-is, lowest-below}
 use Rattle.containment.proofs.QuoteLaws.{test-is, matched-exactly, ListedEdge, matched-say, matched-by, listed-whole}
@@ -111,9 +111,9 @@ pub full-twice : (v : Verdict) (w : List ℕ → Verdict) (k : List ℕ → List
     → (x : List ℕ) × (y : List ℕ) × (v ≡ accepted x) × (w x ≡ accepted y) × Full (k x y)
 full-twice v w k f = let r = full-judged v (λ x. judged (w x) (k x)) f in let t = full-judged (w (r .0)) (k (r .0)) (r .2) in (r .0, t .0, r .1, t .1, t .2)
 
-pub full-uncrowded : (ms ws : List ℕ) (a : Outcome) → Full (uncrowdedBy ms ws a) → length (pairsOf ms ws) ≤ 8192
-unfolding uncrowdedBy
-full-uncrowded ms ws a f =
+pub full-within-pairs : (ms ws : List ℕ) (a : Outcome) → Full (withinPairsBy ms ws a) → length (pairsOf ms ws) ≤ 8192
+unfolding withinPairsBy
+full-within-pairs ms ws a f =
     ⊎-elim
     (λ (h : 8192 < length (pairsOf ms ws)). absurd (no-full (rw (lt-ltb 8192 (length (pairsOf ms ws)) h) at f)))
     (λ (h : length (pairsOf ms ws) ≤ 8192). h)
@@ -135,7 +135,7 @@ module _ (words : ℕ) (a : Outcome) {NoFit : ℕ → Type 0} {outputs : List (L
   fitted-few h =
       let w = few-words words a h in
       record {
-        desk = λ d. (λ e. (h, sym (detail-same (sym w ∙ e))), λ e. w ∙ ap (refuse 14) (sym (e .1)));
+        small-workspace = λ d. (λ e. (h, sym (detail-same (sym w ∙ e))), λ e. w ∙ ap (refuse 14) (sym (e .1)));
         no-fit = λ d. (λ e. absurd (let z = number-same (sym w ∙ e) in omega arith), λ e. absurd (let l = e .0 in omega arith));
         gives = (λ e. absurd (not-refused (sym e ∙ w)), λ e. absurd (let l = e .0 in omega arith));
         no-other = inl w;
@@ -145,7 +145,7 @@ module _ (words : ℕ) (a : Outcome) {NoFit : ℕ → Type 0} {outputs : List (L
   fitted-tight h n q t only =
       let w = enough-words words a h ∙ q in
       record {
-        desk = λ d. (λ e. absurd (let z = number-same (sym w ∙ e) in omega arith), λ e. absurd (let l = e .0 in omega arith));
+        small-workspace = λ d. (λ e. absurd (let z = number-same (sym w ∙ e) in omega arith), λ e. absurd (let l = e .0 in omega arith));
         no-fit = λ d. (λ e. (h, rw (detail-same (sym w ∙ e)) at t), λ e. w ∙ ap (refuse 12) (sym (only d (e .1))));
         gives = (λ e. absurd (not-refused (sym e ∙ w)), λ e. absurd (e .1 n t));
         no-other = inr (inl (n, w));
@@ -155,7 +155,7 @@ module _ (words : ℕ) (a : Outcome) {NoFit : ℕ → Type 0} {outputs : List (L
   fitted-given h q fits =
       let w = enough-words words a h ∙ q in
       record {
-        desk = λ d. (λ e. absurd (not-refused (sym w ∙ e)), λ e. absurd (let l = e .0 in omega arith));
+        small-workspace = λ d. (λ e. absurd (not-refused (sym w ∙ e)), λ e. absurd (let l = e .0 in omega arith));
         no-fit = λ d. (λ e. absurd (not-refused (sym w ∙ e)), λ e. absurd (fits d (e .1)));
         gives = (λ e. (h, fits), λ e. w);
         no-other = inr (inr w);
@@ -267,10 +267,10 @@ pub book-reads : (c : List ℕ) → Reads (bookRead c) (λ s ws. (cs : List ℕ)
 unfolding bookRead
 book-reads c = record {
   gives = λ s ws e room words.
-      fitted _ words room ws (goes-on _ (e .1) ∙ goes-on _ (e .2 .read) ∙ uncrowded-is (edgeCounts (e .0)) ws _ (e .2 .few));
+      fitted _ words room ws (goes-on _ (e .1) ∙ goes-on _ (e .2 .read) ∙ within-pairs-is (edgeCounts (e .0)) ws _ (e .2 .few));
   only = λ s room words f.
       let r = full-twice _ _ _ (full-words words _ f) in
-      (r .1, (r .0, r .2, record { read = r .3; few = full-uncrowded _ _ _ (r .4) }));
+      (r .1, (r .0, r .2, record { read = r .3; few = full-within-pairs _ _ _ (r .4) }));
 }
 
 lone-writes : {write : List ℕ → ℕ → Outcome} {Has : List ℕ → List ℕ → Type 0} (file : ℕ) (F : Format) → ((s ws : List ℕ) → (decode F s ≡ ok ws) ↔ Has s ws)
@@ -306,31 +306,31 @@ sheet-writes p = record {
       (r .1, w .0, (r .0, r .2, sheet-accepted (edgesOf (r .0)) (r .1) ws .0 (w .1)));
 }
 
-pub book-writes : (c : List ℕ) → Writes (bookWritten c) OverFile (λ s ws. (cs : List ℕ) × Catalogue c cs × BookFile (edgeCounts cs) s ws × Uncrowded cs ws)
+pub book-writes : (c : List ℕ) → Writes (bookWritten c) OverFile (λ s ws. (cs : List ℕ) × Catalogue c cs × BookFile (edgeCounts cs) s ws × FewPairs cs ws)
 unfolding bookWritten
 book-writes c = record {
   gives = λ s ws y e room words.
       fitted-file _ words room s
-      (goes-on _ (e .1) ∙ goes-on _ (written 4 (book (edgeCounts (e .0))) s ws y (book-accepted (edgeCounts (e .0)) s ws .1 (e .2))) ∙ uncrowded-is (edgeCounts (e .0)) ws _ (e .3));
+      (goes-on _ (e .1) ∙ goes-on _ (written 4 (book (edgeCounts (e .0))) s ws y (book-accepted (edgeCounts (e .0)) s ws .1 (e .2))) ∙ within-pairs-is (edgeCounts (e .0)) ws _ (e .3));
   only = λ ws room words f.
       let r = full-twice _ _ _ (full-words words _ f) in
       let w = wrote 4 (book (edgeCounts (r .0))) (r .1) ws (r .3) in
-      (r .1, w .0, (r .0, r .2, book-accepted (edgeCounts (r .0)) (r .1) ws .0 (w .1), full-uncrowded _ _ _ (r .4)));
+      (r .1, w .0, (r .0, r .2, book-accepted (edgeCounts (r .0)) (r .1) ws .0 (w .1), full-within-pairs _ _ _ (r .4)));
 }
 
 -- ---- 10
 
 -- 10 falls exactly to a crowded book, where what would be answered else is not 10
-pub crowded-exactly : (words : ℕ) (a : Outcome) (ms ws : List ℕ) (b : Outcome) → a ≡ uncrowdedBy ms ws b → ((d : ℕ) → b ≡ refuse 10 d → ⊥) → (d : ℕ)
+pub many-pairs-exactly : (words : ℕ) (a : Outcome) (ms ws : List ℕ) (b : Outcome) → a ≡ withinPairsBy ms ws b → ((d : ℕ) → b ≡ refuse 10 d → ⊥) → (d : ℕ)
     → (withWorkspace words a ≡ refuse 10 d) ↔ ((16384 ≤ words) × (8192 < length (pairsOf ms ws)) × (d ≡ 4))
-crowded-exactly words a ms ws b e n d = (
+many-pairs-exactly words a ms ws b e n d = (
   λ x.
       let w = enough-for words a (λ z. let y = number-same z in omega arith) x in
       ⊎-elim
-      (λ (h : 8192 < length (pairsOf ms ws)). (w .0, h, sym (detail-same (sym (e ∙ crowded ms ws b h) ∙ w .1))))
-      (λ (h : length (pairsOf ms ws) ≤ 8192). absurd (n d (sym (e ∙ uncrowded-is ms ws b h) ∙ w .1)))
+      (λ (h : 8192 < length (pairsOf ms ws)). (w .0, h, sym (detail-same (sym (e ∙ many-pairs ms ws b h) ∙ w .1))))
+      (λ (h : length (pairsOf ms ws) ≤ 8192). absurd (n d (sym (e ∙ within-pairs-is ms ws b h) ∙ w .1)))
       (lt-or-ge 8192 (length (pairsOf ms ws))),
-  λ x. enough-words words a (x .0) ∙ e ∙ crowded ms ws b (x .1) ∙ ap (refuse 10) (sym (x .2)),
+  λ x. enough-words words a (x .0) ∙ e ∙ many-pairs ms ws b (x .1) ∙ ap (refuse 10) (sym (x .2)),
 )
 
 fit-number : (room : ℕ) (o : List ℕ) (n d : ℕ) → fit room o ≡ refuse n d → n ≡ 12
@@ -346,33 +346,33 @@ file-number room o n d e =
     (lt-or-ge 65536 (length o)))
     (lt-or-ge room (length o))
 
-pub crowded-read : (c cs s ws : List ℕ) → Catalogue c cs → readBook cs s ≡ accepted ws → (room words d : ℕ)
-    → (withWorkspace words (bookRead c s room) ≡ refuse 10 d) ↔ ((16384 ≤ words) × Crowded cs ws × (d ≡ 4))
+pub many-pairs-read : (c cs s ws : List ℕ) → Catalogue c cs → readBook cs s ≡ accepted ws → (room words d : ℕ)
+    → (withWorkspace words (bookRead c s room) ≡ refuse 10 d) ↔ ((16384 ≤ words) × ManyPairs cs ws × (d ≡ 4))
 unfolding bookRead
-crowded-read c cs s ws e f room words d =
-    crowded-exactly words _ (edgeCounts cs) ws (fit room ws) (goes-on _ e ∙ goes-on _ f) (λ k x. let z = fit-number room ws 10 k x in omega arith) d
+many-pairs-read c cs s ws e f room words d =
+    many-pairs-exactly words _ (edgeCounts cs) ws (fit room ws) (goes-on _ e ∙ goes-on _ f) (λ k x. let z = fit-number room ws 10 k x in omega arith) d
 
-pub crowded-written : (c cs s ws : List ℕ) → Catalogue c cs → Below 256 s → BookFile (edgeCounts cs) s ws → (room words d : ℕ)
-    → (withWorkspace words (bookWritten c ws room) ≡ refuse 10 d) ↔ ((16384 ≤ words) × Crowded cs ws × (d ≡ 4))
+pub many-pairs-written : (c cs s ws : List ℕ) → Catalogue c cs → Below 256 s → BookFile (edgeCounts cs) s ws → (room words d : ℕ)
+    → (withWorkspace words (bookWritten c ws room) ≡ refuse 10 d) ↔ ((16384 ≤ words) × ManyPairs cs ws × (d ≡ 4))
 unfolding bookWritten
-crowded-written c cs s ws e y f room words d =
-    crowded-exactly words _ (edgeCounts cs) ws (fitFile room s)
+many-pairs-written c cs s ws e y f room words d =
+    many-pairs-exactly words _ (edgeCounts cs) ws (fitFile room s)
     (goes-on _ e ∙ goes-on _ (written 4 (book (edgeCounts cs)) s ws y (book-accepted (edgeCounts cs) s ws .1 f)))
     (λ k x. let z = file-number room s 10 k x in omega arith) d
 
 -- what is answered from a book that isn't crowded
-abbrev uncrowdedAnswer : ℕ → List ℕ → List ℕ → List ℕ → ℕ → Outcome
-uncrowdedAnswer set qs cs bs room = pick (coveredIn set qs cs) (fitFile room (answerBytes qs set (viewPatterns cs) (sheetsIn (edgeCounts cs) bs))) (refuse 11 (lackingIn set qs cs))
+abbrev fewPairsAnswer : ℕ → List ℕ → List ℕ → List ℕ → ℕ → Outcome
+fewPairsAnswer set qs cs bs room = pick (coveredIn set qs cs) (fitFile room (answerBytes qs set (viewPatterns cs) (sheetsIn (edgeCounts cs) bs))) (refuse 11 (lackingIn set qs cs))
 
 answer-number : (b : Bool) (room : ℕ) (o : List ℕ) (k d : ℕ) → pick b (fitFile room o) (refuse 11 k) ≡ refuse 10 d → ⊥
 answer-number true room o k d e = let z = file-number room o 10 d e in omega arith
 answer-number false room o k d e = let z = number-same e in omega arith
 
-pub crowded-answer : (choose : Choose) (q c b qs cs bs : List ℕ) → Question q qs → Catalogue c cs → readBook cs b ≡ accepted bs → (room words d : ℕ)
-    → (withWorkspace words (answerBy choose q c b room) ≡ refuse 10 d) ↔ ((16384 ≤ words) × Crowded cs bs × (d ≡ 4))
+pub many-pairs-answer : (choose : Choose) (q c b qs cs bs : List ℕ) → Question q qs → Catalogue c cs → readBook cs b ≡ accepted bs → (room words d : ℕ)
+    → (withWorkspace words (answerBy choose q c b room) ≡ refuse 10 d) ↔ ((16384 ≤ words) × ManyPairs cs bs × (d ≡ 4))
 unfolding answerBy answerFor answerIn
-crowded-answer choose q c b qs cs bs e f g room words d =
-    crowded-exactly words _ (edgeCounts cs) bs (uncrowdedAnswer (choose (quotedBy qs cs)) qs cs bs room) (goes-on _ e ∙ goes-on _ f ∙ goes-on _ g)
+many-pairs-answer choose q c b qs cs bs e f g room words d =
+    many-pairs-exactly words _ (edgeCounts cs) bs (fewPairsAnswer (choose (quotedBy qs cs)) qs cs bs room) (goes-on _ e ∙ goes-on _ f ∙ goes-on _ g)
     (λ k x. answer-number (coveredIn (choose (quotedBy qs cs)) qs cs) room _ (lackingIn (choose (quotedBy qs cs)) qs cs) k x) d
 
 -- no other number

@@ -37,14 +37,14 @@ use Rattle.containment.specs.Answer.{answerIn, answerFor, answerBy}
 use Rattle.containment.specs.Cheapest.{cheapestFrom, cheapestFor, cheapestOutcome}
 use Rattle.containment.specs.Show.{showFor, showOutcome}
 use Rattle.containment.specs.Listing.{lineOf, lineOutcome}
-use Rattle.containment.specs.Demands.{Full, Settles, writePattern, writeCatalogue, writeRecord, Worked, Demand1, Question, Catalogue, Record, ownOf, Uncrowded, Book, extractOf, linkOf, Covered, lacking, chosenOf, Matching, Matched, Demand2}
-use Rattle.containment.proofs.Numbered.{numbered, pattern-faults, catalogue-faults, record-faults, old-faults, sheet-faults, book-faults, gives, refuses, either, workspace-settles, uncrowded-settles, own-settles, fit-settles, fitFile-settles, fitBoth-settles, read-settles, write-settles, write-short, read-few}
+use Rattle.containment.specs.Demands.{Full, Settles, writePattern, writeCatalogue, writeRecord, Worked, Demand1, Question, Catalogue, Record, ownOf, FewPairs, Book, extractOf, linkOf, Covered, lacking, chosenOf, Matching, Matched, Demand2}
+use Rattle.containment.proofs.Numbered.{numbered, pattern-faults, catalogue-faults, record-faults, old-faults, sheet-faults, book-faults, gives, refuses, either, workspace-settles, within-pairs-settles, own-settles, fit-settles, fitFile-settles, fitBoth-settles, read-settles, write-settles, write-short, read-few}
 use Rattle.containment.proofs.SetBits.{never}
 use Rattle.containment.proofs.ChoiceLaws.{chosen-none, chosen-covers, chosen-needed}
 use Rattle.containment.proofs.CoveredBytes.{coveredBy, question-bounds, few-views, record-is}
 use Rattle.containment.proofs.QuoteLaws.{test-is, mapping-exactly, quote-says-covered}
-use Rattle.containment.proofs.DemandRules.{number-same, not-refused, refused-judged, goes-on, bytes-by, few-words, enough-words, enough-for, full-words, full-judged, full-twice, full-uncrowded, fitted, fitted-file, fitted-both, pattern-reads, catalogue-reads, record-reads, sheet-reads, book-reads, pattern-writes, catalogue-writes, record-writes, sheet-writes, book-writes, crowded-read, crowded-written, crowded-answer, listed-matched, matched-listed, covers-plain, shown-both, full-shown, given-by, full-answered}
-use Rattle.containment.proofs.DemandFiles.{hands-up, says-judged, says-quoted, says-give, says-fit, says-fit-file, says-uncrowded, says-own, says-quote, says-cheapest, says-answer, says-show}
+use Rattle.containment.proofs.DemandRules.{number-same, not-refused, refused-judged, goes-on, bytes-by, few-words, enough-words, enough-for, full-words, full-judged, full-twice, full-within-pairs, fitted, fitted-file, fitted-both, pattern-reads, catalogue-reads, record-reads, sheet-reads, book-reads, pattern-writes, catalogue-writes, record-writes, sheet-writes, book-writes, many-pairs-read, many-pairs-written, many-pairs-answer, listed-matched, matched-listed, covers-plain, shown-both, full-shown, given-by, full-answered}
+use Rattle.containment.proofs.DemandFiles.{hands-up, says-judged, says-quoted, says-give, says-fit, says-fit-file, says-within-pairs, says-own, says-quote, says-cheapest, says-answer, says-show}
 use Rattle.containment.proofs.DemandIndex.{index-made, check-exactly, check-yes, search-exactly, check-whole, search-whole, way-same, way-searched}
 use Rattle.containment.proofs.DemandSheets.{pair-fields, searched-back, searched-length, book-made, views-sound}
 
@@ -62,7 +62,7 @@ record-first s h = read-settles 44036 3 record-faults s h
 
 answer-settles : (set : ℕ) (x : Quoted) (bs : List ℕ) (room : ℕ) → Settles (answerIn set x bs room)
 unfolding answerIn
-answer-settles set x bs room = uncrowded-settles (edgeCounts (x .offer .content)) bs (either (covering x set) (fitFile-settles room _) (refuses _ (numbered 11 refl refl)))
+answer-settles set x bs room = within-pairs-settles (edgeCounts (x .offer .content)) bs (either (covering x set) (fitFile-settles room _) (refuses _ (numbered 11 refl refl)))
 
 cheapest-settles : (charges : List ℕ) (x : Quoted) → Settles (cheapestFor charges x)
 unfolding cheapestFor cheapestFrom
@@ -73,9 +73,9 @@ show-settles : (room room′ : ℕ) (x : Quoted) → Settles (showFor room room�
 unfolding showFor
 show-settles room room′ x = either (covering x (x .usable)) (refuses 0 (numbered 13 refl refl)) (fitBoth-settles room room′ _ _)
 
-full-answer : (set : ℕ) (x : Quoted) (bs : List ℕ) (room : ℕ) → Full (answerIn set x bs room) → Uncrowded (x .offer .content) bs
+full-answer : (set : ℕ) (x : Quoted) (bs : List ℕ) (room : ℕ) → Full (answerIn set x bs room) → FewPairs (x .offer .content) bs
 unfolding answerIn
-full-answer set x bs room f = full-uncrowded (edgeCounts (x .offer .content)) bs _ f
+full-answer set x bs room f = full-within-pairs (edgeCounts (x .offer .content)) bs _ f
 
 -- what a workspace holds afterwards
 worked : (work work′ : List ℕ) → work′ ≡ workOf work → Worked work work′
@@ -94,7 +94,7 @@ quote-few q c e =
     (refused-judged (readPattern q) _ e)
 
 -- a book is accepted if none of 1 to 9 falls to it, and 10 doesn't
-book-exactly : (cs s ws : List ℕ) → Book cs s ws ↔ ((length s ≤ 65536) × BookFile (edgeCounts cs) s ws × Uncrowded cs ws)
+book-exactly : (cs s ws : List ℕ) → Book cs s ws ↔ ((length s ≤ 65536) × BookFile (edgeCounts cs) s ws × FewPairs cs ws)
 book-exactly cs s ws = (
   λ k. let r = book-read cs s ws .0 (k .read) in (r .0, r .1, k .few),
   λ k. record { read = book-read cs s ws .1 (k .0, k .1); few = k .2 },
@@ -109,7 +109,7 @@ demand-1 = record {
   read-sheet = λ p s room words. workspace-settles words (pattern-first p (λ ps. read-settles 65536 4 (sheet-faults (edgesOf ps)) s (fit-settles room)));
   read-book = λ c s room words.
       workspace-settles words
-      (catalogue-first c (λ cs. read-settles 65536 4 (book-faults (edgeCounts cs)) s (λ ws. uncrowded-settles (edgeCounts cs) ws (fit-settles room ws))));
+      (catalogue-first c (λ cs. read-settles 65536 4 (book-faults (edgeCounts cs)) s (λ ws. within-pairs-settles (edgeCounts cs) ws (fit-settles room ws))));
   write-pattern = λ ws room words. workspace-settles words (write-settles 1 pattern-faults ws (fit-settles room));
   write-catalogue = λ ws room words. workspace-settles words (write-settles 2 catalogue-faults ws (fit-settles room));
   write-record = λ ws room words. workspace-settles words (write-settles 3 record-faults ws (fit-settles room));
@@ -117,7 +117,7 @@ demand-1 = record {
   write-sheet = λ p ws room words. workspace-settles words (pattern-first p (λ ps. write-settles 4 (sheet-faults (edgesOf ps)) ws (fitFile-settles room)));
   write-book = λ c ws room words.
       workspace-settles words
-      (catalogue-first c (λ cs. write-settles 4 (book-faults (edgeCounts cs)) ws (λ s. uncrowded-settles (edgeCounts cs) ws (fitFile-settles room s))));
+      (catalogue-first c (λ cs. write-settles 4 (book-faults (edgeCounts cs)) ws (λ s. within-pairs-settles (edgeCounts cs) ws (fitFile-settles room s))));
   search = λ p r room words. workspace-settles words (pattern-first p (λ ps. record-first r (λ rs. fitFile-settles room _)));
   make-index = λ r room words. workspace-settles words (record-first r (λ rs. fit-settles room (ownOf rs)));
   check-index = λ r index words. workspace-settles words (record-first r (λ rs. own-settles (ownOf rs) index (gives _ [])));
@@ -134,12 +134,12 @@ demand-1 = record {
   read-catalogue-files = λ s room. hands-up (says-judged (readCatalogue s) (λ ws _. says-fit room ws));
   read-record-files = λ s room. hands-up (says-judged (readRecord s) (λ ws _. says-fit room ws));
   read-sheet-files = λ p s room. hands-up (says-judged (readPattern p) (λ ps _. says-judged (readSheet ps s) (λ ws _. says-fit room ws)));
-  read-book-files = λ c s room. hands-up (says-judged (readCatalogue c) (λ cs _. says-judged (readBook cs s) (λ ws _. says-uncrowded (edgeCounts cs) ws (says-fit room ws))));
+  read-book-files = λ c s room. hands-up (says-judged (readCatalogue c) (λ cs _. says-judged (readBook cs s) (λ ws _. says-within-pairs (edgeCounts cs) ws (says-fit room ws))));
   write-pattern-files = λ ws room. hands-up (says-judged (writePattern ws) (λ s _. says-fit room s));
   write-catalogue-files = λ ws room. hands-up (says-judged (writeCatalogue ws) (λ s _. says-fit room s));
   write-record-files = λ ws room. hands-up (says-judged (writeRecord ws) (λ s _. says-fit room s));
   write-sheet-files = λ p ws room. hands-up (says-judged (readPattern p) (λ ps _. says-judged (writeSheet ps ws) (λ s _. says-fit-file room s)));
-  write-book-files = λ c ws room. hands-up (says-judged (readCatalogue c) (λ cs _. says-judged (writeBook cs ws) (λ s _. says-uncrowded (edgeCounts cs) ws (says-fit-file room s))));
+  write-book-files = λ c ws room. hands-up (says-judged (readCatalogue c) (λ cs _. says-judged (writeBook cs ws) (λ s _. says-within-pairs (edgeCounts cs) ws (says-fit-file room s))));
   search-files = λ p r room. hands-up (says-judged (readPattern p) (λ ps _. says-judged (readRecord r) (λ rs _. says-fit-file room _)));
   make-index-files = λ r room. hands-up (says-judged (readRecord r) (λ rs _. says-fit room _));
   check-index-files = λ r index. hands-up (says-judged (readRecord r) (λ rs _. says-own (ownOf rs) index (says-give _ _)));
@@ -153,7 +153,7 @@ demand-1 = record {
   never-long = λ ws d. (write-short 1 pattern-faults ws d, write-short 2 catalogue-faults ws d, write-short 3 record-faults ws d);
   never-long-beside = λ cs ws d. (write-short 4 (sheet-faults (edgesOf cs)) ws d, write-short 4 (book-faults (edgeCounts cs)) ws d);
   quote-never = λ q c words d e. let l = quote-few q c (enough-for words _ (λ z. let y = number-same z in omega arith) e .1) in omega arith;
-  desk = λ a words. few-words words a;
+  small-workspace = λ a words. few-words words a;
   enough = λ a words. enough-words words a;
   accepts-pattern = pattern-read;
   accepts-catalogue = catalogue-read;
@@ -170,9 +170,9 @@ demand-1 = record {
   writes-record = record-writes;
   writes-sheet = sheet-writes;
   writes-book = book-writes;
-  read-crowded = crowded-read;
-  write-crowded = crowded-written;
-  answer-crowded = crowded-answer;
+  read-many-pairs = many-pairs-read;
+  write-many-pairs = many-pairs-written;
+  answer-many-pairs = many-pairs-answer;
   search-gives = λ way p r ps rs e f room words. fitted-file _ words room _ (way-searched way p r ps rs e f room);
   search-only = λ p r room words f. let t = full-twice _ _ _ (full-words words _ f) in (t .0, t .1, t .2, t .3);
   search-indexed-only = search-whole;

@@ -21,8 +21,8 @@ use Rattle.packed.proofs.RoundTrip.{and-no}
 use Rattle.matching.specs.Lists.{In, here, there}
 use Rattle.matching.specs.Simulation.{Edge, noEdge, Pattern, bit}
 use Rattle.matching.specs.Join.{isMatch}
-use Rattle.matching.specs.Steps.{givenEdge, patternIn, Fair}
-use Rattle.matching.specs.Sweeps.{OneOf}
+use Rattle.matching.specs.Loaded.{givenEdge, patternIn, Fair}
+use Rattle.matching.specs.Masks.{OneOf}
 use Rattle.matching.specs.Matched.{Rises}
 use Rattle.matching.proofs.ListLaws.{same-test, not-in-none, in-cases, in-cast}
 use Rattle.matching.proofs.UpToLaws.{length-upTo, getD-upTo}

@@ -15,8 +15,8 @@ use Rattle.packed.specs.declared.by_value.Pattern.{Pattern as Given}
 use Rattle.packed.proofs.AcceptedBounds.{catalogue-views}
 use Rattle.matching.specs.Lists.{In, here, there}
 use Rattle.matching.specs.Simulation.{Edge, noEdge, Rule, oneWay, Pattern, patternOf, graphOf, asGraph, matchSets, viewSheet}
-use Rattle.matching.specs.Steps.{givenEdge, patternIn, graphIn, Edges}
-use Rattle.matching.specs.Sweeps.{OneOf}
+use Rattle.matching.specs.Loaded.{givenEdge, patternIn, graphIn, Edges}
+use Rattle.matching.specs.Masks.{OneOf}
 use Rattle.matching.specs.Matched.{EdgesMatched, ViewAt}
 use Rattle.matching.specs.declared.views.View.{View}
 use Rattle.matching.proofs.ListLaws.{in-at, in-each}

@@ -15,7 +15,7 @@ use Rattle.packed.specs.Formats.{code, rank, edges, label, joined, pattern, cat
 use Rattle.packed.specs.Refusals.{numberOf}
 use Rattle.packed.specs.declared.reply.Refusal.{Refusal}
 use Rattle.packed.specs.declared.reply.Refusal.the-variants.{TooLong, Truncated, OutOfRange, NoSuchNode, DuplicateEdge, NotAscending, IsolatedNode, ZeroCount, Trailing, TooManyPairs, NotContained, NoRoom, Contained, SmallWorkspace, WrongCharges, WrongIndex}
-use Rattle.packed.specs.Calls.{Outcome, give, refuse, withWorkspace, rejected, inFile, readFile, writeFile, judged, pairsOf, uncrowdedBy, fit, fitFile}
+use Rattle.packed.specs.Calls.{Outcome, give, refuse, withWorkspace, rejected, inFile, readFile, writeFile, judged, pairsOf, withinPairsBy, fit, fitFile}
 use Rattle.matching.specs.Index.{alike, ownIndex}
 use Rattle.containment.specs.Show.{fitBoth}
 use Rattle.containment.specs.Demands.{Settles}
@@ -214,9 +214,9 @@ pub workspace-settles : (words : ℕ) {a : Outcome} → Settles a → Settles (w
 unfolding withWorkspace
 workspace-settles words h = either (ltb words 16384) (refuses 0 (numbered 14 refl refl)) h
 
-pub uncrowded-settles : (ms ws : List ℕ) {a : Outcome} → Settles a → Settles (uncrowdedBy ms ws a)
-unfolding uncrowdedBy
-uncrowded-settles ms ws h = either (ltb 8192 (length (pairsOf ms ws))) (refuses 4 (numbered 10 refl refl)) h
+pub within-pairs-settles : (ms ws : List ℕ) {a : Outcome} → Settles a → Settles (withinPairsBy ms ws a)
+unfolding withinPairsBy
+within-pairs-settles ms ws h = either (ltb 8192 (length (pairsOf ms ws))) (refuses 4 (numbered 10 refl refl)) h
 
 pub own-settles : (own index : List ℕ) {a : Outcome} → Settles a → Settles (ownIndex own index a)
 unfolding ownIndex

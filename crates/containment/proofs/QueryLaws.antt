@@ -18,7 +18,7 @@ use Rattle.packed.specs.declared.by_value.Pattern.{Pattern as Given}
 use Rattle.packed.proofs.OrderCases.{lt-or-ge}
 use Rattle.packed.proofs.Accepted.{pattern-accepted}
 use Rattle.matching.specs.Simulation.{noEdge, Pattern, patternOf}
-use Rattle.matching.specs.Steps.{givenEdge, patternIn, Fair}
+use Rattle.matching.specs.Loaded.{givenEdge, patternIn, Fair}
 use Rattle.matching.proofs.UpToLaws.{length-upTo, getD-upTo}
 use Rattle.matching.proofs.PatternLaws.{edges-in, fair-by, pattern-same}
 use Rattle.containment.specs.Show.{graphFields, recordBytes}

@@ -16,7 +16,7 @@ use Rattle.matching.specs.Lists.{_or_, In, here, there}
 use Rattle.matching.specs.Simulation.{Edge, noEdge, Pattern, bit, asGraph, viewSheet}
 use Rattle.matching.specs.Join.{isMatch}
 use Rattle.matching.proofs.ByEdge.{someMatch, matchedBy, matched, covered}
-use Rattle.matching.specs.Sweeps.{OneOf}
+use Rattle.matching.specs.Masks.{OneOf}
 use Rattle.matching.proofs.ListLaws.{not-in-none, in-cases, in-at, every-in, in-every, some-in, in-some}
 use Rattle.matching.proofs.UpToLaws.{getD-upTo}
 use Rattle.matching.proofs.JoinLaws.{match-say, match-by, some-match-say, some-match-by}

@@ -12,7 +12,7 @@ use Rattle.packed.specs.Format.{pick, then, times, whole, within, scan, lay, by
 use Rattle.packed.specs.Formats.{linked, edges, isEnd, allEnds, label, joined, pattern, catalogue, pairs, labels, rising, record′, lists, standing, sheet, book}
 use Rattle.packed.specs.Contents.{patternSize, patternsIn, viewsOf, edgeCounts, codesIn, listsIn, afterLists, sheetLists, afterSheet, ends, fieldsOf, pairCount, sheetFields, sheetsIn, member, insert, distinct, eachEdge, fromRanks, sortedEdges}
 use Rattle.packed.specs.OldRecord.{oldRecord, sortedFields, recordSorted}
-use Rattle.packed.specs.Calls.{Outcome, give, refuse, withWorkspace, readFile, writeFile, judged, pairsOf, uncrowdedBy, fit, fitFile, patternRead, catalogueRead, recordRead, sheetRead, bookRead, patternWritten, catalogueWritten, recordWritten, sheetWritten, bookWritten}
+use Rattle.packed.specs.Calls.{Outcome, give, refuse, withWorkspace, readFile, writeFile, judged, pairsOf, withinPairsBy, fit, fitFile, patternRead, catalogueRead, recordRead, sheetRead, bookRead, patternWritten, catalogueWritten, recordWritten, sheetWritten, bookWritten}
 use Rattle.matching.specs.Lists.{_and_, _or_, _implies_, every, some, keep, gather, each, below, upTo}
 use Rattle.matching.specs.Greatest.{settle, greatest}
 use Rattle.matching.specs.Simulation.{same, has, sameEdge, everyPair as allPairs, bit, edgesIn, patternOf, graphOf, asksArrivals, asGraph, fits, followsOut, followsIn, follows, sim, total, row, ascending, matchSets, viewSheet}
@@ -858,5 +858,5 @@ unfoldable pub table : List (List Case)
 table = patterns ∷ catalogues ∷ records ∷ sortings ∷ sheets ∷ books ∷ searches ∷ indexes ∷ quotes ∷ cheapests ∷ showings ∷ answers ∷ []
 
 pub cases : Agree table
-unfolding Agree table flatten patterns catalogues records sortings sheets books searches indexes quotes cheapests showings answers digit hex next turned numbers bitsOf num numFrom bits zeros gap then times whole within scan lay bytesOf decode encode linked edges isEnd allEnds label joined pattern catalogue pairs labels rising record′ lists standing sheet book patternSize patternsIn viewsOf edgeCounts codesIn listsIn afterLists sheetLists afterSheet ends fieldsOf pairCount sheetFields sheetsIn member insert distinct eachEdge fromRanks sortedEdges oldRecord sortedFields recordSorted withWorkspace readFile writeFile judged pairsOf uncrowdedBy fit fitFile patternRead catalogueRead recordRead sheetRead bookRead patternWritten catalogueWritten recordWritten sheetWritten bookWritten _and_ _or_ _implies_ every some keep gather each below upTo settle greatest same has sameEdge allPairs bit edgesIn patternOf graphOf asGraph fits asksArrivals followsOut followsIn follows sim total row ascending matchSets viewSheet sheetBytes bookBytes searchOutcome viewSheets makeBookOutcome beginBelow indexFor alike ownIndex makeIndexOutcome checkIndexOutcome searchIndexedOutcome pairOf isMatch under candidates supportedOut supportedIn supported join complete keptFor answerSets matches matchedIn coversIn lowestUnmatched addsTo taken kept chosen used maskIn matchMask maskAt mapping valuesFrom quoteValues flat quoteFor quoteOutcome viewsIn answerBytes answerIn answerFor answerBy asRecord graphFields fewerFields recordBytes fitBoth showFor showOutcome weigh lesser better misses ahead foremost cheapest cheapestFrom cheapestFor cheapestOutcome
+unfolding Agree table flatten patterns catalogues records sortings sheets books searches indexes quotes cheapests showings answers digit hex next turned numbers bitsOf num numFrom bits zeros gap then times whole within scan lay bytesOf decode encode linked edges isEnd allEnds label joined pattern catalogue pairs labels rising record′ lists standing sheet book patternSize patternsIn viewsOf edgeCounts codesIn listsIn afterLists sheetLists afterSheet ends fieldsOf pairCount sheetFields sheetsIn member insert distinct eachEdge fromRanks sortedEdges oldRecord sortedFields recordSorted withWorkspace readFile writeFile judged pairsOf withinPairsBy fit fitFile patternRead catalogueRead recordRead sheetRead bookRead patternWritten catalogueWritten recordWritten sheetWritten bookWritten _and_ _or_ _implies_ every some keep gather each below upTo settle greatest same has sameEdge allPairs bit edgesIn patternOf graphOf asGraph fits asksArrivals followsOut followsIn follows sim total row ascending matchSets viewSheet sheetBytes bookBytes searchOutcome viewSheets makeBookOutcome beginBelow indexFor alike ownIndex makeIndexOutcome checkIndexOutcome searchIndexedOutcome pairOf isMatch under candidates supportedOut supportedIn supported join complete keptFor answerSets matches matchedIn coversIn lowestUnmatched addsTo taken kept chosen used maskIn matchMask maskAt mapping valuesFrom quoteValues flat quoteFor quoteOutcome viewsIn answerBytes answerIn answerFor answerBy asRecord graphFields fewerFields recordBytes fitBoth showFor showOutcome weigh lesser better misses ahead foremost cheapest cheapestFrom cheapestFor cheapestOutcome
 cases = (refl, (refl, (refl, (refl, (refl, (refl, (refl, (refl, (refl, (refl, (refl, (refl, tt))))))))))))

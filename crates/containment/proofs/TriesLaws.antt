@@ -16,7 +16,7 @@ use borrow.Author.Tests.{eqb-true, eq-eqb, ne-eqb}
 use Rattle.packed.specs.Format.{pick}
 use Rattle.packed.proofs.OrderCases.{lt-or-ge, eq-or-ne}
 use Rattle.matching.specs.Simulation.{bit}
-use Rattle.matching.specs.Sweeps.{Mask, Has}
+use Rattle.matching.specs.Masks.{Mask, Has}
 use Rattle.matching.proofs.MaskBits.{mask-cast, mask-or, mask-one, mask-none, part-le, has-lt, not-by, none-has}
 use Rattle.containment.specs.Choice.{matches, matchedIn, coversIn}
 use Rattle.containment.specs.Cheapest.{weigh, cost, size, turned, lesser, better, misses, ahead, foremost, cheapest}

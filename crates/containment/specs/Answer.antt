@@ -4,7 +4,7 @@ use mathlib.Core.List.{List, [], _∷_}
 use lib.ListN.{drop, getD}
 use Rattle.packed.specs.Format.{pick}
 use Rattle.packed.specs.Contents.{edgeCounts, sheetsIn}
-use Rattle.packed.specs.Calls.{Outcome, refuse, judged, readBook, uncrowded, fitFile}
+use Rattle.packed.specs.Calls.{Outcome, refuse, judged, readBook, withinPairs, fitFile}
 use Rattle.matching.specs.Simulation.{Pattern, bit, patternOf}
 use Rattle.matching.specs.Join.{View, answerSets}
 use Rattle.matching.specs.Search.{sheetBytes}
@@ -23,7 +23,7 @@ answerBytes qs set Ps sheets = sheetBytes (answerSets (patternOf qs) (viewsIn se
 -- answering by the views in a set: 10, 11 with the lowest edge that they leave unmatched, 12
 unfoldable pub answerIn : ℕ → Quoted → List ℕ → ℕ → Outcome
 answerIn set x bs room =
-    uncrowded (x .offer .content) bs
+    withinPairs (x .offer .content) bs
     (pick (covering x set)
     (fitFile room (answerBytes (x .content) set (x .offer .views) (sheetsIn (edgeCounts (x .offer .content)) bs)))
     (refuse 11 (lowestLeft x set)))

@@ -49,15 +49,15 @@ Record r rs = readRecord r ≡ accepted rs
 abbrev pub Sheet : List ℕ → List ℕ → List ℕ → Type 0
 Sheet ps s ws = readSheet ps s ≡ accepted ws
 
-abbrev pub Uncrowded : List ℕ → List ℕ → Type 0
-Uncrowded cs bs = length (pairsOf (edgeCounts cs) bs) ≤ pairsMost
+abbrev pub FewPairs : List ℕ → List ℕ → Type 0
+FewPairs cs bs = length (pairsOf (edgeCounts cs) bs) ≤ pairsMost
 
-abbrev pub Crowded : List ℕ → List ℕ → Type 0
-Crowded cs bs = pairsMost < length (pairsOf (edgeCounts cs) bs)
+abbrev pub ManyPairs : List ℕ → List ℕ → Type 0
+ManyPairs cs bs = pairsMost < length (pairsOf (edgeCounts cs) bs)
 
 pub record Book (cs b bs : List ℕ) : Type 0 where
   pub read : readBook cs b ≡ accepted bs
-  pub few : Uncrowded cs bs
+  pub few : FewPairs cs bs
 
 abbrev pub extractOf : List ℕ → ℕ → Pattern
 extractOf cs a = getD (viewPatterns cs) a noPattern
@@ -203,7 +203,7 @@ NotOwn own index d = ((length index ≡ length own → ⊥) × (d ≡ length ind
 
 -- what a call answers once nothing but 14 and 12 can fall to it: "each refusal is given in its case and no other"; else its outputs, whole
 pub record Fitted (words : ℕ) (NoFit : ℕ → Type 0) (outputs : List (List ℕ)) (a : Outcome) : Type 0 where
-  pub desk : (d : ℕ) → (a ≡ refuse 14 d) ↔ ((words < workspace) × (d ≡ 0))
+  pub small-workspace : (d : ℕ) → (a ≡ refuse 14 d) ↔ ((words < workspace) × (d ≡ 0))
   pub no-fit : (d : ℕ) → (a ≡ refuse 12 d) ↔ ((workspace ≤ words) × NoFit d)
   pub gives : (a ≡ give [] outputs) ↔ ((workspace ≤ words) × ((d : ℕ) → NoFit d → ⊥))
   pub no-other : (a ≡ refuse 14 0) ⊎ (((d : ℕ) × (a ≡ refuse 12 d)) ⊎ (a ≡ give [] outputs))
@@ -275,7 +275,7 @@ pub record Demand1 : Type 0 where
   -- "a quote never gives 11: uncovered is one of its results"
   pub quote-never : (q c : List ℕ) (words d : ℕ) → withWorkspace words (quoteOutcome q c) ≡ refuse 11 d → ⊥
   -- "under a fixed rule": 14, "fewer than 16,384 work words were lent", stands before all else
-  pub desk : (a : Outcome) (words : ℕ) → words < workspace → withWorkspace words a ≡ refuse 14 0
+  pub small-workspace : (a : Outcome) (words : ℕ) → words < workspace → withWorkspace words a ≡ refuse 14 0
   pub enough : (a : Outcome) (words : ℕ) → workspace ≤ words → withWorkspace words a ≡ a
   -- a file is accepted, with its content, exactly when the plain conditions of its format hold (packed/specs/Plain.antt:
   -- counts in range, ends that are items, no repeat, each item at a link, ascending, no zero count after a 1, padding zero and nothing after it)
@@ -283,7 +283,7 @@ pub record Demand1 : Type 0 where
   pub accepts-catalogue : (s ws : List ℕ) → Catalogue s ws ↔ ((length s ≤ catalogueMost) × CatalogueFile s ws)
   pub accepts-record : (s ws : List ℕ) → Record s ws ↔ ((length s ≤ recordMost) × RecordFile s ws)
   pub accepts-sheet : (ps s ws : List ℕ) → Sheet ps s ws ↔ ((length s ≤ bookMost) × SheetFile (edgesOf ps) s ws)
-  pub accepts-book : (cs s ws : List ℕ) → Book cs s ws ↔ ((length s ≤ bookMost) × BookFile (edgeCounts cs) s ws × Uncrowded cs ws)
+  pub accepts-book : (cs s ws : List ℕ) → Book cs s ws ↔ ((length s ≤ bookMost) × BookFile (edgeCounts cs) s ws × FewPairs cs ws)
   -- a reader gives the content of an accepted file and of no other; a writer the file that has the content by the same conditions
   pub reads-pattern : Reads patternRead Question
   pub reads-catalogue : Reads catalogueRead Catalogue
@@ -294,14 +294,14 @@ pub record Demand1 : Type 0 where
   pub writes-catalogue : Writes catalogueWritten Over CatalogueFile
   pub writes-record : Writes recordWritten Over RecordFile
   pub writes-sheet : (p : List ℕ) → Writes (sheetWritten p) OverFile (λ s ws. (ps : List ℕ) × Question p ps × SheetFile (edgesOf ps) s ws)
-  pub writes-book : (c : List ℕ) → Writes (bookWritten c) OverFile (λ s ws. (cs : List ℕ) × Catalogue c cs × BookFile (edgeCounts cs) s ws × Uncrowded cs ws)
+  pub writes-book : (c : List ℕ) → Writes (bookWritten c) OverFile (λ s ws. (cs : List ℕ) × Catalogue c cs × BookFile (edgeCounts cs) s ws × FewPairs cs ws)
   -- 10, "over 8,192 different pairs stand in a book", falls to a book exactly then, with the detail 4, "book or lone sheet"
-  pub read-crowded : (c cs s ws : List ℕ) → Catalogue c cs → readBook cs s ≡ accepted ws → (room words d : ℕ)
-      → (withWorkspace words (bookRead c s room) ≡ refuse 10 d) ↔ ((workspace ≤ words) × Crowded cs ws × (d ≡ 4))
-  pub write-crowded : (c cs s ws : List ℕ) → Catalogue c cs → Below 256 s → BookFile (edgeCounts cs) s ws → (room words d : ℕ)
-      → (withWorkspace words (bookWritten c ws room) ≡ refuse 10 d) ↔ ((workspace ≤ words) × Crowded cs ws × (d ≡ 4))
-  pub answer-crowded : (choose : Choose) (q c b qs cs bs : List ℕ) → Question q qs → Catalogue c cs → readBook cs b ≡ accepted bs → (room words d : ℕ)
-      → (withWorkspace words (answerBy choose q c b room) ≡ refuse 10 d) ↔ ((workspace ≤ words) × Crowded cs bs × (d ≡ 4))
+  pub read-many-pairs : (c cs s ws : List ℕ) → Catalogue c cs → readBook cs s ≡ accepted ws → (room words d : ℕ)
+      → (withWorkspace words (bookRead c s room) ≡ refuse 10 d) ↔ ((workspace ≤ words) × ManyPairs cs ws × (d ≡ 4))
+  pub write-many-pairs : (c cs s ws : List ℕ) → Catalogue c cs → Below 256 s → BookFile (edgeCounts cs) s ws → (room words d : ℕ)
+      → (withWorkspace words (bookWritten c ws room) ≡ refuse 10 d) ↔ ((workspace ≤ words) × ManyPairs cs ws × (d ≡ 4))
+  pub answer-many-pairs : (choose : Choose) (q c b qs cs bs : List ℕ) → Question q qs → Catalogue c cs → readBook cs b ≡ accepted bs → (room words d : ℕ)
+      → (withWorkspace words (answerBy choose q c b room) ≡ refuse 10 d) ↔ ((workspace ≤ words) × ManyPairs cs bs × (d ≡ 4))
   -- a search gives the sheet of accepted files, making a book the book, and neither anything of others, nor with another index than the record's own
   pub search-gives : (way : Way) (p r ps rs : List ℕ) → Question p ps → Record r rs → (room words : ℕ)
       → Fitted words (OverFile room (sheetOf (patternOf ps) rs)) (sheetOf (patternOf ps) rs ∷ []) (withWorkspace words (searchBy way p r rs room))

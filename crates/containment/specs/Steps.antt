@@ -15,7 +15,7 @@ use Rattle.packed.specs.Refusals.{numberOf, detailOf}
 use Rattle.packed.specs.declared.reply.Reply.{Reply}
 use Rattle.packed.specs.declared.reply.Reply.the-variants as reply-is
 use Rattle.packed.specs.declared.by_value.Pattern.{Pattern as Given}
-use Rattle.matching.specs.Sweeps.{OneOf, Has}
+use Rattle.matching.specs.Masks.{OneOf, Has}
 use Rattle.matching.specs.Offered.{offeredBy}
 use Rattle.containment.specs.Quote.{Quoted, tableOf}
 use Rattle.containment.specs.Show.{graphFields, fewerFields, recordBytes}

@@ -7,7 +7,7 @@ use lib.ListN.{getD}
 use lib.Bits.{bitOr}
 use lib.Dec.{eqb, ltb}
 use Rattle.packed.specs.Format.{pick}
-use Rattle.matching.specs.Sweeps.{Mask}
+use Rattle.matching.specs.Masks.{Mask}
 use Rattle.containment.specs.Choice.{matches, matchedIn}
 use Rattle.containment.specs.Cheapest.{cost, size, turned, lesser}
 use Rattle.containment.specs.declared.costing.Tried.{Tried}

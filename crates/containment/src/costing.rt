@@ -4,7 +4,7 @@ ghost use mathlib.Core.List.{[]};
 ghost use Prim.Native.Nat.{ℕ, _+_, _-_, _^_, _≤_, _<_};
 ghost use lib.ListN.{length, getD};
 ghost use Rattle.packed.specs.Calls.{Fulfils, toldOf};
-ghost use Rattle.matching.specs.Sweeps.{Mask};
+ghost use Rattle.matching.specs.Masks.{Mask};
 ghost use Rattle.containment.specs.Cheapest.{cheapestFrom, cheapestOutcome, cheapestTold};
 ghost use Rattle.containment.specs.Tries.{EdgeMatchedBy, TriedRoom, taking, isFirst, foremostTried, settled};
 use crate::choose;

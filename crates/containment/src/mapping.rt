@@ -10,7 +10,7 @@ ghost use Rattle.packed.specs.LoadedGraph.{Holds};
 ghost use Rattle.packed.specs.Matches.{Marked, matchesOf};
 ghost use Rattle.matching.specs.Simulation.{patternOf};
 ghost use Rattle.matching.specs.Matched.{Rises};
-ghost use Rattle.matching.specs.Steps.{Fair, givenEdge, patternIn};
+ghost use Rattle.matching.specs.Loaded.{Fair, givenEdge, patternIn};
 ghost use Rattle.containment.specs.Quote.{maskIn, mapping};
 ghost use Rattle.containment.specs.Show.{graphFields};
 ghost use Rattle.containment.specs.Steps.{Query, Views, PlaceOf, Present, Within, Column, MaskOf, wordAt};

@@ -24,8 +24,8 @@ use Rattle.packed.proofs.CallLaws.{read-finds, accepted-by, read-says, judged-a
 use Rattle.matching.specs.Simulation.{Pattern, patternOf, graphOf, matchSets, viewSheet}
 use Rattle.matching.specs.Search.{sheetBytes, bookBytes, viewSheets, searchFor, bookFor}
 use Rattle.matching.specs.Index.{indexFor, indexOf, ownIndex, makeIndexOutcome, checkIndexOutcome, searchIndexedFor}
-use Rattle.matching.specs.Late.{FirstsMade, edgesAt, IndexJudged}
-use Rattle.matching.specs.Steps.{patternIn, graphIn, Fair}
+use Rattle.matching.specs.Places.{FirstsMade, edgesAt, IndexJudged}
+use Rattle.matching.specs.Loaded.{patternIn, graphIn, Fair}
 use Rattle.matching.specs.Matched.{Proper}
 use Rattle.matching.proofs.MatchSetLaws.{view-same}
 use Rattle.matching.proofs.PatternLaws.{fair-by, proper-by, pattern-same}

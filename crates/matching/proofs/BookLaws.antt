@@ -23,7 +23,7 @@ use Rattle.packed.proofs.AcceptedBounds.{catalogue-views}
 use Rattle.packed.specs.declared.by_value.Pattern.{Pattern as Given}
 use Rattle.matching.specs.Simulation.{oneWay, Pattern, ruled, Graph, patternOf, matchSets, viewSheet}
 use Rattle.matching.specs.Search.{sheetBytes, bookBytes, viewSheets}
-use Rattle.matching.specs.Steps.{patternIn, graphIn, Fair, Ready, Edges}
+use Rattle.matching.specs.Loaded.{patternIn, graphIn, Fair, Ready, Edges}
 use Rattle.matching.specs.Matched.{Proper, Rises, EdgesMatched, SheetSized, ViewAt}
 use Rattle.matching.specs.Books.{Catalogued, Bookable, bookIn, sheetSize, Sizes, Sized, Fits, Filled}
 use Rattle.matching.specs.declared.views.View.{View}

@@ -9,7 +9,7 @@ use Rattle.packed.specs.Plain.{fromAt, toAt, kindAt}
 use Rattle.packed.proofs.EdgePlaces.{from-cons, to-cons, kind-cons}
 use Rattle.matching.specs.Lists.{In, each, upTo}
 use Rattle.matching.specs.Simulation.{Edge, between, edgesIn}
-use Rattle.matching.specs.Sweeps.{OneOf}
+use Rattle.matching.specs.Masks.{OneOf}
 use Rattle.matching.proofs.UpToLaws.{in-upTo, upTo-in, upTo-same, length-upTo}
 
 -- the edge number i

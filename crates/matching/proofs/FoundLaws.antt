@@ -12,11 +12,11 @@ use Rattle.packed.specs.declared.by_value.Pattern.{Pattern as Given}
 use Rattle.packed.proofs.OrderCases.{lt-or-ge}
 use Rattle.matching.specs.Lists.{In}
 use Rattle.matching.specs.Simulation.{Rule, bothWays, Pattern, ruled, Graph, bit, fits, sim}
-use Rattle.matching.specs.Steps.{givenEdge, edgeOfWord, patternIn, graphIn, Fair, Ready}
+use Rattle.matching.specs.Loaded.{givenEdge, edgeOfWord, patternIn, graphIn, Fair, Ready}
 use Rattle.matching.specs.Matched.{Rises, Proper, EdgesMatched}
-use Rattle.matching.specs.Sweeps.{Has, Mask}
+use Rattle.matching.specs.Masks.{Has, Mask}
 use Rattle.matching.specs.Sweeping.{Tabled}
-use Rattle.matching.specs.Choices.{Prepared, TabledBack, Fixed}
+use Rattle.matching.specs.Rounds.{Prepared, TabledBack, Fixed}
 use Rattle.matching.specs.Starting.{NodeRoom, OfKind, KindsHeld, LinksSpread}
 use Rattle.matching.proofs.UpToLaws.{length-upTo, getD-upTo, in-upTo, upTo-in}
 use Rattle.matching.proofs.SimLaws.{fits-say, fits-by}

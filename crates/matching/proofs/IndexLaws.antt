@@ -10,12 +10,13 @@ use lib.Seq.{getD-set-same, getD-set-other}
 use lib.Bits.{bitAnd, bitXor}
 use Rattle.packed.proofs.OrderCases.{lt-or-ge, eq-or-ne}
 use Rattle.matching.specs.Simulation.{bit}
-use Rattle.matching.specs.Sweeps.{Has, OneOf}
+use Rattle.matching.specs.Masks.{Has, OneOf}
 use Rattle.matching.specs.Sweeping.{fromOf, Ends, heldAt}
 use Rattle.matching.proofs.ListLaws.{decide}
 use Rattle.matching.proofs.MaskBits.{and-say, and-by, minus-say, minus-by, part-le, one-last, one-more, one-cases}
-use Rattle.matching.specs.Late.{ByStart, BeginsBelow, Cut, Firsts, FirstsMade, missedBy}
-use Rattle.matching.specs.Choices.{End}
+use Rattle.matching.specs.Places.{ByStart, BeginsBelow, Cut, Firsts, FirstsMade}
+use Rattle.matching.specs.Worklist.{missedBy}
+use Rattle.matching.specs.Rounds.{End}
 
 has-or : (x k : ℕ) → Has x k ⊎ (Has x k → ⊥)
 has-or x k = decide (bit x k)

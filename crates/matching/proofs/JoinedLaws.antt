@@ -17,8 +17,8 @@ use Rattle.matching.specs.Lists.{In, each, keep, upTo}
 use Rattle.matching.specs.Simulation.{bit, Pair, Edge, Pattern, has, ascending}
 use Rattle.matching.specs.Join.{View, pairOf, candidates, Kept, join, keptFor, answerSets}
 use Rattle.matching.specs.Components.{joinIn, stateAt}
-use Rattle.matching.specs.Steps.{givenEdge, patternIn, Fair, Edges}
-use Rattle.matching.specs.Sweeps.{Has, OneOf}
+use Rattle.matching.specs.Loaded.{givenEdge, patternIn, Fair, Edges}
+use Rattle.matching.specs.Masks.{Has, OneOf}
 use Rattle.matching.specs.Candidates.{Booked, Blank, Taken, BookListing}
 use Rattle.matching.specs.Joining.{Agrees, Joined}
 use Rattle.matching.specs.Stepping.{Holds, Ran}

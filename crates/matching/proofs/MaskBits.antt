@@ -12,7 +12,7 @@ use lib.Dec.{eqb→eq}
 use Rattle.packed.proofs.OrderCases.{lt-or-ge, eq-or-ne}
 use Rattle.packed.proofs.NotedLaws.{bit-or}
 use Rattle.matching.specs.Simulation.{bit}
-use Rattle.matching.specs.Sweeps.{Has, Mask, OneOf}
+use Rattle.matching.specs.Masks.{Has, Mask, OneOf}
 use Rattle.matching.proofs.Masks.{bit-self, bit-one}
 
 -- ---- the bit k of x as a number, 0 or 1

@@ -19,7 +19,7 @@ use Rattle.packed.proofs.SheetLaws.{Rising, rising-none, rising-next, Fit, fit-
 use Rattle.packed.proofs.MatchLaws.{fit-lists}
 use Rattle.matching.specs.Lists.{_and_, In, each, keep, put, upTo}
 use Rattle.matching.specs.Simulation.{Pair, Edge, asPair, Rule, Pattern, ruled, sound, Graph, bit, has, sim, row, ascending, matchSets}
-use Rattle.matching.specs.Steps.{givenEdge, edgeOfWord, patternIn, graphIn, Ready, Edges}
+use Rattle.matching.specs.Loaded.{givenEdge, edgeOfWord, patternIn, graphIn, Ready, Edges}
 use Rattle.matching.specs.Sweeping.{kindOf}
 use Rattle.matching.specs.Starting.{OfKind}
 use Rattle.matching.specs.Matched.{Proper, Rises, EdgesMatched}

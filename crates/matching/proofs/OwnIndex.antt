@@ -17,9 +17,9 @@ use Rattle.packed.proofs.Sets.{sets-front}
 use Rattle.matching.specs.Lists.{put, keep, upTo}
 use Rattle.matching.specs.Simulation.{Edge}
 use Rattle.matching.specs.Index.{beginBelow, indexFor, alike, ownIndex}
-use Rattle.matching.specs.Steps.{edgeOfWord}
+use Rattle.matching.specs.Loaded.{edgeOfWord}
 use Rattle.matching.specs.Sweeping.{fromOf, Ends}
-use Rattle.matching.specs.Late.{Cut, BeginsBelow, Firsts, FirstsMade, edgesAt, Compared}
+use Rattle.matching.specs.Places.{Cut, BeginsBelow, Firsts, FirstsMade, edgesAt, Compared}
 use Rattle.matching.proofs.UpToLaws.{length-upTo, getD-upTo}
 
 -- ---- how many members pass a test

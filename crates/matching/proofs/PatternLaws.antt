@@ -12,8 +12,8 @@ use Rattle.packed.specs.Plain.{PlainPattern, fromAt, toAt, kindAt}
 use Rattle.packed.specs.ByValue.{HoldsPattern}
 use Rattle.packed.specs.declared.by_value.Pattern.{Pattern as Given}
 use Rattle.matching.specs.Simulation.{Edge, between, oneWay, Pattern, edgesIn, patternOf, sound}
-use Rattle.matching.specs.Steps.{patternIn, Fair}
-use Rattle.matching.specs.Steps.{givenEdge as givenAt}
+use Rattle.matching.specs.Loaded.{patternIn, Fair}
+use Rattle.matching.specs.Loaded.{givenEdge as givenAt}
 use Rattle.matching.specs.Lists.{upTo}
 use Rattle.matching.specs.Matched.{Proper}
 use Rattle.matching.proofs.UpToLaws.{upTo-same}

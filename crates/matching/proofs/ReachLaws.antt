@@ -13,8 +13,8 @@ use Rattle.packed.proofs.OrderCases.{lt-or-ge}
 use Rattle.matching.specs.Lists.{_or_, In}
 use Rattle.matching.specs.Simulation.{bit, Edge, oneWay}
 use Rattle.matching.specs.Components.{Nodes, reaches, together, ready, Shut, OneStep}
-use Rattle.matching.specs.Steps.{givenEdge, patternIn, Fair}
-use Rattle.matching.specs.Sweeps.{Has, Mask, OneOf}
+use Rattle.matching.specs.Loaded.{givenEdge, patternIn, Fair}
+use Rattle.matching.specs.Masks.{Has, Mask, OneOf}
 use Rattle.matching.specs.Stepping.{Spread, ReachedFrom, AllReached, AllComponents, IsNext, NextOf}
 use Rattle.matching.proofs.ListLaws.{decide, same-test, or-left as either-left, or-right as either-right, or-cases as either-cases}
 use Rattle.matching.proofs.MaskBits.{none-has, or-left, or-right, or-cases, and-say, and-by, minus-say, minus-by, part-le, few-lt}

@@ -17,11 +17,11 @@ use Rattle.packed.proofs.GraphLaws.{labels-field, record-bounds, record-among}
 use Rattle.packed.proofs.SortedEdges.{record-rises}
 use Rattle.matching.specs.Lists.{In, upTo}
 use Rattle.matching.specs.Simulation.{Edge, between, Pattern, Graph, edgesIn, graphOf, matchSets}
-use Rattle.matching.specs.Steps.{edgeOfWord, graphIn, Ready, Edges}
+use Rattle.matching.specs.Loaded.{edgeOfWord, graphIn, Ready, Edges}
 use Rattle.matching.specs.Matched.{Rises}
 use Rattle.matching.specs.Index.{indexFor, indexOf}
 use Rattle.matching.specs.Sweeping.{Ends}
-use Rattle.matching.specs.Late.{ByStart, edgesAt}
+use Rattle.matching.specs.Places.{ByStart, edgesAt}
 use Rattle.matching.proofs.UpToLaws.{length-upTo, getD-upTo, upTo-same}
 use Rattle.matching.proofs.MatchSetLaws.{Narrow}
 use Rattle.matching.proofs.RankLaws.{rank-from}

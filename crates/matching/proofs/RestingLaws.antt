@@ -5,9 +5,9 @@ use mathlib.Core.List.{List}
 use Prim.Native.Nat.{ℕ, _≤_, _<_}
 use native.Mathlib.Omega.{arith}
 use lib.ListN.{getD}
-use Rattle.matching.specs.Sweeps.{Has}
+use Rattle.matching.specs.Masks.{Has}
 use Rattle.matching.specs.Sweeping.{fromOf, toOf, Ends}
-use Rattle.matching.specs.Choices.{Supports, SupportsBack, Shape, May, Rests}
+use Rattle.matching.specs.Rounds.{Supports, SupportsBack, Shape, May, Rests}
 
 -- the item u may stand at one of n nodes
 abbrev pub RestsAt : List ℕ → List ℕ → ℕ → ℕ → List ℕ → List ℕ → ℕ → ℕ → Type 0

@@ -8,13 +8,13 @@ use lib.ListN.{length, getD}
 use lib.Bits.{bitOr}
 use Rattle.packed.proofs.OrderCases.{lt-or-ge}
 use Rattle.matching.specs.Simulation.{bit}
-use Rattle.matching.specs.Sweeps.{Has, OneOf}
+use Rattle.matching.specs.Masks.{Has, OneOf}
 use Rattle.matching.proofs.ListLaws.{decide}
 use Rattle.matching.proofs.MaskBits.{none-has, and-say, and-by, or-left, or-right, not-say, not-by, has-lt, part-le, mask-cast, lowest-has}
 use Rattle.matching.proofs.SoundLaws.{sound-none, sound-then, swept-same, from-same, to-same, held-say, held-by, swept-sound, left-lost, loses-none, losing-sound, losing-back-sound}
 use Rattle.packed.specs.Contents.{wordFrom, wordTo}
 use Rattle.matching.specs.Sweeping.{fromOf, toOf, Ends, Starts, heldAt, Swept, Arrived, missing, NodesSettled}
-use Rattle.matching.specs.Choices.{End, Loses, Falls, Rests, Prepared, Fixed, BackSettled, Round}
+use Rattle.matching.specs.Rounds.{End, Loses, Falls, Rests, Prepared, Fixed, BackSettled, Round}
 
 -- ---- one node
 module _ (due : ℕ) (leave out : List ℕ) (v e : ℕ) (s : getD out v 0 < 2 ^ 32) where

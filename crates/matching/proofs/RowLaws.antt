@@ -9,7 +9,7 @@ use Rattle.matching.proofs.Filling.{Filling, filling-front}
 use lib.Bits.{bitOr}
 use Rattle.packed.proofs.OrderCases.{lt-or-ge, eq-or-ne}
 use Rattle.packed.proofs.ByValueLaws.{nothing-at}
-use Rattle.matching.specs.Sweeps.{Has, Mask, OneOf, Names}
+use Rattle.matching.specs.Masks.{Has, Mask, OneOf, Names}
 use Rattle.matching.proofs.MaskBits.{has-lt, has-say, has-by, none-has, not-by, above-say, above-by, mask-or, mask-cast, mask-none}
 use Rattle.matching.specs.Sweeping.{Tabled}
 use Rattle.matching.specs.Rows.{RowOf, RowsOf, PickedBy, WordOf}

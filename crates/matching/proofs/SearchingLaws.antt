@@ -7,12 +7,12 @@ use lib.ListN.{length, getD}
 use lib.Dec.{T}
 use Rattle.matching.specs.Lists.{In}
 use Rattle.matching.specs.Simulation.{Edge, between, bothWays, Pattern, Graph, has, fits, sim, IsSim}
-use Rattle.matching.specs.Sweeps.{Has, Mask, OneOf}
+use Rattle.matching.specs.Masks.{Has, Mask, OneOf}
 use Rattle.matching.proofs.MaskBits.{none-has}
 use Rattle.matching.proofs.SimLaws.{has-in, in-has, sim-is, sim-most}
 use Rattle.matching.specs.Sweeping.{fromOf, toOf, kindOf, heldAt, Tabled}
 use Rattle.matching.specs.Starting.{OfKind}
-use Rattle.matching.specs.Choices.{Safe, Shape, Prepared, TabledBack, Fixed}
+use Rattle.matching.specs.Rounds.{Safe, Shape, Prepared, TabledBack, Fixed}
 use Rattle.matching.proofs.RoundLaws.{fixed-prepared}
 use Rattle.matching.proofs.RestingLaws.{RestsAt, rests-supports, rests-backs}
 

@@ -10,12 +10,12 @@ use lib.Seq.{getD-set-same, getD-set-other}
 use lib.Bits.{bitAnd, bitOr, bitXor, and-le-r}
 use Rattle.packed.proofs.OrderCases.{lt-or-ge, eq-or-ne}
 use Rattle.packed.proofs.ByValueLaws.{nothing-at}
-use Rattle.matching.specs.Sweeps.{Has, OneOf}
+use Rattle.matching.specs.Masks.{Has, OneOf}
 use Rattle.matching.specs.Sweeping.{sumTo, heldAt}
 use Rattle.matching.proofs.Masks.{bit-self, bit-one}
 use Rattle.matching.proofs.MaskBits.{none-has, or-left, or-right, or-cases, and-say, and-by, minus-say, minus-by, part-le, lowest-has, one-last, one-more}
-use Rattle.matching.specs.Late.{Member, NumberAdded, FirstWord, Drawn, IsMarked, Marks, AllMarked, TakenOut, Relies, MarkedEnd, MarkedBy}
-use Rattle.matching.specs.Choices.{End}
+use Rattle.matching.specs.MarkedSet.{Member, NumberAdded, FirstWord, Drawn, IsMarked, Marks, AllMarked, TakenOut, Relies, MarkedEnd, MarkedBy}
+use Rattle.matching.specs.Rounds.{End}
 
 -- ---- one word of a list is set
 module _ (s : List ℕ) (at y x : ℕ) where

@@ -10,7 +10,7 @@ use lib.Bits.{bitOr}
 use Rattle.packed.proofs.OrderCases.{lt-or-ge}
 use Rattle.matching.proofs.MaskBits.{mask-self, union-start, union-more, union-end}
 use Rattle.matching.proofs.Filling.{Filling, filling-start, filling-more, filling-around, filling-front}
-use Rattle.matching.specs.Sweeps.{Has, Mask, OneOf}
+use Rattle.matching.specs.Masks.{Has, Mask, OneOf}
 use Rattle.matching.specs.Sweeping.{Left, missing, NodesSettled}
 
 -- the nodes below v are settled

@@ -7,11 +7,11 @@ use native.Mathlib.Omega.{arith}
 use lib.ListN.{getD}
 use lib.Dec.{T}
 use lib.Bits.{bitAnd}
-use Rattle.matching.specs.Sweeps.{Has}
+use Rattle.matching.specs.Masks.{Has}
 use Rattle.matching.specs.Sweeping.{fromOf, toOf, heldAt, heldAfter, Swept, Tabled, Left}
 use Rattle.matching.proofs.MaskBits.{none-has, and-say, and-by, or-left, or-right, or-cases}
 use Rattle.packed.specs.Contents.{wordFrom, wordTo}
-use Rattle.matching.specs.Choices.{End, SupportsBy, Safe, Sound, Lost, Loses}
+use Rattle.matching.specs.Rounds.{End, SupportsBy, Safe, Sound, Lost, Loses}
 
 -- ---- one step after the other
 module _ (from to : List ℕ) (m : ℕ) {free due back d : ℕ} {w leave arrive : List ℕ} where

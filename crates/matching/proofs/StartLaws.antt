@@ -12,8 +12,8 @@ use Rattle.packed.specs.Bits.{field}
 use Rattle.packed.specs.declared.by_value.Pattern.{Pattern as Given}
 use Rattle.packed.proofs.OrderCases.{lt-or-ge, eq-or-ne}
 use Rattle.packed.proofs.ByValueLaws.{nothing-at}
-use Rattle.matching.specs.Steps.{Fair}
-use Rattle.matching.specs.Sweeps.{Has, Mask, OneOf}
+use Rattle.matching.specs.Loaded.{Fair}
+use Rattle.matching.specs.Masks.{Has, Mask, OneOf}
 use Rattle.matching.specs.Sweeping.{kindOf}
 use Rattle.matching.specs.Starting.{NodeRoom, OfKind, ByKind, KindsHeld, ByLabel, OfLabels, Allowed, LinksSpread}
 use Rattle.matching.proofs.Masks.{bit-self, bit-one}

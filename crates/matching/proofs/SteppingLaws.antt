@@ -19,11 +19,11 @@ use Rattle.matching.specs.Lists.{In, here, there, gather}
 use Rattle.matching.specs.Simulation.{bit, Pair, Edge, Pattern, has}
 use Rattle.matching.specs.Join.{pairOf, Offer, Kept}
 use Rattle.matching.specs.Components.{Nodes, leavingOf, joinIn, stateAt, Shut, OneStep, StepsTo, start, step}
-use Rattle.matching.specs.Steps.{givenEdge, patternIn, Fair}
-use Rattle.matching.specs.Sweeps.{Has, Mask, OneOf}
+use Rattle.matching.specs.Loaded.{givenEdge, patternIn, Fair}
+use Rattle.matching.specs.Masks.{Has, Mask, OneOf}
 use Rattle.matching.specs.Candidates.{Pool}
 use Rattle.matching.specs.Sweeping.{fromOf, toOf, Ends, heldAt, Tabled, LookedUp}
-use Rattle.matching.specs.Choices.{Offers, Supports, Safe, Stays, Sound, Falls, Prepared, Fixed, Round}
+use Rattle.matching.specs.Rounds.{Offers, Supports, Safe, Stays, Sound, Falls, Prepared, Fixed, Round}
 use Rattle.matching.specs.Stepping.{PairsTaken, LeavingLinks, Holds, Loose, LooseLinks, Between, At, Fresh, Started, Stepped, Ran, Going, Tried}
 use Rattle.matching.specs.declared.steps.Place.{Place}
 use Rattle.matching.proofs.ListLaws.{decide, same-test, in-cases, in-cast, not-in-none, gather-in, in-gather}

@@ -8,7 +8,7 @@ use lib.ListN.{length, getD, set, length-set}
 use lib.Seq.{getD-set-same, getD-set-other}
 use lib.Bits.{bitOr}
 use Rattle.packed.proofs.OrderCases.{eq-or-ne}
-use Rattle.matching.specs.Sweeps.{Has, Mask, OneOf}
+use Rattle.matching.specs.Masks.{Has, Mask, OneOf}
 use Rattle.matching.proofs.MaskBits.{mask-cast, mask-or, mask-self, one-none, one-last, one-more, one-cases}
 use Rattle.matching.proofs.Filling.{Filling, filling-start, filling-more, filling-around, filling-each}
 use Rattle.matching.specs.Sweeping.{fromOf, toOf, Ends, Starts, Carried, heldAt, heldAfter, Swept, Arrived}

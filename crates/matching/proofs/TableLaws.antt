@@ -6,7 +6,7 @@ use Prim.Native.Nat.{ℕ, zero, suc, _<_, _+_, _*_, _/_, _%_, _^_}
 use native.Mathlib.Omega.{arith}
 use lib.ListN.{getD}
 use lib.Bits.{bitAnd, bitOr, bitXor}
-use Rattle.matching.specs.Sweeps.{Has, Mask, Names}
+use Rattle.matching.specs.Masks.{Has, Mask, Names}
 use Rattle.matching.proofs.MaskBits.{four-say, four-by, mask-or, mask-cast, minus-say, minus-by, none-has}
 use Rattle.matching.specs.Sweeping.{Meets, Tabled, LookedUp, Left}
 

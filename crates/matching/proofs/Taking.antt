@@ -16,7 +16,7 @@ use Rattle.packed.proofs.DistinctLaws.{increasing-tail}
 use Rattle.packed.proofs.DistinctMerge.{increasing-at}
 use Rattle.packed.proofs.Walks.{codes-none, codes-more}
 use Rattle.matching.specs.Lists.{In, here, there}
-use Rattle.matching.specs.Sweeps.{Has, Mask, OneOf}
+use Rattle.matching.specs.Masks.{Has, Mask, OneOf}
 use Rattle.matching.specs.Candidates.{Pool, Beyond, PlaceIn, Walkable, Taken, Listing}
 use Rattle.matching.proofs.ListLaws.{not-in-none, in-cases, in-cast}
 use Rattle.matching.proofs.MaskBits.{mask-cast, mask-self, or-left, or-right, or-cases}

@@ -13,7 +13,7 @@ use Rattle.packed.specs.Walks.{codesAt, pairPlace, listFirst, listCount, listEn
 use Rattle.packed.specs.BookSheets.{listAt, sheetAt}
 use Rattle.packed.specs.declared.cursor.Extent.{Extent}
 use Rattle.matching.specs.Lists.{In}
-use Rattle.matching.specs.Sweeps.{Has, Mask, OneOf}
+use Rattle.matching.specs.Masks.{Has, Mask, OneOf}
 use Rattle.matching.specs.Candidates.{Walkable, Sheeted, SheetedAt, Booked, Taken, Listing, SheetListing, SheetListingAt, BookListing}
 use Rattle.matching.proofs.Taking.{pool-keep, walkable-keep}
 use Rattle.matching.proofs.MaskBits.{mask-cast, mask-self, none-has, one-none, one-last, one-more, one-cases}

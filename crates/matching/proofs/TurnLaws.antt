@@ -10,12 +10,14 @@ use lib.Seq.{getD-set-same, getD-set-other}
 use lib.Bits.{bitAnd, bitOr, bitXor}
 use Rattle.packed.proofs.OrderCases.{eq-or-ne}
 use Rattle.packed.proofs.ByValueLaws.{nothing-at}
-use Rattle.matching.specs.Sweeps.{Has, OneOf}
+use Rattle.matching.specs.Masks.{Has, OneOf}
 use Rattle.matching.specs.Sweeping.{fromOf, sumTo, heldAt, Swept, LookedUp}
 use Rattle.matching.proofs.MaskBits.{none-has, or-left, or-right, or-cases, and-say, and-by, minus-say, minus-by, part-le, lowest-has}
 use Rattle.packed.specs.Contents.{wordFrom, wordTo}
-use Rattle.matching.specs.Choices.{End, Sound, Loses, Prepared, Fixed}
-use Rattle.matching.specs.Late.{Firsts, Backs, IsMarked, TakenOut, AllMarked, MarkedBy, FineBy, Rest, Keeps, Half, Turned, Late}
+use Rattle.matching.specs.Rounds.{End, Sound, Loses, Prepared, Fixed}
+use Rattle.matching.specs.Places.{Firsts, Backs}
+use Rattle.matching.specs.MarkedSet.{IsMarked, TakenOut, AllMarked, MarkedBy}
+use Rattle.matching.specs.Worklist.{FineBy, Rest, Keeps, Half, Turned, Late}
 use Rattle.matching.proofs.SoundLaws.{sound-none, sound-then, from-same, to-same, held-by, swept-sound, loses-none, losing-sound, losing-back-sound}
 use Rattle.matching.proofs.RoundLaws.{swept-falls, swept-within}
 use Rattle.matching.proofs.IndexLaws.{Looked, in-range, of-range}

@@ -6,7 +6,7 @@ use Prim.Native.Nat.{ℕ, zero, suc, _<_, zero-le, suc-le-suc}
 use native.Mathlib.Nat.{le-of-suc-le-suc, not-suc-le-zero}
 use lib.ListN.{length, getD}
 use Rattle.matching.specs.Lists.{In, here, there, upTo}
-use Rattle.matching.specs.Sweeps.{OneOf}
+use Rattle.matching.specs.Masks.{OneOf}
 use Rattle.matching.proofs.ListLaws.{not-in-none, in-cases}
 
 module _ {A : Type 0} where

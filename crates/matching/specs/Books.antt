@@ -11,7 +11,7 @@ use Rattle.packed.specs.Refusals.{Told}
 use Rattle.packed.specs.Calls.{FulfilsOne}
 use Rattle.matching.specs.Simulation.{patternOf, viewSheet}
 use Rattle.matching.specs.Search.{bookBytes, viewSheets, bookFor}
-use Rattle.matching.specs.Steps.{graphIn, Ready, Edges}
+use Rattle.matching.specs.Loaded.{graphIn, Ready, Edges}
 use Rattle.matching.specs.Matched.{Rises}
 
 -- the catalogue was accepted, and has k views

@@ -7,7 +7,7 @@ use Rattle.packed.specs.declared.by_value.Pattern.{Pattern as Given}
 use Rattle.matching.specs.Lists.{In}
 use Rattle.matching.specs.Simulation.{Pair}
 use Rattle.matching.specs.Join.{View, pairOf, candidates, answerSets}
-use Rattle.matching.specs.Steps.{givenEdge, patternIn, Edges}
+use Rattle.matching.specs.Loaded.{givenEdge, patternIn, Edges}
 use Rattle.matching.specs.Candidates.{BookListing}
 
 -- the book's lists, by the table t, have the candidates that the views vs give

@@ -7,15 +7,17 @@ pub mod Index
 pub mod Join
 pub mod Components
 -- inner
-pub mod Steps
-pub mod Sweeps
+pub mod Loaded
+pub mod Masks
 pub mod Matched
 pub mod Books
 pub mod Candidates
 pub mod Joining
 pub mod Sweeping
-pub mod Choices
+pub mod Rounds
 pub mod Stepping
 pub mod Rows
 pub mod Starting
-pub mod Late
+pub mod Places
+pub mod MarkedSet
+pub mod Worklist

@@ -15,7 +15,7 @@ use Rattle.packed.specs.Matches.{matchesOf}
 use Rattle.packed.specs.Matches.{Marked as MarkedPairs}
 use Rattle.packed.specs.declared.by_value.Pattern.{Pattern as Given}
 use Rattle.matching.specs.Simulation.{bit, Rule, oneWay, bothWays, ruled, sound, matchSets}
-use Rattle.matching.specs.Steps.{patternIn, graphIn, Edges}
+use Rattle.matching.specs.Loaded.{patternIn, graphIn, Edges}
 use Rattle.matching.specs.declared.views.View.{View}
 
 -- the pattern has edges, and each node is an end of one

@@ -3,7 +3,7 @@ use Prim.Native.Nat.{ℕ, _<_, _≤_}
 use mathlib.Core.Path.{_≡_}
 use mathlib.Core.List.{List}
 use lib.ListN.{getD}
-use Rattle.matching.specs.Sweeps.{Has, Mask, OneOf, Names}
+use Rattle.matching.specs.Masks.{Has, Mask, OneOf, Names}
 
 -- r has the links below m that have x in b
 abbrev pub RowOf : List ℕ → ℕ → ℕ → ℕ → Type 0

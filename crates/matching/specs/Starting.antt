@@ -6,7 +6,7 @@ use lib.ListN.{length, getD}
 use Rattle.packed.specs.Bits.{field}
 use Rattle.packed.specs.Order.{Outside}
 use Rattle.packed.specs.declared.by_value.Pattern.{Pattern as Given}
-use Rattle.matching.specs.Sweeps.{Has, Mask, OneOf}
+use Rattle.matching.specs.Masks.{Has, Mask, OneOf}
 use Rattle.matching.specs.Sweeping.{kindOf, heldAt}
 
 -- the lent arrays have room for n nodes, and nothing from n on

@@ -15,11 +15,11 @@ use Rattle.matching.specs.Lists.{In}
 use Rattle.matching.specs.Simulation.{bit, Pair}
 use Rattle.matching.specs.Join.{pairOf, Offer}
 use Rattle.matching.specs.Components.{reaches, stateAt, Shut, StepsTo}
-use Rattle.matching.specs.Steps.{givenEdge, patternIn, Edges}
-use Rattle.matching.specs.Sweeps.{Has, Mask, OneOf}
+use Rattle.matching.specs.Loaded.{givenEdge, patternIn, Edges}
+use Rattle.matching.specs.Masks.{Has, Mask, OneOf}
 use Rattle.matching.specs.Sweeping.{fromOf, toOf, Ends, heldAt, Tabled}
 use Rattle.matching.specs.Candidates.{Pool}
-use Rattle.matching.specs.Choices.{Supports, Safe, Shape, Falls, Prepared}
+use Rattle.matching.specs.Rounds.{Supports, Safe, Shape, Falls, Prepared}
 use Rattle.matching.specs.declared.steps.Place.{Place}
 
 -- ---- components

@@ -7,7 +7,7 @@ use lib.ListN.{length, getD}
 use lib.Bits.{bitAnd, bitOr}
 use Rattle.packed.specs.Contents.{wordFrom, wordTo, wordKind}
 use Rattle.packed.specs.Order.{Outside}
-use Rattle.matching.specs.Sweeps.{Has, Mask, OneOf, Names}
+use Rattle.matching.specs.Masks.{Has, Mask, OneOf, Names}
 
 -- the ends and the kind of the pair i
 abbrev pub fromOf : List ℕ → ℕ → ℕ

@@ -1,8 +1,8 @@
 // The matching engine: of the links that pairs are held for, what is left when nothing more is lost. There are two ways in, with one contract.
 ghost use Prim.Native.Nat.{_<_, _≤_};
 ghost use lib.ListN.{length};
-ghost use Rattle.matching.specs.Choices.{Prepared, Fixed};
-ghost use Rattle.matching.specs.Late.{Firsts};
+ghost use Rattle.matching.specs.Rounds.{Prepared, Fixed};
+ghost use Rattle.matching.specs.Places.{Firsts};
 use crate::index;
 use crate::sweeps;
 use crate::turns;

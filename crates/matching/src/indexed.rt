@@ -5,7 +5,7 @@ ghost use lib.ListN.{length};
 ghost use Rattle.packed.specs.Refusals.{replyTold};
 ghost use Rattle.packed.specs.Calls.{Fulfils, FulfilsOne};
 ghost use Rattle.matching.specs.Index.{makeIndexOutcome, checkIndexOutcome, searchIndexedFor, searchIndexedOutcome};
-ghost use Rattle.matching.specs.Steps.{patternIn, Fair};
+ghost use Rattle.matching.specs.Loaded.{patternIn, Fair};
 ghost use Rattle.matching.specs.Matched.{Proper};
 use crate::calls;
 use crate::index;

@@ -2,7 +2,7 @@
 ghost use mathlib.Core.Path.{_≡_};
 ghost use Prim.Native.Nat.{_+_, _*_, _/_, _%_, _<_, _≤_};
 ghost use lib.ListN.{replicate};
-ghost use Rattle.matching.specs.Sweeps.{Mask};
+ghost use Rattle.matching.specs.Masks.{Mask};
 ghost use Rattle.matching.specs.Sweeping.{Tabled};
 ghost use Rattle.matching.specs.Simulation.{bothWays};
 ghost use Rattle.matching.specs.Matched.{ruleOf};

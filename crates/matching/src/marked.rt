@@ -2,7 +2,7 @@
 ghost use mathlib.Core.Path.{_≡_};
 ghost use Prim.Native.Nat.{ℕ, _+_, _<_, _≤_};
 ghost use lib.ListN.{length};
-ghost use Rattle.matching.specs.Late.{NumberAdded, Marks, AllMarked, FirstWord, Drawn, TakenOut, IsMarked};
+ghost use Rattle.matching.specs.MarkedSet.{NumberAdded, Marks, AllMarked, FirstWord, Drawn, TakenOut, IsMarked};
 use crate::index;
 use crate::start;
 

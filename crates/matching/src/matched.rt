@@ -1,8 +1,8 @@
 // A pattern matched with a record whose edges stand in the workspace.
 ghost use Prim.Native.Nat.{_<_};
 ghost use lib.ListN.{length};
-ghost use Rattle.matching.specs.Late.{Firsts};
-ghost use Rattle.matching.specs.Steps.{Fair, Ready};
+ghost use Rattle.matching.specs.Places.{Firsts};
+ghost use Rattle.matching.specs.Loaded.{Fair, Ready};
 ghost use Rattle.matching.specs.Starting.{NodeRoom};
 ghost use Rattle.matching.specs.Matched.{ruleOf, EdgesMatched, Proper, Rises};
 use crate::engine;

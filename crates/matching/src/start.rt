@@ -2,8 +2,8 @@
 ghost use mathlib.Core.Path.{_≡_};
 ghost use Prim.Native.Nat.{ℕ, _+_, _*_, _^_, _<_, _≤_};
 ghost use lib.ListN.{length, getD, replicate};
-ghost use Rattle.matching.specs.Steps.{Fair};
-ghost use Rattle.matching.specs.Sweeps.{Has, Mask, OneOf};
+ghost use Rattle.matching.specs.Loaded.{Fair};
+ghost use Rattle.matching.specs.Masks.{Has, Mask, OneOf};
 ghost use Rattle.matching.specs.Sweeping.{kindOf};
 ghost use Rattle.matching.specs.Starting.{NodeRoom, ByKind, KindsHeld, ByLabel, OfLabels, LinksSpread};
 use packed::by_value;

@@ -7,7 +7,7 @@ ghost use mathlib.Core.Path.{_≡_};
 ghost use Prim.Native.Nat.{_+_, _<_, _≤_};
 ghost use lib.ListN.{length};
 ghost use Rattle.matching.specs.Sweeping.{Ends, Starts, Carried, Swept, Arrived, LookedUp, Left, NodesSettled};
-ghost use Rattle.matching.specs.Choices.{Prepared, Fixed, BackSettled, Round};
+ghost use Rattle.matching.specs.Rounds.{Prepared, Fixed, BackSettled, Round};
 use packed::limits;
 
 // run, if the pair begins where the last one did.

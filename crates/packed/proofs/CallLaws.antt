@@ -17,7 +17,7 @@ use Rattle.packed.specs.Refusals.{Told, told, numberOf, detailOf, replyT
 use Rattle.packed.specs.Reading.{Content, Judges}
 use Rattle.packed.specs.Writing.{JudgesFields}
 use Rattle.packed.specs.Walks.{Different}
-use Rattle.packed.specs.Calls.{Outcome, give, refuse, toldOf, fronts, outputsOf, workOf, Settled, withWorkspace, Fulfils, FulfilsOne, Verdict, accepted, rejected, inFile, readFile, writeFile, judged, pairsOf, uncrowdedBy, fit, fitFile}
+use Rattle.packed.specs.Calls.{Outcome, give, refuse, toldOf, fronts, outputsOf, workOf, Settled, withWorkspace, Fulfils, FulfilsOne, Verdict, accepted, rejected, inFile, readFile, writeFile, judged, pairsOf, withinPairsBy, fit, fitFile}
 use Rattle.packed.specs.Accepting.{replyOf, AcceptsFile}
 use Rattle.packed.specs.declared.reply.Refusal.{Refusal}
 use Rattle.packed.specs.declared.reply.Refusal.the-variants.{NoRoom, SmallWorkspace}
@@ -97,23 +97,23 @@ pub fitFile-fits : FitsRoom fitFile overFile
 unfolding fitFile
 fitFile-fits = record { is = λ room o. refl; within = λ room n e. overFile-no room n e .0 }
 
-pub crowded : (ms ws : List ℕ) (a : Outcome) → 8192 < length (pairsOf ms ws) → uncrowdedBy ms ws a ≡ refuse 10 4
-unfolding uncrowdedBy
-crowded ms ws a h = rw (lt-ltb 8192 (length (pairsOf ms ws)) h)
+pub many-pairs : (ms ws : List ℕ) (a : Outcome) → 8192 < length (pairsOf ms ws) → withinPairsBy ms ws a ≡ refuse 10 4
+unfolding withinPairsBy
+many-pairs ms ws a h = rw (lt-ltb 8192 (length (pairsOf ms ws)) h)
 
-pub uncrowded-is : (ms ws : List ℕ) (a : Outcome) → length (pairsOf ms ws) ≤ 8192 → uncrowdedBy ms ws a ≡ a
-unfolding uncrowdedBy
-uncrowded-is ms ws a h = rw (le-ltb 8192 (length (pairsOf ms ws)) h)
+pub within-pairs-is : (ms ws : List ℕ) (a : Outcome) → length (pairsOf ms ws) ≤ 8192 → withinPairsBy ms ws a ≡ a
+unfolding withinPairsBy
+within-pairs-is ms ws a h = rw (le-ltb 8192 (length (pairsOf ms ws)) h)
 
 -- the different pairs that were gathered are those of the content
 module _ {codes w : List ℕ} {n : ℕ} (ms ws : List ℕ) (d : Different codes n w) (e : codes ≡ flatten (map flatten (sheetsIn ms ws))) where
-  pub gathered-many : (a : Outcome) → 8192 < n → uncrowdedBy ms ws a ≡ refuse 10 4
+  pub gathered-many : (a : Outcome) → 8192 < n → withinPairsBy ms ws a ≡ refuse 10 4
   unfolding pairsOf
-  gathered-many a h = crowded ms ws a (rw e at (d .many h))
+  gathered-many a h = many-pairs ms ws a (rw e at (d .many h))
 
-  pub gathered-few : (a : Outcome) → n ≤ 8192 → uncrowdedBy ms ws a ≡ a
+  pub gathered-few : (a : Outcome) → n ≤ 8192 → withinPairsBy ms ws a ≡ a
   unfolding pairsOf
-  gathered-few a h = uncrowded-is ms ws a (omega (arith, rw e at (d .number h)))
+  gathered-few a h = within-pairs-is ms ws a (omega (arith, rw e at (d .number h)))
 
 -- ---- what is answered
 

@@ -10,7 +10,7 @@ use borrow.Author.Tests.{ltb-false, le-ltb}
 use Rattle.packed.specs.Format.{Format, Result, ok, bad, pick, decode, encode}
 use Rattle.packed.specs.Formats.{pattern, catalogue, record′, sheet, book}
 use Rattle.packed.specs.Contents.{edgesOf, edgeCounts}
-use Rattle.packed.specs.Calls.{Outcome, give, refuse, withWorkspace, rejected, inFile, readFile, writeFile, judged, pairsOf, uncrowdedBy, fit, fitFile, patternRead, catalogueRead, recordRead, sheetRead, bookRead, patternWritten, catalogueWritten, recordWritten, sheetWritten, bookWritten}
+use Rattle.packed.specs.Calls.{Outcome, give, refuse, withWorkspace, rejected, inFile, readFile, writeFile, judged, pairsOf, withinPairsBy, fit, fitFile, patternRead, catalogueRead, recordRead, sheetRead, bookRead, patternWritten, catalogueWritten, recordWritten, sheetWritten, bookWritten}
 use Rattle.packed.proofs.RoundTrip.{Bytes, decode-encode, encode-decode}
 use Rattle.packed.proofs.Most.{pattern-bytes, catalogue-bytes, record-bytes}
 use Rattle.packed.proofs.CallLaws.{read-finds, write-finds, accepted-by, judged-accepted, overFile, overFile-no}
@@ -27,9 +27,9 @@ withWorkspace-given : (words : ℕ) (a : Outcome) (o : List ℕ) → withWorkspa
 unfolding withWorkspace
 withWorkspace-given words a o e = let p = passed (ltb words 16384) 14 0 a o e in (p .1, λ b. rw (p .0))
 
-uncrowded-given : (ms ws : List ℕ) (a : Outcome) (o : List ℕ) → uncrowdedBy ms ws a ≡ give [] (o ∷ []) → (a ≡ give [] (o ∷ [])) × ((b : Outcome) → uncrowdedBy ms ws b ≡ b)
-unfolding uncrowdedBy
-uncrowded-given ms ws a o e = let p = passed (ltb 8192 (length (pairsOf ms ws))) 10 4 a o e in (p .1, λ b. rw (p .0))
+within-pairs-given : (ms ws : List ℕ) (a : Outcome) (o : List ℕ) → withinPairsBy ms ws a ≡ give [] (o ∷ []) → (a ≡ give [] (o ∷ [])) × ((b : Outcome) → withinPairsBy ms ws b ≡ b)
+unfolding withinPairsBy
+within-pairs-given ms ws a o e = let p = passed (ltb 8192 (length (pairsOf ms ws))) 10 4 a o e in (p .1, λ b. rw (p .0))
 
 given-is : (a o : List ℕ) → give [] (a ∷ []) ≡ give [] (o ∷ []) → a ≡ o
 given-is a o e = cc
@@ -189,8 +189,8 @@ module _ (p s ws : List ℕ) (room room′ words : ℕ) where
 
   pub book-back : Bytes s → withWorkspace words (bookRead p s room) ≡ give [] (ws ∷ []) → length s ≤ room′ → withWorkspace words (bookWritten p ws room′) ≡ give [] (s ∷ [])
   unfolding bookRead bookWritten
-  book-back = paired-back 897 2 catalogue (λ cs. book (edgeCounts cs)) (λ cs. uncrowdedBy (edgeCounts cs)) (λ cs. uncrowded-given (edgeCounts cs)) p s ws words room room′
+  book-back = paired-back 897 2 catalogue (λ cs. book (edgeCounts cs)) (λ cs. withinPairsBy (edgeCounts cs)) (λ cs. within-pairs-given (edgeCounts cs)) p s ws words room room′
 
   pub book-again : withWorkspace words (bookWritten p ws room) ≡ give [] (s ∷ []) → length ws ≤ room′ → withWorkspace words (bookRead p s room′) ≡ give [] (ws ∷ [])
   unfolding bookRead bookWritten
-  book-again = paired-again 897 2 catalogue (λ cs. book (edgeCounts cs)) (λ cs. uncrowdedBy (edgeCounts cs)) (λ cs. uncrowded-given (edgeCounts cs)) p s ws words room room′
+  book-again = paired-again 897 2 catalogue (λ cs. book (edgeCounts cs)) (λ cs. withinPairsBy (edgeCounts cs)) (λ cs. within-pairs-given (edgeCounts cs)) p s ws words room room′

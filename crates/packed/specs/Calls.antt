@@ -112,11 +112,11 @@ unfoldable pub pairsOf : List ℕ → List ℕ → List ℕ
 pairsOf ms ws = distinct (flatten (map flatten (sheetsIn ms ws)))
 
 -- 10: over 8,192 different pairs stand in a book
-unfoldable pub uncrowdedBy : List ℕ → List ℕ → Outcome → Outcome
-uncrowdedBy ms ws a = pick (ltb pairsMost (length (pairsOf ms ws))) (refuse 10 4) a
+unfoldable pub withinPairsBy : List ℕ → List ℕ → Outcome → Outcome
+withinPairsBy ms ws a = pick (ltb pairsMost (length (pairsOf ms ws))) (refuse 10 4) a
 
-abbrev pub uncrowded : List ℕ → List ℕ → Outcome → Outcome
-uncrowded c ws a = uncrowdedBy (edgeCounts c) ws a
+abbrev pub withinPairs : List ℕ → List ℕ → Outcome → Outcome
+withinPairs c ws a = withinPairsBy (edgeCounts c) ws a
 
 -- 12: the output needs more than was lent
 unfoldable pub fit : ℕ → List ℕ → Outcome
@@ -141,7 +141,7 @@ unfoldable pub sheetRead : List ℕ → List ℕ → ℕ → Outcome
 sheetRead p s room = judged (readPattern p) (λ ps. judged (readSheet ps s) (fit room))
 
 unfoldable pub bookRead : List ℕ → List ℕ → ℕ → Outcome
-bookRead c s room = judged (readCatalogue c) (λ cs. judged (readBook cs s) (λ ws. uncrowded cs ws (fit room ws)))
+bookRead c s room = judged (readCatalogue c) (λ cs. judged (readBook cs s) (λ ws. withinPairs cs ws (fit room ws)))
 
 unfoldable pub patternWritten : List ℕ → ℕ → Outcome
 patternWritten ws room = judged (writeFile 1 pattern ws) (fit room)
@@ -156,4 +156,4 @@ unfoldable pub sheetWritten : List ℕ → List ℕ → ℕ → Outcome
 sheetWritten p ws room = judged (readPattern p) (λ ps. judged (writeSheet ps ws) (fitFile room))
 
 unfoldable pub bookWritten : List ℕ → List ℕ → ℕ → Outcome
-bookWritten c ws room = judged (readCatalogue c) (λ cs. judged (writeBook cs ws) (λ s. uncrowded cs ws (fitFile room s)))
+bookWritten c ws room = judged (readCatalogue c) (λ cs. judged (writeBook cs ws) (λ s. withinPairs cs ws (fitFile room s)))

@@ -6,7 +6,7 @@ ghost use Rattle.packed.specs.Formats.{sheet, book};
 ghost use Rattle.packed.specs.ByValue.{Small};
 ghost use Rattle.packed.specs.Refusals.{replyTold};
 ghost use Rattle.packed.specs.OldRecord.{recordSorted};
-ghost use Rattle.packed.specs.Calls.{FulfilsOne, writeFile, judged, fit, fitFile, uncrowdedBy, patternRead, catalogueRead, recordRead, sheetRead, bookRead, patternWritten, catalogueWritten, recordWritten, sheetWritten, bookWritten};
+ghost use Rattle.packed.specs.Calls.{FulfilsOne, writeFile, judged, fit, fitFile, withinPairsBy, patternRead, catalogueRead, recordRead, sheetRead, bookRead, patternWritten, catalogueWritten, recordWritten, sheetWritten, bookWritten};
 use crate::accept;
 use crate::accept::CatalogueFile;
 use crate::catalogue;
@@ -214,7 +214,7 @@ fn write_book_of(
     work: &mut [u32],
 ) -> Reply
     requires { ⌜ (length (now work) ≡ 16384) × (k ≤ 16) × Small counts ⌝ }
-    ensures { λ r. ⌜ FulfilsOne (judged (writeFile 4 (book (take k counts)) (now (fields .entry))) (λ s. uncrowdedBy (take k counts) (now (fields .entry)) (fitFile (length (now (out .entry))) s))) (replyTold r) (now (out .entry)) (now (out .exit)) ⌝ }
+    ensures { λ r. ⌜ FulfilsOne (judged (writeFile 4 (book (take k counts)) (now (fields .entry))) (λ s. withinPairsBy (take k counts) (now (fields .entry)) (fitFile (length (now (out .entry))) s))) (replyTold r) (now (out .entry)) (now (out .exit)) ⌝ }
 {
     let p = sheet::judge_book_fields(fields, counts, k, &mut out[0..0]);
     match p {

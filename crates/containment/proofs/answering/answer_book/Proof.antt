@@ -8,7 +8,7 @@ use Rattle.containment.specs.Answer.{answerIn}
 use Rattle.containment.specs.Steps.{quotedAs}
 use Rattle.containment.proofs.QueryLaws.{fair}
 use Rattle.containment.proofs.AnswerLaws.{views-few, query-few}
-use Rattle.containment.proofs.AnsweringLaws.{book-booked, crowded-answered, uncovered-answered, covered-answered}
+use Rattle.containment.proofs.AnsweringLaws.{book-booked, many-pairs-answered, uncovered-answered, covered-answered}
 use borrow.Author.Needs.{needs}
 use Rattle.containment.proofs.answering.answer_book.Statement.{statement}
 use Rattle.containment.proofs.answering.answer_book.Tie as tie
@@ -58,7 +58,7 @@ returns-2 : tie.Need-returns-2
 returns-2 c =
     let a = c .before .before .before .before .before .before .before .before .before .before .before .before .before .before .args in
     let r = rw (c .before .before .before .before .before .enum-told .given .1) at (c .before .before .before .before .before .before .before .before .before .accept-book .ensures) in
-    λ t v u e. crowded-answered t v (a .book .now) r (c .before .before .before .gather-book .ensures) u e (a .set) (a .out .now) (c .if1 .taken)
+    λ t v u e. many-pairs-answered t v (a .book .now) r (c .before .before .before .gather-book .ensures) u e (a .set) (a .out .now) (c .if1 .taken)
 
 cast-t20 : tie.Need-cast-t20
 cast-t20 c = let l = c .if2 .taken in let q = query-few (c .before .before .before .before .before .before .before .before .before .before .before .before .before .before .before .before .pre .0) in omega arith

@@ -4,7 +4,7 @@ use mathlib.Core.Logic.{⊎-elim}
 use mathlib.Core.Path.{_≡_, sym, subst}
 use Prim.Native.Nat.{ℕ, _+_, _≤_, _-_}
 use native.Mathlib.Omega.{arith}
-use Rattle.matching.specs.Sweeps.{Mask}
+use Rattle.matching.specs.Masks.{Mask}
 use Rattle.containment.specs.Tries.{EdgeMatchedBy}
 use Rattle.containment.proofs.TriesLaws.{matches-yes, matches-no, edges-none, edges-more, edges-same}
 use Rattle.containment.proofs.costing.edges_of.Statement.{statement}

@@ -4,7 +4,7 @@ use mathlib.Core.Path.{_≡_, refl, _∙_}
 use Prim.Native.Nat.{ℕ, _≤_, _<_, _-_}
 use native.Mathlib.Omega.{arith}
 use lib.ListN.{length, getD, length-set}
-use Rattle.matching.specs.Sweeps.{Mask}
+use Rattle.matching.specs.Masks.{Mask}
 use Rattle.containment.specs.Tries.{EdgeMatchedBy}
 use Rattle.containment.proofs.TriesLaws.{masks-more}
 use Rattle.containment.proofs.costing.masks_of.Statement.{statement}

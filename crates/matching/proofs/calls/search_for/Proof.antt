@@ -6,7 +6,7 @@ use Rattle.packed.specs.Calls.{fitFile}
 use Rattle.packed.proofs.CallLaws.{body-refused}
 use Rattle.matching.specs.Simulation.{graphOf, matchSets}
 use Rattle.matching.specs.Search.{sheetBytes}
-use Rattle.matching.specs.Steps.{patternIn}
+use Rattle.matching.specs.Loaded.{patternIn}
 use Rattle.matching.proofs.RecordLaws.{ready-by, rises-by}
 use Rattle.matching.proofs.BookLaws.{sheeted-by, encodes}
 use Rattle.matching.proofs.AnswerFits.{search-found}

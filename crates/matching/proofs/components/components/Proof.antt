@@ -6,7 +6,7 @@ use native.Mathlib.Nat.{zero-add}
 use native.Mathlib.Omega.{arith}
 use lib.ListN.{getD}
 use denote.Ref.{now}
-use Rattle.matching.specs.Sweeps.{Has, Mask}
+use Rattle.matching.specs.Masks.{Has, Mask}
 use Rattle.matching.proofs.Filling.{Filling, filling-start, filling-more, filling-front}
 use Rattle.matching.proofs.RowLaws.{blank-long}
 use Rattle.matching.proofs.ReachLaws.{component-mask}

@@ -4,7 +4,7 @@ use native.Mathlib.Omega.{arith}
 use Prim.Native.Nat.{ℕ, _-_, _≤_}
 use mathlib.Core.Path.{_≡_, ap, sym, _∙_}
 use Rattle.packed.specs.Contents.{wordTo}
-use Rattle.matching.specs.Late.{missed}
+use Rattle.matching.specs.Worklist.{missed}
 use Rattle.matching.proofs.IndexLaws.{missed-none, missed-more, missed-all}
 use Rattle.matching.proofs.index.look.Statement.{statement}
 use Rattle.matching.proofs.index.look.Tie as tie

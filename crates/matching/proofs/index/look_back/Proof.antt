@@ -6,7 +6,7 @@ use lib.ListN.{getD}
 use lib.Bits.{bitAnd, bitXor}
 use mathlib.Core.Path.{_≡_, ap, sym, _∙_}
 use Rattle.packed.specs.Contents.{wordFrom}
-use Rattle.matching.specs.Late.{missedBack}
+use Rattle.matching.specs.Worklist.{missedBack}
 use Rattle.matching.proofs.IndexLaws.{missed-none, missed-more, missed-all}
 use Rattle.matching.proofs.index.look_back.Statement.{statement}
 use Rattle.matching.proofs.index.look_back.Tie as tie

@@ -2,7 +2,7 @@
 use borrow.Author.Needs.{needs}
 use native.Mathlib.Omega.{arith}
 use Prim.Native.Nat.{_-_}
-use Rattle.matching.specs.Late.{BeginsBelow}
+use Rattle.matching.specs.Places.{BeginsBelow}
 use Rattle.matching.proofs.IndexLaws.{before-more, before-cut, before-end}
 use Rattle.matching.proofs.index.skip.Statement.{statement}
 use Rattle.matching.proofs.index.skip.Tie as tie

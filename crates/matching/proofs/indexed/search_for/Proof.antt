@@ -7,7 +7,7 @@ use Rattle.packed.proofs.CallLaws.{body-refused}
 use Rattle.matching.specs.Simulation.{graphOf, matchSets}
 use Rattle.matching.specs.Search.{sheetBytes}
 use Rattle.matching.specs.Index.{indexOf, ownIndex}
-use Rattle.matching.specs.Steps.{patternIn}
+use Rattle.matching.specs.Loaded.{patternIn}
 use Rattle.matching.proofs.RecordLaws.{ready-by, ready-ends, rises-by, order-by}
 use Rattle.matching.proofs.BookLaws.{sheeted-by, encodes}
 use Rattle.matching.proofs.AnswerFits.{indexed-found, indexed-refused}

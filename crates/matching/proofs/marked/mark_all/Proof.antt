@@ -3,7 +3,7 @@ use native.Mathlib.Omega.{arith}
 use borrow.Author.Needs.{needs}
 use mathlib.Core.Path.{_≡_, _∙_, sym, subst}
 use Prim.Native.Nat.{ℕ, _-_, _≤_}
-use Rattle.matching.specs.Late.{AllMarked}
+use Rattle.matching.specs.MarkedSet.{AllMarked}
 use Rattle.matching.proofs.SetLaws.{full-start, full-more}
 use Rattle.matching.proofs.marked.mark_all.Statement.{statement}
 use Rattle.matching.proofs.marked.mark_all.Tie as tie

@@ -5,7 +5,7 @@ use mathlib.Core.Path.{_≡_}
 use Prim.Native.Nat.{_-_, _≤_}
 use denote.Ref.{now}
 use lib.ListN.{getD}
-use Rattle.matching.specs.Sweeps.{Mask, OneOf}
+use Rattle.matching.specs.Masks.{Mask, OneOf}
 use Rattle.matching.proofs.MaskBits.{union-start, union-more, union-end}
 use Rattle.matching.proofs.StartLaws.{label-mask}
 use Rattle.matching.proofs.start.labels_used.Statement.{statement}

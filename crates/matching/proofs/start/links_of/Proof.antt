@@ -3,7 +3,7 @@ use native.Mathlib.Omega.{arith}
 use mathlib.Core.Path.{subst, sym}
 use denote.Ref.{now}
 use Prim.Native.Nat.{ℕ}
-use Rattle.matching.specs.Sweeps.{Has}
+use Rattle.matching.specs.Masks.{Has}
 use Rattle.matching.proofs.Masks.{bit-self}
 use Rattle.matching.proofs.MaskBits.{minus-say}
 use Rattle.matching.proofs.SetLaws.{minus-lt}

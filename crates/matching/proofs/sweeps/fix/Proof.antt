@@ -3,7 +3,7 @@ use borrow.Author.Needs.{needs}
 use borrow.Author.Needs.{needs}
 use native.Mathlib.Omega.{arith}
 use mathlib.Core.Path.{_∙_}
-use Rattle.matching.specs.Choices.{Fixed}
+use Rattle.matching.specs.Rounds.{Fixed}
 use Rattle.matching.proofs.RoundLaws.{fixed-none, fixed-prepared, fixed-then, fixed-told}
 use Rattle.matching.proofs.sweeps.fix.Statement.{statement}
 use Rattle.matching.proofs.sweeps.fix.Tie as tie

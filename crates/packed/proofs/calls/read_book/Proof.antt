@@ -4,7 +4,7 @@ use borrow.Author.Tests.{lt-ltb, le-ltb}
 use lib.ListN.{length}
 use Rattle.packed.specs.Formats.{book}
 use Rattle.packed.specs.Contents.{edgeCounts}
-use Rattle.packed.specs.Calls.{fit, readBook, uncrowded, judged, bookRead}
+use Rattle.packed.specs.Calls.{fit, readBook, withinPairs, judged, bookRead}
 use Rattle.packed.specs.declared.reply.Refusal.the-variants.{TooManyPairs}
 use Rattle.packed.proofs.WalkLaws.{book-pairs}
 use Rattle.packed.proofs.CallLaws.{read-says, fit-fits, fitted-tight, fitted-again, body-refused, body-declined, body-goes-on, gathered-many, gathered-few, none-lent}
@@ -31,7 +31,7 @@ returns c =
     let accept-catalogue = c .before .before .before .before .before .accept-catalogue in
     let a = args in
     let e = c .enum-told2 .given .1 in
-    rw e (body-refused (λ cs. judged (readBook cs (a .bytes .now)) (λ o. uncrowded cs o (fit (length (a .out .now)) o))) (a .out .now) refl (c .enum-told2 .given .0 .0) ((rw e at (accept-catalogue .ensures)) .0))
+    rw e (body-refused (λ cs. judged (readBook cs (a .bytes .now)) (λ o. withinPairs cs o (fit (length (a .out .now)) o))) (a .out .now) refl (c .enum-told2 .given .0 .0) ((rw e at (accept-catalogue .ensures)) .0))
 
 sub-accept-book : tie.Need-sub-accept-book
 sub-accept-book c = search needs
@@ -72,8 +72,8 @@ returns-2 c =
     let j = accept-book in
     let q = rw (enum-told .given .1) at (accept-catalogue .ensures) in
     let e = c .enum-told3 .given .1 in
-    rw e (body-goes-on (λ cs. judged (readBook cs (a .bytes .now)) (λ o. uncrowded cs o (fit (length (a .out .now)) o))) (q .is)
-    (body-refused (λ o. uncrowded (q .fields) o (fit (length (a .out .now)) o)) (a .out .now) (none-lent (a .out .now) (j .last .1 .1 .1 .0) (j .kept .1 .1 .1 .0)) (c .enum-told3 .given .0 .0) (rw (q .holds .are) at (rw e at (j .ensures)))))
+    rw e (body-goes-on (λ cs. judged (readBook cs (a .bytes .now)) (λ o. withinPairs cs o (fit (length (a .out .now)) o))) (q .is)
+    (body-refused (λ o. withinPairs (q .fields) o (fit (length (a .out .now)) o)) (a .out .now) (none-lent (a .out .now) (j .last .1 .1 .1 .0) (j .kept .1 .1 .1 .0)) (c .enum-told3 .given .0 .0) (rw (q .holds .are) at (rw e at (j .ensures)))))
 
 gather-book-requires : tie.Need-gather-book-requires
 gather-book-requires c κs =
@@ -112,8 +112,8 @@ returns-3 c =
     let t = rw (q .holds .are) at (rw (verdict .given .1) at (j .ensures)) in
     let ms = edgeCounts (q .fields) in
     let d = read-says 65536 4 (book ms) (a .bytes .now) (t .fields) (t .is) in
-    body-goes-on (λ cs. judged (readBook cs (a .bytes .now)) (λ o. uncrowded cs o (fit (length (a .out .now)) o))) (q .is)
-    (body-declined (λ o. uncrowded (q .fields) o (fit (length (a .out .now)) o)) (t .is) (a .out .now) (none-lent (a .out .now) (j .last .1 .1 .1 .0) (j .kept .1 .1 .1 .0)) (TooManyPairs 4)
+    body-goes-on (λ cs. judged (readBook cs (a .bytes .now)) (λ o. withinPairs cs o (fit (length (a .out .now)) o))) (q .is)
+    (body-declined (λ o. withinPairs (q .fields) o (fit (length (a .out .now)) o)) (t .is) (a .out .now) (none-lent (a .out .now) (j .last .1 .1 .1 .0) (j .kept .1 .1 .1 .0)) (TooManyPairs 4)
     (gathered-many ms (t .fields) (rw (q .holds .are) at (gather-book .ensures)) (book-pairs ms (a .bytes .now) (t .fields) (d .0)) (fit (length (a .out .now)) (t .fields)) (c .if1 .taken)))
 
 same-length-6 : tie.Need-same-length-6
@@ -138,8 +138,8 @@ returns-4 c =
     let t = rw (q .holds .are) at (rw (verdict .given .1) at (j .ensures)) in
     let ms = edgeCounts (q .fields) in
     let d = read-says 65536 4 (book ms) (a .bytes .now) (t .fields) (t .is) in
-    body-goes-on (λ cs. judged (readBook cs (a .bytes .now)) (λ o. uncrowded cs o (fit (length (a .out .now)) o))) (q .is)
-    (body-goes-on (λ o. uncrowded (q .fields) o (fit (length (a .out .now)) o)) (t .is)
+    body-goes-on (λ cs. judged (readBook cs (a .bytes .now)) (λ o. withinPairs cs o (fit (length (a .out .now)) o))) (q .is)
+    (body-goes-on (λ o. withinPairs (q .fields) o (fit (length (a .out .now)) o)) (t .is)
     (fitted-tight fit-fits (a .out .now) (t .fields) (none-lent (a .out .now) (j .last .1 .1 .1 .0) (j .kept .1 .1 .1 .0))
     (gathered-few ms (t .fields) (rw (q .holds .are) at (gather-book .ensures)) (book-pairs ms (a .bytes .now) (t .fields) (d .0)) (fit (length (a .out .now)) (t .fields)) (if1 .left)) (t .number) (lt-ltb _ _ (c .if2 .taken))))
 
@@ -174,8 +174,8 @@ returns-5 c =
     let t = rw (q .holds .are) at (rw (verdict .given .1) at (j .ensures)) in
     let ms = edgeCounts (q .fields) in
     let d = read-says 65536 4 (book ms) (a .bytes .now) (t .fields) (t .is) in
-    body-goes-on (λ cs. judged (readBook cs (a .bytes .now)) (λ o. uncrowded cs o (fit (length (a .out .now)) o))) (q .is)
-    (body-goes-on (λ o. uncrowded (q .fields) o (fit (length (a .out .now)) o)) (t .is)
+    body-goes-on (λ cs. judged (readBook cs (a .bytes .now)) (λ o. withinPairs cs o (fit (length (a .out .now)) o))) (q .is)
+    (body-goes-on (λ o. withinPairs (q .fields) o (fit (length (a .out .now)) o)) (t .is)
     (fitted-again fit-fits (a .out .now) (t .fields) (none-lent (a .out .now) (j .last .1 .1 .1 .0) (j .kept .1 .1 .1 .0))
     (gathered-few ms (t .fields) (rw (q .holds .are) at (gather-book .ensures)) (book-pairs ms (a .bytes .now) (t .fields) (d .0)) (fit (length (a .out .now)) (t .fields)) (if1 .left)) (t .number) (accept-book2 .result) _ (le-ltb _ _ (if2 .left)) (t .is) (rw (q .holds .are) at (accept-book2 .ensures))))
 

@@ -1,7 +1,7 @@
 -- `packed::calls::write_book` meets its contract.
 use mathlib.Core.Path.{refl, _∙_}
 use lib.ListN.{length}
-use Rattle.packed.specs.Calls.{fitFile, writeBook, uncrowded, judged, bookWritten}
+use Rattle.packed.specs.Calls.{fitFile, writeBook, withinPairs, judged, bookWritten}
 use Rattle.packed.proofs.CallLaws.{body-refused, body-goes-on}
 use borrow.Author.Needs.{needs}
 use Rattle.packed.proofs.calls.write_book.Statement.{statement}
@@ -26,7 +26,7 @@ returns c =
     let accept-catalogue = c .before .before .before .before .before .accept-catalogue in
     let a = args in
     let e = c .enum-told2 .given .1 in
-    rw e (body-refused (λ cs. judged (writeBook cs (a .fields .now)) (λ s. uncrowded cs (a .fields .now) (fitFile (length (a .out .now)) s))) (a .out .now) refl (c .enum-told2 .given .0 .0) ((rw e at (accept-catalogue .ensures)) .0))
+    rw e (body-refused (λ cs. judged (writeBook cs (a .fields .now)) (λ s. withinPairs cs (a .fields .now) (fitFile (length (a .out .now)) s))) (a .out .now) refl (c .enum-told2 .given .0 .0) ((rw e at (accept-catalogue .ensures)) .0))
 
 write-book-of-requires : tie.Need-write-book-of-requires
 write-book-of-requires c κs =
@@ -51,7 +51,7 @@ returns-2 c =
     let write-book-of = c .before .before .before .before .write-book-of in
     let a = args in
     let q = rw (enum-told .given .1) at (accept-catalogue .ensures) in
-    body-goes-on (λ cs. judged (writeBook cs (a .fields .now)) (λ s. uncrowded cs (a .fields .now) (fitFile (length (a .out .now)) s))) (q .is) (rw (q .holds .are) at (write-book-of .ensures))
+    body-goes-on (λ cs. judged (writeBook cs (a .fields .now)) (λ s. withinPairs cs (a .fields .now) (fitFile (length (a .out .now)) s))) (q .is) (rw (q .holds .are) at (write-book-of .ensures))
 
 pub write-book-spec : {M : Type 1} → statement M
 write-book-spec =

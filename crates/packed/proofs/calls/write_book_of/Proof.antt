@@ -2,7 +2,7 @@
 use lib.ListN.{length, take}
 use Rattle.packed.specs.Format.{encode}
 use Rattle.packed.specs.Formats.{book}
-use Rattle.packed.specs.Calls.{uncrowdedBy, fitFile}
+use Rattle.packed.specs.Calls.{withinPairsBy, fitFile}
 use Rattle.packed.specs.declared.reply.Refusal.the-variants.{TooManyPairs}
 use Rattle.packed.proofs.WalkLaws.{field-pairs}
 use Rattle.packed.proofs.CallLaws.{write-finds, accepted-by, refused-by, fitFile-fits, body-refused, body-declined, body-goes-on, fitted-tight, fitted-given, gathered-many, gathered-few, none-lent, judges-fields-front}
@@ -44,7 +44,7 @@ returns c =
     let j = judge-book-fields in
     let ms = take (a .k) (a .counts) in
     let q = rw (p .given .1) at (j .ensures) in
-    body-declined (λ o. uncrowdedBy ms (a .fields .now) (fitFile (length (a .out .now)) o)) (accepted-by (write-finds 4 (book ms) (a .fields .now)) (q .is)) (a .out .now) (none-lent (a .out .now) (j .last .1 .1 .1 .0) (j .kept .1 .1 .1 .0)) (TooManyPairs 4) (gathered-many ms (a .fields .now) (gather-fields .ensures) (field-pairs ms (a .fields .now) (q .fields) (q .is)) (fitFile (length (a .out .now)) (q .fields)) (c .if1 .taken))
+    body-declined (λ o. withinPairsBy ms (a .fields .now) (fitFile (length (a .out .now)) o)) (accepted-by (write-finds 4 (book ms) (a .fields .now)) (q .is)) (a .out .now) (none-lent (a .out .now) (j .last .1 .1 .1 .0) (j .kept .1 .1 .1 .0)) (TooManyPairs 4) (gathered-many ms (a .fields .now) (gather-fields .ensures) (field-pairs ms (a .fields .now) (q .fields) (q .is)) (fitFile (length (a .out .now)) (q .fields)) (c .if1 .taken))
 
 same-length-3 : tie.Need-same-length-3
 same-length-3 c = search needs
@@ -63,7 +63,7 @@ returns-2 c =
     let j = judge-book-fields in
     let ms = take (a .k) (a .counts) in
     let q = rw (p .given .1) at (j .ensures) in
-    body-goes-on (λ o. uncrowdedBy ms (a .fields .now) (fitFile (length (a .out .now)) o)) (accepted-by (write-finds 4 (book ms) (a .fields .now)) (q .is))
+    body-goes-on (λ o. withinPairsBy ms (a .fields .now) (fitFile (length (a .out .now)) o)) (accepted-by (write-finds 4 (book ms) (a .fields .now)) (q .is))
     (fitted-tight fitFile-fits (a .out .now) (q .fields) (none-lent (a .out .now) (j .last .1 .1 .1 .0) (j .kept .1 .1 .1 .0)) (gathered-few ms (a .fields .now) (gather-fields .ensures) (field-pairs ms (a .fields .now) (q .fields) (q .is)) (fitFile (length (a .out .now)) (q .fields)) (if1 .left)) (q .number) (c .if2 .taken))
 
 judge-book-fields-requires-2 : tie.Need-judge-book-fields-requires-2
@@ -91,7 +91,7 @@ returns-3 c =
     let j = judge-book-fields in
     let ms = take (a .k) (a .counts) in
     let q = rw (p .given .1) at (j .ensures) in
-    body-goes-on (λ o. uncrowdedBy ms (a .fields .now) (fitFile (length (a .out .now)) o)) (accepted-by (write-finds 4 (book ms) (a .fields .now)) (q .is))
+    body-goes-on (λ o. withinPairsBy ms (a .fields .now) (fitFile (length (a .out .now)) o)) (accepted-by (write-finds 4 (book ms) (a .fields .now)) (q .is))
     (fitted-given fitFile-fits (a .out .now) (q .fields) (none-lent (a .out .now) (j .last .1 .1 .1 .0) (j .kept .1 .1 .1 .0)) (gathered-few ms (a .fields .now) (gather-fields .ensures) (field-pairs ms (a .fields .now) (q .fields) (q .is)) (fitFile (length (a .out .now)) (q .fields)) (if1 .left)) (q .number) (if2 .left)
     (judges-fields-front (encode (book ms) (a .fields .now)) 4 (judge-book-fields2 .result) (q .fields) _ _ (judge-book-fields2 .ensures) (q .is)))
 
@@ -107,7 +107,7 @@ returns-4 c =
     let j = judge-book-fields in
     let ms = take (a .k) (a .counts) in
     let q = rw (p2 .given .1) at (j .ensures) in
-    body-refused (λ o. uncrowdedBy ms (a .fields .now) (fitFile (length (a .out .now)) o)) (a .out .now) (none-lent (a .out .now) (j .last .1 .1 .1 .0) (j .kept .1 .1 .1 .0)) (p2 .given .0 .0) (refused-by (write-finds 4 (book ms) (a .fields .now)) (p2 .given .0 .0) q)
+    body-refused (λ o. withinPairsBy ms (a .fields .now) (fitFile (length (a .out .now)) o)) (a .out .now) (none-lent (a .out .now) (j .last .1 .1 .1 .0) (j .kept .1 .1 .1 .0)) (p2 .given .0 .0) (refused-by (write-finds 4 (book ms) (a .fields .now)) (p2 .given .0 .0) q)
 
 pub write-book-of-spec : {M : Type 1} → statement M
 write-book-of-spec =

@@ -8,7 +8,7 @@ use mathlib.Core.Logic.{_⊎_}
 use lib.ListN.{length, getD}
 use lib.Dec.{T}
 use Rattle.packed.specs.Contents.{wordFrom, wordTo}
-use Rattle.matching.specs.Sweeps.{Has, Mask, OneOf}
+use Rattle.matching.specs.Masks.{Has, Mask, OneOf}
 use Rattle.matching.specs.Sweeping.{fromOf, toOf, Ends, heldAt, Meets, Tabled}
 
 -- an end of a pair, read from its word: what is said of the links that leave is said of those that arrive with the two ends changed for each other
