@@ -5,7 +5,7 @@ ghost use Prim.Native.Nat.{ℕ};
 ghost use lib.ListN.{length};
 ghost use Rattle.packed.specs.Refusals.{replyTold};
 ghost use Rattle.packed.specs.Calls.{FulfilsOne, judged, readBook, fitFile};
-ghost use Rattle.matching.specs.Steps.{Fair, patternIn};
+ghost use Rattle.matching.specs.Loaded.{Fair, patternIn};
 ghost use Rattle.matching.specs.Search.{sheetBytes};
 ghost use Rattle.matching.specs.Join.{View, answerSets};
 ghost use Rattle.matching.specs.Candidates.{Booked};
@@ -94,8 +94,8 @@ pub fn answer(
     let counts = f.edges;
     let k = f.views;
     let lowest = choose::lowest_unmatched(&table, f.usable, k, q.edges);
-    let set = choose::use_views(&table, f.usable, lowest, k, q.edges);
-    answer_book(q, &table, set, lowest, counts, k, book, out, work)
+    let used = choose::use_views(&table, f.usable, lowest, k, q.edges);
+    answer_book(q, &table, used, lowest, counts, k, book, out, work)
 }
 
 // Answers by the views in the set.

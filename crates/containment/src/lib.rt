@@ -25,6 +25,9 @@ use packed::workspace;
 use quote_type::Quote;
 use showing::Shown;
 
+// How much of the workspace is zero after every call.
+const CLEARED: usize = limits::WORKSPACE;
+
 // Quotes a question with a catalogue.
 pub fn quote(question: &[u8], catalogue: &[u8], work: &mut [u32]) -> Quote
     ensures { λ r. ⌜ Settled blank (withWorkspace (length (now (work .entry))) (quoteOutcome (now (question .entry)) (now (catalogue .entry)))) (quoteTold r) [] [] (now (work .entry)) (now (work .exit)) ⌝ }
@@ -33,7 +36,7 @@ pub fn quote(question: &[u8], catalogue: &[u8], work: &mut [u32]) -> Quote
         return quoting::refused(Refusal::SmallWorkspace);
     }
     let r = quoting::quote(question, catalogue, &mut work[0..limits::WORKSPACE]);
-    workspace::clear(work, limits::WORKSPACE);
+    workspace::clear(work, CLEARED);
     r
 }
 
@@ -50,7 +53,7 @@ pub fn cheapest(question: &[u8], catalogue: &[u8], charges: &[u32], work: &mut [
         charges,
         &mut work[0..limits::WORKSPACE],
     );
-    workspace::clear(work, limits::WORKSPACE);
+    workspace::clear(work, CLEARED);
     r
 }
 
@@ -74,7 +77,7 @@ pub fn answer(
         out,
         &mut work[0..limits::WORKSPACE],
     );
-    workspace::clear(work, limits::WORKSPACE);
+    workspace::clear(work, CLEARED);
     r
 }
 
@@ -100,7 +103,7 @@ pub fn answer_from(
         out,
         &mut work[0..limits::WORKSPACE],
     );
-    workspace::clear(work, limits::WORKSPACE);
+    workspace::clear(work, CLEARED);
     r
 }
 
@@ -124,6 +127,6 @@ pub fn show_uncovered(
         second,
         &mut work[0..limits::WORKSPACE],
     );
-    workspace::clear(work, limits::WORKSPACE);
+    workspace::clear(work, CLEARED);
     r
 }

@@ -268,17 +268,17 @@ pub fn store_ranked(work: &[u32], m: usize, out: &mut [u32], at: usize)
     requires { ⌜ (m ≤ length (now work)) × (at + 3 * m ≤ length (now out)) ⌝ }
     ensures { λ r. ⌜ now (out .exit) ≡ sets (now (out .entry)) at (fromRanks (take m (now (work .entry)))) ⌝ }
 {
-    let mut k: usize = 0;
-    while k < m {
-        let rank = work[k];
+    let mut e: usize = 0;
+    while e < m {
+        let rank = work[e];
         let code = rank / limits::KINDS;
-        let from = at + 3 * k;
+        let from = at + 3 * e;
         let to = from + 1;
         let kind = from + 2;
         out[from] = code / limits::NODES;
         out[to] = code % limits::NODES;
         out[kind] = rank % limits::KINDS;
-        k += 1;
+        e += 1;
     }
 }
 

@@ -1,5 +1,6 @@
 -- `containment::mapping::note_view` meets its contract.
 use mathlib.Core.Path.{sym, _∙_}
+use native.Mathlib.Omega.{arith}
 use Rattle.containment.proofs.MappingLaws.{column-map, column-none, listed-mask, unlisted}
 use borrow.Author.Needs.{needs}
 use Rattle.containment.proofs.mapping.note_view.Statement.{statement}
@@ -15,7 +16,7 @@ returns : tie.Need-returns
 returns c =
     let pre = c .before .before .before .before .pre in
     let listed = c .before .listed in
-    column-none _ (λ e l. pre .10 e ∙ sym (unlisted (c .before .before .before .before .args .p) (listed .ensures) (c .if1 .taken) _))
+    column-none _ (λ e l. pre .10 e ∙ sym (unlisted (c .before .before .before .before .args .p) (listed .ensures) (λ z. omega (arith, c .if1 .taken)) _))
 
 note-masks-requires : tie.Need-note-masks-requires
 note-masks-requires c κs = search needs

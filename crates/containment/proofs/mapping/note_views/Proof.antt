@@ -2,7 +2,7 @@
 use native.Mathlib.Omega.{arith}
 use Prim.Native.Nat.{_≤_, _-_}
 use mathlib.Core.Path.{_≡_, refl, sym, _∙_}
-use Rattle.matching.specs.Steps.{Edges}
+use Rattle.matching.specs.Loaded.{Edges}
 use Rattle.matching.proofs.MatchedLaws.{edges-twice}
 use Rattle.matching.proofs.PatternLaws.{fair-by, proper-by}
 use Rattle.matching.proofs.RecordLaws.{ready-by, rises-by, ready-again, rises-again}

@@ -59,8 +59,8 @@ mul-out-3 c = search needs
 slice-write-out-3 : tie.Need-slice-write-out-3 Inv-loop μ-loop
 slice-write-out-3 c = simp length-set (omega (arith, c .before .before .loop .inv .1, c .before .loop-test .taken, c .before .before .before .pre .1))
 
-add-k : tie.Need-add-k Inv-loop μ-loop
-add-k c = search needs
+add-e : tie.Need-add-e Inv-loop μ-loop
+add-e c = search needs
 
 loop-less : tie.Need-loop-less Inv-loop μ-loop
 loop-less c = search needs
@@ -68,9 +68,9 @@ loop-less c = search needs
 loop-again : tie.Need-loop-again Inv-loop μ-loop
 loop-again c =
     let i = c .before .before .loop .inv in
-    let at : ℕ = c .before .before .before .args .at + 3 * c .before .before .loop .k in
-    let v : ℕ = getD (c .before .before .before .args .work .now) (c .before .before .loop .k) 0 in
-    (omega (arith, c .before .loop-test .taken), simp length-set (i .1), ap (λ (o : List ℕ). set (set (set o at (v / 8 / 4096)) (at + 1) (v / 8 % 4096)) (at + 2) (v % 8)) (i .2) ∙ threes-more (λ r. r / 8 / 4096) (λ r. r / 8 % 4096) (λ r. r % 8) (c .before .before .before .args .out .now) (c .before .before .before .args .work .now) (c .before .before .before .args .at) (c .before .before .loop .k) (omega (arith, c .before .loop-test .taken, c .before .before .before .pre .0)))
+    let at : ℕ = c .before .before .before .args .at + 3 * c .before .before .loop .e in
+    let v : ℕ = getD (c .before .before .before .args .work .now) (c .before .before .loop .e) 0 in
+    (omega (arith, c .before .loop-test .taken), simp length-set (i .1), ap (λ (o : List ℕ). set (set (set o at (v / 8 / 4096)) (at + 1) (v / 8 % 4096)) (at + 2) (v % 8)) (i .2) ∙ threes-more (λ r. r / 8 / 4096) (λ r. r / 8 % 4096) (λ r. r % 8) (c .before .before .before .args .out .now) (c .before .before .before .args .work .now) (c .before .before .before .args .at) (c .before .before .loop .e) (omega (arith, c .before .loop-test .taken, c .before .before .before .pre .0)))
 
 same-length : tie.Need-same-length Inv-loop μ-loop
 same-length c = search needs
@@ -78,7 +78,7 @@ same-length c = search needs
 returns : tie.Need-returns Inv-loop μ-loop
 returns c =
     let i = c .before .loop .inv in
-    let e : c .before .loop .k ≡ c .before .before .args .m = omega (arith, i .0, c .loop-test .left) in
+    let e : c .before .loop .e ≡ c .before .before .args .m = omega (arith, i .0, c .loop-test .left) in
     rw e at (i .2) ∙ ap (sets (c .before .before .args .out .now) (c .before .before .args .at)) (sym (ranks-threes (take (c .before .before .args .m) (c .before .before .args .work .now))))
 
 pub store-ranked-spec : {M : Type 1} → statement M
@@ -100,7 +100,7 @@ store-ranked-spec =
     slice-write-out-2
     mul-out-3
     slice-write-out-3
-    add-k
+    add-e
     loop-less
     loop-again
     same-length
