@@ -52,14 +52,16 @@ const SAME: usize = 83;
 
 const MATCH: usize = 84;
 
-// The bytes that follow are printed; the last outcome is; the counts of a group are, and of all groups.
+// The bytes that follow are printed; the last outcome is, and so after the call's name; the counts of a group are, and of all groups.
 const NAME: usize = 85;
 
 const OUTCOME: usize = 86;
 
-const GROUP: usize = 87;
+const NAMED: usize = 87;
 
-const ALL: usize = 88;
+const GROUP: usize = 88;
+
+const ALL: usize = 89;
 
 // A single call, and rounds, of the call that the value says.
 const ONCE: usize = 96;
@@ -156,6 +158,7 @@ fn on_cells(
         MATCH => compare(matches(value, memory, cells), cells),
         NAME => print::name(fd, value),
         OUTCOME => print::outcome(cells, out, words),
+        NAMED => print::named_outcome(memory, cells, out, words),
         GROUP => print::group(cells::GROUP, memory, cells),
         ALL => print::group(cells::ALL, memory, cells),
         _ => (),

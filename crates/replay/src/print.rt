@@ -128,20 +128,6 @@ fn say_accepted(cells: &[u64], out: &[u8], words: &[u32]) {
     }
 }
 
-// The last call's outcome, and the end of the line.
-pub fn outcome(cells: &[u64], out: &[u8], words: &[u32]) {
-    let number = cells::number(cells, cells::NUMBER);
-    if number == 0 {
-        say_accepted(cells, out, words);
-    } else {
-        say(b"refused ");
-        say_number(number);
-        say(b" ");
-        say_number(cells::number(cells, cells::VALUE));
-    }
-    say(b"\n");
-}
-
 // The names of the calls stand in the memory from here on, each in 32 bytes: its length, then itself.
 const NAMES: usize = 128000;
 
@@ -156,6 +142,26 @@ fn say_call(k: usize, memory: &[u8]) {
     say(b"  ");
     say(&memory[from..from + n]);
     say(b": ");
+}
+
+// The last call's outcome, and the end of the line.
+pub fn outcome(cells: &[u64], out: &[u8], words: &[u32]) {
+    let number = cells::number(cells, cells::NUMBER);
+    if number == 0 {
+        say_accepted(cells, out, words);
+    } else {
+        say(b"refused ");
+        say_number(number);
+        say(b" ");
+        say_number(cells::number(cells, cells::VALUE));
+    }
+    say(b"\n");
+}
+
+// The same after the call's name.
+pub fn named_outcome(memory: &[u8], cells: &[u64], out: &[u8], words: &[u32]) {
+    say_call(cells::number(cells, cells::CHOSEN), memory);
+    outcome(cells, out, words);
 }
 
 fn say_some(n: usize, what: &[u8]) {

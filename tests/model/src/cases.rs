@@ -1,9 +1,11 @@
-//! The cases, by sections: files and contents written out, limits, damaged files, the worked cases, links with kinds, searches
-//! beside the plain one, questions and their answers, the steps of joins, and the refusals of every call.
+//! The cases, by sections: the rules, each with its answer; files and contents written out, limits, damaged files, the worked
+//! cases, links with kinds, searches beside the plain one, questions and their answers, the steps of joins, and the refusals of
+//! every call.
 
 mod kinds;
 mod questions;
 mod refusals;
+mod rules;
 mod searches;
 mod steps;
 mod table;
@@ -15,6 +17,7 @@ use crate::replay::*;
 pub fn written() -> (Vec<u8>, String) {
     let mut script = Script::new();
     lend_most(&mut script);
+    rules::write(&mut script);
     table::write(&mut script);
     worked::write(&mut script);
     kinds::write(&mut script);

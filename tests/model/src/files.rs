@@ -393,15 +393,14 @@ fn judge_desk(work_words: usize) -> Result<(), Refusal> {
     Ok(())
 }
 
+/// How many different pairs stand in a book.
+fn different_pairs(book: &Book) -> usize {
+    book.iter().flatten().flatten().collect::<BTreeSet<_>>().len()
+}
+
 /// 10, after all files. It falls to a book alone.
 fn judge_pairs(book: &Book) -> Result<(), Refusal> {
-    let mut pairs: BTreeSet<(u32, u32)> = BTreeSet::new();
-    for sheet in book {
-        for list in sheet {
-            pairs.extend(list);
-        }
-    }
-    if pairs.len() > BOOK_PAIRS {
+    if different_pairs(book) > BOOK_PAIRS {
         return refused(CROWDED, BOOK);
     }
     Ok(())

@@ -8,10 +8,11 @@ mod outcome;
 use crate::files::*;
 use crate::rule::{Drawn, Lists, Pairs};
 use counts::Counts;
-use outcome::{Form, Outcome, Output, DIGEST_START};
+use outcome::{Output, DIGEST_START};
 use std::fmt::Write;
 
 pub use calls::*;
+pub use outcome::{Form, Outcome};
 
 /// The registers.
 pub const START: usize = 0;
@@ -56,8 +57,9 @@ const SAME: usize = 83;
 const MATCH: usize = 84;
 const NAME: usize = 85;
 const OUTCOME: usize = 86;
-const GROUP: usize = 87;
-const ALL: usize = 88;
+const NAMED: usize = 87;
+const GROUP: usize = 88;
+const ALL: usize = 89;
 const ONCE: usize = 96;
 const ROUND: usize = 97;
 const BOTH: usize = 98;
@@ -355,6 +357,11 @@ impl Script {
         self.last.number == 0
     }
 
+    /// What the last call answered.
+    pub fn last(&self) -> &Outcome {
+        &self.last
+    }
+
     /// The number of the last call's refusal.
     pub fn refusal(&self) -> Option<u32> {
         (self.last.number != 0).then_some(self.last.number as u32)
@@ -535,6 +542,17 @@ impl Script {
     /// The last outcome: a short output whole, a long one by its digest.
     pub fn outcome(&mut self) {
         self.instruction(OUTCOME, 0);
+        self.print_outcome();
+    }
+
+    /// The same after the call's name.
+    pub fn named_outcome(&mut self) {
+        self.instruction(NAMED, 0);
+        self.printed += &format!("  {}: ", row(self.chosen).name);
+        self.print_outcome();
+    }
+
+    fn print_outcome(&mut self) {
         let Outcome { form, number, value, other, digest, output } = &self.last;
         let mut line = match (number, form) {
             (0, Form::Words) => format!("{value} words"),

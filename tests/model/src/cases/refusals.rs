@@ -5,27 +5,10 @@ use super::*;
 use crate::files::*;
 use crate::indexing::INDEX;
 
-/// The calls that read files, and which.
-const CALLS: [(usize, &[usize]); 18] = [
-    (READ_PATTERN, &[QUESTION_PART]),
-    (READ_CATALOGUE, &[CATALOGUE_PART]),
-    (READ_RECORD, &[RECORD_PART]),
-    (READ_SHEET, &[QUESTION_PART, BOOK_PART]),
-    (READ_BOOK, &[CATALOGUE_PART, BOOK_PART]),
-    (WRITE_SHEET, &[QUESTION_PART]),
-    (WRITE_BOOK, &[CATALOGUE_PART]),
-    (SEARCH, &[QUESTION_PART, RECORD_PART]),
-    (MAKE_BOOK, &[CATALOGUE_PART, RECORD_PART]),
-    (QUOTE, &[QUESTION_PART, CATALOGUE_PART]),
-    (ANSWER, &[QUESTION_PART, CATALOGUE_PART, BOOK_PART]),
-    (SHOW_UNCOVERED, &[QUESTION_PART, CATALOGUE_PART]),
-    (CHEAPEST, &[QUESTION_PART, CATALOGUE_PART]),
-    (ANSWER_FROM, &[QUESTION_PART, CATALOGUE_PART, BOOK_PART]),
-    (SORT_RECORD, &[RECORD_PART]),
-    (MAKE_INDEX, &[RECORD_PART]),
-    (CHECK_INDEX, &[RECORD_PART, BOOK_PART]),
-    (SEARCH_INDEXED, &[QUESTION_PART, RECORD_PART, BOOK_PART]),
-];
+/// The library's calls that read files, and which.
+fn calls() -> Vec<(usize, Vec<usize>)> {
+    (0..CALLS.len()).map(|call| (call, parts(call))).filter(|(_, parts)| !parts.is_empty()).collect()
+}
 
 /// A file for each refusal that falls to it.
 type Faulty = &'static [(u32, &'static [u8])];
@@ -193,11 +176,9 @@ fn sweep(script: &mut Script, call: usize, part: usize, stride: usize) {
 
 /// Some calls, with each of their parts, a book or an index by a stride of its own.
 fn sweep_all(script: &mut Script, calls: &[usize], stride: usize) {
-    for (call, parts) in CALLS {
-        if calls.contains(&call) {
-            for &part in parts {
-                sweep(script, call, part, if part == BOOK_PART { stride } else { 1 });
-            }
+    for &call in calls {
+        for part in parts(call) {
+            sweep(script, call, part, if part == BOOK_PART { stride } else { 1 });
         }
     }
 }
@@ -216,10 +197,10 @@ fn lay_content(script: &mut Script, call: usize) {
 
 pub fn write(script: &mut Script) {
     script.set(SET, 0xffff);
-    for (call, parts) in CALLS {
+    for (call, parts) in calls() {
         let good = small(call);
         good.lay_all(script);
-        for &part in parts {
+        for part in parts {
             for &(number, file) in faulty(call, part) {
                 lay_content(script, call);
                 lay(script, part, file);
@@ -237,10 +218,10 @@ pub fn write(script: &mut Script) {
     }
     script.name("every call on files with one fault\n");
     script.group();
-    for (call, parts) in CALLS {
+    for (call, parts) in calls() {
         if call != SORT_RECORD {
             of_kinds(call).lay_all(script);
-            for &part in parts {
+            for part in parts {
                 lay_content(script, call);
                 sweep(script, call, part, 1);
             }

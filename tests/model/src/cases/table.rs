@@ -387,3 +387,25 @@ pub fn write(script: &mut Script) {
         section = word;
     }
 }
+
+#[cfg(test)]
+mod tests {
+    use super::*;
+
+    /// What a writer answers to the content that a line of the table names.
+    fn written(line: &str) -> (Option<u32>, usize) {
+        assert!(TABLE.lines().any(|other| other == line));
+        let mut script = Script::new();
+        lend_most(&mut script);
+        let counts = numbers(line);
+        let kind = content(&mut script, line.split_whitespace().nth(1).unwrap(), counts[0], 0);
+        script.once(kind.write());
+        (script.refusal(), script.lengths().0)
+    }
+
+    #[test]
+    fn a_book_of_the_most_bytes_and_a_sheet_of_one_more() {
+        assert_eq!(written("limit book 4421"), (None, BOOK_BYTES));
+        assert_eq!(written("limit sheet 5460"), (Some(NO_FIT), BOOK_BYTES + 1));
+    }
+}

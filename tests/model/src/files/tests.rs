@@ -553,3 +553,30 @@ fn an_old_record_by_the_old_rules() {
         assert_eq!(sort_record(old, 0, WORK - 1), no(DESK, 0));
     }
 }
+
+#[test]
+fn what_10_counts() {
+    // Section to slow by a link of kind 0, by one of kind 1, and by both.
+    let kinds = [0x18, 0x10, 0x20, 0x08, 0x08, 0x10, 0x20, 0x08, 0x09, 0x10, 0x40, 0x08, 0x08, 0x01, 0x20];
+    for (catalogue, fields, number) in [
+        (&C[..], &[1, 2, 0, 1, 0, 3, 1, 1, 0, 1, 1, 1, 2, 0][..], 3),
+        // Under two extracts, and under two links of one.
+        (&C, &[1, 1, 0, 1, 1, 1, 0, 1, 1, 1, 2, 1, 1, 0, 1, 1, 1, 2], 2),
+        (&C, &[1, 2, 0, 1, 1, 2, 1, 2, 0, 1, 1, 2, 2, 0, 1, 1, 2, 0], 2),
+        // Under links of different kinds.
+        (&kinds, &[1, 2, 0, 1, 0, 2, 1, 1, 0, 1, 1, 2, 0, 1, 0, 2, 1, 0, 1], 2),
+    ] {
+        let catalogue = judge_catalogue(catalogue).unwrap();
+        let (book, _) = write(fields, BOOK, |walk| walk_book(walk, &catalogue)).unwrap();
+        assert_eq!(different_pairs(&book), number);
+    }
+}
+
+#[test]
+fn the_most_bytes_however_much_is_lent() {
+    assert_eq!(give_book(vec![0; 65_536], 65_536), Ok(vec![0; 65_536]));
+    assert_eq!(give_book(vec![0; 65_536], ROOM), Ok(vec![0; 65_536]));
+    for room in [65_537, ROOM] {
+        assert_eq!(give_book(vec![0; 65_537], room), no(NO_FIT, 65_537));
+    }
+}

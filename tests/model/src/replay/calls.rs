@@ -1,6 +1,7 @@
 //! The calls: for each its number in the cases, its name, and what the model says of it.
 
 use super::outcome::Outcome;
+use super::{BOOK_PART, CATALOGUE_PART, QUESTION_PART, RECORD_PART};
 use crate::answering::{answer, answer_from};
 use crate::cheapest::cheapest;
 use crate::files::*;
@@ -41,16 +42,45 @@ impl Lent<'_> {
     }
 }
 
+/// What a call takes, in its order: parts of the memory, of which an index stands in a book's place; the content, which is the
+/// charges of the cheapest set too; a set of extracts; and how much is lent for an output and for a second one.
+#[derive(Clone, Copy)]
+pub enum Takes {
+    Question,
+    Catalogue,
+    Record,
+    Book,
+    Index,
+    Content,
+    Set,
+    Room,
+    Second,
+}
+
+impl Takes {
+    /// The part of the memory that it is.
+    pub fn part(self) -> Option<usize> {
+        match self {
+            Takes::Question => Some(QUESTION_PART),
+            Takes::Catalogue => Some(CATALOGUE_PART),
+            Takes::Record => Some(RECORD_PART),
+            Takes::Book | Takes::Index => Some(BOOK_PART),
+            _ => None,
+        }
+    }
+}
+
 pub struct Call {
     pub number: usize,
     pub name: &'static str,
+    pub takes: &'static [Takes],
     pub answer: fn(&Lent) -> Outcome,
 }
 
 macro_rules! calls {
     (
-        client { $($client:ident $client_number:literal $client_name:literal $client_answer:expr;)* }
-        apart { $($apart:ident $apart_number:literal $apart_name:literal $apart_answer:expr;)* }
+        client { $($client:ident $client_number:literal $client_name:literal $client_takes:tt $client_answer:expr;)* }
+        apart { $($apart:ident $apart_number:literal $apart_name:literal $apart_takes:tt $apart_answer:expr;)* }
     ) => {
         $(#[allow(dead_code)] pub const $client: usize = $client_number;)*
         $(pub const $apart: usize = $apart_number;)*
@@ -59,48 +89,71 @@ macro_rules! calls {
         pub const CALLS: &[&str] = &[$($client_name),*];
 
         pub const ROWS: &[Call] = &[
-            $(Call { number: $client_number, name: $client_name, answer: $client_answer },)*
-            $(Call { number: $apart_number, name: $apart_name, answer: $apart_answer },)*
+            $(Call {
+                number: $client_number, name: $client_name, takes: &$client_takes, answer: $client_answer
+            },)*
+            $(Call { number: $apart_number, name: $apart_name, takes: &$apart_takes, answer: $apart_answer },)*
         ];
     };
 }
 
+use Takes::*;
+
 calls! {
     client {
-        READ_PATTERN 0 "read_pattern" |l| Outcome::words(read_pattern(l.question, l.words, l.work));
-        READ_CATALOGUE 1 "read_catalogue" |l| Outcome::words(read_catalogue(l.catalogue, l.words, l.work));
-        READ_RECORD 2 "read_record" |l| Outcome::words(read_record(l.record, l.words, l.work));
-        READ_SHEET 3 "read_sheet" |l| Outcome::words(read_sheet(l.question, l.book, l.words, l.work));
-        READ_BOOK 4 "read_book" |l| Outcome::words(read_book(l.catalogue, l.book, l.words, l.work));
-        WRITE_PATTERN 5 "write_pattern" |l| Outcome::bytes(write_pattern(l.content, l.room, l.work));
-        WRITE_CATALOGUE 6 "write_catalogue" |l| Outcome::bytes(write_catalogue(l.content, l.room, l.work));
-        WRITE_RECORD 7 "write_record" |l| Outcome::bytes(write_record(l.content, l.room, l.work));
-        WRITE_SHEET 8 "write_sheet" |l| Outcome::bytes(write_sheet(l.question, l.content, l.room, l.work));
-        WRITE_BOOK 9 "write_book" |l| Outcome::bytes(write_book(l.catalogue, l.content, l.room, l.work));
-        SEARCH 10 "search" |l| Outcome::sheet(search(l.question, l.record, l.room, l.work));
-        MAKE_BOOK 11 "make_book" |l| Outcome::bytes(make_book(l.catalogue, l.record, l.room, l.work));
-        QUOTE 12 "quote" |l| Outcome::quoted(quote(l.question, l.catalogue, l.work));
-        ANSWER 13 "answer" |l| Outcome::sheet(answer(l.question, l.catalogue, l.book, l.room, l.work));
-        SHOW_UNCOVERED 14 "show_uncovered" |l| {
-            let (first, second) = l.rooms();
-            Outcome::both(show(l.question, l.catalogue, first, second, l.work))
-        };
-        CHEAPEST 15 "cheapest" |l| Outcome::priced(cheapest(l.question, l.catalogue, l.content, l.work));
-        ANSWER_FROM 16 "answer_from" |l| {
-            Outcome::sheet(answer_from(l.question, l.catalogue, l.set, l.book, l.room, l.work))
-        };
-        SORT_RECORD 17 "sort_record" |l| Outcome::bytes(sort_record(l.record, l.room, l.work));
-        MAKE_INDEX 18 "make_index" |l| Outcome::entries(make_index(l.record, l.room.min(ENTRIES), l.work));
-        CHECK_INDEX 19 "check_index" |l| Outcome::checked(check_index(l.record, &l.index(), l.work));
-        SEARCH_INDEXED 20 "search_indexed" |l| {
-            Outcome::sheet(search_indexed(l.question, l.record, &l.index(), l.room, l.work))
-        };
+        READ_PATTERN 0 "read_pattern" [Question, Room]
+            |l| Outcome::words(read_pattern(l.question, l.words, l.work));
+        READ_CATALOGUE 1 "read_catalogue" [Catalogue, Room]
+            |l| Outcome::words(read_catalogue(l.catalogue, l.words, l.work));
+        READ_RECORD 2 "read_record" [Record, Room]
+            |l| Outcome::words(read_record(l.record, l.words, l.work));
+        READ_SHEET 3 "read_sheet" [Question, Book, Room]
+            |l| Outcome::words(read_sheet(l.question, l.book, l.words, l.work));
+        READ_BOOK 4 "read_book" [Catalogue, Book, Room]
+            |l| Outcome::words(read_book(l.catalogue, l.book, l.words, l.work));
+        WRITE_PATTERN 5 "write_pattern" [Content, Room]
+            |l| Outcome::bytes(write_pattern(l.content, l.room, l.work));
+        WRITE_CATALOGUE 6 "write_catalogue" [Content, Room]
+            |l| Outcome::bytes(write_catalogue(l.content, l.room, l.work));
+        WRITE_RECORD 7 "write_record" [Content, Room]
+            |l| Outcome::bytes(write_record(l.content, l.room, l.work));
+        WRITE_SHEET 8 "write_sheet" [Question, Content, Room]
+            |l| Outcome::bytes(write_sheet(l.question, l.content, l.room, l.work));
+        WRITE_BOOK 9 "write_book" [Catalogue, Content, Room]
+            |l| Outcome::bytes(write_book(l.catalogue, l.content, l.room, l.work));
+        SEARCH 10 "search" [Question, Record, Room]
+            |l| Outcome::sheet(search(l.question, l.record, l.room, l.work));
+        MAKE_BOOK 11 "make_book" [Catalogue, Record, Room]
+            |l| Outcome::bytes(make_book(l.catalogue, l.record, l.room, l.work));
+        QUOTE 12 "quote" [Question, Catalogue]
+            |l| Outcome::quoted(quote(l.question, l.catalogue, l.work));
+        ANSWER 13 "answer" [Question, Catalogue, Book, Room]
+            |l| Outcome::sheet(answer(l.question, l.catalogue, l.book, l.room, l.work));
+        SHOW_UNCOVERED 14 "show_uncovered" [Question, Catalogue, Room, Second]
+            |l| {
+                let (first, second) = l.rooms();
+                Outcome::both(show(l.question, l.catalogue, first, second, l.work))
+            };
+        CHEAPEST 15 "cheapest" [Question, Catalogue, Content]
+            |l| Outcome::priced(cheapest(l.question, l.catalogue, l.content, l.work));
+        ANSWER_FROM 16 "answer_from" [Question, Catalogue, Set, Book, Room]
+            |l| Outcome::sheet(answer_from(l.question, l.catalogue, l.set, l.book, l.room, l.work));
+        SORT_RECORD 17 "sort_record" [Record, Room]
+            |l| Outcome::bytes(sort_record(l.record, l.room, l.work));
+        MAKE_INDEX 18 "make_index" [Record, Room]
+            |l| Outcome::entries(make_index(l.record, l.room.min(ENTRIES), l.work));
+        CHECK_INDEX 19 "check_index" [Record, Index]
+            |l| Outcome::checked(check_index(l.record, &l.index(), l.work));
+        SEARCH_INDEXED 20 "search_indexed" [Question, Record, Index, Room]
+            |l| Outcome::sheet(search_indexed(l.question, l.record, &l.index(), l.room, l.work));
     }
     // The states of a join after each step, and the search that the program makes apart from the library's, which to the
     // model is the same.
     apart {
-        STEPS 62 "steps" |l| Outcome::stepped(&judge_pattern(l.question).unwrap(), l.content);
-        PLAIN 63 "plain search" |l| Outcome::sheet(search(l.question, l.record, l.room, l.work));
+        STEPS 62 "steps" [Question, Content]
+            |l| Outcome::stepped(&judge_pattern(l.question).unwrap(), l.content);
+        PLAIN 63 "plain search" [Question, Record, Room]
+            |l| Outcome::sheet(search(l.question, l.record, l.room, l.work));
     }
 }
 
@@ -119,10 +172,14 @@ pub fn writer(reader: usize) -> usize {
     reader + WRITE_PATTERN
 }
 
+/// The parts that a call takes.
+pub fn parts(call: usize) -> Vec<usize> {
+    row(call).takes.iter().filter_map(|takes| takes.part()).collect()
+}
+
 /// The part that a reader reads.
 pub fn part_of(reader: usize) -> usize {
-    use super::{BOOK_PART, CATALOGUE_PART, QUESTION_PART, RECORD_PART};
-    [QUESTION_PART, CATALOGUE_PART, RECORD_PART, BOOK_PART, BOOK_PART][reader]
+    *parts(reader).last().unwrap()
 }
 
 #[cfg(test)]
@@ -132,10 +189,6 @@ mod tests {
     #[test]
     fn the_numbers_are_in_order() {
         assert!(ROWS.windows(2).all(|two| two[0].number < two[1].number));
-        assert!(ROWS[..CALLS.len()]
-            .iter()
-            .zip(CALLS)
-            .enumerate()
-            .all(|(i, (row, name))| row.number == i && row.name == *name));
+        assert!(ROWS[..CALLS.len()].iter().enumerate().all(|(i, row)| (row.number, row.name) == (i, CALLS[i])));
     }
 }
