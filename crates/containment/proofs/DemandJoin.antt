@@ -9,11 +9,11 @@ use Rattle.packed.specs.Formats.{code}
 use Rattle.packed.specs.Contents.{edgeCounts, sheetsIn}
 use Rattle.matching.specs.Lists.{In}
 use Rattle.matching.specs.Simulation.{Pair, Edge, noEdge, oneWay, Pattern, patternOf, ascending}
-use Rattle.matching.specs.Join.{View, pairOf, candidates, answerSets}
+use Rattle.matching.specs.Join.{View, pairOf, candidates, Offer, choice, join, answerSets}
 use Rattle.matching.proofs.ByEdge.{answerTo}
 use Rattle.matching.proofs.ListLaws.{in-cast, getD-each}
 use Rattle.matching.proofs.CodeLaws.{code-same, ascending-say, ascending-by}
-use Rattle.matching.proofs.JoinLaws.{Supported, supported-one, JoinedPair, join-candidate, join-supported, join-most, complete-say, complete-by, answer-say, answer-by, answer-each, code-pair, pair-code}
+use Rattle.matching.proofs.JoinLaws.{Supported, supported-one, choice-candidate, choice-supported, choice-most, JoinedPair, join-candidate, complete-say, complete-by, answer-say, answer-by, answer-each, code-pair, pair-code}
 use Rattle.matching.specs.Offered.{viewPatterns}
 use Rattle.containment.specs.Quote.{noPattern}
 use Rattle.containment.specs.Answer.{viewsIn}
@@ -25,6 +25,39 @@ use Rattle.containment.proofs.CandidateLaws.{Offered, offered-say, offe
 pair-narrow : {f : Pair} (c : ℕ) → f ≡ pairOf c → f .1 < 4096
 unfolding pairOf
 pair-narrow {f} c e = let q : f .1 ≡ c % 4096 = ap (λ (g : Pair). g .1) e in omega arith
+
+-- ---- the greatest choice, without an algorithm
+pub choice-greatest : (Q : Pattern) (cs : Offer) → Q .rule ≡ oneWay → GreatestChoice Q (λ e f. In f (cs e)) (λ e f. In (e, f) (choice Q cs))
+choice-greatest Q cs one = record {
+  chooses = λ e f k. choice-candidate Q cs k;
+  supports = record {
+    leaving-from = λ e v v′ k g i q. begins (choice-supported Q cs k .tail g i q);
+    leaving-to = λ e v v′ k g i q. begins (choice-supported Q cs k .head g i q);
+  };
+  greatest = λ L c s. choice-most Q cs L c (supported L s);
+}
+  where
+    begins : {g : Edge} {v : ℕ} → (h : Pair) × In (g, h) (choice Q cs) × (h .0 ≡ v) → (x : ℕ) × In (g, (v, x)) (choice Q cs)
+    begins {g} {v} (h, k, q) = (h .1, subst (λ z. In (g, (z, h .1)) (choice Q cs)) q k)
+
+    supported : (L : Edge → Pair → Type 0) → SupportsItself Q L → (e : Edge) (f : Pair) → L e f → Supported Q L e f
+    supported L s e f k =
+        supported-one one
+        (λ g i q. let r = s .leaving-from e (f .0) (f .1) k g i q in ((f .0, r .0), r .1, refl))
+        (λ g i q. let r = s .leaving-to e (f .0) (f .1) k g i q in ((f .1, r .0), r .1, refl))
+
+-- the same of candidates and of a choice that are said in other words
+module _ {Q : Pattern} {C C′ K K′ : Edge → Pair → Type 0} (offers : (e : Edge) (f : Pair) → C e f → C′ e f) (offered : (e : Edge) (f : Pair) → C′ e f → C e f)
+    (keeps : (e : Edge) (f : Pair) → K e f → K′ e f) (kept : (e : Edge) (f : Pair) → K′ e f → K e f) where
+  pub greatest-as : GreatestChoice Q C K → GreatestChoice Q C′ K′
+  greatest-as g = record {
+    chooses = λ e f k. let r = g .chooses e f (kept e f k) in (r .0, offers e f (r .1));
+    supports = record {
+      leaving-from = λ e v v′ k h i q. let r = g .supports .leaving-from e v v′ (kept e (v, v′) k) h i q in (r .0, keeps h (v, r .0) (r .1));
+      leaving-to = λ e v v′ k h i q. let r = g .supports .leaving-to e v v′ (kept e (v, v′) k) h i q in (r .0, keeps h (v′, r .0) (r .1));
+    };
+    greatest = λ L c s e f l. keeps e f (g .greatest L (λ h x k. let r = c h x k in (r .0, offered h x (r .1))) s e f l);
+  }
 
 module _ (Q : Pattern) (Ps : List Pattern) (sheets : List (List (List ℕ))) (set : ℕ) (one : Q .rule ≡ oneWay) where
   abbrev views : List View
@@ -62,27 +95,9 @@ module _ (Q : Pattern) (Ps : List Pattern) (sheets : List (List (List ℕ))) (se
   abbrev Keeps : Edge → Pair → Type 0
   Keeps e f = JoinedPair Q views e f
 
-  supports : SupportsItself Q Keeps
-  supports = record {
-    leaving-from = λ e v v′ k g i q. begins (join-supported Q views k .tail g i q);
-    leaving-to = λ e v v′ k g i q. begins (join-supported Q views k .head g i q);
-  }
-    where
-      begins : {g : Edge} {v : ℕ} → (h : Pair) × Keeps g h × (h .0 ≡ v) → (x : ℕ) × Keeps g (v, x)
-      begins {g} {v} (h, k, q) = (h .1, subst (λ z. Keeps g (z, h .1)) q k)
-
-  supported-of : (L : Edge → Pair → Type 0) → SupportsItself Q L → (e : Edge) (f : Pair) → L e f → Supported Q L e f
-  supported-of L s e f k =
-      supported-one one
-      (λ g i q. let r = s .leaving-from e (f .0) (f .1) k g i q in ((f .0, r .0), r .1, refl))
-      (λ g i q. let r = s .leaving-to e (f .0) (f .1) k g i q in ((f .1, r .0), r .1, refl))
-
   greatest-choice : GreatestChoice Q (Candidate Q Ps sheets set) Keeps
-  greatest-choice = record {
-    chooses = λ e f k. let r = join-candidate Q views k in (r .0, candidate-say (r .1));
-    supports = supports;
-    greatest = λ L c s. join-most Q views L (λ e f k. let r = c e f k in (r .0, candidate-by (r .1))) (supported-of L s);
-  }
+  unfolding join
+  greatest-choice = greatest-as (λ e f i. candidate-say i) (λ e f c. candidate-by c) (λ e f k. k) (λ e f k. k) (choice-greatest Q (candidates Q views) one)
 
   -- ---- the lists of the answer
   abbrev Complete : Type 0

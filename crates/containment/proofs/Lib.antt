@@ -29,6 +29,7 @@ pub mod DemandFiles
 pub mod DemandSheets
 pub mod DemandIndex
 pub mod DemandJoin
+pub mod DemandSteps
 pub mod DemandThree
 pub mod DemandsOneTwo
 pub mod Sorting

@@ -4,7 +4,7 @@
 -- lent byte and of every word of the workspace what they are once that answer is known. So what is said here of answers holds of the programs.
 -- An answer is a function of the bytes and fields that are lent, of the length of each output (`room`) and of the workspace (`words`).
 -- Proofs: proofs/DemandsOneTwo.antt and proofs/DemandThree.antt, by proofs/DemandRules.antt, DemandSheets.antt, DemandIndex.antt and DemandJoin.antt; of the
--- cheapest set, proofs/CheapestSets.antt; of the listing, proofs/Listings.antt.
+-- join by steps, proofs/DemandSteps.antt; of the cheapest set, proofs/CheapestSets.antt; of the listing, proofs/Listings.antt.
 use Prim.Native.Nat.{ℕ, _+_, _-_, _*_, _/_, _^_, _<_, _≤_}
 use mathlib.Core.Path.{_≡_}
 use mathlib.Core.Logic.{_⊎_, _↔_}
@@ -17,11 +17,13 @@ use Rattle.packed.specs.Formats.{code, pattern, catalogue, record′}
 use Rattle.packed.specs.Plain.{Below, PatternFile, CatalogueFile, RecordFile, SheetFile, BookFile}
 use Rattle.packed.specs.Contents.{edgesOf, edgeCounts, sheetsIn, ends, fieldsOf, pairCount, sheetFields, sheetLength}
 use Rattle.packed.specs.Refusals.{Told, told}
+use Rattle.packed.specs.declared.by_value.Pattern.{Pattern as Given}
 use Rattle.packed.specs.OldRecord.{readOldRecord, OldRecordFile, sortedFields, recordSorted}
 use Rattle.packed.specs.Calls.{Outcome, give, refuse, fronts, Settled, FulfilsOne, withWorkspace, Verdict, accepted, rejected, readPattern, readCatalogue, readRecord, readSheet, readBook, writeFile, writeSheet, writeBook, pairsOf, fit, fitFile, patternRead, catalogueRead, recordRead, sheetRead, bookRead, patternWritten, catalogueWritten, recordWritten, sheetWritten, bookWritten}
 use Rattle.matching.specs.Lists.{In}
-use Rattle.matching.specs.Simulation.{Pair, Edge, asPair, noEdge, oneWay, Pattern, Graph, patternOf, graphOf, asGraph, bit, fits, IsSim, sim, sound, matchSets, viewSheet}
-use Rattle.matching.specs.Join.{without, answerSets}
+use Rattle.matching.specs.Simulation.{Pair, Edge, asPair, noEdge, oneWay, Pattern, ruled, Graph, patternOf, graphOf, givenEdge, patternIn, asGraph, bit, fits, IsSim, sim, sound, matchSets, viewSheet}
+use Rattle.matching.specs.Join.{without, Offer, answerSets}
+use Rattle.matching.specs.Components.{reaches, Nodes, leavingOf, stateAt, Shut, OneStep, StepsTo, pairAt, IsHeld, Holds, Ran}
 use Rattle.matching.specs.Offered.{viewPatterns}
 use Rattle.matching.specs.Search.{sheetBytes, bookBytes, viewSheets, searchOutcome, makeBookOutcome}
 use Rattle.matching.specs.Index.{indexOf, makeIndexOutcome, checkIndexOutcome, searchIndexedOutcome}
@@ -618,6 +620,64 @@ pub record Answering : Type 1 where
   -- for an uncovered question no function whatsoever of the extracts' lists gives the question's sheet on every record
   pub no-other-way : (q c qs cs : List ℕ) → Question q qs → Catalogue c cs → Uncovered qs cs → (F : List (List (List ℕ)) → List ℕ)
       → ((r rs : List ℕ) → Record r rs → F (viewSheets cs (graphOf rs)) ≡ sheetOf (patternOf qs) rs) → ⊥
+
+-- ---- the join by steps. "The links leaving an item are settled together, after those of the items it leads to, and items that lead to each other, directly or
+-- through others, in one step. After each step, up to the last zeroing, the settled links hold the greatest choice for them alone, and all others still their
+-- candidates."
+
+-- "items that lead to each other, directly or through others"
+abbrev pub Together : Pattern → ℕ → ℕ → Type 0
+Together Q u v = T (reaches Q u v) × T (reaches Q v u)
+
+-- a step from the settled items S to S′: it adds exactly one component, none of which was settled, and all that its links lead to is settled by then
+pub record AddsOne (Q : Pattern) (S S′ : Nodes) : Type 0 where
+  pub item : ℕ
+  pub there : item < length (Q .labels)
+  pub adds : (v : ℕ) → v < length (Q .labels) → T (S′ v) ↔ (T (S v) ⊎ Together Q item v)
+  pub new : (v : ℕ) → Together Q item v → T (S v) → ⊥
+  pub after : (e : Edge) → In e (Q .edges) → Together Q item (e .from) → T (S (e .to)) ⊎ Together Q item (e .to)
+
+-- where K e f says that the pair f is held for the link e of the question, and the lists cs have the candidates: "the settled links", which are those that leave
+-- S, "hold the greatest choice for them alone, and all others still their candidates"
+pub record AfterStep (Q : Pattern) (S : Nodes) (cs : Offer) (K : Edge → Pair → Type 0) : Type 1 where
+  pub settled : GreatestChoice (leavingOf S Q) (λ e f. In f (cs e)) (λ e f. T (S (e .from)) × K e f)
+  pub others : (e : Edge) → In e (Q .edges) → (T (S (e .from)) → ⊥) → (f : Pair) → K e f ↔ In f (cs e)
+
+-- the words w of the program hold the pair f for the link e of the question
+pub record HeldFor (q : Given) (d : ℕ) (w : List ℕ) (e : Edge) (f : Pair) : Type 0 where
+  pub link : ℕ
+  pub below : link < q .edges
+  pub is-link : e ≡ givenEdge q link
+  pub place : ℕ
+  pub within : place < d
+  pub is-pair : f ≡ pairAt w place
+  pub held : IsHeld w place link
+
+pub record BySteps : Type 1 where
+  -- what leading to is: each item leads to itself, and to what a link leads to from an item that it leads to; and to no more, since whatever set has an item and
+  -- with each item what its links lead to has all that it leads to
+  pub leads-self : (Q : Pattern) (u : ℕ) → T (reaches Q u u)
+  pub leads-on : (Q : Pattern) (u : ℕ) (e : Edge) → In e (Q .edges) → T (reaches Q u (e .from)) → T (reaches Q u (e .to))
+  pub leads-least : (Q : Pattern) → T (sound Q) → (S : Nodes) → Shut Q S → (u v : ℕ) → T (S u) → v < length (Q .labels) → T (reaches Q u v) → T (S v)
+  -- "items that lead to each other .. in one step": a step adds one component, and after any steps of two such items both are settled, or neither
+  pub adds : (Q : Pattern) → T (sound Q) → (k : ℕ) (S S′ : Nodes) → StepsTo Q k S → OneStep Q S S′ → AddsOne Q S S′
+  pub together : (Q : Pattern) → T (sound Q) → (k : ℕ) (S : Nodes) → StepsTo Q k S → (u v : ℕ) → v < length (Q .labels) → Together Q u v → T (S u) → T (S v)
+  -- "after those of the items it leads to": these are settled with it or before it
+  pub inward : (Q : Pattern) → T (sound Q) → (k : ℕ) (S : Nodes) → StepsTo Q k S → (u v : ℕ) → v < length (Q .labels) → T (reaches Q u v) → T (S u) → T (S v)
+  -- while an item isn't settled a step can be made, and there are no more steps than items
+  pub goes-on : (Q : Pattern) → T (sound Q) → (S : Nodes) (u : ℕ) → u < length (Q .labels) → (T (S u) → ⊥) → (S′ : Nodes) × OneStep Q S S′
+  pub few : (Q : Pattern) → T (sound Q) → (k : ℕ) (S : Nodes) → StepsTo Q k S → k ≤ length (Q .labels)
+  -- "after each step, .., the settled links hold the greatest choice for them alone, and all others still their candidates"
+  pub state : (Q : Pattern) (S : Nodes) (cs : Offer) → AfterStep Q S cs (λ e f. In e (Q .edges) × In f (stateAt S Q cs e))
+  -- so it is in the words that the steps of the program leave, whatever candidates they held at first: `Ran` is the contract of `matching::steps::run`, which
+  -- makes so many steps as it is asked for, and what the contract of the join, `matching::join::join`, says of its words before the zeroing
+  pub words : (q : Given) (d steps settled : ℕ) (w w′ : List ℕ) → Ran q d steps w settled w′ → (cs : Offer) → Holds q d w cs
+      → AfterStep (patternIn q) (bit settled) cs (HeldFor q d w′)
+  -- what is settled stays: the greatest choice for more links, cut to those that leave S, is the greatest choice for these
+  pub stays : (Q : Pattern) (S S′ : Nodes) → Shut Q S → ((v : ℕ) → T (S v) → T (S′ v)) → (cs : Offer) (e : Edge) → T (S (e .from)) → (f : Pair)
+      → In f (stateAt S′ Q cs e) ↔ In f (stateAt S Q cs e)
+  -- "up to the last zeroing": where all items are settled, these are all links of the question
+  pub whole : (Q : Pattern) (S : Nodes) → ((e : Edge) → In e (Q .edges) → T (S (e .from))) → leavingOf S Q ≡ ruled oneWay Q
 
 -- ---- what holds of the cheapest set
 

@@ -284,6 +284,10 @@ module _ (Q : Pattern) where
     left-few (start {S = S} n) = let l = keep-length (λ v. not (S v)) (below (length (Q .labels))) in let b = length-below (length (Q .labels)) in omega arith
     left-few (step s o) = let r = left-few s in let f = step-falls ends o in omega arith
 
+    -- there are no more steps than nodes
+    pub steps-few : {k : ℕ} {S : Nodes} → StepsTo Q k S → k ≤ length (Q .labels)
+    steps-few s = let r = left-few s in omega arith
+
     -- as many steps as there are nodes settle all
     pub steps-all : {k : ℕ} {S : Nodes} → StepsTo Q k S → length (Q .labels) ≤ k → (u : ℕ) → u < length (Q .labels) → T (S u)
     steps-all {S = S} s l u h =

@@ -7,6 +7,7 @@ use mathlib.Core.List.{List}
 use lib.ListN.{getD}
 use native.Mathlib.Omega.{arith}
 use Rattle.packed.proofs.OrderCases.{lt-or-ge}
+use Rattle.packed.specs.Limits.{patternNodesMost}
 use Rattle.packed.specs.Formats.{code}
 use Rattle.packed.specs.Contents.{distinct}
 use Rattle.packed.specs.BookSheets.{listAt}
@@ -16,12 +17,11 @@ use Rattle.packed.specs.declared.by_value.Pattern.{Pattern as Given}
 use Rattle.matching.specs.Lists.{In, each, keep, upTo}
 use Rattle.matching.specs.Simulation.{bit, Pair, Edge, Pattern, has, ascending}
 use Rattle.matching.specs.Join.{View, pairOf, candidates, Kept, join, keptFor, answerSets}
-use Rattle.matching.specs.Components.{joinIn, stateAt}
+use Rattle.matching.specs.Components.{joinIn, stateAt, Holds, Ran}
 use Rattle.matching.specs.Loaded.{givenEdge, patternIn, Fair, Edges}
 use Rattle.matching.specs.Masks.{Has, OneOf}
 use Rattle.matching.specs.Candidates.{Booked, Blank, Taken, BookListing}
 use Rattle.matching.specs.Joining.{Agrees, Joined}
-use Rattle.matching.specs.Stepping.{Holds, Ran}
 use Rattle.matching.proofs.ListLaws.{same-test, in-cast, each-in, in-each, keep-in, in-keep}
 use Rattle.matching.proofs.SimLaws.{has-in, in-has}
 use Rattle.matching.proofs.MaskBits.{none-has}
@@ -33,9 +33,9 @@ use Rattle.matching.proofs.ComponentLaws.{join-in-all, state-say, state
 use Rattle.matching.proofs.ReachLaws.{given-rule, given-nodes, given-ended}
 use Rattle.matching.proofs.AnswerLaws.{answer-all-or-none}
 
-module _ (q : Given) (t : List ℕ) (set : ℕ) {s counts : List ℕ} {k d steps : ℕ} {w w₁ w₂ w₃ : List ℕ} {settled : ℕ} (fair : Fair q)
+module _ (q : Given) (t : List ℕ) (set : ℕ) {s counts : List ℕ} {k d : ℕ} {w w₁ w₂ w₃ : List ℕ} {settled : ℕ} (fair : Fair q)
     (book : Booked s counts k d w) (blank : Blank d w w₁) (taken : Taken d (BookListing s counts k t set (q .edges)) w₁ w₂)
-    (enough : 16 ≤ steps) (ran : Ran q d steps w₂ settled w₃) where
+    (ran : Ran q d patternNodesMost w₂ settled w₃) where
   abbrev Q : Pattern
   Q = patternIn q
 
@@ -55,8 +55,8 @@ module _ (q : Given) (t : List ℕ) (set : ℕ) {s counts : List ℕ} {k d steps
   edges : Edges w w₃
   edges =
       record {
-        long = ran .edges .long ∙ taken .around .long ∙ blank .around .long;
-        same = λ i l. ran .edges .same i l ∙ twice i l;
+        long = ran .long ∙ taken .around .long ∙ blank .around .long;
+        same = λ i l. ran .pairs i l ∙ twice i l;
       }
 
   -- a word is the code of its pair
@@ -100,9 +100,9 @@ module _ (q : Given) (t : List ℕ) (set : ℕ) {s counts : List ℕ} {k d steps
   all-settled : (u : ℕ) → u < q .nodes → Has settled u
   all-settled u l =
       let z = given-nodes fair in
-      ⊎-elim (λ (p : ran .number < steps). ran .last p u l)
-      (λ (p : steps ≤ ran .number). steps-all Q (given-ended fair) (ran .sequence) (let a = fair .nodes in omega arith) u (omega arith))
-      (lt-or-ge (ran .number) steps)
+      ⊎-elim (λ (p : ran .number < patternNodesMost). ran .last p u l)
+      (λ (p : patternNodesMost ≤ ran .number). steps-all Q (given-ended fair) (ran .sequence) (let a = fair .nodes in omega arith) u (omega arith))
+      (lt-or-ge (ran .number) patternNodesMost)
 
   all-leave : (e : Edge) → In e (Q .edges) → Has settled (e .from)
   all-leave e i = all-settled (e .from) (let a = given-ended fair e i .0 in let z = given-nodes fair in omega arith)
@@ -128,7 +128,7 @@ module _ (q : Given) (t : List ℕ) (set : ℕ) {s counts : List ℕ} {k d steps
           among = λ n f le h.
               (let r = g .from n f le h in
               let o = present (r .0) n (r .2) in
-              record { at = o .at; below = o .below; holds = r .1 ∙ ap pairOf (sym (o .holds) ∙ sym (twice (o .at) (short (o .at) (o .below)))) });
+              (o .at, o .below, r .1 ∙ ap pairOf (sym (o .holds) ∙ sym (twice (o .at) (short (o .at) (o .below))))));
         }
 
     -- in the end for those of the join
@@ -165,8 +165,8 @@ module _ (q : Given) (t : List ℕ) (set : ℕ) {s counts : List ℕ} {k d steps
         (λ f j. let r = each-in pair _ j in in-cast (sym (r .2)) (has-in (pair (r .0)) (keep-in test (upTo (λ i. i) d) (r .1) .1)))
         (λ f j.
         let o = last .among n f l j in
-        let z : f ≡ pair (o .at) = unfold pair in o .holds in
-        in-cast (sym z) (in-each pair (in-keep test (in-upTo (λ i. i) d (o .at) (o .below)) (in-has (in-cast z j)))))
+        let z : f ≡ pair (o .0) = unfold pair in o .2 in
+        in-cast (sym z) (in-each pair (in-keep test (in-upTo (λ i. i) d (o .0) (o .1)) (in-has (in-cast z j)))))
       where
         test : ℕ → Bool
         test i = has (pair i) (keptFor J (givenEdge q n))
@@ -176,4 +176,4 @@ module _ (q : Given) (t : List ℕ) (set : ℕ) {s counts : List ℕ} {k d steps
     sets = sets-marked pairs-marked (q .edges) (givenEdge q) (keptFor J) row ∙ sym (answer-all-or-none Q vs)
 
   pub joined-by : Joined q t set s counts k d w w₃
-  joined-by = record { edges = edges; sets = sets }
+  joined-by = record { edges = edges; sets = sets; start = w₂; settled = settled; held = first; ran = ran }

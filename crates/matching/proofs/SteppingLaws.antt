@@ -18,13 +18,13 @@ use Rattle.packed.proofs.OrderCases.{lt-or-ge}
 use Rattle.matching.specs.Lists.{In, here, there, gather}
 use Rattle.matching.specs.Simulation.{bit, Pair, Edge, Pattern, has}
 use Rattle.matching.specs.Join.{pairOf, Offer, Kept}
-use Rattle.matching.specs.Components.{Nodes, leavingOf, joinIn, stateAt, Shut, OneStep, StepsTo, start, step}
+use Rattle.matching.specs.Components.{Nodes, leavingOf, joinIn, stateAt, Shut, OneStep, StepsTo, start, step, Holds, Ran}
 use Rattle.matching.specs.Loaded.{givenEdge, patternIn, Fair}
 use Rattle.matching.specs.Masks.{Has, Mask, OneOf}
 use Rattle.matching.specs.Candidates.{Pool}
 use Rattle.matching.specs.Sweeping.{fromOf, toOf, Ends, heldAt, Tabled, LookedUp}
 use Rattle.matching.specs.Rounds.{Offers, Supports, Safe, Stays, Sound, Falls, Prepared, Fixed, Round}
-use Rattle.matching.specs.Stepping.{PairsTaken, LeavingLinks, Holds, Loose, LooseLinks, Between, At, Fresh, Started, Stepped, Ran, Going, Tried}
+use Rattle.matching.specs.Stepping.{PairsTaken, LeavingLinks, Loose, LooseLinks, Between, At, Fresh, Started, Stepped, Going, Tried}
 use Rattle.matching.specs.declared.steps.Place.{Place}
 use Rattle.matching.proofs.ListLaws.{decide, same-test, in-cases, in-cast, not-in-none, gather-in, in-gather}
 use Rattle.matching.proofs.SimLaws.{has-in, in-has}
@@ -151,7 +151,7 @@ module _ {q : Given} {n d : ℕ} {w : List ℕ} {s : Place} {w′ leave arrive :
       (givenEdge q e) (pair i) (record { at = e; below = le; holds = (refl, t, record { at = i; below = l; holds = (refl, h) }) })
 
   -- ---- what is in the choice is held
-  joined-at : (e : ℕ) → e < q .edges → {f : Pair} → In (givenEdge q e, f) J → OneOf d (λ i. f ≡ pair i)
+  joined-at : (e : ℕ) → e < q .edges → {f : Pair} → In (givenEdge q e, f) J → (i : ℕ) × (i < d) × (f ≡ pair i)
   unfolding pair
   joined-at e le {f} j = first .among e f le (join-in-candidate S Q cs j .listed)
 
@@ -163,11 +163,11 @@ module _ {q : Given} {n d : ℕ} {w : List ℕ} {s : Place} {w′ leave arrive :
   unfolding pair pairOf
   offers e le {f} j =
       let o = joined-at e le j in
-      let i : In (givenEdge q e, pair (o .at)) J = subst (λ (x : Pair). In (givenEdge q e, x) J) (o .holds) j in
+      let i : In (givenEdge q e, pair (o .0)) J = subst (λ (x : Pair). In (givenEdge q e, x) J) (o .2) j in
       record {
-        at = o .at;
-        below = o .below;
-        holds = (sym (ap (λ (x : Pair). x .0) (o .holds) ∙ pair-from (o .at) (o .below)), joined-before (o .at) e (o .below) le i, head-stands i);
+        at = o .0;
+        below = o .1;
+        holds = (sym (ap (λ (x : Pair). x .0) (o .2) ∙ pair-from (o .0) (o .1)), joined-before (o .0) e (o .1) le i, head-stands i);
       }
 
   -- the nodes at its ends support themselves for all links, since those that leave them leave S
@@ -191,10 +191,10 @@ module _ {q : Given} {n d : ℕ} {w : List ℕ} {s : Place} {w′ leave arrive :
       below g f j =
           let c = edges-in q (join-in-candidate S Q cs j .edge) in
           let o = joined-at (c .at) (c .below) (subst (λ (x : Edge). In (x, f) J) (c .holds) j) in
-          let a = pair-from (o .at) (o .below) in
-          let x = ends .from (o .at) (o .below) in
-          let y = ends .to (o .at) (o .below) in
-          subst (λ (x : Pair). (x .0 < 4096) × (x .1 < 4096)) (sym (o .holds)) (omega arith, omega arith)
+          let a = pair-from (o .0) (o .1) in
+          let x = ends .from (o .0) (o .1) in
+          let y = ends .to (o .0) (o .1) in
+          subst (λ (x : Pair). (x .0 < 4096) × (x .1 < 4096)) (sym (o .2)) (omega arith, omega arith)
 
   joined-after : (i e : ℕ) → i < d → e < q .edges → In (givenEdge q e, pair i) J → After i e
   unfolding pair pairOf
@@ -214,7 +214,7 @@ module _ {q : Given} {n d : ℕ} {w : List ℕ} {s : Place} {w′ leave arrive :
             (state-say S Q cs (subst (λ (x : ℕ). In (pairOf x) (stateAt S Q cs (givenEdge q e))) (b .falls .same i l) h));
         among = λ e f le h.
             (let o = first .among e f le (⊎-elim (λ r. join-in-candidate S Q cs (r .1) .listed) (λ r. r .1) (state-say S Q cs h)) in
-            record { at = o .at; below = o .below; holds = o .holds ∙ ap pairOf (sym (b .falls .same (o .at) (o .below))) });
+            (o .0, o .1, o .2 ∙ ap pairOf (sym (b .falls .same (o .0) (o .1)))));
       }
 
 pub between-at : {q : Given} {n d : ℕ} {w : List ℕ} {s : Place} {w′ leave arrive : List ℕ} → Ends n d w → n ≤ 4096 → Between q n d w s w′ leave arrive → At q n d w s w′ leave arrive
@@ -580,13 +580,13 @@ module _ {q : Given} {n d steps : ℕ} (s₀ : Place) {w₀ leave₀ arrive₀ o
     pub gone-all : ((u : ℕ) → u < q .nodes → Has (s .settled) u) → Going q n d steps s₀ w₀ leave₀ arrive₀ (s .settled) w
     gone-all all x a =
         let b = g .at x a in
-        record { number = g .number; most = (let y = g .count in omega arith); last = λ l. all; sequence = g .sequence; state = b .state; edges = b .edges }
+        record { number = g .number; most = (let y = g .count in omega arith); last = λ l. all; sequence = g .sequence; state = b .state; long = b .edges .long; pairs = b .edges .same }
 
     pub gone-end : left ≡ 0 → Going q n d steps s₀ w₀ leave₀ arrive₀ (s .settled) w
     gone-end z x a =
         let b = g .at x a in
         let y = g .count in
-        record { number = g .number; most = omega arith; last = λ l. absurd (omega arith); sequence = g .sequence; state = b .state; edges = b .edges }
+        record { number = g .number; most = omega arith; last = λ l. absurd (omega arith); sequence = g .sequence; state = b .state; long = b .edges .long; pairs = b .edges .same }
 
 -- ---- a trial
 is-accepted : Verdict → Type 0
@@ -625,4 +625,4 @@ module _ (s : List ℕ) (d steps : ℕ) (w : List ℕ) where
       }
     where
       front : take 16384 (l ++ rest) ≡ l
-      front = take-at l rest 16384 (r .edges .long ∙ length-take-le 16384 w h)
+      front = take-at l rest 16384 (r .long ∙ length-take-le 16384 w h)

@@ -2,13 +2,14 @@
 use mathlib.Core.Path.{_≡_}
 use mathlib.Core.Bool.{Bool, cond, false, not}
 use mathlib.Core.List.{List}
-use Prim.Native.Nat.{ℕ, suc, _<_}
-use lib.ListN.{length}
+use Prim.Native.Nat.{ℕ, suc, _+_, _<_, _≤_}
+use lib.ListN.{length, getD}
 use lib.Dec.{T, eqb}
+use Rattle.packed.specs.declared.by_value.Pattern.{Pattern as Given}
 use Rattle.matching.specs.Lists.{_and_, _or_, _implies_, In, every, some, keep, below}
 use Rattle.matching.specs.Greatest.{greatest}
-use Rattle.matching.specs.Simulation.{Pair, Edge, oneWay, Pattern}
-use Rattle.matching.specs.Join.{Kept, Offer, choice, keptFor}
+use Rattle.matching.specs.Simulation.{Pair, Edge, bit, oneWay, Pattern, givenEdge, patternIn}
+use Rattle.matching.specs.Join.{pairOf, Kept, Offer, choice, keptFor}
 
 -- ---- components
 -- all that leads to v in one step is listed
@@ -64,3 +65,35 @@ pub record OneStep (Q : Pattern) (S S′ : Nodes) : Type 0 where
 pub data StepsTo (Q : Pattern) : ℕ → Nodes → Type 0 where
   start : {S : Nodes} → ((v : ℕ) → v < length (Q .labels) → S v ≡ false) → StepsTo Q 0 S
   step : {k : ℕ} {S S′ : Nodes} → StepsTo Q k S → OneStep Q S S′ → StepsTo Q (suc k) S′
+
+-- ---- what the program holds between steps. Words of the workspace: from word 0 on the codes of d pairs, and from word 8192 on for each of them a mask of the
+-- query's edges. The query is given by value; its edges have the numbers below q .edges.
+-- the pair number i
+abbrev pub pairAt : List ℕ → ℕ → Pair
+pairAt w i = pairOf (getD w i 0)
+
+-- it is held for the edge number e
+abbrev pub IsHeld : List ℕ → ℕ → ℕ → Type 0
+IsHeld w i e = T (bit (getD w (8192 + i) 0) e)
+
+-- for each edge of the query the words hold just the pairs that it has by the lists cs
+pub record Holds (q : Given) (d : ℕ) (w : List ℕ) (cs : Offer) : Type 0 where
+  pub listed : (i e : ℕ) → i < d → e < q .edges → IsHeld w i e → In (pairAt w i) (cs (givenEdge q e))
+  pub held : (i e : ℕ) → i < d → e < q .edges → In (pairAt w i) (cs (givenEdge q e)) → IsHeld w i e
+  pub among : (e : ℕ) (f : Pair) → e < q .edges → In f (cs (givenEdge q e)) → (i : ℕ) × (i < d) × (f ≡ pairAt w i)
+
+-- whatever candidates the words w held, the words w′ hold for the edges ("links") that leave the settled nodes "the greatest choice for them alone", "and all
+-- others still their candidates"; the mask settled says which nodes these are
+abbrev pub HoldsState : Given → ℕ → List ℕ → ℕ → List ℕ → Type 0
+HoldsState q d w settled w′ = (cs : Offer) → Holds q d w cs → Holds q d w′ (stateAt (bit settled) (patternIn q) cs)
+
+-- "after each step": at most so many steps one after the other, from no node, and fewer only where all nodes are settled; the words w are those before the
+-- first step, w′ those after the last, and the pairs stay where they are
+pub record Ran (q : Given) (d steps : ℕ) (w : List ℕ) (settled : ℕ) (w′ : List ℕ) : Type 0 where
+  pub number : ℕ
+  pub most : number ≤ steps
+  pub last : number < steps → (u : ℕ) → u < q .nodes → T (bit settled u)
+  pub sequence : StepsTo (patternIn q) number (bit settled)
+  pub state : HoldsState q d w settled w′
+  pub long : length w′ ≡ length w
+  pub pairs : (i : ℕ) → i < 8192 → getD w′ i 0 ≡ getD w i 0

@@ -2,23 +2,17 @@
 use Prim.Native.Nat.{ℕ, _+_, _*_, _<_, _≤_}
 use mathlib.Core.Path.{_≡_}
 use mathlib.Core.List.{List}
-use lib.ListN.{length, getD, take}
+use lib.ListN.{length, getD}
 use Rattle.packed.specs.Bits.{field}
 use Rattle.packed.specs.Contents.{wordFrom, wordTo, wordKind}
 use Rattle.packed.specs.declared.by_value.Pattern.{Pattern as Given}
 use Rattle.matching.specs.Lists.{upTo}
-use Rattle.matching.specs.Simulation.{Edge, between, oneWay, Pattern, Graph}
+use Rattle.matching.specs.Simulation.{Edge, between, Graph}
+unfoldable pub use Rattle.matching.specs.Simulation.{givenEdge, patternIn}
 
--- the edge number e of a pattern that is given by value, and the edge that stands in a word
-abbrev pub givenEdge : Given → ℕ → Edge
-givenEdge p e = between (getD (p .from) e 0) (getD (p .to) e 0) (getD (p .kind) e 0)
-
+-- the edge that stands in a word
 abbrev pub edgeOfWord : ℕ → Edge
 edgeOfWord c = between (wordFrom c) (wordTo c) (wordKind c)
-
--- the pattern that is given by value
-unfoldable pub patternIn : Given → Pattern
-patternIn p = record { labels = take (p .nodes) (p .labels); edges = upTo (givenEdge p) (p .edges); rule = oneWay }
 
 -- the graph of a record s with n nodes whose m edges stand in the workspace
 unfoldable pub graphIn : List ℕ → ℕ → ℕ → List ℕ → Graph

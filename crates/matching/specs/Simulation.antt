@@ -7,7 +7,8 @@ use lib.ListN.{length, getD, take, drop}
 use lib.Dec.{T, eqb, ltb}
 use Rattle.packed.specs.Formats.{code}
 use Rattle.packed.specs.Contents.{nodesOf, distinct}
-use Rattle.matching.specs.Lists.{_and_, _or_, _implies_, In, every, some, keep, gather, each, below}
+use Rattle.packed.specs.declared.by_value.Pattern.{Pattern as Given}
+use Rattle.matching.specs.Lists.{_and_, _or_, _implies_, In, every, some, keep, gather, each, below, upTo}
 use Rattle.matching.specs.Greatest.{greatest}
 
 -- two numbers: a node of a pattern and a node of a graph, or what a sheet lists of an edge of a graph, its ends
@@ -86,6 +87,13 @@ patternOf ws = record { labels = take (nodesOf ws) (drop 2 ws); edges = edgesIn 
 
 unfoldable pub graphOf : List ℕ → Graph
 graphOf ws = record { labels = take (nodesOf ws) (drop 2 ws); edges = edgesIn (drop (2 + nodesOf ws) ws) }
+
+-- the edge number e of a pattern that is given by value, and what that pattern means
+abbrev pub givenEdge : Given → ℕ → Edge
+givenEdge p e = between (getD (p .from) e 0) (getD (p .to) e 0) (getD (p .kind) e 0)
+
+unfoldable pub patternIn : Given → Pattern
+patternIn p = record { labels = take (p .nodes) (p .labels); edges = upTo (givenEdge p) (p .edges); rule = oneWay }
 
 -- a pattern read as a graph ("read the question as a record"): each node has its own label alone
 unfoldable pub asGraph : Pattern → Graph

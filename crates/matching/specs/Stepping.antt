@@ -1,4 +1,4 @@
--- inner: what the join's steps need and leave: sets of the query's nodes and links as masks, and the pairs held between steps.
+-- inner: what the join's steps need and keep: sets of the query's nodes and links as masks, and the masks of the nodes beside the pairs held between steps.
 use Prim.Native.Nat.{ℕ, _+_, _^_, _<_, _≤_}
 use mathlib.Core.Path.{_≡_}
 use mathlib.Core.List.{List}
@@ -11,11 +11,9 @@ use Rattle.packed.specs.Limits.{pairWidth}
 use Rattle.packed.specs.ByValue.{HoldsPattern}
 use Rattle.packed.specs.Calls.{accepted, rejected, readPattern}
 use Rattle.packed.specs.declared.by_value.Pattern.{Pattern as Given}
-use Rattle.matching.specs.Lists.{In}
-use Rattle.matching.specs.Simulation.{bit, Pair}
-use Rattle.matching.specs.Join.{pairOf, Offer}
-use Rattle.matching.specs.Components.{reaches, stateAt, Shut, StepsTo}
-use Rattle.matching.specs.Loaded.{givenEdge, patternIn, Edges}
+use Rattle.matching.specs.Simulation.{bit}
+use Rattle.matching.specs.Components.{reaches, Shut, HoldsState, Ran}
+use Rattle.matching.specs.Loaded.{patternIn, Edges}
 use Rattle.matching.specs.Masks.{Has, Mask, OneOf}
 use Rattle.matching.specs.Sweeping.{fromOf, toOf, Ends, heldAt, Tabled}
 use Rattle.matching.specs.Candidates.{Pool}
@@ -53,16 +51,6 @@ abbrev pub LeavingLinks : List ℕ → ℕ → ℕ → ℕ → Type 0
 LeavingLinks from m x r = Mask (λ k. OneOf m (λ e. (e ≡ k) × Has x (getD from e 0))) r
 
 -- ---- what is held between steps
--- what the masks of d pairs hold for the query's edges is what the lists T have
-pub record Holds (q : Given) (d : ℕ) (w : List ℕ) (T : Offer) : Type 0 where
-  pub listed : (i e : ℕ) → i < d → e < q .edges → Has (heldAt w i) e → In (pairOf (getD w i 0)) (T (givenEdge q e))
-  pub held : (i e : ℕ) → i < d → e < q .edges → In (pairOf (getD w i 0)) (T (givenEdge q e)) → Has (heldAt w i) e
-  pub among : (e : ℕ) (f : Pair) → e < q .edges → In f (T (givenEdge q e)) → OneOf d (λ i. f ≡ pairOf (getD w i 0))
-
--- the contract of steps: whatever candidates the masks w held at first, w′ holds their state at S, which is the set that the mask settled stands for
-abbrev pub HoldsState : Given → ℕ → List ℕ → ℕ → List ℕ → Type 0
-HoldsState q d w settled w′ = (cs : Offer) → Holds q d w cs → Holds q d w′ (stateAt (bit settled) (patternIn q) cs)
-
 -- r has every link for which a pair is held that its ends don't allow
 abbrev pub Loose : ℕ → List ℕ → List ℕ → List ℕ → ℕ → Type 0
 Loose d w leave arrive r = (i e : ℕ) → i < d → Has (heldAt w i) e → Has r e ⊎ (Has (getD leave (fromOf w i) 0) e × Has (getD arrive (toOf w i) 0) e)
@@ -119,16 +107,7 @@ pub record Started (q : Given) (n d : ℕ) (w : List ℕ) (s : Place) (w′ leav
   pub prepared : Prepared n d w′ leave arrive out
   pub at : At q n d w s w′ leave arrive
 
--- k steps from no node, at most so many, and fewer only where all nodes are settled; the words hold the state at the set that they come to
-pub record Ran (q : Given) (d steps : ℕ) (w : List ℕ) (settled : ℕ) (w′ : List ℕ) : Type 0 where
-  pub number : ℕ
-  pub most : number ≤ steps
-  pub last : number < steps → (u : ℕ) → u < q .nodes → Has settled u
-  pub sequence : StepsTo (patternIn q) number (bit settled)
-  pub state : HoldsState q d w settled w′
-  pub edges : Edges w w′
-
--- the same from the state at no node
+-- at most so many steps, from the state at no node
 abbrev pub Going : Given → ℕ → ℕ → ℕ → Place → List ℕ → List ℕ → List ℕ → ℕ → List ℕ → Type 0
 Going q n d steps s w leave arrive settled w′ = (w₀ : List ℕ) → At q n d w₀ s w leave arrive → Ran q d steps w₀ settled w′
 

@@ -1,6 +1,5 @@
 -- `matching::join::join` meets its contract.
 use borrow.Author.Needs.{needs}
-use native.Mathlib.Omega.{arith}
 use Rattle.matching.proofs.Taking.{pool-keep}
 use Rattle.matching.proofs.TakingSheets.{booked-keep}
 use Rattle.matching.proofs.JoinedLaws.{joined-by}
@@ -32,7 +31,7 @@ returns c =
     let clear-masks = c .before .before .before .before .before .before .before .before .before .before .clear-masks in
     let take-book = c .before .before .before .before .before .before .take-book in
     let run = c .before .before .run in
-    joined-by _ _ _ (pre .0) (pre .1) (clear-masks .ensures) (take-book .ensures) (omega arith) (run .ensures)
+    joined-by _ _ _ (pre .0) (pre .1) (clear-masks .ensures) (take-book .ensures) (run .ensures)
 
 pub join-spec : {M : Type 1} → statement M
 join-spec =
