@@ -3,7 +3,7 @@ use Prim.Native.Nat.{ℕ, _+_, _*_, _<_, _≤_}
 use mathlib.Core.Path.{_≡_, refl, sym, ap, _∙_}
 use mathlib.Core.Bool.{Bool, true, false}
 use mathlib.Core.Logic.{⊎-elim, _↔_}
-use mathlib.Core.List.{List, [], _∷_, _++_}
+use mathlib.Core.List.{List, []}
 use lib.ListN.{length, getD}
 use lib.Dec.{T, eqb}
 use borrow.Author.Tests.{lt-ltb, le-ltb}
@@ -18,15 +18,15 @@ use Rattle.packed.proofs.SheetLaws.{fields-none, fields-some}
 use Rattle.packed.proofs.Accepted.{pattern-read, catalogue-read, record-read, sheet-read, book-read}
 use Rattle.packed.proofs.CallRoundTrips.{pattern-back, pattern-again, catalogue-back, catalogue-again, record-back, record-again, sheet-back, sheet-again, book-back, book-again}
 use Rattle.matching.specs.Lists.{In}
-use Rattle.matching.specs.Simulation.{Pair, Edge, noEdge, Pattern, Graph, bit, patternOf, graphOf, asGraph, matchSets, viewSheet}
+use Rattle.matching.specs.Simulation.{Pair, Edge, noEdge, Pattern, bit, patternOf, graphOf, asGraph, matchSets, viewSheet}
 use Rattle.matching.specs.Search.{searchOutcome, makeBookOutcome}
 use Rattle.matching.specs.Index.{makeIndexOutcome, checkIndexOutcome, searchIndexedOutcome}
 use Rattle.matching.proofs.SimLaws.{sim-is, sim-most}
 use Rattle.matching.proofs.MatchLaws.{sound-say}
-use Rattle.matching.proofs.MatchSetLaws.{Narrow, view-sheet}
+use Rattle.matching.proofs.MatchSetLaws.{view-sheet}
 use Rattle.matching.proofs.Covered.{narrow-query}
 use Rattle.matching.proofs.SortedGraphs.{alike-sets}
-use Rattle.matching.proofs.Listed.{listed-exactly, matches-related, related-matches}
+use Rattle.matching.proofs.Listed.{listed-exactly}
 use Rattle.matching.proofs.SheetBytes.{none-bytes}
 use Rattle.matching.proofs.AllOrNone.{sets-even}
 use Rattle.matching.proofs.RecordLaws.{graph-narrow}
@@ -205,17 +205,9 @@ demand-1 = record {
 
 -- ---- demand 2
 
-matching-exactly : (G : Graph) → Narrow G → (P : Pattern) (i : ℕ) → i < length (P .edges) → (f : Pair) → f .1 < 4096
-    → In (code (f .0) (f .1)) (getD (matchSets P G) i []) ↔ Matching P G (getD (P .edges) i noEdge) f
-matching-exactly G n P i h f k =
-    let x = listed-exactly P G n i h f k in (
-      λ j. let m = related-matches P G (x .0 j) in record { whole = m .whole; link = m .link; edge = m .edge; kind = m .kind; ends = m .ends; tail = m .tail; head = m .head },
-      λ m. x .1 (matches-related P G (record { whole = m .whole; link = m .link; edge = m .edge; kind = m .kind; ends = m .ends; tail = m .tail; head = m .head })),
-    )
-
 pub lists-exactly : (r rs : List ℕ) → Record r rs → (P : Pattern) (i : ℕ) → i < length (P .edges) → (f : Pair) → f .1 < 4096
     → In (code (f .0) (f .1)) (getD (matchSets P (graphOf rs)) i []) ↔ Matching P (graphOf rs) (getD (P .edges) i noEdge) f
-lists-exactly r rs e P i h f k = matching-exactly (graphOf rs) (graph-narrow r rs (record-is r rs e)) P i h f k
+lists-exactly r rs e P i h f k = listed-exactly P (graphOf rs) (graph-narrow r rs (record-is r rs e)) i h f k
 
 quote-exactly : (q c qs cs : List ℕ) → Question q qs → Catalogue c cs → Covered qs cs ↔ ((e : Edge) → In e (patternOf qs .edges) → Matched (patternOf qs) (viewPatterns cs) e)
 quote-exactly q c qs cs eq ec =
@@ -274,7 +266,7 @@ demand-2 = record {
   lists = lists-exactly;
   lists-in-question = λ q qs e P i h f k.
       let b = question-bounds q qs e in
-      matching-exactly (asGraph (patternOf qs)) (narrow-query (patternOf qs) (sound-say (patternOf qs) (b .sound)) (b .few-nodes)) P i h f k;
+      listed-exactly P (asGraph (patternOf qs)) (narrow-query (patternOf qs) (sound-say (patternOf qs) (b .sound)) (b .few-nodes)) i h f k;
   of-extracts = view-sheet;
   sheet-back = λ p r ps rs out e f room words. searched-back p r ps rs e f out room words;
   none-found = fields-none;

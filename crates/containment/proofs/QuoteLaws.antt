@@ -22,7 +22,7 @@ use Rattle.matching.proofs.UpToLaws.{getD-upTo}
 use Rattle.matching.proofs.JoinLaws.{match-say, match-by, some-match-say, some-match-by}
 use Rattle.matching.proofs.MatchLaws.{Sim, Total}
 use Rattle.matching.proofs.MatchSetLaws.{view-sheet, view-length}
-use Rattle.matching.proofs.Listed.{listed-related, related-matches}
+use Rattle.matching.proofs.Listed.{listed-matches}
 use Rattle.containment.specs.Choice.{matches, coversIn, everyView, lowestUnmatched}
 use Rattle.containment.specs.Quote.{one, maskIn, matchMask, noPattern, maskAt, mapping}
 use Rattle.containment.proofs.SetBits.{never, bit-half, bit-every}
@@ -249,8 +249,8 @@ module _ (Q : Pattern) (Ps : List Pattern) where
   -- the view then fits the query as a whole: every node of it has a partner
   pub listed-whole : (e : Edge) (o : ListedEdge Q Ps e) → Total (o .view) (Sim (o .view) (asGraph Q))
   listed-whole e o =
-      let r = listed-related (o .view) (asGraph Q) (o .at) (o .below) (code (e .from) (e .to)) (subst (λ ls. In (code (e .from) (e .to)) (getD ls (o .at) [])) (view-sheet (o .view) (asGraph Q)) (o .lists)) in
-      related-matches (o .view) (asGraph Q) (r .2) .whole
+      let r = listed-matches (o .view) (asGraph Q) (o .at) (o .below) (code (e .from) (e .to)) (subst (λ ls. In (code (e .from) (e .to)) (getD ls (o .at) [])) (view-sheet (o .view) (asGraph Q)) (o .lists)) in
+      r .2 .whole
 
 -- covered exactly if each edge of the query is in the match set of some edge, of its kind, of some view
 pub quote-says-covered : (Q : Pattern) (Ps : List Pattern) → length Ps ≤ 16 → length (Q .edges) ≤ 32

@@ -111,8 +111,8 @@ ends-sim P G p one g R = (
 
 ends-matching : (P : Pattern) (G : Graph) → ((f : Edge) → In f (G .edges) → f .kind ≡ 0) → (e : Edge) → e .kind ≡ 0 → (f : Pair) → Matching P G e f ↔ EndsMatching P G e f
 ends-matching P G g e k f = (
-  λ m. record { whole = m .whole; link = m .link; edge = m .edge; ends = m .ends; tail = m .tail; head = m .head },
-  λ m. record { whole = m .whole; link = m .link; edge = m .edge; kind = g (m .link) (m .edge) ∙ sym k; ends = m .ends; tail = m .tail; head = m .head },
+  λ m. (e .kind, m),
+  λ m. let r = m .1 in record { whole = r .whole; link = r .link; edge = r .edge; kind = g (r .link) (r .edge) ∙ sym k; ends = r .ends; tail = r .tail; head = r .head },
 )
 
 lists-before : (s ws : List ℕ) → OldFile s ws → (P : Pattern) → AllKind0 P → (i : ℕ) → i < length (P .edges) → (f : Pair) → f .1 < 4096

@@ -5,7 +5,7 @@
 -- An answer is a function of the bytes and fields that are lent, of the length of each output (`room`) and of the workspace (`words`).
 -- Proofs: proofs/DemandsOneTwo.antt and proofs/DemandThree.antt, by proofs/DemandRules.antt, DemandSheets.antt, DemandIndex.antt and DemandJoin.antt; of the
 -- join by steps, proofs/DemandSteps.antt; of the cheapest set, proofs/CheapestSets.antt; of the listing, proofs/Listings.antt.
-use Prim.Native.Nat.{ℕ, _+_, _-_, _*_, _/_, _^_, _<_, _≤_}
+use Prim.Native.Nat.{ℕ, _+_, _-_, _*_, _^_, _<_, _≤_}
 use mathlib.Core.Path.{_≡_}
 use mathlib.Core.Logic.{_⊎_, _↔_}
 use mathlib.Core.Bool.{true, false}
@@ -21,7 +21,7 @@ use Rattle.packed.specs.declared.by_value.Pattern.{Pattern as Given}
 use Rattle.packed.specs.OldRecord.{readOldRecord, OldRecordFile, sortedFields, recordSorted}
 use Rattle.packed.specs.Calls.{Outcome, give, refuse, fronts, Settled, FulfilsOne, withWorkspace, Verdict, accepted, rejected, readPattern, readCatalogue, readRecord, readSheet, readBook, writeFile, writeSheet, writeBook, pairsOf, fit, fitFile, patternRead, catalogueRead, recordRead, sheetRead, bookRead, patternWritten, catalogueWritten, recordWritten, sheetWritten, bookWritten}
 use Rattle.matching.specs.Lists.{In}
-use Rattle.matching.specs.Simulation.{Pair, Edge, asPair, noEdge, oneWay, Pattern, ruled, Graph, patternOf, graphOf, givenEdge, patternIn, asGraph, bit, fits, IsSim, sim, sound, matchSets, viewSheet}
+use Rattle.matching.specs.Simulation.{Pair, Edge, between, noEdge, oneWay, Pattern, ruled, Graph, patternOf, graphOf, givenEdge, patternIn, asGraph, bit, fits, IsSim, MatchingBy, sim, sound, matchSets, viewSheet}
 use Rattle.matching.specs.Join.{without, Offer, answerSets}
 use Rattle.matching.specs.Components.{reaches, Nodes, leavingOf, stateAt, Shut, OneStep, StepsTo, pairAt, IsHeld, Holds, Ran}
 use Rattle.matching.specs.Offered.{viewPatterns}
@@ -352,16 +352,9 @@ pub record Demand1 : Type 0 where
 -- matched by a link of some extract that fits the question as a whole. Files read are written back as the same bytes; files written are read
 -- back as the same content."
 
--- a pair is listed under an edge: every node of P has a partner, and the pair has the two ends of an edge of G of the same kind, which are partners of the
--- edge's ends
-pub record Matching (P : Pattern) (G : Graph) (e : Edge) (f : Pair) : Type 0 where
-  pub whole : (u : ℕ) → u < length (P .labels) → (v : ℕ) × In (u, v) (sim P G)
-  pub link : Edge
-  pub edge : In link (G .edges)
-  pub kind : link .kind ≡ e .kind
-  pub ends : f ≡ asPair link
-  pub tail : In (e .from, f .0) (sim P G)
-  pub head : In (e .to, f .1) (sim P G)
+-- a pair is listed under an edge: it matches it by the greatest simulation
+abbrev pub Matching : Pattern → Graph → Edge → Pair → Type 0
+Matching P G = MatchingBy (λ u v. In (u, v) (sim P G)) P G
 
 -- the same kinds and the same links, in whatever order
 pub record SameLinks (G H : Graph) : Type 0 where
@@ -471,14 +464,9 @@ pub record EndsSim (P : Pattern) (G : Graph) (R : ℕ → ℕ → Type 0) : Type
   pub fit : (u v : ℕ) → R u v → T (fits P G (u, v))
   pub follow : (u v : ℕ) → R u v → (e : Edge) → In e (P .edges) → e .from ≡ u → (f : Edge) × In f (G .edges) × (f .from ≡ v) × R (e .to) (f .to)
 
--- a pair is listed under an edge as it was then
-pub record EndsMatching (P : Pattern) (G : Graph) (e : Edge) (f : Pair) : Type 0 where
-  pub whole : (u : ℕ) → u < length (P .labels) → (v : ℕ) × In (u, v) (sim P G)
-  pub link : Edge
-  pub edge : In link (G .edges)
-  pub ends : f ≡ asPair link
-  pub tail : In (e .from, f .0) (sim P G)
-  pub head : In (e .to, f .1) (sim P G)
+-- a pair is listed under an edge as it was then: by the ends of links alone, of whatever kind
+abbrev pub EndsMatching : Pattern → Graph → Edge → Pair → Type 0
+EndsMatching P G e f = (kind : ℕ) × Matching P G (between (e .from) (e .to) kind) f
 
 -- a pattern whose links all have kind 0
 abbrev pub AllKind0 : Pattern → Type 0

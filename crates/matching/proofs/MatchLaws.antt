@@ -7,7 +7,7 @@ use native.Mathlib.Omega.{arith}
 use lib.ListN.{length, getD}
 use lib.Dec.{T, eqb, eqb→eq, eqb-refl, ltb→lt, lt→ltb}
 use Rattle.matching.specs.Lists.{_or_, In, below}
-use Rattle.matching.specs.Simulation.{Pair, Edge, asPair, bit, bothWays, Pattern, Graph, asGraph, sim, total, row, IsSim, sound}
+use Rattle.matching.specs.Simulation.{Pair, Edge, asPair, bit, bothWays, Pattern, Graph, asGraph, sim, total, row, IsSim, MatchingBy, sound}
 use Rattle.matching.proofs.ByEdge.{rowOf}
 use Rattle.matching.proofs.ListLaws.{and-left, and-right, both, or-left, or-right, or-cases, equal-test, cond-case, not-in-none, in-cast, every-in, in-every, some-in, in-some, keep-in, in-keep, each-in, in-each, length-each, getD-each, below-in, in-below}
 use Rattle.matching.proofs.Masks.{bit-one}
@@ -31,16 +31,9 @@ module _ (P : Pattern) (s : List Pair) where
   unfolding total
   total-by f = in-every _ _ λ u i. in-some _ (f u (below-in _ i) .1) (eqb-refl u)
 
--- the pair f matches the edge e of P: it has the ends of an edge of G of the kind of e, and the greatest simulation gives every node of P a partner, and relates the
--- ends of e to those of f
-pub record Matches (P : Pattern) (G : Graph) (e : Edge) (f : Pair) : Type 0 where
-  pub whole : Total P (Sim P G)
-  pub link : Edge
-  pub edge : In link (G .edges)
-  pub kind : link .kind ≡ e .kind
-  pub ends : f ≡ asPair link
-  pub tail : Sim P G (e .from) (f .0)
-  pub head : Sim P G (e .to) (f .1)
+-- the pair f matches the edge e of P by the greatest simulation
+abbrev pub Matches : Pattern → Graph → Edge → Pair → Type 0
+Matches P G = MatchingBy (Sim P G) P G
 
 module _ (P : Pattern) (G : Graph) where
   pub row-in : {e : Edge} {f : Pair} → In f (row G (sim P G) e) → (h : Edge) × In h (G .edges) × (f ≡ asPair h) × (h .kind ≡ e .kind) × Sim P G (e .from) (h .from) × Sim P G (e .to) (h .to)

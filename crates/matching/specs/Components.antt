@@ -1,4 +1,5 @@
--- The join by steps, from the ends inward: the greatest choice for the edges that leave a set of nodes, and the components that the steps add one by one.
+-- The join by steps, from the ends inward: the greatest choice for the edges that leave a set of nodes, the components that the steps add one by one, and what the
+-- program's words hold after each step.
 use mathlib.Core.Path.{_≡_}
 use mathlib.Core.Bool.{Bool, cond, false, not}
 use mathlib.Core.List.{List}

@@ -2,7 +2,7 @@
 use mathlib.Core.Path.{_≡_}
 use mathlib.Core.Bool.{Bool, true, false, cond}
 use mathlib.Core.List.{List, [], _∷_}
-use Prim.Native.Nat.{ℕ, _+_, _/_, _%_, _^_}
+use Prim.Native.Nat.{ℕ, _+_, _/_, _%_, _^_, _<_}
 use lib.ListN.{length, getD, take, drop}
 use lib.Dec.{T, eqb, ltb}
 use Rattle.packed.specs.Formats.{code}
@@ -113,7 +113,18 @@ pub record IsSim (P : Pattern) (G : Graph) (R : ℕ → ℕ → Type 0) : Type 0
   pub arrive : P .rule ≡ bothWays → (u v : ℕ) → R u v → (e : Edge) → In e (P .edges) → e .to ≡ u
       → (f : Edge) × In f (G .edges) × (f .to ≡ v) × (f .kind ≡ e .kind) × R (e .from) (f .from)
 
--- the same as tests: each edge of P that leaves x .0 is followed by one of G of its kind that leaves x .1, to a partner in l
+-- the pair f matches the edge e of P, where R relates nodes of P to their partners in G: every node of P has a partner, and f has the two ends of an edge of G of
+-- the kind of e, which are partners of the ends of e
+pub record MatchingBy (R : ℕ → ℕ → Type 0) (P : Pattern) (G : Graph) (e : Edge) (f : Pair) : Type 0 where
+  pub whole : (u : ℕ) → u < length (P .labels) → (v : ℕ) × R u v
+  pub link : Edge
+  pub edge : In link (G .edges)
+  pub kind : link .kind ≡ e .kind
+  pub ends : f ≡ asPair link
+  pub tail : R (e .from) (f .0)
+  pub head : R (e .to) (f .1)
+
+-- the tests of a simulation: each edge of P that leaves x .0 is followed by one of G of its kind that leaves x .1, to a partner in l
 unfoldable pub followsOut : Pattern → Graph → List Pair → Pair → Bool
 followsOut P G l x =
     every
