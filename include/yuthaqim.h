@@ -1,7 +1,7 @@
 /*
  * Yuthaqim from C: files of patterns, catalogues, records, sheets and books; searching a record, by an index beside it
- * too, quoting a question, finding the cheapest extracts for it, answering it from a book, and showing why it is
- * uncovered.
+ * too, quoting a question, finding the cheapest extracts for it, answering it or the part of it that can be had from a
+ * book, and showing why it is uncovered.
  *
  * Every function of this header is proved to meet its contract for every input: see crates/yuthaqim/src/lib.rt.
  *
@@ -20,7 +20,8 @@
  * before a call. Afterwards the first YUTHAQIM_WORK_WORDS of them are zero and those beyond are as they were; on
  * YUTHAQIM_DESK all of them are as they were.
  *
- * The stack, as measured on large files: sorting an old record 117,096 bytes, answering 88,408, making a book 88,056,
+ * The stack, as measured on large files: sorting an old record 117,096 bytes, answering 88,408, finding a part TODO-STACK,
+ * making a book 88,056,
  * searching 86,680, searching by an index 78,280, quoting 22,436, the cheapest set 18,564, showing 18,468, reading a book
  * 2,760, writing one 2,568, the others under 1,900. So 128 KB suffice.
  *
@@ -77,7 +78,7 @@ enum {
     YUTHAQIM_TAIL = 9,       /* tail: a padding bit isn't zero, or bytes or words follow */
     YUTHAQIM_CROWDED = 10,   /* crowded: over 8,192 different pairs stand in a book */
     YUTHAQIM_UNCOVERED = 11, /* uncovered: an answer or the cheapest set was wanted and the question isn't covered, or
-                              * not by the set that was named */
+                              * not by the set that was named; or its part, and none of its links is matched */
     YUTHAQIM_NO_FIT = 12,    /* no fit: an output needs more than was lent, or a sheet or book over 65,536 bytes */
     YUTHAQIM_COVERED = 13,   /* covered: a showing was wanted for a covered question */
     YUTHAQIM_DESK = 14,      /* desk: fewer than YUTHAQIM_WORK_WORDS words were lent to work in */
@@ -120,6 +121,14 @@ struct yuthaqim_showing {
     size_t detail;
     size_t first;  /* the bytes of the first record */
     size_t second; /* the bytes of the second record */
+};
+
+/* The answer of a part. What has no meaning is zero. */
+struct yuthaqim_part {
+    size_t number; /* 0, or the refusal's number */
+    size_t detail;
+    size_t first;  /* the bytes of the part, a pattern */
+    size_t second; /* the bytes of its answer, the part's sheet */
 };
 
 /* The cheapest set. What has no meaning is zero. In a set the bit worth 2^a says extract a. */
@@ -230,6 +239,17 @@ struct yuthaqim_reply yuthaqim_answer_from(const uint8_t *question, size_t quest
                                            size_t catalogue_length, uint16_t set, const uint8_t *book,
                                            size_t book_length, uint8_t *out, size_t out_length, uint32_t *work,
                                            size_t work_length);
+
+/* Finds the part of a question that the extracts answer, and answers it from a book: writes the part as a pattern, and
+ * its sheet, which yuthaqim_answer gives for the part by itself. The part has the question's matched links in their
+ * order, and the items at them, numbered upward. Every choice of the question's links that is covered lies inside it; of a
+ * covered question it is the question. It is refused with 11 only where no link is matched, detail 0. 12 has the bytes of
+ * the part if these don't fit, else those of its answer; nothing is written unless both fit. YUTHAQIM_PATTERN_BYTES always
+ * suffice for the part. */
+struct yuthaqim_part yuthaqim_part(const uint8_t *question, size_t question_length, const uint8_t *catalogue,
+                                   size_t catalogue_length, const uint8_t *book, size_t book_length, uint8_t *part,
+                                   size_t part_length, uint8_t *answer, size_t answer_length, uint32_t *work,
+                                   size_t work_length);
 
 /* Shows why a question is uncovered: writes the question read as a record, and the same without its lowest unmatched
  * link, which is the lowest by its number in the question; a link between the same items of another kind stays. The links

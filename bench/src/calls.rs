@@ -2,7 +2,7 @@
 
 use crate::baseline;
 use std::hint::black_box;
-use yuthaqim::{BOOK_BYTES, BOOK_WORDS, INDEX_ENTRIES, WORK_WORDS};
+use yuthaqim::{BOOK_BYTES, BOOK_WORDS, INDEX_ENTRIES, PATTERN_BYTES, WORK_WORDS};
 
 #[derive(Clone, Copy, Debug, PartialEq, Eq)]
 pub enum Call {
@@ -15,12 +15,14 @@ pub enum Call {
     ReadBook,
     Answer,
     AnswerBySort,
+    PartOfCovered,
+    Part,
     Quote,
     Cheapest,
 }
 
 /// Those that are measured on the workloads. The cheapest set has workloads of its own.
-pub const CALLS: [Call; 10] = [
+pub const CALLS: [Call; 12] = [
     Call::ReadRecord,
     Call::MakeIndex,
     Call::CheckIndex,
@@ -30,6 +32,8 @@ pub const CALLS: [Call; 10] = [
     Call::ReadBook,
     Call::Answer,
     Call::AnswerBySort,
+    Call::PartOfCovered,
+    Call::Part,
     Call::Quote,
 ];
 
@@ -45,6 +49,8 @@ impl Call {
             Call::ReadBook => "read a book",
             Call::Answer => "answer",
             Call::AnswerBySort => "answer, sorting",
+            Call::PartOfCovered => "part if covered, beside answer",
+            Call::Part => "part if uncovered",
             Call::Quote => "quote",
             Call::Cheapest => "cheapest set",
         }
@@ -67,6 +73,7 @@ pub struct Files {
 pub struct Desk {
     words: Vec<u32>,
     bytes: Vec<u8>,
+    part: Vec<u8>,
     entries: Vec<u16>,
     work: Vec<u32>,
 }
@@ -76,6 +83,7 @@ pub struct Desk {
 pub enum Outcome {
     Words(Vec<u32>),
     Bytes(Vec<u8>),
+    Both(Vec<u8>, Vec<u8>),
     Entries(Vec<u16>),
     Checked(usize),
     Quote(Box<baseline::Quote>),
@@ -85,14 +93,14 @@ pub enum Outcome {
 
 impl Desk {
     pub fn new() -> Desk {
-        let (words, bytes) = (vec![0; BOOK_WORDS], vec![0; BOOK_BYTES]);
-        Desk { words, bytes, entries: vec![0; INDEX_ENTRIES], work: vec![0; WORK_WORDS] }
+        let (words, bytes, part) = (vec![0; BOOK_WORDS], vec![0; BOOK_BYTES], vec![0; PATTERN_BYTES]);
+        Desk { words, bytes, part, entries: vec![0; INDEX_ENTRIES], work: vec![0; WORK_WORDS] }
     }
 
     /// A call that gives content, a file or an index: how much it wrote. The check gives how many entries there are.
     fn length(&mut self, call: Call, files: &Files) -> Result<usize, yuthaqim::Refusal> {
         let Files { record, index, question, catalogue, book, .. } = files;
-        let Desk { words, bytes, entries, work } = self;
+        let Desk { words, bytes, entries, work, .. } = self;
         match call {
             Call::ReadRecord => yuthaqim::read_record(record, words, work),
             Call::MakeIndex => yuthaqim::make_index(record, entries, work),
@@ -102,7 +110,7 @@ impl Desk {
             Call::MakeBook => yuthaqim::make_book(catalogue, record, bytes, work),
             Call::ReadBook => yuthaqim::read_book(catalogue, book, words, work),
             Call::Answer | Call::AnswerBySort => yuthaqim::answer(question, catalogue, book, bytes, work),
-            Call::Quote | Call::Cheapest => unreachable!("it has no output"),
+            Call::Quote | Call::Cheapest | Call::Part | Call::PartOfCovered => unreachable!("it has no output, or two"),
         }
     }
 
@@ -110,11 +118,17 @@ impl Desk {
         yuthaqim::raw::cheapest(&files.question, &files.catalogue, &files.charges, &mut self.work)
     }
 
+    fn part(&mut self, files: &Files) -> yuthaqim::Both {
+        let Files { question, catalogue, book, .. } = files;
+        yuthaqim::raw::part(question, catalogue, book, &mut self.part, &mut self.bytes, &mut self.work)
+    }
+
     /// A call of the library, as it is timed.
     pub fn run(&mut self, call: Call, files: &Files) {
         match call {
             Call::Quote => drop(black_box(yuthaqim::raw::quote(&files.question, &files.catalogue, &mut self.work))),
             Call::Cheapest => drop(black_box(self.cheapest(files))),
+            Call::Part | Call::PartOfCovered => drop(black_box(self.part(files))),
             _ => drop(black_box(self.length(call, files))),
         }
     }
@@ -127,6 +141,10 @@ impl Desk {
                 Outcome::Quote(baseline::Quote { covered, links, chosen, lowest_unmatched, mapping }.into())
             }),
             Call::Cheapest => self.cheapest(files).result().map(Outcome::Cheapest),
+            Call::Part | Call::PartOfCovered => self
+                .part(files)
+                .result()
+                .map(|(first, second)| Outcome::Both(self.part[..first].to_vec(), self.bytes[..second].to_vec())),
             Call::ReadRecord | Call::ReadBook => {
                 self.length(call, files).map(|length| Outcome::Words(self.words[..length].to_vec()))
             }
@@ -160,6 +178,8 @@ pub fn baseline_outcome(call: Call, files: &Files) -> Outcome {
         Call::ReadBook => baseline::read_book(catalogue, book, BOOK_WORDS).map(Outcome::Words),
         Call::Answer => baseline::answer(question, catalogue, book, BOOK_BYTES).map(Outcome::Bytes),
         Call::AnswerBySort => baseline::answer_by_sorting(question, catalogue, book, BOOK_BYTES).map(Outcome::Bytes),
+        Call::Part | Call::PartOfCovered => baseline::part(question, catalogue, book, PATTERN_BYTES, BOOK_BYTES)
+            .map(|(part, answer)| Outcome::Both(part, answer)),
         Call::Quote => baseline::quote(question, catalogue).map(|quote| Outcome::Quote(quote.into())),
         Call::Cheapest => baseline::cheapest(question, catalogue, charges).map(Outcome::Cheapest),
     };

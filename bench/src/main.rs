@@ -57,8 +57,32 @@ fn compare(what: &str, product: Outcome, baseline: Outcome) {
     }
 }
 
+/// The files of a workload without the extracts that match the question's last link, and a book of the others: the question is
+/// uncovered. None where they match no link of it.
+fn uncovered(workload: &Workload, files: &Files, desk: &mut Desk) -> Option<Files> {
+    let quote = baseline::quote(&files.question, &files.catalogue).expect("a quote");
+    let last = quote.links - 1;
+    let is_kept = |a: usize| quote.mapping[16 * last + a] == 0;
+    if !(0..last).any(|e| (0..16).any(|a| is_kept(a) && quote.mapping[16 * e + a] != 0)) {
+        return None;
+    }
+    let (record, question) = (files.record.clone(), files.question.clone());
+    let mut files = Files { record, question, catalogue: workload.some_extracts(is_kept), ..Files::default() };
+    let Outcome::Bytes(book) = desk.outcome(Call::MakeBook, &files) else {
+        panic!("the book of a part of {} doesn't fit", workload.name);
+    };
+    files.book = book;
+    Some(files)
+}
+
 /// A call on a workload. A quote reads no record: its size is that of the catalogue.
-fn call_case<'a>(workload: &Workload, files: &Rc<Files>, call: Call, part: usize, desk: &'a RefCell<Desk>) -> Case<'a> {
+fn call_case<'a>(
+    workload: &Workload,
+    files: &Rc<Files>,
+    call: Call,
+    part: usize,
+    desk: &'a RefCell<Desk>,
+) -> Option<Case<'a>> {
     let mut files = files.clone();
     let mut size = format!("{} items, {} links", report::number(workload.items), report::number(workload.links));
     if call == Call::Quote {
@@ -71,7 +95,16 @@ fn call_case<'a>(workload: &Workload, files: &Rc<Files>, call: Call, part: usize
         let what = format!("{}, {}, {size}, beside a search", call.name(), workload.name);
         compare(&what, desk.borrow_mut().outcome(Call::Search, &files), baseline_outcome(call, &files));
     }
-    case_of(call, workload.name, (size, part), files, desk)
+    if call == Call::PartOfCovered {
+        let Files { question, catalogue, book, .. } = &*files;
+        let answer = baseline::answer(question, catalogue, book, yuthaqim::BOOK_BYTES).expect("an answer");
+        let whole = Outcome::Both(question.clone(), answer);
+        compare(&format!("{}, {}", call.name(), workload.name), desk.borrow_mut().outcome(call, &files), whole);
+    }
+    if call == Call::Part {
+        files = Rc::new(uncovered(workload, &files, &mut desk.borrow_mut())?);
+    }
+    Some(case_of(call, workload.name, (size, part), files, desk))
 }
 
 /// The cheapest set reads no record: its size is that of the catalogue.
@@ -95,8 +128,9 @@ fn case_of<'a>(
         let product = || timed(number, || desk.borrow_mut().run(call, &files));
         let first = product_first.then(product);
         let baseline = match call {
-            // Beside the library's own search without an index.
+            // Beside the library's own search without an index, and its own answer.
             Call::SearchIndexed => timed(number, || desk.borrow_mut().run(Call::Search, &files)),
+            Call::PartOfCovered => timed(number, || desk.borrow_mut().run(Call::Answer, &files)),
             _ => timed(number, || drop(black_box(baseline_outcome(call, &files)))),
         };
         Turn { product: first.unwrap_or_else(product), other: Time::default(), baseline }
@@ -124,7 +158,7 @@ fn all_cases<'a>(beginning: &str, desk: &'a RefCell<Desk>) -> Vec<Case<'a>> {
         for workload in workloads::all(part) {
             let files = Rc::new(files_of(&workload, &mut desk.borrow_mut()));
             let calls = CALLS.iter().filter(|call| call.name().starts_with(beginning));
-            cases.extend(calls.map(|&call| call_case(&workload, &files, call, part, desk)));
+            cases.extend(calls.filter_map(|&call| call_case(&workload, &files, call, part, desk)));
         }
         if Call::Cheapest.name().starts_with(beginning) {
             cases.extend(workloads::priced(part).into_iter().map(|priced| cheapest_case(priced, part, desk)));

@@ -109,6 +109,7 @@ fn depths(files: &Files) -> Vec<(&'static str, usize)> {
         "cheapest set": raw::cheapest(question, catalogue, &charges, &mut work);
         "answer": answer(question, catalogue, book, &mut bytes, &mut work);
         "answer from a set": answer_from(question, catalogue, u16::MAX, book, &mut bytes, &mut work);
+        "part": part(question, catalogue, book, &mut more, &mut bytes, &mut work);
         "show": show_uncovered(question, catalogue, &mut bytes, &mut more, &mut work);
         "show": show_uncovered(question, NO_VIEWS, &mut bytes, &mut more, &mut work);
     }

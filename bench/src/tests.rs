@@ -4,7 +4,7 @@
 use crate::baseline;
 use crate::workloads::*;
 use model::files::{pack_record, read_book, read_record, Refusal, BOOK_BYTES, WORK_WORDS};
-use model::{answering, cheapest, indexing, matching, quoting};
+use model::{answering, cheapest, indexing, matching, part, quoting};
 
 const ROOM: usize = BOOK_BYTES;
 
@@ -49,6 +49,8 @@ fn without_record(question: &[u8], catalogue: &[u8], book: &[u8]) -> Option<Vec<
         same_cheapest(question, catalogue, &charges);
     }
     same("read a book", baseline::read_book(catalogue, book, ROOM), read_book(catalogue, book, ROOM, WORK_WORDS));
+    let parts = part::part(question, catalogue, book, ROOM, ROOM, WORK_WORDS);
+    same("part", baseline::part(question, catalogue, book, ROOM, ROOM), parts);
     let answer = answering::answer(question, catalogue, book, ROOM, WORK_WORDS);
     same("answer, sorting", baseline::answer_by_sorting(question, catalogue, book, ROOM), answer.clone());
     same("answer", baseline::answer(question, catalogue, book, ROOM), answer)

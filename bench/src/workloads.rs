@@ -28,6 +28,13 @@ impl Workload {
         catalogue_file(&self.extracts[..number])
     }
 
+    /// The catalogue of some extracts alone.
+    pub fn some_extracts(&self, are: impl Fn(usize) -> bool) -> Vec<u8> {
+        let some: Vec<Pattern> =
+            (0..self.extracts.len()).filter(|&a| are(a)).map(|a| self.extracts[a].clone()).collect();
+        catalogue_file(&some)
+    }
+
     pub fn extracts(&self) -> usize {
         self.extracts.len()
     }

@@ -479,6 +479,87 @@ static void answering(void) {
     expect_refusal("answer_from: no room", r.number, r.value, YUTHAQIM_NO_FIT, sizeof K9_SHEET);
 }
 
+/* What a part came to: both outputs, and nothing beyond them. */
+static void expect_part(const char *what, struct yuthaqim_part p, const uint8_t *part, size_t first,
+                        const uint8_t *answer, size_t second) {
+    expect(what, p.number, p.first,
+           p.number == 0 && p.detail == 0 && p.first == first && p.second == second &&
+               is_written(more, sizeof more, part, first) && is_written(bytes, sizeof bytes, answer, second));
+}
+
+/* A refusal has no lengths. */
+static void expect_no_part(const char *what, struct yuthaqim_part p, size_t number, size_t detail) {
+    expect_refusal(what, p.number, p.detail, number, detail);
+    expect("  and no lengths", p.number, p.detail, p.first == 0 && p.second == 0);
+}
+
+/* The part goes to more, its answer to bytes, as far as they are lent. */
+static struct yuthaqim_part part_lent(const uint8_t *catalogue, size_t catalogue_length, const uint8_t *book,
+                                      size_t book_length, size_t first, size_t second) {
+    mark();
+    return yuthaqim_part(D, sizeof D, catalogue, catalogue_length, book, book_length, more, first, bytes, second, work,
+                         LENGTH(work));
+}
+
+static struct yuthaqim_part part_of_d(const uint8_t *catalogue, size_t catalogue_length, const uint8_t *book,
+                                      size_t book_length) {
+    return part_lent(catalogue, catalogue_length, book, book_length, sizeof more, sizeof bytes);
+}
+
+/* D with extract 1 alone on K6: what is lent is too little for the part, for its answer, or enough. */
+static void part_by_one(void) {
+    struct yuthaqim_reply r;
+
+    mark();
+    r = yuthaqim_search(D, sizeof D, K6, sizeof K6, bytes, sizeof bytes, work, LENGTH(work));
+    expect("search: D on K6 is not found", r.number, r.value, r.number == 0 && r.value == 1 && bytes[0] == 0);
+    expect_part("part: D with extract 1 alone", part_of_d(ONLY_SLOW, sizeof ONLY_SLOW, K6_SHEET, sizeof K6_SHEET), SLOW,
+                sizeof SLOW, K6_SHEET, sizeof K6_SHEET);
+    expect_no_part("part: lent 5 and 9", part_lent(ONLY_SLOW, sizeof ONLY_SLOW, K6_SHEET, sizeof K6_SHEET, 5, 9),
+                   YUTHAQIM_NO_FIT, 6);
+    expect_no_part("part: lent 6 and 9", part_lent(ONLY_SLOW, sizeof ONLY_SLOW, K6_SHEET, sizeof K6_SHEET, 6, 9),
+                   YUTHAQIM_NO_FIT, 10);
+    expect_part("part: lent 6 and 10", part_lent(ONLY_SLOW, sizeof ONLY_SLOW, K6_SHEET, sizeof K6_SHEET, 6, 10), SLOW,
+                sizeof SLOW, K6_SHEET, sizeof K6_SHEET);
+}
+
+static void parts(void) {
+    static const uint8_t fast[] = {0x08, 0x10, 0x22, 0x18, 0x08}, fast_book[] = {0x80, 0x02, 0x00, 0x20, 0x04};
+    static const uint8_t no_extracts[] = {0x00}, slow_to_fast[] = {0x08, 0x10, 0x21, 0x10, 0x08}, zero[] = {0x00};
+    static const uint8_t kinds[] = {0x10, 0x40, 0x08, 0x08, 0x01, 0x20}, kind_1[] = {0x08, 0x10, 0x20, 0x08, 0x09};
+    static const uint8_t kind_1_sheet[] = {0x80, 0x02, 0x00, 0x00, 0x02};
+    /* Extract 1, then section to slow, and a book of no record in which the second lists (5,1). */
+    static const uint8_t two[] = {0x10, 0x18, 0x40, 0x08, 0xc0, 0x40, 0x90, 0x10, 0x20, 0x08, 0x08};
+    static const uint8_t two_book[] = {0x80, 0x02, 0x00, 0x00, 0x02, 0x00, 0x08, 0x00,
+                                       0x80, 0x10, 0x80, 0x02, 0x00, 0xa0, 0x02};
+    static const uint8_t by_both[] = {0x80, 0x04, 0x00, 0x00, 0x02, 0x00, 0xa0, 0x02, 0x00, 0x08, 0x00, 0x80, 0x10};
+    static uint8_t book[YUTHAQIM_BOOK_BYTES];
+    size_t length = yuthaqim_make_book(C, sizeof C, K9, sizeof K9, book, sizeof book, work, LENGTH(work)).value;
+    struct yuthaqim_reply r;
+    struct yuthaqim_part p;
+
+    part_by_one();
+    expect_part("part: of a covered question all of it", part_of_d(C, sizeof C, book, length), D, sizeof D, K9_SHEET,
+                sizeof K9_SHEET);
+    expect_part("part: items 2 and 3 become 0 and 1", part_of_d(fast, sizeof fast, fast_book, sizeof fast_book), fast + 1,
+                sizeof fast - 1, fast_book, sizeof fast_book);
+    mark();
+    p = yuthaqim_part(kinds, sizeof kinds, kind_1, sizeof kind_1, kind_1_sheet, sizeof kind_1_sheet, more, sizeof more,
+                      bytes, sizeof bytes, work, LENGTH(work));
+    expect_part("part: of two kinds of links one", p, kind_1 + 1, sizeof kind_1 - 1, kind_1_sheet, sizeof kind_1_sheet);
+    expect_no_part("part: no extracts", part_of_d(no_extracts, sizeof no_extracts, zero, 0), YUTHAQIM_UNCOVERED, 0);
+    expect_no_part("part: no link is matched", part_of_d(slow_to_fast, sizeof slow_to_fast, zero, sizeof zero),
+                   YUTHAQIM_UNCOVERED, 0);
+    expect_no_part("part: from a book that is cut off", part_of_d(C, sizeof C, book, length - 1), YUTHAQIM_SHORT,
+                   YUTHAQIM_IN_BOOK);
+    expect_part("part: by its own quote", part_of_d(two, sizeof two, two_book, sizeof two_book), SLOW, sizeof SLOW,
+                K6_SHEET, sizeof K6_SHEET);
+    mark();
+    r = yuthaqim_answer_from(SLOW, sizeof SLOW, two, sizeof two, 3, two_book, sizeof two_book, bytes, sizeof bytes, work,
+                             LENGTH(work));
+    expect_bytes("answer_from: the part by all extracts", r, by_both, sizeof by_both);
+}
+
 static void showing(void) {
     static uint8_t second[YUTHAQIM_RECORD_BYTES];
     struct yuthaqim_showing s;
@@ -540,6 +621,7 @@ int main(void) {
     link_kinds();
     charging();
     answering();
+    parts();
     showing();
     refusals();
     printf("%d wrong\n", failures);

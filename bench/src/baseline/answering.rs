@@ -124,6 +124,24 @@ fn greatest_choice(question: &Pattern, mut candidates: Vec<Candidate>) -> Vec<Ca
     candidates
 }
 
+/// What a covered question is answered by its own quote.
+fn sheet_of(
+    candidates: impl Fn(&Quote, &[Sheet]) -> Vec<Candidate>,
+    question: &Pattern,
+    quote: &Quote,
+    book: &[Sheet],
+    room: usize,
+) -> Result<Vec<u8>, Refusal> {
+    let kept = greatest_choice(question, candidates(quote, book));
+    let mut sheet = sheet(question.links.len(), kept.into_iter());
+    if sheet.iter().any(Vec::is_empty) {
+        sheet.iter_mut().for_each(Vec::clear);
+    }
+    let mut writer = Writer::default();
+    write_sheet(&sheet, &mut writer);
+    give(writer.bytes(), room.min(SHEET_BYTES))
+}
+
 fn answer_with(
     candidates: impl Fn(&Quote, &[Sheet]) -> Vec<Candidate>,
     question: &[u8],
@@ -138,14 +156,7 @@ fn answer_with(
     if let Some(lowest) = quote.lowest_unmatched {
         return Err((UNCOVERED, lowest));
     }
-    let kept = greatest_choice(&question, candidates(&quote, &book));
-    let mut sheet = sheet(question.links.len(), kept.into_iter());
-    if sheet.iter().any(Vec::is_empty) {
-        sheet.iter_mut().for_each(Vec::clear);
-    }
-    let mut writer = Writer::default();
-    write_sheet(&sheet, &mut writer);
-    give(writer.bytes(), room.min(SHEET_BYTES))
+    sheet_of(candidates, &question, &quote, &book, room)
 }
 
 /// Answers a question from a book: gives the question's sheet.
@@ -156,4 +167,37 @@ pub fn answer(question: &[u8], catalogue: &[u8], book: &[u8], room: usize) -> Re
 /// The same with candidates by sorting.
 pub fn answer_by_sorting(question: &[u8], catalogue: &[u8], book: &[u8], room: usize) -> Result<Vec<u8>, Refusal> {
     answer_with(candidates_by_sorting, question, catalogue, book, room)
+}
+
+/// The matched links of a question and the items at them, numbered upward.
+fn matched_part(question: &Pattern, quote: &Quote) -> Pattern {
+    let is_matched = |e: usize| quote.mapping[16 * e..16 * e + 16].iter().any(|&links| links != 0);
+    let links: Vec<_> = (0..quote.links).filter(|&e| is_matched(e)).map(|e| question.links[e]).collect();
+    let at_links = links.iter().fold(0u32, |items, &(from, to, _)| items | 1 << from | 1 << to);
+    let number = |u: usize| (at_links & ((1 << u) - 1)).count_ones() as usize;
+    Pattern {
+        kinds: members(at_links).map(|u| question.kinds[u]).collect(),
+        links: links.iter().map(|&(from, to, kind)| (number(from), number(to), kind)).collect(),
+    }
+}
+
+/// The part of a question that its extracts answer, and its answer.
+pub fn part(
+    question: &[u8],
+    catalogue: &[u8],
+    book: &[u8],
+    room: usize,
+    answer_room: usize,
+) -> Result<(Vec<u8>, Vec<u8>), Refusal> {
+    let question = parse_question(question)?;
+    let catalogue = parse_catalogue(catalogue)?;
+    let book = parse_book(&catalogue, book)?;
+    let part = matched_part(&question, &quote_of(&question, &catalogue));
+    if part.links.is_empty() {
+        return Err((UNCOVERED, 0));
+    }
+    let mut writer = Writer::default();
+    write_pattern(&part, &mut writer);
+    let bytes = give(writer.bytes(), room)?;
+    Ok((bytes, sheet_of(candidates, &part, &quote_of(&part, &catalogue), &book, answer_room)?))
 }

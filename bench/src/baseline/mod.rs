@@ -10,7 +10,7 @@ mod files;
 mod matching;
 mod quoting;
 
-pub use answering::{answer, answer_by_sorting};
+pub use answering::{answer, answer_by_sorting, part};
 pub use bits::Writer;
 pub use files::{different_pairs, parse_book, parse_catalogue, read_book, read_record};
 pub use matching::{check_index, make_book, make_index, search};

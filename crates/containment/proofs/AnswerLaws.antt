@@ -3,9 +3,9 @@ use Prim.Native.Nat.{ℕ, _<_, _≤_}
 use mathlib.Core.Path.{_≡_, refl, sym, subst, _∙_}
 use mathlib.Core.Bool.{Bool, true, false}
 use mathlib.Core.List.{List, [], _∷_}
-use lib.ListN.{length, replicate, length-map}
+use lib.ListN.{length, replicate, length-map, List·getD-map}
 use lib.Seq.{sets}
-use lib.Dec.{ltb}
+use lib.Dec.{T, ltb}
 use native.Mathlib.Omega.{arith}
 use borrow.Author.Tests.{lt-ltb, le-ltb}
 use Rattle.packed.specs.Format.{ok, pick, decode}
@@ -22,8 +22,12 @@ use Rattle.packed.specs.declared.by_value.Pattern.{Pattern as Given}
 use Rattle.packed.proofs.Sets.{sets-front}
 use Rattle.packed.proofs.AcceptedBounds.{catalogue-views}
 use Rattle.packed.proofs.CallLaws.{refusal-answered, read-says}
-use Rattle.matching.specs.Simulation.{patternOf}
+use Rattle.matching.specs.Lists.{In}
+use Rattle.matching.specs.Simulation.{Pattern, patternOf, sound}
 use Rattle.matching.specs.Offered.{viewPatterns}
+use Rattle.matching.proofs.ListLaws.{in-at}
+use Rattle.matching.proofs.PatternLaws.{sound-of}
+use Rattle.matching.proofs.ViewLaws.{all-ahead, in-follow}
 use Rattle.containment.specs.Choice.{coversIn, lowestUnmatched, chosen}
 use Rattle.containment.specs.Quote.{blank, flat, Quoted, tableOf, valuesFrom, quoteValues, quoteFor, quoteTold}
 use Rattle.containment.specs.Show.{graphFields, fewerFields, recordBytes, fitBoth, showFor}
@@ -31,6 +35,7 @@ use Rattle.containment.specs.Steps.{Query, Views, ViewCounts, quotedAs, 
 use Rattle.containment.specs.declared.judging.Judged.{Judged}
 use Rattle.containment.specs.declared.quote_type.Coverage.the-variants as coverage-is
 use Rattle.containment.proofs.ChoiceLaws.{chosen-none, lowest-leaves, lowest-covers}
+use Rattle.containment.proofs.QuoteLaws.{place-of}
 use Rattle.containment.proofs.QueryLaws.{few-edges, shown-whole}
 
 -- ---- what is judged
@@ -97,6 +102,14 @@ module _ {s : List ℕ} {k : ℕ} (v : Views s k) where
 
   pub views-many : length (viewPatterns (v .content)) ≡ k
   views-many = length-map (viewsOf (v .content)) patternOf ∙ catalogue-views s (v .content) (v .is) .many ∙ sym (v .number)
+
+  -- each of them is sound
+  pub views-sound : (P : Pattern) → In P (viewPatterns (v .content)) → T (sound P)
+  views-sound P i =
+      let o = place-of (patternOf []) i in
+      let l : o .at < length (viewsOf (v .content)) = omega (arith, o .below, length-map (viewsOf (v .content)) patternOf) in
+      let q = in-follow (all-ahead s (v .content) (v .is) .follow) (in-at (viewsOf (v .content)) (o .at) [] l) in
+      rw (o .holds ∙ List·getD-map patternOf (viewsOf (v .content)) (o .at) []) (sound-of (q .1))
 
 module _ {q : Given} (t : Query q) {counts : List ℕ} {k : ℕ} (v : ViewCounts counts k) (usable : ℕ) {table : List ℕ} (e : table ≡ tableOf (quotedAs t v usable)) where
   pub quote-given : {r : Told} → r ≡ told 0 (flat (valuesFrom table usable (q .edges) k)) → Fulfils blank (quoteFor (quotedAs t v usable)) r [] []

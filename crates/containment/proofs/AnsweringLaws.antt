@@ -1,7 +1,7 @@
 -- The answers of answering a query from a book, from what their parts found.
 use Prim.Native.Nat.{ℕ, _+_, _*_, _/_, _<_, _≤_}
 use mathlib.Core.Path.{_≡_, refl, sym, ap, subst, _∙_}
-use mathlib.Core.List.{List, map, flatten}
+use mathlib.Core.List.{List, [], _∷_, map, flatten}
 use lib.ListN.{length, take}
 use native.Mathlib.Omega.{arith}
 use Rattle.packed.specs.Format.{ok, pick, decode, encode}
@@ -11,13 +11,13 @@ use Rattle.packed.specs.Accepting.{ContentTaken}
 use Rattle.packed.specs.Refusals.{Told, numberOf, detailOf, replyTold}
 use Rattle.packed.specs.Matches.{matchesOf, Marked}
 use Rattle.packed.specs.Walks.{bookPairs, Different}
-use Rattle.packed.specs.Calls.{Outcome, refuse, FulfilsOne, readFile, judged, readBook, withinPairs, fitFile}
+use Rattle.packed.specs.Calls.{Outcome, refuse, FulfilsOne, rejected, readFile, judged, readBook, withinPairs, fitFile}
 use Rattle.packed.specs.declared.reply.Refusal.{Refusal}
-use Rattle.packed.specs.declared.reply.Refusal.the-variants.{TooManyPairs, NotContained}
+use Rattle.packed.specs.declared.reply.Refusal.the-variants.{NotContained}
 use Rattle.packed.specs.declared.reply.Reply.the-variants as reply-is
 use Rattle.packed.specs.declared.by_value.Pattern.{Pattern as Given}
 use Rattle.packed.proofs.WalkLaws.{book-pairs}
-use Rattle.packed.proofs.CallLaws.{read-says, gathered-many, gathered-few, body-declined, body-goes-on}
+use Rattle.packed.proofs.CallLaws.{read-says, judged-accepted, gathered-many, gathered-few, refusal-answered, body-declined}
 use Rattle.packed.proofs.MatchLaws.{matches-encode}
 use Rattle.matching.specs.Simulation.{ascending}
 use Rattle.matching.specs.Offered.{viewPatterns}
@@ -25,7 +25,7 @@ use Rattle.matching.specs.Search.{sheetBytes}
 use Rattle.matching.specs.Join.{View, answerSets}
 use Rattle.matching.proofs.ByEdge.{answerTo}
 use Rattle.matching.specs.Loaded.{patternIn}
-use Rattle.matching.specs.Candidates.{Pool, Booked}
+use Rattle.matching.specs.Candidates.{Pool}
 use Rattle.matching.specs.Joining.{Agrees, Joined}
 use Rattle.matching.proofs.ListLaws.{length-each}
 use Rattle.matching.proofs.UpToLaws.{length-upTo}
@@ -35,9 +35,9 @@ use Rattle.matching.proofs.SheetBytes.{sheet-is}
 use Rattle.containment.specs.Choice.{coversIn, lowestUnmatched, used}
 use Rattle.containment.specs.Quote.{tableOf, usedBy}
 use Rattle.containment.specs.Answer.{viewsIn, answerBytes, answerIn}
-use Rattle.containment.specs.Steps.{Query, ViewCounts, quotedAs}
+use Rattle.containment.specs.Steps.{Query, ViewCounts, quotedAs, Loaded}
 use Rattle.containment.proofs.QueryLaws.{plain}
-use Rattle.containment.proofs.AnswerLaws.{views-many}
+use Rattle.containment.proofs.AnswerLaws.{judged-rejected, views-many}
 use Rattle.containment.proofs.ChoiceLaws.{lowest-leaves, lowest-covers, lowest-used}
 use Rattle.containment.proofs.BookLaws.{booked-by}
 use Rattle.containment.proofs.CandidateLaws.{agrees-by}
@@ -92,51 +92,70 @@ module _ {q : Given} (t : Query q) {counts : List ℕ} {k : ℕ} (v : ViewCounts
   pub used-lowest : {lowest : ℕ} → lowest ≡ lowestUnmatched table usable k (q .edges) → lowest ≡ lowestUnmatched table set k (q .edges)
   used-lowest e = e ∙ sym (ap (λ (s : ℕ). lowestUnmatched table s k (q .edges)) chosen ∙ lowest-used table usable k (q .edges))
 
--- the book was judged, and its pairs were gathered
-module _ {q : Given} (t : Query q) {counts : List ℕ} {k : ℕ} (v : ViewCounts counts k) (s : List ℕ)
-    {n : ℕ} {w₀ w₁ : List ℕ} (r : ContentTaken (readFile 65536 4 (book (take k counts)) s) n w₀ w₁) where
+-- ---- a book is loaded: it is judged, and its pairs are gathered
+module _ {counts : List ℕ} {k : ℕ} (v : ViewCounts counts k) (s : List ℕ) where
   abbrev cs : List ℕ
   cs = v .views .content
 
-  content : ContentTaken (readBook cs s) n w₀ w₁
-  content = rw (v .are) at r
+  pub load-refused : (x : Refusal) → readFile 65536 4 (book (take k counts)) s ≡ rejected (numberOf x) (detailOf x)
+      → (a : List ℕ → Outcome) → judged (readBook (v .views .content) s) (λ bs. withinPairs (v .views .content) bs (a bs)) ≡ refuse (numberOf x) (detailOf x)
+  load-refused x e a = judged-rejected _ (rw (v .are) at e)
 
-  book-read : (decode (book (edgeCounts cs)) s ≡ ok (content .fields)) × (length s ≤ 65536)
-  book-read = read-says 65536 4 (book (edgeCounts cs)) s (content .fields) (content .is)
+  module _ {n : ℕ} {w₀ w₁ : List ℕ} (r : ContentTaken (readFile 65536 4 (book (take k counts)) s) n w₀ w₁) {d : ℕ} {w : List ℕ} (g : Different (bookPairs s 0 (take k counts)) d w) where
+    content : ContentTaken (readBook cs s) n w₀ w₁
+    content = rw (v .are) at r
 
-  module _ {d : ℕ} {w : List ℕ} (g : Different (bookPairs s 0 (take k counts)) d w) where
-    pub book-booked : d ≤ 8192 → Booked s counts k d w
-    book-booked few = booked-by (v .views) counts s (content .fields) (v .are) (book-read .0) g few (book-read .1) (v .small)
+    book-read : (decode (book (edgeCounts cs)) s ≡ ok (content .fields)) × (length s ≤ 65536)
+    book-read = read-says 65536 4 (book (edgeCounts cs)) s (content .fields) (content .is)
 
-    module _ (usable : ℕ) {table : List ℕ} (is : table ≡ tableOf (quotedAs t v usable)) (set : ℕ) (out : List ℕ) where
-      -- what is answered from the content of the book
-      abbrev answers : List ℕ → Outcome
-      answers bs = answerIn set (quotedAs t v usable) bs (length out)
+    pairs : bookPairs s 0 (take k counts) ≡ flatten (map flatten (sheetsIn (edgeCounts cs) (content .fields)))
+    pairs = ap (bookPairs s 0) (v .are) ∙ book-pairs (edgeCounts cs) s (content .fields) (book-read .0)
 
-      pairs : bookPairs s 0 (take k counts) ≡ flatten (map flatten (sheetsIn (edgeCounts cs) (content .fields)))
-      pairs = ap (bookPairs s 0) (v .are) ∙ book-pairs (edgeCounts cs) s (content .fields) (book-read .0)
+    pub load-many-pairs : 8192 < d → (a : List ℕ → Outcome) → judged (readBook (v .views .content) s) (λ bs. withinPairs (v .views .content) bs (a bs)) ≡ refuse 10 4
+    load-many-pairs h a = judged-accepted _ (content .is) ∙ gathered-many (edgeCounts cs) (content .fields) g pairs _ h
 
-      answer-is : answers (content .fields)
-          ≡ withinPairs cs (content .fields) (pick (coversIn table set k (q .edges)) (bySet q cs (content .fields) (length out) set) (refuse 11 (lowestUnmatched table set k (q .edges))))
-      unfolding answerIn answerBytes
-      answer-is = rw (pattern-same (plain t) (t .holds), is, views-many (v .views), ← t .holds .edges)
+    pub load-done : d ≤ 8192 → Loaded (v .views .content) s counts k d w
+    load-done h = record {
+      fields = content .fields;
+      is = content .is;
+      few = λ a. gathered-few (edgeCounts cs) (content .fields) g pairs a h;
+      pairs = booked-by (v .views) counts s (content .fields) (v .are) (book-read .0) g h (book-read .1) (v .small);
+    }
 
-      declined : (x : Refusal) → answers (content .fields) ≡ refuse (numberOf x) (detailOf x) → FulfilsOne (judged (readBook cs s) answers) (replyTold (reply-is.Refused x)) out out
-      declined x e = body-declined answers (content .is) out refl x e
+-- ---- what is answered from it
+module _ {q : Given} (t : Query q) {counts : List ℕ} {k : ℕ} (v : ViewCounts counts k) (s : List ℕ) (usable : ℕ) {table : List ℕ} (is : table ≡ tableOf (quotedAs t v usable)) (set : ℕ)
+    (out : List ℕ) where
+  abbrev content-of : List ℕ
+  content-of = v .views .content
 
-      pub many-pairs-answered : 8192 < d → FulfilsOne (judged (readBook (v .views .content) s) answers) (replyTold (reply-is.Refused (TooManyPairs 4))) out out
-      many-pairs-answered h = declined (TooManyPairs 4) (answer-is ∙ gathered-many (edgeCounts cs) (content .fields) g pairs _ h)
+  -- from the content of the book
+  abbrev answers : List ℕ → Outcome
+  answers bs = answerIn set (quotedAs t v usable) bs (length out)
 
-      module _ (few : d ≤ 8192) {lowest : ℕ} (low : lowest ≡ lowestUnmatched table set k (q .edges)) where
-        pub uncovered-answered : lowest < q .edges → FulfilsOne (judged (readBook (v .views .content) s) answers) (replyTold (reply-is.Refused (NotContained lowest))) out out
-        uncovered-answered h =
-            declined (NotContained lowest) (answer-is ∙ gathered-few (edgeCounts cs) (content .fields) g pairs _ few ∙ rw (lowest-leaves table set k (q .edges) low h, low))
+  answer-is : (bs : List ℕ) → answers bs
+      ≡ withinPairs content-of bs (pick (coversIn table set k (q .edges)) (bySet q content-of bs (length out) set) (refuse 11 (lowestUnmatched table set k (q .edges))))
+  unfolding answerIn answerBytes
+  answer-is bs = rw (pattern-same (plain t) (t .holds), is, views-many (v .views), ← t .holds .edges)
 
-        pub covered-answered : {x : Told} {out′ : List ℕ} → q .edges ≤ lowest
-            → ((vs : List View) → Agrees q table set s counts k vs → FulfilsOne (fitFile (length out) (sheetBytes (answerSets (patternIn q) vs))) x out out′)
-            → FulfilsOne (judged (readBook (v .views .content) s) answers) x out out′
-        covered-answered {x} {out′} h f =
-            let a : answers (content .fields) ≡ bySet q cs (content .fields) (length out) set =
-            answer-is ∙ gathered-few (edgeCounts cs) (content .fields) g pairs _ few ∙ rw (lowest-covers table set k (q .edges) low h) in
-            body-goes-on answers (content .is)
-            (subst (λ y. FulfilsOne y x out out′) (sym a) (f _ (agrees-by t (v .views) counts s (content .fields) (v .are) (book-read .0) is set)))
+  pub unloaded-answered : (x : Refusal) → ((a : List ℕ → Outcome) → judged (readBook (v .views .content) s) (λ bs. withinPairs (v .views .content) bs (a bs)) ≡ refuse (numberOf x) (detailOf x))
+      → {out′ : List ℕ} → out′ ≡ out → FulfilsOne (judged (readBook (v .views .content) s) answers) (replyTold (reply-is.Refused x)) out out′
+  unloaded-answered x e p = rw p (refusal-answered (out ∷ []) ((λ i. judged (readBook content-of s) (λ bs. answer-is bs i)) ∙ e _) refl)
+
+  module _ {d : ℕ} {w : List ℕ} (b : Loaded (v .views .content) s counts k d w) {lowest : ℕ} (low : lowest ≡ lowestUnmatched table set k (q .edges)) where
+    pub uncovered-answered : lowest < q .edges → FulfilsOne (judged (readBook (v .views .content) s) answers) (replyTold (reply-is.Refused (NotContained lowest))) out out
+    uncovered-answered h =
+        body-declined answers (b .is) out refl (NotContained lowest) (answer-is (b .fields) ∙ b .few _ ∙ rw (lowest-leaves table set k (q .edges) low h, low))
+
+    -- the views of the set with their sheets, which the join is lent
+    pub book-agrees : Agrees q table set s counts k (viewsIn set (viewPatterns (v .views .content)) (sheetsIn (edgeCounts (v .views .content)) (b .fields)))
+    book-agrees = agrees-by t (v .views) counts s (b .fields) (v .are) (read-says 65536 4 (book (edgeCounts content-of)) s (b .fields) (b .is) .0) is set
+
+    pub covered-is : q .edges ≤ lowest
+        → judged (readBook (v .views .content) s) answers
+        ≡ fitFile (length out) (sheetBytes (answerSets (patternIn q) (viewsIn set (viewPatterns (v .views .content)) (sheetsIn (edgeCounts (v .views .content)) (b .fields)))))
+    covered-is h = judged-accepted answers (b .is) ∙ answer-is (b .fields) ∙ b .few _ ∙ rw (lowest-covers table set k (q .edges) low h)
+
+    pub covered-answered : {x : Told} {out′ : List ℕ} → q .edges ≤ lowest
+        → ((vs : List View) → Agrees q table set s counts k vs → FulfilsOne (fitFile (length out) (sheetBytes (answerSets (patternIn q) vs))) x out out′)
+        → FulfilsOne (judged (readBook (v .views .content) s) answers) x out out′
+    covered-answered {x} {out′} h f = subst (λ y. FulfilsOne y x out out′) (sym (covered-is h)) (f _ book-agrees)

@@ -350,6 +350,11 @@ module _ (t : List ℕ) (set k : ℕ) where
             (lt-or-ge (lowestUnmatched t set k m) m),
       )
 
+  pub lowest-whole : (m : ℕ) → coversIn t set k m ≡ true → m ≡ lowestUnmatched t set k m
+  lowest-whole m y =
+      let i = lowest-is m .within in
+      ⊎-elim (λ (l : lowestUnmatched t set k m < m). never (sym y ∙ lowest-below m .0 l)) (λ (g : m ≤ lowestUnmatched t set k m). omega arith) (lt-or-ge (lowestUnmatched t set k m) m)
+
   module _ (m : ℕ) {r : ℕ} (e : r ≡ lowestUnmatched t set k m) where
     pub lowest-leaves : r < m → coversIn t set k m ≡ false
     lowest-leaves l = lowest-below m .0 (omega (arith, e))
@@ -363,11 +368,6 @@ lowest-used t set k m =
     ⊎-elim
     (λ y.
     let c : coversIn t (used t set m k) k m ≡ true = rw (used-covered t set m k y) (chosen-covers t set m k y) in
-    all-matched (used t set m k) c ∙ sym (all-matched set y))
+    sym (lowest-whole t (used t set m k) k m c) ∙ lowest-whole t set k m y)
     (λ n. ap (λ (s : ℕ). lowestUnmatched t s k m) (used-uncovered t set m k n))
     (test-cases (coversIn t set k m))
-  where
-    all-matched : (s : ℕ) → coversIn t s k m ≡ true → lowestUnmatched t s k m ≡ m
-    all-matched s y =
-        let i = lowest-is t s k m .within in
-        ⊎-elim (λ (l : lowestUnmatched t s k m < m). never (sym y ∙ lowest-below t s k m .0 l)) (λ (g : m ≤ lowestUnmatched t s k m). omega arith) (lt-or-ge (lowestUnmatched t s k m) m)

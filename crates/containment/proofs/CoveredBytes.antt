@@ -26,8 +26,8 @@ use Rattle.packed.proofs.BookSheetLaws.{sheets-back, list-is, list-stands, list
 use Rattle.packed.proofs.CallLaws.{overFile, overFile-no, fitFile-fits}
 use Rattle.matching.specs.Lists.{In, keep, each}
 use Rattle.matching.specs.Simulation.{oneWay, Pattern, Graph, bit, patternOf, graphOf, sound, matchSets, viewSheet}
-use Rattle.matching.specs.Join.{View, answerSets}
-use Rattle.matching.proofs.ByEdge.{covered, viewOf}
+use Rattle.matching.specs.Join.{View, covered, answerSets}
+use Rattle.matching.proofs.ByEdge.{viewOf}
 use Rattle.matching.specs.Search.{sheetBytes, viewSheets, searchOutcome}
 use Rattle.matching.proofs.ListLaws.{keep-in, in-keep, keep-length, length-each}
 use Rattle.matching.proofs.CodeLaws.{in-member, member-in}
@@ -42,21 +42,21 @@ use Rattle.matching.proofs.MatchLaws.{Weaker}
 use Rattle.matching.proofs.Covered.{covered-answer}
 use Rattle.matching.specs.Offered.{viewPatterns}
 use Rattle.containment.specs.Choice.{everyView, coversIn}
-use Rattle.containment.specs.Quote.{noPattern, mapping, quotedBy}
+use Rattle.containment.specs.Quote.{noPattern, mapping, quotedBy, viewsInSet}
 use Rattle.containment.specs.Answer.{viewsIn, answerBytes, Choose, answerIn, answerFor, answerBy}
 use Rattle.containment.specs.Demands.{Question, Catalogue, Record, Book, Covers, Leaves, bookOf, lackingIn}
 use Rattle.containment.proofs.ChoiceLaws.{covers-alike, lowest-alike}
 use Rattle.containment.proofs.CandidateLaws.{views-say}
-use Rattle.containment.proofs.QuoteLaws.{place-of, chosenFrom, chosen-say, set-covers-exactly}
+use Rattle.containment.proofs.QuoteLaws.{place-of, chosen-say, set-covers-exactly}
 
 -- ---- the views in a set
 
 -- with their sheets on a graph
 pub sets-chosen : (set : ℕ) (G : Graph) (vs : List (List ℕ))
-    → viewsIn set (map patternOf vs) (map (λ v. viewSheet (patternOf v) G) vs) ≡ each (viewOf G) (chosenFrom set (map patternOf vs))
-unfolding viewsIn chosenFrom each viewOf
+    → viewsIn set (map patternOf vs) (map (λ v. viewSheet (patternOf v) G) vs) ≡ each (viewOf G) (viewsInSet set (map patternOf vs))
+unfolding viewsIn viewsInSet each viewOf
 sets-chosen set G [] = refl
-sets-chosen set G (v ∷ vs) = step (bit set 0) (chosenFrom (set / 2) (map patternOf vs)) (sets-chosen (set / 2) G vs)
+sets-chosen set G (v ∷ vs) = step (bit set 0) (viewsInSet (set / 2) (map patternOf vs)) (sets-chosen (set / 2) G vs)
   where
     step : (b : Bool) {x : List View} (l : List Pattern) → x ≡ each (viewOf G) l
         → pick b (viewOf G (patternOf v) ∷ x) x ≡ each (viewOf G) (pick b (patternOf v ∷ l) l)
@@ -127,7 +127,7 @@ views-rule [] a = refl
 views-rule (v ∷ vs) zero = refl
 views-rule (v ∷ vs) (suc a) = views-rule vs a
 
-views-weaker : (qs : List ℕ) (set : ℕ) (cs : List ℕ) (P : Pattern) → In P (chosenFrom set (viewPatterns cs)) → Weaker P (patternOf qs)
+views-weaker : (qs : List ℕ) (set : ℕ) (cs : List ℕ) (P : Pattern) → In P (viewsInSet set (viewPatterns cs)) → Weaker P (patternOf qs)
 views-weaker qs set cs P i b =
     let o = chosen-say set (viewPatterns cs) P i in
     absurd (not-both (sym (ap (λ (R : Pattern). R .rule) (o .holds .1) ∙ views-rule (viewsOf cs) (o .at)) ∙ b))
@@ -192,10 +192,10 @@ module _ (q c qs cs : List ℕ) (p : Question q qs) (d : Catalogue c cs) where
     covered-bytes set h =
         let Q = patternOf qs in
         let z = question-bounds q qs p in
-        let k : T (covered Q (chosenFrom set (viewPatterns cs))) = set-covers-exactly Q (viewPatterns cs) set (few-views c cs d) (z .few-edges) .0 (rw (z .many) h) in
+        let k : T (covered Q (viewsInSet set (viewPatterns cs))) = set-covers-exactly Q (viewPatterns cs) set (few-views c cs d) (z .few-edges) .0 (rw (z .many) h) in
         ap sheetBytes
         (ap (answerSets Q) (sets-chosen set (graphOf rs) (viewsOf cs))
-        ∙ covered-answer Q (chosenFrom set (viewPatterns cs)) (z .sound) (z .few-nodes) (views-weaker qs set cs) k (graphOf rs) (graph-narrow r rs (record-is r rs f)))
+        ∙ covered-answer Q (viewsInSet set (viewPatterns cs)) (z .sound) (z .few-nodes) (views-weaker qs set cs) k (graphOf rs) (graph-narrow r rs (record-is r rs f)))
 
     pub answer-search : (choose : Choose) → Covers (choose (quotedBy qs cs)) qs cs → length (bookOf cs rs) ≤ 65536 → (room : ℕ)
         → answerBy choose q c (bookOf cs rs) room ≡ searchOutcome q r room

@@ -13,6 +13,7 @@ use Rattle.matching.specs.Index.{alike, ownIndex}
 use Rattle.containment.specs.Quote.{Quoted, quotedBy, quoted, covering, quoteFor, quoteOutcome}
 use Rattle.containment.specs.Answer.{answerIn}
 use Rattle.containment.specs.Cheapest.{cheapestFrom, cheapestFor}
+use Rattle.containment.specs.Part.{withFirst, fitPart}
 use Rattle.containment.specs.Show.{fitBoth, showFor}
 use Rattle.containment.specs.Demands.{Files, no-more, first, FirstRejected, here, later, HandsUp, quotedFiles}
 use Rattle.containment.proofs.DemandRules.{number-same, detail-same, not-refused, enough-words, enough-for}
@@ -72,6 +73,17 @@ says-fit-file room o = says-either (ltb room (length o) || ltb 65536 (length o))
 pub says-fit-both : (room room′ : ℕ) (a b : List ℕ) → Says no-more (fitBoth room room′ a b)
 unfolding fitBoth
 says-fit-both room room′ a b = says-either (ltb room (length a)) (says-late 12 _ (omega arith)) (says-either (ltb room′ (length b)) (says-late 12 _ (omega arith)) (says-give _ _))
+
+-- an output before those of an outcome refuses nothing more
+first-refused : (o : List ℕ) (a : Outcome) {n d : ℕ} → withFirst o a ≡ refuse n d → a ≡ refuse n d
+unfolding withFirst
+first-refused o (give vs outs) e = absurd (not-refused e)
+first-refused o (refuse m c) e = e
+
+pub says-fit-part : (room : ℕ) (o : List ℕ) {a : Outcome} → Says no-more a → Says no-more (fitPart room o a)
+unfolding fitPart
+says-fit-part room o {a} h =
+    says-either (ltb room (length o)) (says-late 12 _ (omega arith)) (λ n d l. (λ e. h n d l .0 (first-refused o a e), λ r. absurd (none-first r)))
 
 pub says-within-pairs : (ms ws : List ℕ) {a : Outcome} → Says no-more a → Says no-more (withinPairsBy ms ws a)
 unfolding withinPairsBy

@@ -20,7 +20,7 @@ use Rattle.packed.proofs.RoundTrip.{Bytes}
 use Rattle.packed.proofs.Accepted.{pattern-accepted, catalogue-accepted, record-accepted, sheet-accepted, book-accepted, written-accepted}
 use Rattle.matching.specs.Lists.{In}
 use Rattle.matching.specs.Simulation.{Edge, Pattern, patternOf, asGraph, viewSheet}
-use Rattle.matching.proofs.ByEdge.{matchedBy, matched}
+use Rattle.matching.specs.Join.{matchedBy, matched}
 use Rattle.matching.specs.Search.{sheetBytes}
 use Rattle.matching.proofs.ListLaws.{not-in-none}
 use Rattle.matching.proofs.MatchSetLaws.{view-length}
@@ -162,7 +162,7 @@ module _ (words : ℕ) (a : Outcome) {NoFit : ℕ → Type 0} {outputs : List (L
       }
 
   -- an answer that is 12 with what is needed or the outputs, by a test
-  fitted-by : (n : ℕ) → ((a ≡ refuse 12 n) × NoFit n) ⊎ ((a ≡ give [] outputs) × (NoFit n → ⊥)) → ((d : ℕ) → NoFit d → d ≡ n)
+  pub fitted-by : (n : ℕ) → ((a ≡ refuse 12 n) × NoFit n) ⊎ ((a ≡ give [] outputs) × (NoFit n → ⊥)) → ((d : ℕ) → NoFit d → d ≡ n)
       → Fitted words NoFit outputs (withWorkspace words a)
   fitted-by n c only =
       ⊎-elim fitted-few
@@ -190,7 +190,7 @@ or-true : (b : Bool) → (b || true) ≡ true
 or-true true = refl
 or-true false = refl
 
-file-tight : (room : ℕ) (o : List ℕ) → (room < length o) ⊎ (65536 < length o) → fitFile room o ≡ refuse 12 (length o)
+pub file-tight : (room : ℕ) (o : List ℕ) → (room < length o) ⊎ (65536 < length o) → fitFile room o ≡ refuse 12 (length o)
 unfolding fitFile
 file-tight room o (inl h) = rw (lt-ltb room (length o) h)
 file-tight room o (inr h) = rw (lt-ltb 65536 (length o) h, or-true (ltb room (length o)))
@@ -320,15 +320,16 @@ book-writes c = record {
 
 -- ---- 10
 
--- 10 falls exactly to a crowded book, where what would be answered else is not 10
-pub many-pairs-exactly : (words : ℕ) (a : Outcome) (ms ws : List ℕ) (b : Outcome) → a ≡ withinPairsBy ms ws b → ((d : ℕ) → b ≡ refuse 10 d → ⊥) → (d : ℕ)
+-- 10 falls exactly to a crowded book, where what is answered else is not 10
+pub many-pairs-exactly : (words : ℕ) (a : Outcome) (ms ws : List ℕ) (b : Outcome) → a ≡ withinPairsBy ms ws b
+    → (length (pairsOf ms ws) ≤ 8192 → (d : ℕ) → b ≡ refuse 10 d → ⊥) → (d : ℕ)
     → (withWorkspace words a ≡ refuse 10 d) ↔ ((16384 ≤ words) × (8192 < length (pairsOf ms ws)) × (d ≡ 4))
 many-pairs-exactly words a ms ws b e n d = (
   λ x.
       let w = enough-for words a (λ z. let y = number-same z in omega arith) x in
       ⊎-elim
       (λ (h : 8192 < length (pairsOf ms ws)). (w .0, h, sym (detail-same (sym (e ∙ many-pairs ms ws b h) ∙ w .1))))
-      (λ (h : length (pairsOf ms ws) ≤ 8192). absurd (n d (sym (e ∙ within-pairs-is ms ws b h) ∙ w .1)))
+      (λ (h : length (pairsOf ms ws) ≤ 8192). absurd (n h d (sym (e ∙ within-pairs-is ms ws b h) ∙ w .1)))
       (lt-or-ge 8192 (length (pairsOf ms ws))),
   λ x. enough-words words a (x .0) ∙ e ∙ many-pairs ms ws b (x .1) ∙ ap (refuse 10) (sym (x .2)),
 )
@@ -350,7 +351,7 @@ pub many-pairs-read : (c cs s ws : List ℕ) → Catalogue c cs → readBook cs 
     → (withWorkspace words (bookRead c s room) ≡ refuse 10 d) ↔ ((16384 ≤ words) × ManyPairs cs ws × (d ≡ 4))
 unfolding bookRead
 many-pairs-read c cs s ws e f room words d =
-    many-pairs-exactly words _ (edgeCounts cs) ws (fit room ws) (goes-on _ e ∙ goes-on _ f) (λ k x. let z = fit-number room ws 10 k x in omega arith) d
+    many-pairs-exactly words _ (edgeCounts cs) ws (fit room ws) (goes-on _ e ∙ goes-on _ f) (λ _ k x. let z = fit-number room ws 10 k x in omega arith) d
 
 pub many-pairs-written : (c cs s ws : List ℕ) → Catalogue c cs → Below 256 s → BookFile (edgeCounts cs) s ws → (room words d : ℕ)
     → (withWorkspace words (bookWritten c ws room) ≡ refuse 10 d) ↔ ((16384 ≤ words) × ManyPairs cs ws × (d ≡ 4))
@@ -358,7 +359,7 @@ unfolding bookWritten
 many-pairs-written c cs s ws e y f room words d =
     many-pairs-exactly words _ (edgeCounts cs) ws (fitFile room s)
     (goes-on _ e ∙ goes-on _ (written 4 (book (edgeCounts cs)) s ws y (book-accepted (edgeCounts cs) s ws .1 f)))
-    (λ k x. let z = file-number room s 10 k x in omega arith) d
+    (λ _ k x. let z = file-number room s 10 k x in omega arith) d
 
 -- what is answered from a book that isn't crowded
 abbrev fewPairsAnswer : ℕ → List ℕ → List ℕ → List ℕ → ℕ → Outcome
@@ -373,7 +374,7 @@ pub many-pairs-answer : (choose : Choose) (q c b qs cs bs : List ℕ) → Questi
 unfolding answerBy answerFor answerIn
 many-pairs-answer choose q c b qs cs bs e f g room words d =
     many-pairs-exactly words _ (edgeCounts cs) bs (fewPairsAnswer (choose (quotedBy qs cs)) qs cs bs room) (goes-on _ e ∙ goes-on _ f ∙ goes-on _ g)
-    (λ k x. answer-number (coveredIn (choose (quotedBy qs cs)) qs cs) room _ (lackingIn (choose (quotedBy qs cs)) qs cs) k x) d
+    (λ _ k x. answer-number (coveredIn (choose (quotedBy qs cs)) qs cs) room _ (lackingIn (choose (quotedBy qs cs)) qs cs) k x) d
 
 -- no other number
 no-other : {words n e : ℕ} {NoFit : ℕ → Type 0} {outputs : List (List ℕ)} {a : Outcome} → Fitted words NoFit outputs a → a ≡ refuse n e → (n ≡ 14) ⊎ (n ≡ 12)

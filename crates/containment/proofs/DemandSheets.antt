@@ -2,24 +2,22 @@
 use Prim.Native.Nat.{ℕ, _/_, _%_, _<_}
 use mathlib.Core.Path.{_≡_, refl, sym, ap, _∙_}
 use mathlib.Core.List.{List, [], _∷_}
-use lib.ListN.{length, length-map, List·getD-map}
+use lib.ListN.{length}
 use lib.Dec.{T}
 use native.Mathlib.Omega.{arith}
 use Rattle.packed.specs.Formats.{code}
-use Rattle.packed.specs.Contents.{edgesOf, viewsOf, edgeCounts, ends, pairCount, sheetFields, sheetLength, sheetsIn}
+use Rattle.packed.specs.Contents.{edgesOf, edgeCounts, ends, pairCount, sheetFields, sheetLength, sheetsIn}
 use Rattle.packed.specs.Calls.{give, withWorkspace, fitFile}
 use Rattle.matching.specs.Lists.{In}
 use Rattle.matching.specs.Simulation.{Pattern, patternOf, graphOf, sound, matchSets}
 use Rattle.matching.specs.Search.{sheetBytes, bookBytes, viewSheets, searchOutcome, makeBookOutcome}
-use Rattle.matching.proofs.ListLaws.{in-at, length-each}
-use Rattle.matching.proofs.PatternLaws.{sound-of}
-use Rattle.matching.proofs.ViewLaws.{all-ahead, in-follow}
+use Rattle.matching.proofs.ListLaws.{length-each}
 use Rattle.matching.proofs.SheetBytes.{search-back, search-size}
 use Rattle.matching.proofs.JoinLaws.{answer-each}
 use Rattle.matching.specs.Offered.{viewPatterns}
 use Rattle.containment.specs.Answer.{viewsIn}
 use Rattle.containment.specs.Demands.{Question, Catalogue, Record, Sheet, Book, sheetOf, bookOf, answerOf}
-use Rattle.containment.proofs.QuoteLaws.{place-of}
+use Rattle.containment.proofs.AnswerLaws.{views-sound as each-sound}
 use Rattle.containment.proofs.CoveredBytes.{question-is, catalogue-is, record-is, question-bounds, answer-sheet, given-file}
 use Rattle.containment.proofs.DemandRules.{goes-on, enough-for, not-refused}
 
@@ -59,8 +57,4 @@ answer-size q qs cs b bs p k set =
 
 -- ---- the patterns of a catalogue
 pub views-sound : (c cs : List ℕ) → Catalogue c cs → (P : Pattern) → In P (viewPatterns cs) → T (sound P)
-views-sound c cs e P i =
-    let o = place-of (patternOf []) i in
-    let l : o .at < length (viewsOf cs) = omega (arith, o .below, length-map (viewsOf cs) patternOf) in
-    let q = in-follow (all-ahead c cs (catalogue-is c cs e) .follow) (in-at (viewsOf cs) (o .at) [] l) in
-    rw (o .holds ∙ List·getD-map patternOf (viewsOf cs) (o .at) []) (sound-of (q .1))
+views-sound c cs e = each-sound (record { content = cs; is = catalogue-is c cs e; number = refl })

@@ -2,10 +2,10 @@
 use Prim.Native.Nat.{ℕ, _+_, _*_, _<_, _≤_}
 use mathlib.Core.Path.{_≡_, refl, sym, ap, _∙_}
 use mathlib.Core.Bool.{Bool, true, false}
-use mathlib.Core.Logic.{⊎-elim, _↔_}
-use mathlib.Core.List.{List, []}
+use mathlib.Core.Logic.{⊎-elim, _↔_, inl, inr}
+use mathlib.Core.List.{List, [], _∷_, _++_}
 use lib.ListN.{length, getD}
-use lib.Dec.{T, eqb}
+use lib.Dec.{T, eqb, ltb}
 use borrow.Author.Tests.{lt-ltb, le-ltb}
 use native.Mathlib.Omega.{arith}
 use Rattle.packed.specs.Format.{pick}
@@ -17,8 +17,9 @@ use Rattle.packed.specs.Calls.{Outcome, give, refuse, toldOf, fronts, outputsOf
 use Rattle.packed.proofs.SheetLaws.{fields-none, fields-some}
 use Rattle.packed.proofs.Accepted.{pattern-read, catalogue-read, record-read, sheet-read, book-read}
 use Rattle.packed.proofs.CallRoundTrips.{pattern-back, pattern-again, catalogue-back, catalogue-again, record-back, record-again, sheet-back, sheet-again, book-back, book-again}
-use Rattle.matching.specs.Lists.{In}
-use Rattle.matching.specs.Simulation.{Pair, Edge, noEdge, Pattern, bit, patternOf, graphOf, asGraph, matchSets, viewSheet}
+use Rattle.matching.specs.Lists.{In, some}
+use Rattle.matching.specs.Simulation.{Pair, Edge, noEdge, Pattern, bit, patternOf, graphOf, asGraph, matchSets, viewSheet, Graph}
+use Rattle.matching.specs.Join.{matched}
 use Rattle.matching.specs.Search.{searchOutcome, makeBookOutcome}
 use Rattle.matching.specs.Index.{makeIndexOutcome, checkIndexOutcome, searchIndexedOutcome}
 use Rattle.matching.proofs.SimLaws.{sim-is, sim-most}
@@ -32,10 +33,11 @@ use Rattle.matching.proofs.AllOrNone.{sets-even}
 use Rattle.matching.proofs.RecordLaws.{graph-narrow}
 use Rattle.matching.specs.Offered.{viewPatterns}
 use Rattle.containment.specs.Choice.{everyView, coversIn}
-use Rattle.containment.specs.Quote.{Quoted, quotedBy, covering, QuoteValues, flat, one, mapping, valuesFrom, quoteValues, quoteFor, quoteOutcome}
-use Rattle.containment.specs.Answer.{answerIn, answerFor, answerBy}
+use Rattle.containment.specs.Quote.{Quoted, quotedBy, usableViews, covering, usedBy, QuoteValues, flat, one, mapping, valuesFrom, quoteValues, quoteFor, quoteOutcome}
+use Rattle.containment.specs.Answer.{Choose, answerIn, answerFor, answerBy}
 use Rattle.containment.specs.Cheapest.{cheapestFrom, cheapestFor, cheapestOutcome}
 use Rattle.containment.specs.Show.{showFor, showOutcome}
+use Rattle.containment.specs.Part.{withFirst, fitPart, partFor, partOutcome}
 use Rattle.containment.specs.Listing.{lineOf, lineOutcome}
 use Rattle.containment.specs.Demands.{Full, Settles, writePattern, writeCatalogue, writeRecord, Worked, Demand1, Question, Catalogue, Record, ownOf, FewPairs, Book, extractOf, linkOf, Covered, lacking, chosenOf, Matching, Matched, Demand2}
 use Rattle.containment.proofs.Numbered.{numbered, pattern-faults, catalogue-faults, record-faults, old-faults, sheet-faults, book-faults, gives, refuses, either, workspace-settles, within-pairs-settles, own-settles, fit-settles, fitFile-settles, fitBoth-settles, read-settles, write-settles, write-short, read-few}
@@ -45,6 +47,7 @@ use Rattle.containment.proofs.CoveredBytes.{coveredBy, question-bounds,
 use Rattle.containment.proofs.QuoteLaws.{test-is, mapping-exactly, quote-says-covered}
 use Rattle.containment.proofs.DemandRules.{number-same, not-refused, refused-judged, goes-on, bytes-by, few-words, enough-words, enough-for, full-words, full-judged, full-twice, full-within-pairs, fitted, fitted-file, fitted-both, pattern-reads, catalogue-reads, record-reads, sheet-reads, book-reads, pattern-writes, catalogue-writes, record-writes, sheet-writes, book-writes, many-pairs-read, many-pairs-written, many-pairs-answer, listed-matched, matched-listed, covers-plain, shown-both, full-shown, given-by, full-answered}
 use Rattle.containment.proofs.DemandFiles.{hands-up, says-judged, says-quoted, says-give, says-fit, says-fit-file, says-within-pairs, says-own, says-quote, says-cheapest, says-answer, says-show}
+use Rattle.containment.proofs.Parts.{says-after, many-pairs-part}
 use Rattle.containment.proofs.DemandIndex.{index-made, check-exactly, check-yes, search-exactly, check-whole, search-whole, way-same, way-searched}
 use Rattle.containment.proofs.DemandSheets.{pair-fields, searched-back, searched-length, book-made, views-sound}
 
@@ -63,6 +66,21 @@ record-first s h = read-settles 44036 3 record-faults s h
 answer-settles : (set : ℕ) (x : Quoted) (bs : List ℕ) (room : ℕ) → Settles (answerIn set x bs room)
 unfolding answerIn
 answer-settles set x bs room = within-pairs-settles (edgeCounts (x .offer .content)) bs (either (covering x set) (fitFile-settles room _) (refuses _ (numbered 11 refl refl)))
+
+answered-settles : (choose : Choose) (q c b : List ℕ) (room : ℕ) → Settles (answerBy choose q c b room)
+unfolding answerBy answerFor
+answered-settles choose q c b room =
+    pattern-first q (λ qs. catalogue-first c (λ cs. read-settles 65536 4 (book-faults (edgeCounts cs)) b (λ bs. answer-settles (choose (quotedBy qs cs)) (quotedBy qs cs) bs room)))
+
+-- an output before those of an outcome
+fit-part-settles : (room : ℕ) (o : List ℕ) {a : Outcome} → Settles a → Settles (fitPart room o a)
+unfolding fitPart withFirst
+fit-part-settles room o h =
+    either (ltb room (length o)) (refuses _ (numbered 12 refl refl))
+    (⊎-elim
+    (λ f. inl (record { values = f .values; outputs = o ∷ f .outputs; is = ap (withFirst o) (f .is) }))
+    (λ r. inr (record { number = r .number; detail = r .detail; is = ap (withFirst o) (r .is); least = r .least; most = r .most }))
+    h)
 
 cheapest-settles : (charges : List ℕ) (x : Quoted) → Settles (cheapestFor charges x)
 unfolding cheapestFor cheapestFrom
@@ -101,7 +119,7 @@ book-exactly cs s ws = (
 )
 
 pub demand-1 : Demand1
-unfolding recordSorted fronts patternRead catalogueRead recordRead sheetRead bookRead patternWritten catalogueWritten recordWritten sheetWritten bookWritten searchOutcome makeBookOutcome makeIndexOutcome checkIndexOutcome searchIndexedOutcome quoteFor quoteOutcome cheapestOutcome answerFor answerBy showOutcome lineOutcome toldOf outputsOf
+unfolding recordSorted fronts patternRead catalogueRead recordRead sheetRead bookRead patternWritten catalogueWritten recordWritten sheetWritten bookWritten searchOutcome makeBookOutcome makeIndexOutcome checkIndexOutcome searchIndexedOutcome quoteFor quoteOutcome cheapestOutcome answerFor answerBy showOutcome partFor partOutcome lineOutcome toldOf outputsOf
 demand-1 = record {
   read-pattern = λ s room words. workspace-settles words (pattern-first s (fit-settles room));
   read-catalogue = λ s room words. workspace-settles words (catalogue-first s (fit-settles room));
@@ -125,10 +143,13 @@ demand-1 = record {
   make-book = λ c r room words. workspace-settles words (catalogue-first c (λ cs. record-first r (λ rs. fitFile-settles room _)));
   quote = λ q c words. workspace-settles words (pattern-first q (λ qs. catalogue-first c (λ cs. gives _ [])));
   cheapest = λ q c charges words. workspace-settles words (pattern-first q (λ qs. catalogue-first c (λ cs. cheapest-settles charges (quotedBy qs cs))));
-  answer = λ choose q c b room words.
-      workspace-settles words
-      (pattern-first q (λ qs. catalogue-first c (λ cs. read-settles 65536 4 (book-faults (edgeCounts cs)) b (λ bs. answer-settles (choose (quotedBy qs cs)) (quotedBy qs cs) bs room))));
+  answer = λ choose q c b room words. workspace-settles words (answered-settles choose q c b room);
   show = λ q c room room′ words. workspace-settles words (pattern-first q (λ qs. catalogue-first c (λ cs. show-settles room room′ (quotedBy qs cs))));
+  part = λ q c b room room′ words.
+      workspace-settles words
+      (pattern-first q (λ qs. catalogue-first c (λ cs. read-settles 65536 4 (book-faults (edgeCounts cs)) b (λ bs.
+      within-pairs-settles (edgeCounts cs) bs
+      (either (some (matched (patternOf qs) (usableViews (quotedBy qs cs))) (patternOf qs .edges)) (fit-part-settles room _ (answered-settles usedBy _ c b room′)) (refuses _ (numbered 11 refl refl)))))));
   line = λ q k room. fit-settles room (lineOf q k);
   read-pattern-files = λ s room. hands-up (says-judged (readPattern s) (λ ws _. says-fit room ws));
   read-catalogue-files = λ s room. hands-up (says-judged (readCatalogue s) (λ ws _. says-fit room ws));
@@ -150,6 +171,9 @@ demand-1 = record {
   answer-files = λ choose q c b room.
       hands-up (says-quoted q c (answerFor choose b room) (λ qs cs. says-judged (readBook cs b) (λ bs _. says-answer (choose (quotedBy qs cs)) (quotedBy qs cs) bs room)));
   show-files = λ q c room room′. hands-up (says-quoted q c (showFor room room′) (λ qs cs. says-show room room′ (quotedBy qs cs)));
+  part-files = λ q c b room room′.
+      hands-up
+      (says-judged (readPattern q) (λ qs p. says-judged (readCatalogue c) (λ cs d. says-judged (readBook cs b) (λ bs k. says-within-pairs (edgeCounts cs) bs (says-after q c qs cs p d b bs k room room′)))));
   never-long = λ ws d. (write-short 1 pattern-faults ws d, write-short 2 catalogue-faults ws d, write-short 3 record-faults ws d);
   never-long-beside = λ cs ws d. (write-short 4 (sheet-faults (edgesOf cs)) ws d, write-short 4 (book-faults (edgeCounts cs)) ws d);
   quote-never = λ q c words d e. let l = quote-few q c (enough-for words _ (λ z. let y = number-same z in omega arith) e .1) in omega arith;
@@ -173,6 +197,7 @@ demand-1 = record {
   read-many-pairs = many-pairs-read;
   write-many-pairs = many-pairs-written;
   answer-many-pairs = many-pairs-answer;
+  part-many-pairs = λ q c b qs cs bs p d k room room′ words e. many-pairs-part q c qs cs p d b bs k room room′ words e;
   search-gives = λ way p r ps rs e f room words. fitted-file _ words room _ (way-searched way p r ps rs e f room);
   search-only = λ p r room words f. let t = full-twice _ _ _ (full-words words _ f) in (t .0, t .1, t .2, t .3);
   search-indexed-only = search-whole;

@@ -23,13 +23,13 @@ use Rattle.matching.specs.Simulation.{Edge, between, noEdge}
 use Rattle.matching.specs.Loaded.{givenEdge as givenAt}
 use Rattle.matching.proofs.UpToLaws.{getD-upTo}
 use Rattle.matching.proofs.PatternLaws.{nodes-in, edges-in, edges-are, labels-same, edges-same}
-use Rattle.matching.proofs.EdgeLaws.{edgeAt}
+use Rattle.matching.proofs.EdgeLaws.{edgeAt, edge-at}
 use Rattle.containment.specs.Steps.{powers, edgesBut, RanksFront, labelFields, fieldsBut, Front, Extends, HoldsFields, shownFields}
 use Rattle.containment.specs.declared.query.Fields.{Fields}
-use Rattle.containment.proofs.QueryGraph.{graph-fields, fewer-plain, fewer-fields, edge-at}
+use Rattle.containment.proofs.QueryGraph.{graph-fields, fewer-plain, fewer-fields}
 
 -- ---- words at the front of a table
-front-one : {words fs : List ℕ} {n : ℕ} (v : ℕ) → n < 114 → Front words n fs → Front (set words n v) (n + 1) (fs ++ (v ∷ []))
+pub front-one : {words fs : List ℕ} {n : ℕ} (v : ℕ) → n < 114 → Front words n fs → Front (set words n v) (n + 1) (fs ++ (v ∷ []))
 front-one {words} {fs} {n} v h f =
     record {
       long = length-set words n v ∙ f .long;

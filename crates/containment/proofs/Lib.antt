@@ -13,6 +13,10 @@ pub mod GraphedLaws
 pub mod MappingLaws
 pub mod NotingLaws
 pub mod QuoteLaws
+-- a part of a query
+pub mod PartingLaws
+pub mod PartTable
+pub mod PartAnswers
 -- answers from a book
 pub mod BookLaws
 pub mod CandidateLaws
@@ -33,6 +37,7 @@ pub mod DemandSteps
 pub mod DemandThree
 pub mod DemandsOneTwo
 pub mod Sorting
+pub mod Parts
 -- the listing
 pub mod ListingLaws
 pub mod Listings

@@ -3,25 +3,23 @@ use Prim.Native.Nat.{ℕ, zero, suc, _+_, _-_, _*_, _/_, _^_, _<_, _≤_}
 use mathlib.Core.Path.{_≡_, refl, sym, ap, ap₂, subst, _∙_}
 use mathlib.Core.Bool.{Bool, true, false, not}
 use mathlib.Core.Logic.{⊎-elim}
-use mathlib.Core.List.{List, [], _∷_, _++_, map, append-nil}
-use lib.ListN.{length, take, drop, getD, replicate, length-append, length-drop, length-map, length-replicate, List·getD-append}
+use mathlib.Core.List.{List, [], _∷_, _++_, map}
+use lib.ListN.{length, take, drop, getD, length-append, length-drop, length-map, List·getD-append}
 use lib.Seq.{take-at, drop-at, drop-drop, getD-take, getD-drop, getD-append-add, length-take-le}
 use lib.Pow.{pow-lt}
 use lib.Dec.{T}
 use native.Mathlib.Omega.{arith}
-use Rattle.packed.specs.Bits.{bitsOf, gap}
-use Rattle.packed.specs.Format.{ok, whole, lay, got, bytesOf, decode, encode}
+use Rattle.packed.specs.Bits.{bitsOf}
+use Rattle.packed.specs.Format.{ok, whole, decode, encode}
 use Rattle.packed.specs.Formats.{record′}
 use Rattle.packed.specs.Contents.{nodesOf, sortedEdges}
 use Rattle.packed.specs.Plain.{Below, fieldBits, edgeBits, fromAt, toAt, kindAt, Same, PlainEdges, PlainRising, PlainPattern, PlainRecord}
 use Rattle.packed.proofs.OrderCases.{lt-or-ge, trichotomy}
-use Rattle.packed.proofs.BitsLaws.{gap-small, length-bitsOf}
+use Rattle.packed.proofs.BitsLaws.{length-bitsOf}
 use Rattle.packed.proofs.GraphLaws.{fields-length, edges-length}
-use Rattle.packed.proofs.Files.{length-bytesOf}
 use Rattle.packed.proofs.RoundTrip.{Bytes}
-use Rattle.packed.proofs.AcceptedLaws.{accepts-whole}
 use Rattle.packed.proofs.AcceptedGraphs.{accepts-record}
-use Rattle.packed.proofs.Accepted.{written-accepted}
+use Rattle.packed.proofs.Accepted.{written-accepted, plain-written}
 use Rattle.matching.specs.Lists.{each, keep, put}
 use Rattle.matching.specs.Simulation.{Edge, sameEdge, between, noEdge, edgesIn, patternOf, Graph, graphOf, asGraph}
 use Rattle.matching.specs.Join.{without}
@@ -29,8 +27,7 @@ use Rattle.matching.specs.Search.{bytesIn}
 use Rattle.matching.proofs.ListLaws.{getD-each}
 use Rattle.matching.proofs.SimLaws.{same-edge, same-edge-refl}
 use Rattle.matching.proofs.PatternLaws.{nodes-in, pattern-is}
-use Rattle.matching.proofs.UpToLaws.{getD-upTo}
-use Rattle.matching.proofs.EdgeLaws.{edgeAt, edgesIn-upTo, edgesIn-length}
+use Rattle.matching.proofs.EdgeLaws.{edgeAt, edge-at, edgesIn-length}
 use Rattle.matching.proofs.SortedGraphs.{Alike, NarrowEdges, ends-narrow, sorted-in, sorted-but}
 use Rattle.packed.proofs.SortedEdges.{sorted-plain}
 use Rattle.containment.specs.Show.{asRecord, graphFields, fewerFields, recordBytes}
@@ -57,9 +54,6 @@ module _ (nodes number : ℕ) (labels es : List ℕ) (few : nodes ≤ 4096) (few
   abbrev body : List Bool
   body = bitsOf 13 nodes ++ (bitsOf 14 number ++ (fieldBits 32 labels ++ edgeBits 12 3 es))
 
-  abbrev laid : List Bool
-  laid = body ++ replicate (gap (length body)) false
-
   body-length : length body ≡ 27 + 32 * nodes + 27 * number
   body-length =
       let a = length-append (bitsOf 13 nodes) (bitsOf 14 number ++ (fieldBits 32 labels ++ edgeBits 12 3 es)) in
@@ -83,27 +77,12 @@ module _ (nodes number : ℕ) (labels es : List ℕ) (few : nodes ≤ 4096) (few
         edges = edges;
       }
 
-  laid-by : lay (whole record′) 0 all ≡ got laid []
-  laid-by =
-      ap (lay (whole record′) 0) (sym (append-nil all))
-      ∙ accepts-whole record′ 0 refl (accepts-record 0) .by all [] laid (record { body = body; laid = plain; fills = refl })
-
-  encoded : encode record′ all ≡ ok (bytesOf (length laid / 8) laid)
-  unfolding encode
-  encoded = rw laid-by
-
   pub record-made : Made ((34 + 32 * nodes + 27 * number) / 8) all
   record-made =
-      let e = encoded in
-      let q : recordBytes all ≡ bytesOf (length laid / 8) laid = bytes-are all (bytesOf (length laid / 8) laid) e in
-      let w = written-accepted record′ all (bytesOf (length laid / 8) laid) .0 e in
-      let n = length-append body (replicate (gap (length body)) false) in
-      record {
-        is = rw q e;
-        back = rw q (w .1);
-        small = subst Bytes (sym q) (w .0);
-        size = rw q (omega (arith, length-bytesOf (length laid / 8) laid, n, length-replicate (gap (length body)) false, gap-small (length body), body-length));
-      }
+      let s = plain-written record′ (accepts-record 0) all body plain in
+      let q : recordBytes all ≡ s .0 = bytes-are all (s .0) (s .1) in
+      let w = written-accepted record′ all (s .0) .0 (s .1) in
+      record { is = rw q (s .1); back = rw q (w .1); small = subst Bytes (sym q) (w .0); size = rw q (omega (arith, s .2, body-length)) }
 
 pub made-within : {a b : ℕ} {fs : List ℕ} → a ≤ b → Made a fs → Made b fs
 made-within h m = record { is = m .is; back = m .back; small = m .small; size = omega (arith, m .size) }
@@ -221,9 +200,6 @@ test-yes false h = absurd h
 test-no : (b : Bool) → (T b → ⊥) → not b ≡ true
 test-no true h = absurd (h tt)
 test-no false h = refl
-
-pub edge-at : (es : List ℕ) (k i : ℕ) → length es ≡ 3 * k → i < k → getD (edgesIn es) i noEdge ≡ edgeAt es i
-edge-at es k i n h = ap (λ (l : List Edge). getD l i noEdge) (edgesIn-upTo es k n) ∙ getD-upTo (edgeAt es) k i noEdge h
 
 -- taking the edge e away leaves the others, since no edge stands twice
 keep-others : (es : List ℕ) (nodes number e : ℕ) → PlainEdges 8 nodes number es → e < number

@@ -14,8 +14,7 @@ use Rattle.packed.specs.Format.{pick}
 use Rattle.packed.specs.Formats.{code}
 use Rattle.matching.specs.Lists.{_or_, In, here, there}
 use Rattle.matching.specs.Simulation.{Edge, noEdge, Pattern, bit, asGraph, viewSheet}
-use Rattle.matching.specs.Join.{isMatch}
-use Rattle.matching.proofs.ByEdge.{someMatch, matchedBy, matched, covered}
+use Rattle.matching.specs.Join.{isMatch, someMatch, matchedBy, matched, covered}
 use Rattle.matching.specs.Masks.{OneOf}
 use Rattle.matching.proofs.ListLaws.{not-in-none, in-cases, in-at, every-in, in-every, some-in, in-some}
 use Rattle.matching.proofs.UpToLaws.{getD-upTo}
@@ -24,7 +23,7 @@ use Rattle.matching.proofs.MatchLaws.{Sim, Total}
 use Rattle.matching.proofs.MatchSetLaws.{view-sheet, view-length}
 use Rattle.matching.proofs.Listed.{listed-matches}
 use Rattle.containment.specs.Choice.{matches, coversIn, everyView, lowestUnmatched}
-use Rattle.containment.specs.Quote.{one, maskIn, matchMask, noPattern, maskAt, mapping}
+use Rattle.containment.specs.Quote.{one, maskIn, matchMask, noPattern, maskAt, mapping, viewsInSet}
 use Rattle.containment.proofs.SetBits.{never, bit-half, bit-every}
 use Rattle.containment.proofs.ChoiceLaws.{MatchedBy, matched-say as matched-in-table, matched-by as matched-by-table, covers-exactly, lowest-is, lowest-below}
 
@@ -40,17 +39,12 @@ place-of d (there i) = let r = place-of d i in record { at = suc (r .at); below 
 
 -- ---- the views in a set
 
--- those of the views that are in the set
-unfoldable pub chosenFrom : ℕ → List Pattern → List Pattern
-chosenFrom set [] = []
-chosenFrom set (P ∷ Ps) = pick (bit set 0) (P ∷ chosenFrom (set / 2) Ps) (chosenFrom (set / 2) Ps)
-
 -- they are among all views, by their numbers
 abbrev ChosenAt : ℕ → List Pattern → Pattern → Type 0
 ChosenAt set Ps P = OneOf (length Ps) (λ a. (bit set a ≡ true) × (P ≡ getD Ps a noPattern))
 
-pub chosen-say : (set : ℕ) (Ps : List Pattern) (P : Pattern) → In P (chosenFrom set Ps) → ChosenAt set Ps P
-unfolding chosenFrom
+pub chosen-say : (set : ℕ) (Ps : List Pattern) (P : Pattern) → In P (viewsInSet set Ps) → ChosenAt set Ps P
+unfolding viewsInSet
 chosen-say set [] P i = absurd (not-in-none i)
 chosen-say set (R ∷ Ps) P i = step (bit set 0) refl i (λ j. let o = chosen-say (set / 2) Ps P j in record {
   at = suc (o .at);
@@ -58,13 +52,13 @@ chosen-say set (R ∷ Ps) P i = step (bit set 0) refl i (λ j. let o = chosen-sa
   holds = (bit-half set (o .at) ∙ o .holds .0, o .holds .1);
 })
   where
-    step : (b : Bool) → bit set 0 ≡ b → In P (pick b (R ∷ chosenFrom (set / 2) Ps) (chosenFrom (set / 2) Ps))
-        → (In P (chosenFrom (set / 2) Ps) → ChosenAt set (R ∷ Ps) P) → ChosenAt set (R ∷ Ps) P
+    step : (b : Bool) → bit set 0 ≡ b → In P (pick b (R ∷ viewsInSet (set / 2) Ps) (viewsInSet (set / 2) Ps))
+        → (In P (viewsInSet (set / 2) Ps) → ChosenAt set (R ∷ Ps) P) → ChosenAt set (R ∷ Ps) P
     step true h j rest = ⊎-elim (λ e. record { at = 0; below = omega arith; holds = (h, e) }) rest (in-cases j)
     step false h j rest = rest j
 
-pub chosen-in : (set : ℕ) (Ps : List Pattern) (a : ℕ) → a < length Ps → bit set a ≡ true → In (getD Ps a noPattern) (chosenFrom set Ps)
-unfolding chosenFrom
+pub chosen-in : (set : ℕ) (Ps : List Pattern) (a : ℕ) → a < length Ps → bit set a ≡ true → In (getD Ps a noPattern) (viewsInSet set Ps)
+unfolding viewsInSet
 chosen-in set [] a l h = absurd (omega arith)
 chosen-in set (P ∷ Ps) zero l h = rw h (here refl)
 chosen-in set (P ∷ Ps) (suc a) l h = later (bit set 0) (chosen-in (set / 2) Ps a (omega arith) (sym (bit-half set a) ∙ h))
@@ -73,8 +67,8 @@ chosen-in set (P ∷ Ps) (suc a) l h = later (bit set 0) (chosen-in (set / 2) Ps
     later true i = there i
     later false i = i
 
-chosen-whole : (set : ℕ) (Ps : List Pattern) → ((a : ℕ) → a < length Ps → bit set a ≡ true) → chosenFrom set Ps ≡ Ps
-unfolding chosenFrom
+chosen-whole : (set : ℕ) (Ps : List Pattern) → ((a : ℕ) → a < length Ps → bit set a ≡ true) → viewsInSet set Ps ≡ Ps
+unfolding viewsInSet
 chosen-whole set [] h = refl
 chosen-whole set (P ∷ Ps) h =
     let first = h 0 (omega arith) in
@@ -82,7 +76,7 @@ chosen-whole set (P ∷ Ps) h =
     rw (first, rest)
 
 -- by all views each of them
-pub chosen-every : (Ps : List Pattern) → length Ps ≤ 16 → chosenFrom everyView Ps ≡ Ps
+pub chosen-every : (Ps : List Pattern) → length Ps ≤ 16 → viewsInSet everyView Ps ≡ Ps
 chosen-every Ps few = chosen-whole everyView Ps (λ a l. bit-every a (omega arith))
 
 -- ---- the edges that match, as a mask
@@ -181,11 +175,11 @@ module _ (Q : Pattern) (Ps : List Pattern) (few-edges : length (Q .edges) ≤ 32
 
   module _ (few : length Ps ≤ 16) (set : ℕ) where
     -- an edge is matched by the views in the set exactly if the table has one of them that matches it
-    pub matched-places : (i : ℕ) → i < length (Q .edges) → T (matched Q (chosenFrom set Ps) (getD (Q .edges) i noEdge)) ↔ MatchedBy (mapping Q Ps) set i (length Ps)
+    pub matched-places : (i : ℕ) → i < length (Q .edges) → T (matched Q (viewsInSet set Ps) (getD (Q .edges) i noEdge)) ↔ MatchedBy (mapping Q Ps) set i (length Ps)
     unfolding matched
     matched-places i h = (
       λ t.
-          let r = some-in (matchedBy Q (edge i)) (chosenFrom set Ps) t in
+          let r = some-in (matchedBy Q (edge i)) (viewsInSet set Ps) t in
           let o = chosen-say set Ps (r .0) (r .1) in
           let l = o .below in
           record { at = o .at; below = l; holds = (o .holds .0, matched-exactly i (o .at) h l (omega arith) .1 (subst (λ P. T (matchedBy Q (edge i) P)) (o .holds .1) (r .2))) },
@@ -204,10 +198,10 @@ every-edge Q Ps = (
 -- ---- coverage
 -- the table says that the views in a set cover the query exactly if they do
 pub set-covers-exactly : (Q : Pattern) (Ps : List Pattern) (set : ℕ) → length Ps ≤ 16 → length (Q .edges) ≤ 32
-    → (coversIn (mapping Q Ps) set (length Ps) (length (Q .edges)) ≡ true) ↔ T (covered Q (chosenFrom set Ps))
+    → (coversIn (mapping Q Ps) set (length Ps) (length (Q .edges)) ≡ true) ↔ T (covered Q (viewsInSet set Ps))
 set-covers-exactly Q Ps set few few-edges =
     let c = covers-exactly (mapping Q Ps) set (length Ps) (length (Q .edges)) in
-    let e = every-edge Q (chosenFrom set Ps) in
+    let e = every-edge Q (viewsInSet set Ps) in
     let m = matched-places Q Ps few-edges few set in (
       λ h. e .1 (λ i l. m i l .1 (c .0 h i l)),
       λ t. c .1 (λ i l. m i l .0 (e .0 t i l)),
@@ -266,7 +260,7 @@ pub record LowestEdge (Q : Pattern) (Ps : List Pattern) (i : ℕ) : Type 0 where
 
 pub lowest-edge : (Q : Pattern) (Ps : List Pattern) (set : ℕ) → length Ps ≤ 16 → length (Q .edges) ≤ 32
     → coversIn (mapping Q Ps) set (length Ps) (length (Q .edges)) ≡ false
-    → LowestEdge Q (chosenFrom set Ps) (lowestUnmatched (mapping Q Ps) set (length Ps) (length (Q .edges)))
+    → LowestEdge Q (viewsInSet set Ps) (lowestUnmatched (mapping Q Ps) set (length Ps) (length (Q .edges)))
 lowest-edge Q Ps set few few-edges n =
     let t = mapping Q Ps in
     let k = length Ps in

@@ -1,16 +1,19 @@
 -- A set as a mask of bits: what a set of one number more, or one less, has.
-use mathlib.Core.Path.{_≡_, refl, ap, sym, _∙_}
+use mathlib.Core.Path.{_≡_, refl, ap, sym, subst, _∙_}
 use mathlib.Core.Bool.{Bool, true, false}
 use mathlib.Core.Logic.{_⊎_, inl, inr, ⊎-elim}
 use Prim.Native.Nat.{ℕ, zero, suc, _+_, _-_, _/_, _%_, _^_, _<_, _≤_}
 use native.Mathlib.Nat.{div-one, div-eq-of-lt, add-div-right, pow-suc}
 use native.Mathlib.Omega.{arith}
 use lib.Dec.{eqb}
+use lib.Bits.{bitOr}
 use lib.Pow.{pow-pos, pow-mono, shr-shr}
 use borrow.Author.Tests.{eqb-true, eq-eqb, ne-eqb}
 use Rattle.packed.proofs.OrderCases.{lt-or-ge}
 use Rattle.matching.specs.Simulation.{bit}
-use Rattle.matching.proofs.MaskBits.{has-say, not-by, none-has}
+use Rattle.matching.specs.Masks.{Mask}
+use Rattle.matching.proofs.MaskBits.{has-say, not-by, none-has, mask-cast, mask-or, mask-one, mask-none}
+use Rattle.containment.specs.Choice.{Passing}
 
 -- a test is true or false
 pub test-cases : (b : Bool) → (b ≡ true) ⊎ (b ≡ false)
@@ -111,3 +114,22 @@ module _ (x a : ℕ) (has : bit x a ≡ true) where
 
   pub less-by : (b : ℕ) → bit x b ≡ true → (a ≡ b → ⊥) → bit (x - 2 ^ a) b ≡ true
   less-by b h n = bit-by (x - 2 ^ a) b (other b n ∙ bit-say x b h)
+
+-- ---- the numbers that pass a test, as a mask
+module _ (p : ℕ → Bool) where
+  pub passing-none : Mask (Passing p 0) 0
+  passing-none = mask-none (λ k q. let l = q .0 in omega arith)
+
+  pub passing-more : {e mask : ℕ} → Mask (Passing p e) mask → p e ≡ true → (b : ℕ) → b ≡ 2 ^ e → Mask (Passing p (e + 1)) (bitOr mask b)
+  passing-more {e} h y b q =
+      mask-cast
+      (λ k. ⊎-elim (λ z. (let l = z .0 in omega arith, z .1)) (λ z. (let l = z .0 in omega arith, subst (λ (x : ℕ). p x ≡ true) (z .0) y)))
+      (λ k z. ⊎-elim (λ (l : k < e). inl (l, z .1)) (λ (l : e ≤ k). inr (let n = z .0 in (omega arith, y))) (lt-or-ge k e))
+      (mask-or h (mask-one e b q y))
+
+  pub passing-same : {e mask : ℕ} → Mask (Passing p e) mask → p e ≡ false → Mask (Passing p (e + 1)) mask
+  passing-same {e} h n =
+      mask-cast (λ k z. (let l = z .0 in omega arith, z .1))
+      (λ k z. ⊎-elim (λ (l : k < e). (l, z .1))
+      (λ (l : e ≤ k). let m = z .0 in let q : k ≡ e = omega arith in never (sym (z .1) ∙ ap p q ∙ n)) (lt-or-ge k e))
+      h

@@ -16,13 +16,12 @@ use Rattle.packed.proofs.AcceptedBounds.{catalogue-views}
 use Rattle.packed.proofs.BookSheetLaws.{sheet-injective}
 use Rattle.matching.specs.Lists.{In, here, there}
 use Rattle.matching.specs.Simulation.{Edge, sameEdge, noEdge, Pattern, Graph, patternOf, graphOf, asGraph, matchSets, viewSheet}
-use Rattle.matching.proofs.ByEdge.{matched}
-use Rattle.matching.specs.Join.{without}
+use Rattle.matching.specs.Join.{matched, without}
 use Rattle.matching.specs.Search.{sheetBytes, bookBytes, viewSheets}
 use Rattle.matching.proofs.ListLaws.{in-at, keep-in}
 use Rattle.matching.proofs.SimLaws.{same-edge-refl}
 use Rattle.matching.proofs.MatchSetLaws.{sets-length}
-use Rattle.matching.proofs.EdgeLaws.{edgeAt}
+use Rattle.matching.proofs.EdgeLaws.{edgeAt, edge-at}
 use Rattle.matching.proofs.SortedGraphs.{Alike, alike-sets, alike-views, alike-without}
 use Rattle.matching.proofs.PatternLaws.{pattern-is, edges-in, edges-many, sound-of}
 use Rattle.matching.proofs.RecordLaws.{graph-narrow, graph-few}
@@ -30,11 +29,11 @@ use Rattle.matching.proofs.SheetBytes.{SheetFields, sets-sheet}
 use Rattle.matching.proofs.Uncovered.{uncovered-views, uncovered-query}
 use Rattle.matching.specs.Offered.{viewPatterns}
 use Rattle.containment.specs.Choice.{everyView, lowestUnmatched}
-use Rattle.containment.specs.Quote.{mapping}
+use Rattle.containment.specs.Quote.{mapping, viewsInSet}
 use Rattle.containment.specs.Show.{graphFields, fewerFields, recordBytes}
 use Rattle.containment.specs.Demands.{Leaves, lackingIn}
-use Rattle.containment.proofs.QueryGraph.{Made, edge-at, graph-made, fewer-made, graph-means, fewer-means}
-use Rattle.containment.proofs.QuoteLaws.{chosenFrom, chosen-every, LowestEdge, lowest-edge}
+use Rattle.containment.proofs.QueryGraph.{Made, graph-made, fewer-made, graph-means, fewer-means}
+use Rattle.containment.proofs.QuoteLaws.{chosen-every, LowestEdge, lowest-edge}
 
 -- ---- sheets that differ as lists differ as bytes
 
@@ -132,19 +131,19 @@ module _ (s c qs cs : List ℕ) (p : decode pattern s ≡ ok qs) (d : decode cat
   few-views = let v = catalogue-views c cs d in omega (arith, length-map (viewsOf cs) patternOf, v .many, v .most)
 
   -- the lowest edge that no view in a set matches
-  lowest-in : (set : ℕ) → Leaves set qs cs → LowestEdge (patternOf qs) (chosenFrom set (viewPatterns cs)) (lackingIn set qs cs)
+  lowest-in : (set : ℕ) → Leaves set qs cs → LowestEdge (patternOf qs) (viewsInSet set (viewPatterns cs)) (lackingIn set qs cs)
   lowest-in set n =
       let q = pattern-accepted s qs .0 p .laid in
       let m = edges-many q in
-      subst (λ (k : ℕ). LowestEdge (patternOf qs) (chosenFrom set (viewPatterns cs)) (lowestUnmatched (mapping (patternOf qs) (viewPatterns cs)) set (length (viewPatterns cs)) k)) m
+      subst (λ (k : ℕ). LowestEdge (patternOf qs) (viewsInSet set (viewPatterns cs)) (lowestUnmatched (mapping (patternOf qs) (viewPatterns cs)) set (length (viewPatterns cs)) k)) m
       (lowest-edge (patternOf qs) (viewPatterns cs) set few-views (omega (arith, number-is q, q .most-edges)) (rw m n))
 
   -- where the views in a set don't cover the query, two accepted records on which each of them has the same sheet, byte for byte, and the query
   -- has not
-  shows-in : (set : ℕ) → Leaves set qs cs → Shows qs (chosenFrom set (viewPatterns cs)) (lackingIn set qs cs)
+  shows-in : (set : ℕ) → Leaves set qs cs → Shows qs (viewsInSet set (viewPatterns cs)) (lackingIn set qs cs)
   shows-in set n =
       let o = lowest-in set n in
-      shows-by (pattern-accepted s qs .0 p .laid) (chosenFrom set (viewPatterns cs)) (lackingIn set qs cs) (o .below) (o .unmatched)
+      shows-by (pattern-accepted s qs .0 p .laid) (viewsInSet set (viewPatterns cs)) (lackingIn set qs cs) (o .below) (o .unmatched)
 
   -- of all views
   pub lowest-of : Leaves everyView qs cs → LowestEdge (patternOf qs) (viewPatterns cs) (lackingIn everyView qs cs)

@@ -1,29 +1,28 @@
 -- What the search for the cheapest set carries of each set: the sum, the number and the matched edges are the set's own, and what is left at the end
 -- belongs to the cheapest.
 use mathlib.Core.Path.{_≡_, refl, ap, sym, subst, _∙_}
-use mathlib.Core.Bool.{Bool, true, false, not, _&&_, _||_, or-true}
+use mathlib.Core.Bool.{Bool, true, false, not, _&&_, _||_}
 use mathlib.Core.List.{List}
 use mathlib.Core.Logic.{_⊎_, inl, inr, ⊎-elim}
-use Prim.Native.Nat.{ℕ, zero, suc, _+_, _-_, _*_, _%_, _^_, _<_, _≤_}
+use Prim.Native.Nat.{ℕ, zero, suc, _+_, _-_, _*_, _^_, _<_, _≤_}
 use native.Mathlib.Nat.{le-antisymm}
 use native.Mathlib.Omega.{arith}
 use lib.ListN.{length, getD, set}
 use lib.Seq.{getD-set-same, getD-set-other}
-use lib.Bits.{bitOr}
 use lib.Pow.{pow-pos, pow-mono}
 use lib.Dec.{ltb, eqb}
-use borrow.Author.Tests.{eqb-true, eq-eqb, ne-eqb}
+use borrow.Author.Tests.{eq-eqb, ne-eqb}
 use Rattle.packed.specs.Format.{pick}
 use Rattle.packed.proofs.OrderCases.{lt-or-ge, eq-or-ne}
 use Rattle.matching.specs.Simulation.{bit}
 use Rattle.matching.specs.Masks.{Mask, Has}
-use Rattle.matching.proofs.MaskBits.{mask-cast, mask-or, mask-one, mask-none, part-le, has-lt, not-by, none-has}
+use Rattle.matching.proofs.MaskBits.{mask-cast, mask-or, mask-none, part-le, has-lt, not-by, none-has}
 use Rattle.containment.specs.Choice.{matches, matchedIn, coversIn}
 use Rattle.containment.specs.Cheapest.{weigh, cost, size, turned, lesser, better, misses, ahead, foremost, cheapest}
 use Rattle.containment.specs.Tries.{EdgeMatchedBy, TriedRoom, taking, isFirst, foremostTried, settled, Tries}
 use Rattle.containment.specs.declared.costing.Tried.{Tried}
 use Rattle.containment.proofs.SetBits.{test-cases, never, bit-zero, more-self, more-has, more-other}
-use Rattle.containment.proofs.ChoiceLaws.{pick-cases, matched-say, matched-by, covers-say, covers-by}
+use Rattle.containment.proofs.ChoiceLaws.{matched-say, matched-by, covers-say, covers-by}
 
 -- ---- powers
 pub power-small : (a : ℕ) → a < 16 → 2 ^ a ≤ 32768
@@ -38,23 +37,6 @@ module _ (t : List ℕ) (a : ℕ) where
   pub matches-no : (e : ℕ) → getD t (16 * e + a) 0 ≡ 0 → matches t e a ≡ false
   unfolding matches
   matches-no e q = rw (eq-eqb _ _ q)
-
-  pub edges-none : Mask (EdgeMatchedBy t a 0) 0
-  edges-none = mask-none (λ k q. let l = q .0 in omega arith)
-
-  pub edges-more : {e mask : ℕ} → Mask (EdgeMatchedBy t a e) mask → matches t e a ≡ true → (b : ℕ) → b ≡ 2 ^ e → Mask (EdgeMatchedBy t a (e + 1)) (bitOr mask b)
-  edges-more {e} h p b q =
-      mask-cast
-      (λ k. ⊎-elim (λ z. (let l = z .0 in omega arith, z .1)) (λ z. (let l = z .0 in omega arith, subst (λ (x : ℕ). matches t x a ≡ true) (z .0) p)))
-      (λ k z. ⊎-elim (λ (l : k < e). inl (l, z .1)) (λ (l : e ≤ k). inr (let n = z .0 in (omega arith, p))) (lt-or-ge k e))
-      (mask-or h (mask-one e b q p))
-
-  pub edges-same : {e mask : ℕ} → Mask (EdgeMatchedBy t a e) mask → matches t e a ≡ false → Mask (EdgeMatchedBy t a (e + 1)) mask
-  edges-same {e} h p =
-      mask-cast (λ k z. (let l = z .0 in omega arith, z .1))
-      (λ k z. ⊎-elim (λ (l : k < e). (l, z .1))
-      (λ (l : e ≤ k). let n = z .0 in let q : k ≡ e = omega arith in never (sym (z .1) ∙ ap (λ (x : ℕ). matches t x a) q ∙ p)) (lt-or-ge k e))
-      h
 
 -- the same of one view more
 pub masks-more : (P : ℕ → ℕ → Type 0) (masks : List ℕ) (a x : ℕ) → a < length masks → ((b : ℕ) → b < a → P b (getD masks b 0)) → P a x

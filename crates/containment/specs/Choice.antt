@@ -1,6 +1,7 @@
 -- Coverage and the chosen views, from the table of masks: 16 for each edge of the query, one for each view. A set of views says which of them may
 -- be used.
-use Prim.Native.Nat.{ℕ, zero, suc, _+_, _-_, _*_, _^_}
+use Prim.Native.Nat.{ℕ, zero, suc, _+_, _-_, _*_, _^_, _<_}
+use mathlib.Core.Path.{_≡_}
 use mathlib.Core.List.{List}
 use mathlib.Core.Bool.{Bool, true, false, not, _&&_, _||_}
 use lib.ListN.{getD}
@@ -50,6 +51,10 @@ chosen t set m k = pick (coversIn t set k m) (kept t m k (taken t set m k) k) 0
 unfoldable pub lowestUnmatched : List ℕ → ℕ → ℕ → ℕ → ℕ
 lowestUnmatched t set k zero = 0
 lowestUnmatched t set k (suc m) = pick (ltb (lowestUnmatched t set k m) m) (lowestUnmatched t set k m) (pick (matchedIn t set m k) (suc m) m)
+
+-- inner: e is a number below m that passes the test
+abbrev pub Passing : (ℕ → Bool) → ℕ → ℕ → Type 0
+Passing p m e = (e < m) × (p e ≡ true)
 
 -- the views that answer a query: those chosen from the set, or the whole set where it doesn't cover the query
 unfoldable pub used : List ℕ → ℕ → ℕ → ℕ → ℕ

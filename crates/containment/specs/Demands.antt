@@ -4,11 +4,11 @@
 -- lent byte and of every word of the workspace what they are once that answer is known. So what is said here of answers holds of the programs.
 -- An answer is a function of the bytes and fields that are lent, of the length of each output (`room`) and of the workspace (`words`).
 -- Proofs: proofs/DemandsOneTwo.antt and proofs/DemandThree.antt, by proofs/DemandRules.antt, DemandSheets.antt, DemandIndex.antt and DemandJoin.antt; of the
--- join by steps, proofs/DemandSteps.antt; of the cheapest set, proofs/CheapestSets.antt; of the listing, proofs/Listings.antt.
-use Prim.Native.Nat.{ℕ, _+_, _-_, _*_, _^_, _<_, _≤_}
+-- join by steps, proofs/DemandSteps.antt; of the part, proofs/Parts.antt; of the cheapest set, proofs/CheapestSets.antt; of the listing, proofs/Listings.antt.
+use Prim.Native.Nat.{ℕ, _+_, _-_, _*_, _^_, _<_, _≤_, _/_}
 use mathlib.Core.Path.{_≡_}
 use mathlib.Core.Logic.{_⊎_, _↔_}
-use mathlib.Core.Bool.{true, false}
+use mathlib.Core.Bool.{Bool, true, false}
 use mathlib.Core.List.{List, [], _∷_, _++_, map}
 use lib.ListN.{length, getD, drop, replicate}
 use lib.Dec.{T}
@@ -20,10 +20,11 @@ use Rattle.packed.specs.Refusals.{Told, told}
 use Rattle.packed.specs.declared.by_value.Pattern.{Pattern as Given}
 use Rattle.packed.specs.OldRecord.{readOldRecord, OldRecordFile, sortedFields, recordSorted}
 use Rattle.packed.specs.Calls.{Outcome, give, refuse, fronts, Settled, FulfilsOne, withWorkspace, Verdict, accepted, rejected, readPattern, readCatalogue, readRecord, readSheet, readBook, writeFile, writeSheet, writeBook, pairsOf, fit, fitFile, patternRead, catalogueRead, recordRead, sheetRead, bookRead, patternWritten, catalogueWritten, recordWritten, sheetWritten, bookWritten}
-use Rattle.matching.specs.Lists.{In}
-use Rattle.matching.specs.Simulation.{Pair, Edge, between, noEdge, oneWay, Pattern, ruled, Graph, patternOf, graphOf, givenEdge, patternIn, asGraph, bit, fits, IsSim, MatchingBy, sim, sound, matchSets, viewSheet}
-use Rattle.matching.specs.Join.{without, Offer, answerSets}
+use Rattle.matching.specs.Lists.{In, keep}
+use Rattle.matching.specs.Simulation.{Pair, Edge, between, noEdge, oneWay, Pattern, ruled, Graph, patternOf, graphOf, givenEdge, patternIn, asGraph, bit, fits, IsSim, MatchingBy, sim, sound, matchSets, viewSheet, asPair}
+use Rattle.matching.specs.Join.{without, Offer, answerSets, matched}
 use Rattle.matching.specs.Components.{reaches, Nodes, leavingOf, stateAt, Shut, OneStep, StepsTo, pairAt, IsHeld, Holds, Ran}
+use Rattle.matching.specs.Part.{rank, number, partOf, patternFields, patternBytes}
 use Rattle.matching.specs.Offered.{viewPatterns}
 use Rattle.matching.specs.Search.{sheetBytes, bookBytes, viewSheets, searchOutcome, makeBookOutcome}
 use Rattle.matching.specs.Index.{indexOf, makeIndexOutcome, checkIndexOutcome, searchIndexedOutcome}
@@ -32,6 +33,7 @@ use Rattle.containment.specs.Quote.{noPattern, mapping, quotedBy, usedBy
 use Rattle.containment.specs.Answer.{viewsIn, Choose, answerBy, answerFrom, answerOutcome}
 use Rattle.containment.specs.Cheapest.{cost, IsCheapest, cheapestOutcome}
 use Rattle.containment.specs.Show.{graphFields, fewerFields, recordBytes, fitBoth, showOutcome}
+use Rattle.containment.specs.Part.{partOutcome}
 use Rattle.containment.specs.Listing.{bytes, linkLine, lineOf, lineOutcome}
 use Rattle.containment.specs.declared.quote_type.Quote.{Quote}
 
@@ -249,6 +251,7 @@ pub record Demand1 : Type 0 where
   -- both calls that answer: `answerFrom` and `answerOutcome` are `answerBy` with the set that the client names and with the one that is used else
   pub answer : (choose : Choose) (q c b : List ℕ) (room words : ℕ) → Settles (withWorkspace words (answerBy choose q c b room))
   pub show : (q c : List ℕ) (room room′ words : ℕ) → Settles (withWorkspace words (showOutcome q c room room′))
+  pub part : (q c b : List ℕ) (room room′ words : ℕ) → Settles (withWorkspace words (partOutcome q c b room room′))
   pub cheapest : (q c charges : List ℕ) (words : ℕ) → Settles (withWorkspace words (cheapestOutcome q c charges))
   pub line : (q : Quote) (k room : ℕ) → Settles (lineOutcome q k room)
   -- "within a paper: 1, then front to back": what falls to each file is in packed/specs/Formats.antt; here, that it is handed up
@@ -271,6 +274,7 @@ pub record Demand1 : Type 0 where
   pub cheapest-files : (q c charges : List ℕ) → HandsUp (quotedFiles q c thenNone) (cheapestOutcome q c charges)
   pub answer-files : (choose : Choose) (q c b : List ℕ) (room : ℕ) → HandsUp (quotedFiles q c (λ cs. first (readBook cs b) thenNone)) (answerBy choose q c b room)
   pub show-files : (q c : List ℕ) (room room′ : ℕ) → HandsUp (quotedFiles q c thenNone) (showOutcome q c room room′)
+  pub part-files : (q c b : List ℕ) (room room′ : ℕ) → HandsUp (quotedFiles q c (λ cs. first (readBook cs b) thenNone)) (partOutcome q c b room room′)
   -- "a writer never gives 1" of the content that it is handed
   pub never-long : (ws : List ℕ) (d : ℕ) → (writePattern ws ≡ rejected 1 d → ⊥) × (writeCatalogue ws ≡ rejected 1 d → ⊥) × (writeRecord ws ≡ rejected 1 d → ⊥)
   pub never-long-beside : (cs ws : List ℕ) (d : ℕ) → (writeSheet cs ws ≡ rejected 1 d → ⊥) × (writeBook cs ws ≡ rejected 1 d → ⊥)
@@ -304,6 +308,8 @@ pub record Demand1 : Type 0 where
       → (withWorkspace words (bookWritten c ws room) ≡ refuse 10 d) ↔ ((workspace ≤ words) × ManyPairs cs ws × (d ≡ 4))
   pub answer-many-pairs : (choose : Choose) (q c b qs cs bs : List ℕ) → Question q qs → Catalogue c cs → readBook cs b ≡ accepted bs → (room words d : ℕ)
       → (withWorkspace words (answerBy choose q c b room) ≡ refuse 10 d) ↔ ((workspace ≤ words) × ManyPairs cs bs × (d ≡ 4))
+  pub part-many-pairs : (q c b qs cs bs : List ℕ) → Question q qs → Catalogue c cs → readBook cs b ≡ accepted bs → (room room′ words d : ℕ)
+      → (withWorkspace words (partOutcome q c b room room′) ≡ refuse 10 d) ↔ ((workspace ≤ words) × ManyPairs cs bs × (d ≡ 4))
   -- a search gives the sheet of accepted files, making a book the book, and neither anything of others, nor with another index than the record's own
   pub search-gives : (way : Way) (p r ps rs : List ℕ) → Question p ps → Record r rs → (room words : ℕ)
       → Fitted words (OverFile room (sheetOf (patternOf ps) rs)) (sheetOf (patternOf ps) rs ∷ []) (withWorkspace words (searchBy way p r rs room))
@@ -666,6 +672,106 @@ pub record BySteps : Type 1 where
       → In f (stateAt S′ Q cs e) ↔ In f (stateAt S Q cs e)
   -- "up to the last zeroing": where all items are settled, these are all links of the question
   pub whole : (Q : Pattern) (S : Nodes) → ((e : Edge) → In e (Q .edges) → T (S (e .from))) → leavingOf S Q ≡ ruled oneWay Q
+
+-- ---- what holds of the part. "For an uncovered question clients want the part that the extracts do answer: its matched links, with their items renumbered upward."
+
+-- the content and the bytes of the pattern that a choice of the question's links is: those that the test takes
+abbrev pub choiceOf : (Edge → Bool) → List ℕ → List ℕ
+choiceOf takes qs = patternFields (partOf takes (patternOf qs))
+
+abbrev pub choiceFile : (Edge → Bool) → List ℕ → List ℕ
+choiceFile takes qs = patternBytes (partOf takes (patternOf qs))
+
+-- the part: the links that some extract matches
+abbrev pub matchedLink : List ℕ → List ℕ → Edge → Bool
+matchedLink qs cs = matched (patternOf qs) (viewPatterns cs)
+
+abbrev pub partOfQuestion : List ℕ → List ℕ → List ℕ
+partOfQuestion qs cs = choiceOf (matchedLink qs cs) qs
+
+abbrev pub partFile : List ℕ → List ℕ → List ℕ
+partFile qs cs = choiceFile (matchedLink qs cs) qs
+
+-- its answer, "from the book by the part's own quote"
+abbrev pub partAnswer : List ℕ → List ℕ → List ℕ → List ℕ
+partAnswer qs cs bs = sheetBytes (answerOf (chosenOf (partOfQuestion qs cs) cs) (partOfQuestion qs cs) cs bs)
+
+-- link i of a choice is link v of the question, which is taken: as many of those before it are
+pub record LinkFrom (takes : Edge → Bool) (qs : List ℕ) (i v : ℕ) : Type 0 where
+  pub below : v < edgesOf qs
+  pub taken : T (takes (linkOf qs v))
+  pub place : rank (λ u. takes (linkOf qs u)) v ≡ i
+
+-- the new number of an item, and the kind of an item
+abbrev pub itemNumber : (Edge → Bool) → List ℕ → ℕ → ℕ
+itemNumber takes qs u = number (keep takes (patternOf qs .edges)) u
+
+abbrev pub itemKind : List ℕ → ℕ → ℕ
+itemKind qs u = getD (patternOf qs .labels) u 0
+
+-- the same link: of the same kind, between the same items under their new numbers, which have the same kinds
+pub record SameLink (takes : Edge → Bool) (qs : List ℕ) (e f : Edge) : Type 0 where
+  pub kind : e .kind ≡ f .kind
+  pub from : e .from ≡ itemNumber takes qs (f .from)
+  pub to : e .to ≡ itemNumber takes qs (f .to)
+  pub from-kind : itemKind (choiceOf takes qs) (e .from) ≡ itemKind qs (f .from)
+  pub to-kind : itemKind (choiceOf takes qs) (e .to) ≡ itemKind qs (f .to)
+
+-- some link of the question is matched by an extract, or none is
+abbrev pub SomeMatched : List ℕ → List ℕ → Type 0
+SomeMatched qs cs = (v : ℕ) × (v < edgesOf qs) × Matched (patternOf qs) (viewPatterns cs) (linkOf qs v)
+
+abbrev pub NoneMatched : List ℕ → List ℕ → Type 0
+NoneMatched qs cs = (v : ℕ) → v < edgesOf qs → Matched (patternOf qs) (viewPatterns cs) (linkOf qs v) → ⊥
+
+-- 12, "the bytes needed, of the first output that doesn't fit": the answer alone is also at most 65,536 bytes long
+abbrev pub OverPart : ℕ → ℕ → List ℕ → List ℕ → ℕ → Type 0
+OverPart room room′ o o′ d = Over room o d ⊎ ((length o ≤ room) × OverFile room′ o′ d)
+
+pub record Parts : Type 0 where
+  -- a choice of links is an accepted pattern; its links are those taken, in their order, each once, with its kind and its ends' kinds
+  pub is-pattern : (q qs : List ℕ) → Question q qs → (takes : Edge → Bool) (v : ℕ) → v < edgesOf qs → T (takes (linkOf qs v)) → Question (choiceFile takes qs) (choiceOf takes qs)
+  pub comes-from : (q qs : List ℕ) → Question q qs → (takes : Edge → Bool) (i : ℕ) → i < edgesOf (choiceOf takes qs) → (v : ℕ) × LinkFrom takes qs i v
+  pub goes-to : (q qs : List ℕ) → Question q qs → (takes : Edge → Bool) (v : ℕ) → v < edgesOf qs → T (takes (linkOf qs v)) → (i : ℕ) × (i < edgesOf (choiceOf takes qs)) × LinkFrom takes qs i v
+  pub is-link : (q qs : List ℕ) → Question q qs → (takes : Edge → Bool) (i v : ℕ) → LinkFrom takes qs i v → SameLink takes qs (linkOf (choiceOf takes qs) i) (linkOf qs v)
+  -- "with their items renumbered upward"
+  pub upward : (takes : Edge → Bool) (qs : List ℕ) (e : Edge) → In e (patternOf qs .edges) → T (takes e) → (u w : ℕ) → (e .from ≡ u) ⊎ (e .to ≡ u) → u < w
+      → itemNumber takes qs u < itemNumber takes qs w
+  -- the links of the part are the matched ones: the test says exactly that
+  pub takes-matched : (qs cs : List ℕ) (e : Edge) → T (matchedLink qs cs e) ↔ Matched (patternOf qs) (viewPatterns cs) e
+  -- it is covered, and "the largest, meaning that every answerable choice of the question's links lies inside it": every choice that is covered, and
+  -- every choice whose sheet any function whatsoever of the extracts' lists gives on every record
+  pub covered : (q c qs cs : List ℕ) → Question q qs → Catalogue c cs → Covered (partOfQuestion qs cs) cs
+  pub largest : (q c qs cs : List ℕ) → Question q qs → Catalogue c cs → (takes : Edge → Bool) → Covered (choiceOf takes qs) cs
+      → (v : ℕ) → v < edgesOf qs → T (takes (linkOf qs v)) → Matched (patternOf qs) (viewPatterns cs) (linkOf qs v)
+  pub no-other-way : (q c qs cs : List ℕ) → Question q qs → Catalogue c cs → (takes : Edge → Bool) → (F : List (List (List ℕ)) → List ℕ)
+      → ((r rs : List ℕ) → Record r rs → F (viewSheets cs (graphOf rs)) ≡ sheetOf (patternOf (choiceOf takes qs)) rs)
+      → (v : ℕ) → v < edgesOf qs → T (takes (linkOf qs v)) → Matched (patternOf qs) (viewPatterns cs) (linkOf qs v)
+  -- its masks are the question's, of the links that they came from
+  pub masks : (q c qs cs : List ℕ) → Question q qs → Catalogue c cs → (i v a : ℕ) → LinkFrom (matchedLink qs cs) qs i v → a < 16
+      → getD (mapping (patternOf (partOfQuestion qs cs)) (viewPatterns cs)) (16 * i + a) 0 ≡ getD (mapping (patternOf qs) (viewPatterns cs)) (16 * v + a) 0
+  -- the call gives the part and its answer, or 12, or 14, where some link is matched; its answer is the one that the part gets by itself
+  pub gives : (q c b qs cs bs : List ℕ) → Question q qs → Catalogue c cs → Book cs b bs → SomeMatched qs cs → (room room′ words : ℕ)
+      → Fitted words (OverPart room room′ (partFile qs cs) (partAnswer qs cs bs)) (partFile qs cs ∷ partAnswer qs cs bs ∷ []) (withWorkspace words (partOutcome q c b room room′))
+  pub answers : (q c b qs cs bs : List ℕ) → Question q qs → Catalogue c cs → Book cs b bs → SomeMatched qs cs → (room : ℕ)
+      → answerOutcome (partFile qs cs) c b room ≡ fitFile room (partAnswer qs cs bs)
+  -- "in this call 11 is given only when no link is matched", and then always
+  pub refused : (q c b qs cs bs : List ℕ) → Question q qs → Catalogue c cs → Book cs b bs → (room room′ words d : ℕ)
+      → (withWorkspace words (partOutcome q c b room room′) ≡ refuse 11 d) ↔ ((workspace ≤ words) × NoneMatched qs cs × (d ≡ 0))
+  -- nothing is given of other files
+  pub only : (q c b : List ℕ) (room room′ words : ℕ) → Full (withWorkspace words (partOutcome q c b room room′))
+      → (qs : List ℕ) × (cs : List ℕ) × (bs : List ℕ) × Question q qs × Catalogue c cs × Book cs b bs × SomeMatched qs cs
+  -- "for a covered question the part is the whole", byte for byte, and its answer that of the question
+  pub whole : (q c qs cs : List ℕ) → Below 256 q → Question q qs → Catalogue c cs → Covered qs cs → partFile qs cs ≡ q
+  pub whole-answer : (q c b qs cs bs : List ℕ) → Question q qs → Catalogue c cs → Book cs b bs → Covered qs cs → (room : ℕ)
+      → answerOutcome q c b room ≡ fitFile room (partAnswer qs cs bs)
+  -- "where the full question has matches in the record that the book was made from, each of the part's links lists at least those": where it has
+  -- none there is nothing to list
+  pub lists-more : (q c qs cs : List ℕ) → Question q qs → Catalogue c cs → (rs : List ℕ) (i v : ℕ) → LinkFrom (matchedLink qs cs) qs i v
+      → (x : ℕ) → In x (getD (matchSets (patternOf qs) (graphOf rs)) v []) → In x (getD (matchSets (patternOf (partOfQuestion qs cs)) (graphOf rs)) i [])
+  -- demand 3 of it: its answer from the book of a record is what searching the record for it gives, in either way
+  pub equals : (way : Way) (q c r qs cs rs : List ℕ) → Question q qs → Catalogue c cs → Record r rs → SomeMatched qs cs → length (bookOf cs rs) ≤ bookMost → (room words : ℕ)
+      → withWorkspace words (answerOutcome (partFile qs cs) c (bookOf cs rs) room) ≡ withWorkspace words (searchBy way (partFile qs cs) r rs room)
 
 -- ---- what holds of the cheapest set
 

@@ -2,9 +2,12 @@ pub mod Choice
 pub mod Quote
 pub mod Answer
 pub mod Show
+pub mod Part
+pub mod Both
 pub mod Cheapest
 pub mod Listing
 pub mod Demands
 -- inner
 pub mod Steps
 pub mod Tries
+pub mod Parting

@@ -9,7 +9,7 @@ use Rattle.packed.specs.Format.{pick}
 use Rattle.packed.specs.Contents.{edgesOf}
 use Rattle.packed.specs.Refusals.{Told, told, numberOf, detailOf}
 use Rattle.packed.specs.Calls.{Outcome, give, judged, readPattern}
-use Rattle.matching.specs.Simulation.{Edge, noEdge, oneWay, Pattern, patternOf, asGraph, viewSheet}
+use Rattle.matching.specs.Simulation.{Edge, noEdge, oneWay, Pattern, bit, patternOf, asGraph, viewSheet}
 use Rattle.matching.specs.Lists.{upTo}
 use Rattle.matching.specs.Join.{isMatch}
 use Rattle.matching.specs.Offered.{Offered, offeredBy, offered}
@@ -57,6 +57,14 @@ quotedBy qs cs = record { content = qs; offer = offeredBy cs; usable = everyView
 -- the question is judged, then the catalogue, and both are handed on: every call that quotes judges them here
 abbrev pub quoted : List ℕ → List ℕ → (Quoted → Outcome) → Outcome
 quoted q c k = judged (readPattern q) (λ qs. offered c (λ o. k (record { content = qs; offer = o; usable = everyView })))
+
+-- those of the views that are in a set, and those that may be used
+unfoldable pub viewsInSet : ℕ → List Pattern → List Pattern
+viewsInSet set [] = []
+viewsInSet set (P ∷ Ps) = pick (bit set 0) (P ∷ viewsInSet (set / 2) Ps) (viewsInSet (set / 2) Ps)
+
+abbrev pub usableViews : Quoted → List Pattern
+usableViews x = viewsInSet (x .usable) (x .offer .views)
 
 -- its table, and what the views in a set do by it
 abbrev pub tableOf : Quoted → List ℕ

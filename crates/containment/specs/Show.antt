@@ -7,11 +7,8 @@ use Rattle.packed.specs.Format.{pick, encode}
 use Rattle.packed.specs.Formats.{record′}
 use Rattle.packed.specs.Contents.{nodesOf, sortedEdges}
 use Rattle.packed.specs.Calls.{Outcome, give, refuse}
-use Rattle.packed.specs.Refusals.{Told, told, numberOf, detailOf}
 use Rattle.matching.specs.Search.{bytesIn}
 use Rattle.containment.specs.Quote.{Quoted, quoted, covering, lowestLeft}
-use Rattle.containment.specs.declared.showing.Shown.{Shown}
-use Rattle.containment.specs.declared.showing.Shown.the-variants as shown-is
 
 -- the query with content ws read as a record with these edges, by their fields: each node has its own label alone, and the edges ascend
 unfoldable pub asRecord : List ℕ → List ℕ → List ℕ
@@ -43,8 +40,3 @@ showFor room room′ x =
 
 unfoldable pub showOutcome : List ℕ → List ℕ → ℕ → ℕ → Outcome
 showOutcome q c room room′ = quoted q c (showFor room room′)
-
--- what a showing tells: the lengths of the two outputs, or the refusal with its detail
-abbrev pub shownTold : Shown → Told
-shownTold (shown-is.Done a b) = told 0 (a ∷ b ∷ [])
-shownTold (shown-is.Refused x) = told (numberOf x) (detailOf x ∷ [])

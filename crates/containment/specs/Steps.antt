@@ -10,11 +10,12 @@ use Rattle.packed.specs.Formats.{pattern, catalogue}
 use Rattle.packed.specs.Contents.{edgesOf, edgeCounts, edgeWord, wordKind, sortedEdges}
 use Rattle.packed.specs.ByValue.{HoldsPattern, NoPattern, Small}
 use Rattle.packed.specs.Accepting.{NoViews}
-use Rattle.packed.specs.Calls.{Outcome, refuse}
+use Rattle.packed.specs.Calls.{Outcome, refuse, accepted, judged, readBook, withinPairs}
 use Rattle.packed.specs.Refusals.{numberOf, detailOf}
 use Rattle.packed.specs.declared.reply.Reply.{Reply}
 use Rattle.packed.specs.declared.reply.Reply.the-variants as reply-is
 use Rattle.packed.specs.declared.by_value.Pattern.{Pattern as Given}
+use Rattle.matching.specs.Candidates.{Booked}
 use Rattle.matching.specs.Masks.{OneOf, Has}
 use Rattle.matching.specs.Offered.{offeredBy}
 use Rattle.containment.specs.Quote.{Quoted, tableOf}
@@ -64,6 +65,21 @@ pub record NoQuery (r : Judged) : Type 0 where
 abbrev pub JudgedTo : ((Quoted → Outcome) → Outcome) → Judged → Reply → Type 0
 JudgedTo f r (reply-is.Done n) = Handed f r
 JudgedTo f r (reply-is.Refused x) = ((k : Quoted → Outcome) → f k ≡ refuse (numberOf x) (detailOf x)) × NoQuery r
+
+-- ---- a book
+
+-- the book s of a catalogue with the content cs was accepted and is not crowded; its d different pairs stand in the workspace
+pub record Loaded (cs s counts : List ℕ) (k d : ℕ) (w : List ℕ) : Type 0 where
+  pub fields : List ℕ
+  pub is : readBook cs s ≡ accepted fields
+  pub few : (a : Outcome) → withinPairs cs fields a ≡ a
+  pub pairs : Booked s counts k d w
+
+-- so many pairs were loaded, or what each call that answers from the book refuses
+abbrev pub LoadedTo : List ℕ → List ℕ → List ℕ → ℕ → List ℕ → Reply → Type 0
+LoadedTo cs s counts k w (reply-is.Done d) = Loaded cs s counts k d w
+LoadedTo cs s counts k w (reply-is.Refused x) =
+    (a : List ℕ → Outcome) → judged (readBook cs s) (λ bs. withinPairs cs bs (a bs)) ≡ refuse (numberOf x) (detailOf x)
 
 -- ---- a query read as a record
 

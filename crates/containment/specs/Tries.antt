@@ -8,13 +8,13 @@ use lib.Bits.{bitOr}
 use lib.Dec.{eqb, ltb}
 use Rattle.packed.specs.Format.{pick}
 use Rattle.matching.specs.Masks.{Mask}
-use Rattle.containment.specs.Choice.{matches, matchedIn}
+use Rattle.containment.specs.Choice.{Passing, matches, matchedIn}
 use Rattle.containment.specs.Cheapest.{cost, size, turned, lesser}
 use Rattle.containment.specs.declared.costing.Tried.{Tried}
 
 -- the view a matches the edge e, of m
 abbrev pub EdgeMatchedBy : List ℕ → ℕ → ℕ → ℕ → Type 0
-EdgeMatchedBy t a m e = (e < m) × (matches t e a ≡ true)
+EdgeMatchedBy t a m e = Passing (λ i. matches t i a) m e
 
 -- u more views can be taken
 pub record TriedRoom (u : ℕ) (x : Tried) : Type 0 where

@@ -13,7 +13,7 @@ ghost use Rattle.matching.specs.Joining.{Agrees};
 ghost use Rattle.containment.specs.Choice.{lowestUnmatched};
 ghost use Rattle.containment.specs.Quote.{tableOf};
 ghost use Rattle.containment.specs.Answer.{answerIn, answerFrom, answerOutcome};
-ghost use Rattle.containment.specs.Steps.{Query, ViewCounts, quotedAs};
+ghost use Rattle.containment.specs.Steps.{Query, ViewCounts, quotedAs, LoadedTo};
 use crate::choose;
 use crate::judging;
 use matching::join;
@@ -25,8 +25,24 @@ use packed::matches;
 use packed::reply::Refusal;
 use packed::reply::Reply;
 
+// A book is judged, and its different pairs go to the front of the workspace: how many they are.
+pub fn load_book(book: &[u8], counts: [u32; 16], k: usize, work: &mut [u32]) -> Reply
+    requires { ⌜ ViewCounts counts k × (length (now work) ≡ 16384) ⌝ }
+    ensures { λ r. ⌜ ((v : ViewCounts counts k) → LoadedTo (v .views .content) (now (book .entry)) counts k (now (work .exit)) r) ⌝ }
+{
+    let verdict = accept::accept_book(book, counts, k, &mut work[0..0]);
+    let Reply::Done(_) = verdict else {
+        return verdict;
+    };
+    let d = gather::gather_book(book, counts, k, work);
+    if limits::PAIRS_MOST < d {
+        return Reply::Refused(Refusal::TooManyPairs(4));
+    }
+    Reply::Done(d)
+}
+
 // Answers from the pairs of a book that stand in the workspace, by the views in the set.
-fn answer_pairs(
+pub fn answer_pairs(
     q: Pattern,
     table: &[u32; 512],
     set: u32,
@@ -59,14 +75,10 @@ fn answer_book(
     requires { ⌜ Query q × ViewCounts counts k × (lowest ≡ lowestUnmatched (now table) set k (q .edges)) × (length (now work) ≡ 16384) ⌝ }
     ensures { λ r. ⌜ ((t : Query q) (v : ViewCounts counts k) (usable : ℕ) → now (table .entry) ≡ tableOf (quotedAs t v usable) → FulfilsOne (judged (readBook (v .views .content) (now (book .entry))) (λ bs. answerIn set (quotedAs t v usable) bs (length (now (out .entry))))) (replyTold r) (now (out .entry)) (now (out .exit))) ⌝ }
 {
-    let verdict = accept::accept_book(book, counts, k, &mut work[0..0]);
-    let Reply::Done(_) = verdict else {
-        return verdict;
+    let loaded = load_book(book, counts, k, work);
+    let Reply::Done(d) = loaded else {
+        return loaded;
     };
-    let d = gather::gather_book(book, counts, k, work);
-    if limits::PAIRS_MOST < d {
-        return Reply::Refused(Refusal::TooManyPairs(4));
-    }
     if lowest < q.edges {
         return Reply::Refused(Refusal::NotContained(lowest as u32));
     }

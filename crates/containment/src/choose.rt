@@ -8,9 +8,9 @@ ghost use Rattle.containment.specs.Choice.{matchedIn, coversIn, lowestUn
 // The set of all views.
 pub const EVERY_VIEW: u32 = 65535;
 
-// Whether the view a is in the set.
-fn is_in(set: u32, a: usize) -> bool
-    requires { ⌜ a < 16 ⌝ }
+// Whether the number a is in the set.
+pub fn is_in(set: u32, a: usize) -> bool
+    requires { ⌜ a < 32 ⌝ }
     ensures { λ r. ⌜ r ≡ bit set a ⌝ }
 {
     let d = set >> a;
@@ -26,7 +26,7 @@ pub fn only(a: usize) -> u32
 }
 
 // Whether one of the first k views that are in the set matches the edge e.
-fn is_matched(mapping: &[u32; 512], set: u32, e: usize, k: usize) -> bool
+pub fn is_matched(mapping: &[u32; 512], set: u32, e: usize, k: usize) -> bool
     requires { ⌜ (e < 32) × (k ≤ 16) ⌝ }
     ensures { λ r. ⌜ r ≡ matchedIn (now (mapping .entry)) set e k ⌝ }
 {

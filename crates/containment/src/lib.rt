@@ -1,29 +1,33 @@
-// Containment of a query in views: quotes, the cheapest views, answers from a book, and why a query is not covered.
+// Containment of a query in views: quotes, the cheapest views, answers from a book, why a query is not covered, and the part that is answered.
 mod answering;
+pub mod both;
 mod choose;
 pub mod costing;
 mod judging;
 mod mapping;
+mod parting;
 mod query;
 pub mod quote_type;
 mod quoting;
-pub mod showing;
+mod showing;
 
 ghost use mathlib.Core.List.{[], _∷_};
 ghost use lib.ListN.{length};
 ghost use Rattle.packed.specs.Calls.{OneOutput, Settled, withWorkspace};
 ghost use Rattle.packed.specs.Refusals.{replyTold};
 ghost use Rattle.containment.specs.Answer.{answerFrom, answerOutcome};
+ghost use Rattle.containment.specs.Both.{bothTold};
 ghost use Rattle.containment.specs.Cheapest.{cheapestOutcome, cheapestTold};
+ghost use Rattle.containment.specs.Part.{partOutcome};
 ghost use Rattle.containment.specs.Quote.{quoteOutcome, quoteTold, blank};
-ghost use Rattle.containment.specs.Show.{showOutcome, shownTold};
+ghost use Rattle.containment.specs.Show.{showOutcome};
+use both::Both;
 use costing::Cheapest;
 use packed::limits;
 use packed::reply::Refusal;
 use packed::reply::Reply;
 use packed::workspace;
 use quote_type::Quote;
-use showing::Shown;
 
 // How much of the workspace is zero after every call.
 const CLEARED: usize = limits::WORKSPACE;
@@ -114,11 +118,11 @@ pub fn show_uncovered(
     first: &mut [u8],
     second: &mut [u8],
     work: &mut [u32],
-) -> Shown
-    ensures { λ r. ⌜ Settled [] (withWorkspace (length (now (work .entry))) (showOutcome (now (question .entry)) (now (catalogue .entry)) (length (now (first .entry))) (length (now (second .entry))))) (shownTold r) (now (first .entry) ∷ now (second .entry) ∷ []) (now (first .exit) ∷ now (second .exit) ∷ []) (now (work .entry)) (now (work .exit)) ⌝ }
+) -> Both
+    ensures { λ r. ⌜ Settled [] (withWorkspace (length (now (work .entry))) (showOutcome (now (question .entry)) (now (catalogue .entry)) (length (now (first .entry))) (length (now (second .entry))))) (bothTold r) (now (first .entry) ∷ now (second .entry) ∷ []) (now (first .exit) ∷ now (second .exit) ∷ []) (now (work .entry)) (now (work .exit)) ⌝ }
 {
     if work.len() < limits::WORKSPACE {
-        return Shown::Refused(Refusal::SmallWorkspace);
+        return Both::Refused(Refusal::SmallWorkspace);
     }
     let r = showing::show(
         question,
@@ -128,5 +132,31 @@ pub fn show_uncovered(
         &mut work[0..limits::WORKSPACE],
     );
     workspace::clear(work, CLEARED);
+    r
+}
+
+// The part of a question that the extracts do answer: writes its matched links as a pattern, and the answer that this gets from a book.
+pub fn part(
+    question: &[u8],
+    catalogue: &[u8],
+    book: &[u8],
+    part: &mut [u8],
+    answer: &mut [u8],
+    work: &mut [u32],
+) -> Both
+    ensures { λ r. ⌜ Settled [] (withWorkspace (length (now (work .entry))) (partOutcome (now (question .entry)) (now (catalogue .entry)) (now (book .entry)) (length (now (part .entry))) (length (now (answer .entry))))) (bothTold r) (now (part .entry) ∷ now (answer .entry) ∷ []) (now (part .exit) ∷ now (answer .exit) ∷ []) (now (work .entry)) (now (work .exit)) ⌝ }
+{
+    if work.len() < limits::WORKSPACE {
+        return Both::Refused(Refusal::SmallWorkspace);
+    }
+    let r = parting::part(
+        question,
+        catalogue,
+        book,
+        part,
+        answer,
+        &mut work[0..limits::WORKSPACE],
+    );
+    workspace::clear(work, limits::WORKSPACE);
     r
 }

@@ -12,20 +12,20 @@ use packed::record;
 use packed::reply::Part;
 use packed::sort;
 
-// The content of a record, at the front of a table.
+// The content of a record or of a pattern, at the front of a table.
 pub struct Fields {
     pub words: [u32; 114],
     pub number: usize,
 }
 
-fn no_words() -> [u32; 114]
+pub fn no_words() -> [u32; 114]
     ensures { λ r. ⌜ r ≡ replicate 114 0 ⌝ }
 {
     [0u32; 114]
 }
 
 // The words with two more, after the first n.
-fn with_two(before: [u32; 114], n: usize, a: u32, b: u32) -> [u32; 114]
+pub fn with_two(before: [u32; 114], n: usize, a: u32, b: u32) -> [u32; 114]
     requires { ⌜ n ≤ 112 ⌝ }
     ensures { λ r. ⌜ Extends n 2 (a ∷ b ∷ []) before r ⌝ }
 {

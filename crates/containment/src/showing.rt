@@ -3,8 +3,10 @@ ghost use mathlib.Core.Path.{_≡_};
 ghost use mathlib.Core.List.{[], _∷_};
 ghost use lib.ListN.{length};
 ghost use Rattle.packed.specs.Calls.{Fulfils};
-ghost use Rattle.containment.specs.Show.{recordBytes, fitBoth, showOutcome, shownTold};
+ghost use Rattle.containment.specs.Show.{recordBytes, fitBoth, showOutcome};
+ghost use Rattle.containment.specs.Both.{bothTold};
 ghost use Rattle.containment.specs.Steps.{Query, shownFields};
+use crate::both::Both;
 use crate::choose;
 use crate::judging;
 use crate::query;
@@ -12,44 +14,38 @@ use packed::by_value::Pattern;
 use packed::reply::Refusal;
 use packed::reply::Reply;
 
-// The lengths of the two records that were written, or why there is no showing.
-pub enum Shown {
-    Done(usize, usize),
-    Refused(Refusal),
-}
-
 // The two records of a query that is not covered, whose lowest unmatched edge is e.
-fn show_both(q: Pattern, e: usize, first: &mut [u8], second: &mut [u8], work: &mut [u32]) -> Shown
+fn show_both(q: Pattern, e: usize, first: &mut [u8], second: &mut [u8], work: &mut [u32]) -> Both
     requires { ⌜ Query q × (length (now work) ≡ 16384) ⌝ }
-    ensures { λ r. ⌜ ((t : Query q) → Fulfils [] (fitBoth (length (now (first .entry))) (length (now (second .entry))) (recordBytes (shownFields (t .content) 32)) (recordBytes (shownFields (t .content) e))) (shownTold r) (now (first .entry) ∷ now (second .entry) ∷ []) (now (first .exit) ∷ now (second .exit) ∷ [])) ⌝ }
+    ensures { λ r. ⌜ ((t : Query q) → Fulfils [] (fitBoth (length (now (first .entry))) (length (now (second .entry))) (recordBytes (shownFields (t .content) 32)) (recordBytes (shownFields (t .content) e))) (bothTold r) (now (first .entry) ∷ now (second .entry) ∷ []) (now (first .exit) ∷ now (second .exit) ∷ [])) ⌝ }
 {
     let a = query::write_graph(q, 32, &mut first[0..0], work);
     if first.len() < a {
-        return Shown::Refused(Refusal::NoRoom(a));
+        return Both::Refused(Refusal::NoRoom(a));
     }
     let b = query::write_graph(q, e, &mut second[0..0], work);
     if second.len() < b {
-        return Shown::Refused(Refusal::NoRoom(b));
+        return Both::Refused(Refusal::NoRoom(b));
     }
     query::write_graph(q, 32, first, work);
     query::write_graph(q, e, second, work);
-    Shown::Done(a, b)
+    Both::Done(a, b)
 }
 
-pub(crate) fn show(
+pub fn show(
     question: &[u8],
     catalogue: &[u8],
     first: &mut [u8],
     second: &mut [u8],
     work: &mut [u32],
-) -> Shown
+) -> Both
     requires { ⌜ length (now work) ≡ 16384 ⌝ }
-    ensures { λ r. ⌜ Fulfils [] (showOutcome (now (question .entry)) (now (catalogue .entry)) (length (now (first .entry))) (length (now (second .entry)))) (shownTold r) (now (first .entry) ∷ now (second .entry) ∷ []) (now (first .exit) ∷ now (second .exit) ∷ []) ⌝ }
+    ensures { λ r. ⌜ Fulfils [] (showOutcome (now (question .entry)) (now (catalogue .entry)) (length (now (first .entry))) (length (now (second .entry)))) (bothTold r) (now (first .entry) ∷ now (second .entry) ∷ []) (now (first .exit) ∷ now (second .exit) ∷ []) ⌝ }
 {
     let f = judging::judge(question, catalogue, work);
     let verdict = f.verdict;
     if let Reply::Refused(x) = verdict {
-        return Shown::Refused(x);
+        return Both::Refused(x);
     }
     let table = f.table;
     let q = f.query;
@@ -57,5 +53,5 @@ pub(crate) fn show(
     if e < q.edges {
         return show_both(q, e, first, second, work);
     }
-    Shown::Refused(Refusal::Contained)
+    Both::Refused(Refusal::Contained)
 }

@@ -62,6 +62,13 @@ pub fn output_bytes() -> [u8; 65536]
     [0; 65536]
 }
 
+// A part of a question, to be written: a pattern.
+pub fn part_bytes() -> [u8; 56]
+    ensures { λ r. ⌜ 56 ≡ length r ⌝ }
+{
+    [0; 56]
+}
+
 // A question as a record: 16 items and 32 links.
 pub fn shown_bytes() -> [u8; 176]
     ensures { λ r. ⌜ 176 ≡ length r ⌝ }

@@ -1,6 +1,6 @@
 // Judges the files that it finds in the folder it is run in: `question`, `catalogue`, `record`, a `sheet` and an `answer` beside the question, a
-// `book` and `charges` beside the catalogue, an `index` beside the record, the records `first` and `second`, a `set`, and a record `old`, stored before
-// links had kinds. One that is not there gets no line.
+// `book` and `charges` beside the catalogue, a `part` and a `part_answer` beside it, the records `first` and `second`, an `index` beside the record, a
+// `set`, and a record `old`, stored before links had kinds. One that is not there gets no line.
 use folder::entries;
 use folder::files;
 use folder::lent;
@@ -18,12 +18,12 @@ fn say(name: &[u8], reply: Reply) {
     }
 }
 
-fn judge_question(question: &[u8]) {
-    if files::is_there(b"question") {
+fn judge_pattern(pattern: &[u8], name: &[u8]) {
+    if files::is_there(name) {
         let mut content = lent::content_words();
         let mut work = lent::work_words();
-        let reply = packed::read_pattern(question, &mut content, &mut work);
-        say(b"question", reply);
+        let reply = packed::read_pattern(pattern, &mut content, &mut work);
+        say(name, reply);
     }
 }
 
@@ -47,13 +47,13 @@ fn judge_record(name: &[u8]) {
     }
 }
 
-fn judge_sheet(question: &[u8], name: &[u8]) {
+fn judge_sheet(pattern: &[u8], name: &[u8]) {
     if files::is_there(name) {
         let mut sheet = lent::sheet_bytes();
         let n = files::read(name, &mut sheet);
         let mut content = lent::content_words();
         let mut work = lent::work_words();
-        let reply = packed::read_sheet(question, &sheet[0..n], &mut content, &mut work);
+        let reply = packed::read_sheet(pattern, &sheet[0..n], &mut content, &mut work);
         say(name, reply);
     }
 }
@@ -67,6 +67,13 @@ fn judge_book(catalogue: &[u8]) {
         let reply = packed::read_book(catalogue, &book[0..n], &mut content, &mut work);
         say(b"book", reply);
     }
+}
+
+fn judge_part() {
+    let mut part = lent::question_bytes();
+    let n = files::read(b"part", &mut part);
+    judge_pattern(&part[0..n], b"part");
+    judge_sheet(&part[0..n], b"part_answer");
 }
 
 fn judge_index() {
@@ -143,12 +150,13 @@ fn judge_old() {
 }
 
 fn judge(question: &[u8], catalogue: &[u8]) {
-    judge_question(question);
+    judge_pattern(question, b"question");
     judge_catalogue(catalogue);
     judge_record(b"record");
     judge_sheet(question, b"sheet");
     judge_book(catalogue);
     judge_sheet(question, b"answer");
+    judge_part();
     judge_record(b"first");
     judge_record(b"second");
     judge_index();

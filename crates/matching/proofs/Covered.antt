@@ -8,8 +8,8 @@ use lib.ListN.{length, getD}
 use lib.Dec.{T}
 use Rattle.matching.specs.Lists.{In, each}
 use Rattle.matching.specs.Simulation.{Pair, Edge, asPair, bit, bothWays, Pattern, Graph, asGraph, ascending, matchSets, viewSheet, IsSim, sound}
-use Rattle.matching.proofs.ByEdge.{rowOf, someMatch, matchedBy, matched, covered, viewOf, answerTo}
-use Rattle.matching.specs.Join.{View, join, complete, answerSets}
+use Rattle.matching.proofs.ByEdge.{rowOf, viewOf, answerTo}
+use Rattle.matching.specs.Join.{View, someMatch, matchedBy, matched, covered, join, complete, answerSets}
 use Rattle.matching.proofs.ListLaws.{every-in, some-in, each-same}
 use Rattle.matching.proofs.SimLaws.{FitsInto, fits-say, fits-by, sim-is, sim-most}
 use Rattle.matching.proofs.MatchLaws.{Sim, Total, Matches, matches-edge, row-say, row-by, own-label, Weaker, matches-through, SoundPattern, sound-say}

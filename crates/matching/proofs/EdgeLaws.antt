@@ -2,15 +2,15 @@
 use Prim.Native.Nat.{ℕ, zero, suc, _*_, _<_}
 use mathlib.Core.Path.{_≡_, refl, sym, ap, subst, _∙_}
 use mathlib.Core.List.{List, [], _∷_}
-use lib.ListN.{length}
+use lib.ListN.{length, getD}
 use native.Mathlib.Omega.{arith}
 use Rattle.packed.specs.Contents.{eachEdge}
 use Rattle.packed.specs.Plain.{fromAt, toAt, kindAt}
 use Rattle.packed.proofs.EdgePlaces.{from-cons, to-cons, kind-cons}
 use Rattle.matching.specs.Lists.{In, each, upTo}
-use Rattle.matching.specs.Simulation.{Edge, between, edgesIn}
+use Rattle.matching.specs.Simulation.{Edge, between, noEdge, edgesIn}
 use Rattle.matching.specs.Masks.{OneOf}
-use Rattle.matching.proofs.UpToLaws.{in-upTo, upTo-in, upTo-same, length-upTo}
+use Rattle.matching.proofs.UpToLaws.{getD-upTo, in-upTo, upTo-in, upTo-same, length-upTo}
 
 -- the edge number i
 abbrev pub edgeAt : List ℕ → ℕ → Edge
@@ -27,6 +27,9 @@ edgesIn-upTo (a ∷ b ∷ k ∷ es) (suc m) h =
     ap (λ (l : List Edge). between a b k ∷ l)
     (edgesIn-upTo es m (omega arith)
     ∙ upTo-same (edgeAt es) (λ j. edgeAt (a ∷ b ∷ k ∷ es) (suc j)) m (λ i l. λ z. between (sym (from-cons a b k es i) z) (sym (to-cons a b k es i) z) (sym (kind-cons a b k es i) z)))
+
+pub edge-at : (es : List ℕ) (m i : ℕ) → length es ≡ 3 * m → i < m → getD (edgesIn es) i noEdge ≡ edgeAt es i
+edge-at es m i h l = ap (λ (k : List Edge). getD k i noEdge) (edgesIn-upTo es m h) ∙ getD-upTo (edgeAt es) m i noEdge l
 
 pub edgesIn-length : (es : List ℕ) (m : ℕ) → length es ≡ 3 * m → length (edgesIn es) ≡ m
 edgesIn-length es m h = ap length (edgesIn-upTo es m h) ∙ length-upTo (edgeAt es) m

@@ -61,3 +61,8 @@ pub mod AnswerFits
 pub mod Covered
 pub mod Uncovered
 pub mod EnterLaws
+-- the part of a pattern
+pub mod PlaceLaws
+pub mod Renumbered
+pub mod PartLaws
+pub mod PatternBytes

@@ -275,6 +275,11 @@ module _ {A B : Type 0} where
   each-agree f g q (here {x = y} e) = ap f e ∙ ap (λ m. getD m 0 (f y)) q ∙ sym (ap g e)
   each-agree f g q (there i) = each-agree f g (ap (drop 1) q) i
 
+  pub each-append : (f : A → B) (l m : List A) → each f (l ++ m) ≡ each f l ++ each f m
+  unfolding each
+  each-append f [] m = refl
+  each-append f (x ∷ l) m = ap (λ k. f x ∷ k) (each-append f l m)
+
   pub length-each : (f : A → B) (l : List A) → length (each f l) ≡ length l
   unfolding each
   length-each f [] = refl
@@ -285,6 +290,12 @@ module _ {A B : Type 0} where
   getD-each f [] i a b h = absurd (not-suc-le-zero h)
   getD-each f (x ∷ l) zero a b h = refl
   getD-each f (x ∷ l) (suc i) a b h = getD-each f l i a b (le-of-suc-le-suc h)
+
+-- a function that changes no member changes nothing
+pub each-all : {A : Type 0} (f : A → A) (l : List A) → ((x : A) → In x l → f x ≡ x) → each f l ≡ l
+unfolding each
+each-all f [] h = refl
+each-all f (x ∷ l) h = λ i. h x (here refl) i ∷ each-all f l (λ y j. h y (there j)) i
 
 pub below-in : (n : ℕ) {x : ℕ} → In x (below n) → x < n
 unfolding below

@@ -1,33 +1,45 @@
--- An edge of a query that no view matches: the views' sheets don't tell the query from the query without it, and the query's own does.
+-- Edges of a query that no view matches: the views' sheets don't tell the query from the query without them, and the query's own sheet does.
 use mathlib.Core.Path.{_≡_, refl, sym, ap, subst, _∙_}
+use mathlib.Core.Bool.{Bool, not}
 use mathlib.Core.List.{List}
 use Prim.Native.Nat.{ℕ, _^_, _≤_, _<_}
 use native.Mathlib.Omega.{arith}
 use lib.ListN.{length, getD}
-use lib.Dec.{T, T-not}
+use lib.Dec.{T, T-not, not-T}
 use Rattle.packed.specs.Formats.{code}
 use Rattle.matching.specs.Lists.{In}
 use Rattle.matching.specs.Simulation.{Pair, Edge, sameEdge, asPair, bit, Pattern, Graph, asGraph, fits, ascending, matchSets, viewSheet, IsSim, sound}
-use Rattle.matching.proofs.ByEdge.{rowOf, someMatch, matchedBy, matched}
-use Rattle.matching.specs.Join.{isMatch, without}
+use Rattle.matching.proofs.ByEdge.{rowOf}
+use Rattle.matching.specs.Join.{isMatch, someMatch, matchedBy, matched, without}
 use Rattle.matching.proofs.ListLaws.{keep-in, in-some, each-agree, length-each, getD-each}
 use Rattle.matching.proofs.Masks.{bit-self}
-use Rattle.matching.proofs.SimLaws.{same-edge-refl, pair-edge, FitsInto, fits-by, sim-most}
+use Rattle.matching.proofs.SimLaws.{same-edge, same-edge-refl, pair-edge, FitsInto, fits-by, sim-most}
 use Rattle.matching.proofs.MatchLaws.{Matches, matches-edge, row-say, row-by, SoundPattern, sound-say}
 use Rattle.matching.proofs.CodeLaws.{code-same, ascending-say, ascending-by}
 use Rattle.matching.proofs.MatchSetLaws.{Narrow, sets-each, view-each, view-same}
-use Rattle.matching.proofs.Removed.{unlisted-removed}
+use Rattle.matching.proofs.Removed.{only, without-only, only-sets}
 use Rattle.matching.proofs.JoinLaws.{match-by, some-match-each}
 use Rattle.matching.proofs.Covered.{narrow-query}
 
--- no view's sheet changes
-pub uncovered-views : (Q : Pattern) (Ps : List Pattern) (e : Edge) → (T (matched Q Ps e) → ⊥) → (P : Pattern) → In P Ps → viewSheet P (asGraph Q) ≡ viewSheet P (without e (asGraph Q))
+-- an edge that stands in the row of an edge of its kind of a view is matched
+pub matched-listed : (Q : Pattern) (Ps : List Pattern) (P : Pattern) → In P Ps → (e g : Edge) → In g (P .edges) → g .kind ≡ e .kind → In (asPair e) (rowOf P (asGraph Q) g) → T (matched Q Ps e)
 unfolding matched matchedBy
-uncovered-views Q Ps e n P i =
-    let list : Edge → List ℕ = λ g. ascending (rowOf P (asGraph Q) g) in
+matched-listed Q Ps P i e g j k l =
+    let list : Edge → List ℕ = λ h. ascending (rowOf P (asGraph Q) h) in
     let q = ap (someMatch e (P .edges)) (view-each P (asGraph Q)) ∙ some-match-each e list (P .edges) in
-    view-same P (asGraph Q) (without e (asGraph Q))
-    (unlisted-removed P (asGraph Q) e λ g j k l. n (in-some _ i (subst T (sym q) (in-some (λ h. isMatch e h (list h)) j (match-by e g k l)))))
+    in-some _ i (subst T (sym q) (in-some (λ h. isMatch e h (list h)) j (match-by e g k (ascending-by l))))
+
+-- no view's sheet changes where edges go that no view matches
+pub matched-views : (Q : Pattern) (Ps : List Pattern) (takes : Edge → Bool) → ((e : Edge) → In e (Q .edges) → T (matched Q Ps e) → T (takes e)) → (P : Pattern) → In P Ps
+    → viewSheet P (asGraph Q) ≡ viewSheet P (only takes (asGraph Q))
+unfolding asGraph
+matched-views Q Ps takes h P i =
+    view-same P (asGraph Q) (only takes (asGraph Q)) (only-sets P (asGraph Q) takes λ f g x j k l. h f x (matched-listed Q Ps P i f g j k l))
+
+pub uncovered-views : (Q : Pattern) (Ps : List Pattern) (e : Edge) → (T (matched Q Ps e) → ⊥) → (P : Pattern) → In P Ps → viewSheet P (asGraph Q) ≡ viewSheet P (without e (asGraph Q))
+uncovered-views Q Ps e n P i =
+    matched-views Q Ps (λ f. not (sameEdge e f)) (λ f j t. not-T (sameEdge e f) λ s. n (subst (λ z. T (matched Q Ps z)) (sym (same-edge e f s)) t)) P i
+    ∙ ap (viewSheet P) (sym (without-only e (asGraph Q)))
 
 module _ (Q : Pattern) (ok : SoundPattern Q) where
   -- each node of Q as its own partner

@@ -1,7 +1,7 @@
 -- Laws of `upTo`, the values of a function at the numbers below n.
 use mathlib.Core.Path.{_≡_, refl, ap, ap₂}
 use mathlib.Core.Logic.{⊎-elim}
-use mathlib.Core.List.{List, _∷_}
+use mathlib.Core.List.{List, [], _∷_, _++_}
 use Prim.Native.Nat.{ℕ, zero, suc, _<_, zero-le, suc-le-suc}
 use native.Mathlib.Nat.{le-of-suc-le-suc, not-suc-le-zero}
 use lib.ListN.{length, getD}
@@ -35,6 +35,12 @@ module _ {A : Type 0} where
       (λ e. record { at = 0; below = suc-le-suc zero-le; holds = e })
       (λ j. let r = upTo-in (λ k. f (suc k)) n {x = x} j in record { at = suc (r .at); below = suc-le-suc (r .below); holds = r .holds })
       (in-cases i)
+
+  -- one number more
+  pub upTo-more : (f : ℕ → A) (n : ℕ) → upTo f (suc n) ≡ upTo f n ++ (f n ∷ [])
+  unfolding upTo
+  upTo-more f zero = refl
+  upTo-more f (suc n) = ap (λ (l : List A). f 0 ∷ l) (upTo-more (λ j. f (suc j)) n)
 
   pub upTo-same : (f g : ℕ → A) (n : ℕ) → ((i : ℕ) → i < n → f i ≡ g i) → upTo f n ≡ upTo g n
   unfolding upTo

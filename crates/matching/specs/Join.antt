@@ -1,11 +1,11 @@
 -- A query's answer from its views' sheets.
-use mathlib.Core.Bool.{Bool, cond, not}
+use mathlib.Core.Bool.{Bool, false, cond, not}
 use mathlib.Core.List.{List, [], _∷_, _++_}
 use Prim.Native.Nat.{ℕ, _/_, _%_}
 use lib.Dec.{eqb}
 use Rattle.packed.specs.Formats.{code}
 use Rattle.packed.specs.Contents.{member}
-use Rattle.matching.specs.Lists.{_and_, _implies_, every, some, keep, gather, each}
+use Rattle.matching.specs.Lists.{_and_, _or_, _implies_, every, some, keep, gather, each}
 use Rattle.matching.specs.Greatest.{greatest}
 use Rattle.matching.specs.Simulation.{Pair, Edge, sameEdge, asksArrivals, Pattern, Graph, asGraph, ascending, viewSheet}
 
@@ -24,6 +24,23 @@ pairOf c = (c / 4096, c % 4096)
 unfoldable pub isMatch : Edge → Edge → List ℕ → Bool
 isMatch e g l = eqb (g .kind) (e .kind) and member (code (e .from) (e .to)) l
 
+-- one of the edges gs, each with its list, matches e
+unfoldable pub someMatch : Edge → List Edge → List (List ℕ) → Bool
+someMatch e [] ls = false
+someMatch e (g ∷ gs) [] = false
+someMatch e (g ∷ gs) (l ∷ ls) = isMatch e g l or someMatch e gs ls
+
+-- the edge e of the query ("question") Q is matched by an edge of the view P, by its list on Q read as a graph; by an edge of one of the views
+unfoldable pub matchedBy : Pattern → Edge → Pattern → Bool
+matchedBy Q e P = someMatch e (P .edges) (viewSheet P (asGraph Q))
+
+unfoldable pub matched : Pattern → List Pattern → Edge → Bool
+matched Q Ps e = some (matchedBy Q e) Ps
+
+-- every edge of the query is matched by a view
+unfoldable pub covered : Pattern → List Pattern → Bool
+covered Q Ps = every (matched Q Ps) (Q .edges)
+
 -- what the second sheet lists under those of the edges gs that match e by the first
 unfoldable pub under : Edge → List Edge → List (List ℕ) → List (List ℕ) → List ℕ
 under e [] ms ls = []
@@ -31,7 +48,7 @@ under e (g ∷ gs) [] ls = []
 under e (g ∷ gs) (m ∷ ms) [] = []
 under e (g ∷ gs) (m ∷ ms) (l ∷ ls) = cond (isMatch e g m) l [] ++ under e gs ms ls
 
--- the candidates for the edge e of the query ("question") Q: the pairs listed under those edges of the views that match e, by their lists on Q read
+-- the candidates for the edge e of the query Q: the pairs listed under those edges of the views that match e, by their lists on Q read
 -- as a graph
 unfoldable pub candidates : Pattern → List View → Edge → List Pair
 candidates Q vs e = each pairOf (gather (λ v. under e (v .pattern .edges) (viewSheet (v .pattern) (asGraph Q)) (v .sheet)) vs)

@@ -6,6 +6,7 @@ pub mod Search
 pub mod Index
 pub mod Join
 pub mod Components
+pub mod Part
 -- inner
 pub mod Loaded
 pub mod Masks

@@ -1,23 +1,24 @@
 -- A file is accepted, with its content, exactly when the plain rules hold.
-use Prim.Native.Nat.{ℕ, _≤_}
-use mathlib.Core.Path.{_≡_, refl, ap, sym, subst}
-use mathlib.Core.List.{List}
+use Prim.Native.Nat.{ℕ, _+_, _/_, _≤_}
+use mathlib.Core.Path.{_≡_, refl, ap, sym, subst, _∙_}
+use mathlib.Core.List.{List, [], _++_, append-nil}
 use mathlib.Core.Bool.{Bool, true, false}
 use mathlib.Core.Logic.{_↔_, Iff·trans}
-use lib.ListN.{length, getD}
+use lib.ListN.{length, getD, replicate, length-append, length-replicate}
 use lib.Dec.{ltb}
 use native.Mathlib.Omega.{arith}
 use borrow.Author.Tests.{ltb-false, le-ltb}
-use Rattle.packed.specs.Bits.{bits}
-use Rattle.packed.specs.Format.{Format, Result, ok, bad, pick, ended, lay, whole, decode, encode}
+use Rattle.packed.specs.Bits.{bits, gap}
+use Rattle.packed.specs.Format.{Format, Result, ok, bad, pick, got, ended, lay, whole, bytesOf, decode, encode}
 use Rattle.packed.specs.Formats.{pattern, catalogue, record′, sheet, book}
 use Rattle.packed.specs.Contents.{edgesOf, edgeCounts}
 use Rattle.packed.specs.Calls.{accepted, rejected, inFile, readFile, readPattern, readCatalogue, readRecord, readSheet, readBook}
 use Rattle.packed.specs.OldRecord.{oldRecord, OldRecordFile}
-use Rattle.packed.specs.Plain.{PlainSheet, PatternFile, CatalogueFile, RecordFile, SheetFile, BookFile}
+use Rattle.packed.specs.Plain.{Laid, PlainSheet, PatternFile, CatalogueFile, RecordFile, SheetFile, BookFile}
+use Rattle.packed.proofs.BitsLaws.{gap-small, gap-fills}
 use Rattle.packed.proofs.RoundTrip.{Bytes, inBytes-ok, decode-encode, encode-decode}
-use Rattle.packed.proofs.Files.{bytes-bytesOf}
-use Rattle.packed.proofs.AcceptedLaws.{accepts-file, whole-same}
+use Rattle.packed.proofs.Files.{bytes-bytesOf, length-bytesOf}
+use Rattle.packed.proofs.AcceptedLaws.{Accepts, accepts-whole, accepts-file, whole-same}
 use Rattle.packed.proofs.AcceptedGraphs.{accepts-pattern, accepts-record, accepts-old}
 use Rattle.packed.proofs.AcceptedTurns.{accepts-catalogue, catalogue-length, turns-length}
 use Rattle.packed.proofs.AcceptedSheets.{accepts-sheet, accepts-book}
@@ -87,3 +88,17 @@ written-accepted F ws s = (
       (subst Bytes (sym (r .2)) (bytes-bytesOf _ (r .0)), encode-decode F ws s e),
   λ q. decode-encode F s ws (q .0) (q .1),
 )
+
+-- and a content that keeps the plain rules is written
+pub plain-written : (F : Format) {R : Laid} → Accepts F 0 R → (ws : List ℕ) (body : List Bool) → R ws body
+    → (s : List ℕ) × (encode F ws ≡ ok s) × (length s ≡ (length body + 7) / 8)
+unfolding encode
+plain-written F a ws body r =
+    let n : ℕ = length body in
+    let laid : List Bool = body ++ replicate (gap n) false in
+    let e : lay (whole F) 0 ws ≡ got laid [] =
+    ap (lay (whole F) 0) (sym (append-nil ws)) ∙ accepts-whole F 0 refl a .by ws [] laid (record { body = body; laid = r; fills = refl }) in (
+      bytesOf (length laid / 8) laid,
+      rw e,
+      omega (arith, length-bytesOf (length laid / 8) laid, length-append body (replicate (gap n) false), length-replicate (gap n) false, gap-small n, gap-fills n),
+    )

@@ -386,7 +386,7 @@ pub(crate) fn write_pattern(words: &[u32], first: usize, file: u32, out: &mut [u
 }
 
 // A whole pattern, a file of its own: its bytes stand at the front of out as far as it goes.
-pub(crate) fn judge_pattern_fields(words: &[u32], out: &mut [u8]) -> Part
+pub fn judge_pattern_fields(words: &[u32], out: &mut [u8]) -> Part
     ensures { λ r. ⌜ JudgesFields (encode pattern (now (words .entry))) 1 r (now (out .entry)) (now (out .exit)) ⌝ }
 {
     let p = write_pattern(words, 0, 1, out);

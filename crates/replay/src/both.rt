@@ -1,6 +1,7 @@
 // The calls with two outputs, which are marked and looked at here. They go to the output one after the other.
 ghost use mathlib.Core.Path.{_≡_};
 ghost use lib.ListN.{length};
+use crate::calls;
 use crate::cells;
 use crate::digest;
 use crate::marks;
@@ -49,13 +50,19 @@ fn wrote(number: usize, detail: usize, n: usize, m: usize, first: &[u8], second:
 }
 
 fn make(
+    k: usize,
     question: &[u8],
     catalogue: &[u8],
+    book: &[u8],
     first: &mut [u8],
     second: &mut [u8],
     work: &mut [u32],
 ) -> Outcome {
     mark(first, second);
+    if k == calls::PART {
+        let p = yuthaqim::yuthaqim_part(question, catalogue, book, first, second, work);
+        return wrote(p.number, p.detail, p.first, p.second, first, second);
+    }
     let s = yuthaqim::yuthaqim_show_uncovered(question, catalogue, first, second, work);
     wrote(s.number, s.detail, s.first, s.second, first, second)
 }
@@ -67,8 +74,10 @@ fn give(o: Outcome, first: &[u8], second: &[u8], out: &mut [u8]) {
 }
 
 fn call_in(
+    k: usize,
     question: &[u8],
     catalogue: &[u8],
+    book: &[u8],
     registers: &[u64],
     first: &mut [u8],
     second: &mut [u8],
@@ -78,8 +87,10 @@ fn call_in(
     let n = slices::least(cells::number(registers, cells::ROOM), first.len());
     let m = slices::least(cells::number(registers, cells::SECOND), second.len());
     let o = make(
+        k,
         question,
         catalogue,
+        book,
         &mut first[0..n],
         &mut second[0..m],
         work,
@@ -89,8 +100,10 @@ fn call_in(
 }
 
 pub fn call(
+    k: usize,
     question: &[u8],
     catalogue: &[u8],
+    book: &[u8],
     registers: &[u64],
     out: &mut [u8],
     work: &mut [u32],
@@ -98,8 +111,10 @@ pub fn call(
     let mut first = first_bytes();
     let mut second = second_bytes();
     call_in(
+        k,
         question,
         catalogue,
+        book,
         registers,
         &mut first,
         &mut second,

@@ -49,6 +49,8 @@ pub const CHECK_INDEX: usize = 19;
 
 const SEARCH_INDEXED: usize = 20;
 
+pub const PART: usize = 21;
+
 // The states of a join after each of its steps, which no client sees.
 const STEPS: usize = 62;
 
@@ -220,8 +222,8 @@ fn on_parts(
     if k == CHEAPEST {
         return cheapest(a, b, &words[0..m], work);
     }
-    if k == SHOW_UNCOVERED {
-        return both::call(a, b, registers, out, work);
+    if (k == SHOW_UNCOVERED) | (k == PART) {
+        return both::call(k, a, b, d, registers, out, work);
     }
     if k == MAKE_INDEX {
         return indexed::make(c, room, out, work);

@@ -12,7 +12,7 @@ use Rattle.containment.specs.declared.quote_type.Coverage.{Coverage}
 use Rattle.containment.specs.declared.quote_type.Coverage.the-variants as coverage-is
 use Rattle.containment.specs.declared.quote_type.Quote.{Quote}
 use Rattle.containment.proofs.Numbered.{refusal-numbered}
-use Rattle.yuthaqim.specs.Numbered.{toldBy, numberedQuoteTold, numberedShownTold, numberedCheapestTold, QuoteZeros, ShownZeros, CheapestZeros}
+use Rattle.yuthaqim.specs.Numbered.{toldBy, numberedQuoteTold, numberedBothTold, numberedCheapestTold, QuoteZeros, BothZeros, CheapestZeros}
 use Rattle.yuthaqim.specs.declared.numbered.NumberedQuote.{NumberedQuote}
 
 pub settled-as : {none : List ℕ} {a : Outcome} {r r′ : Told} {outs outs′ : List (List ℕ)} {work work′ : List ℕ}
@@ -50,17 +50,17 @@ module _ (q : Quote) where
   unfolding numberedQuoteTold quoteTold
   quote-refused x e p r = (rw (p, r, refused-told) (quote-with e), record { no-detail = λ h. absurd (number-not-0 x (sym p ∙ h)) })
 
--- a showing in numbers
-pub shown-done : (a b : ℕ) → (numberedShownTold (record { number = 0; detail = 0; first = a; second = b }) ≡ told 0 (a ∷ b ∷ []))
-    × ShownZeros (record { number = 0; detail = 0; first = a; second = b })
-unfolding numberedShownTold toldBy
-shown-done a b = (refl, record { no-detail = λ h. refl; no-first = λ n. absurd (n refl); no-second = λ n. absurd (n refl) })
+-- two outputs in numbers
+pub both-done : (a b : ℕ) → (numberedBothTold (record { number = 0; detail = 0; first = a; second = b }) ≡ told 0 (a ∷ b ∷ []))
+    × BothZeros (record { number = 0; detail = 0; first = a; second = b })
+unfolding numberedBothTold toldBy
+both-done a b = (refl, record { no-detail = λ h. refl; no-first = λ n. absurd (n refl); no-second = λ n. absurd (n refl) })
 
-pub shown-refused : (x : Refusal) {n d : ℕ} → n ≡ numberOf x → d ≡ detailOf x
-    → (numberedShownTold (record { number = n; detail = d; first = 0; second = 0 }) ≡ told (numberOf x) (detailOf x ∷ []))
-    × ShownZeros (record { number = n; detail = d; first = 0; second = 0 })
-unfolding numberedShownTold
-shown-refused x p r = (rw (p, r, refused-told), record { no-detail = λ h. absurd (number-not-0 x (sym p ∙ h)); no-first = λ n. refl; no-second = λ n. refl })
+pub both-refused : (x : Refusal) {n d : ℕ} → n ≡ numberOf x → d ≡ detailOf x
+    → (numberedBothTold (record { number = n; detail = d; first = 0; second = 0 }) ≡ told (numberOf x) (detailOf x ∷ []))
+    × BothZeros (record { number = n; detail = d; first = 0; second = 0 })
+unfolding numberedBothTold
+both-refused x p r = (rw (p, r, refused-told), record { no-detail = λ h. absurd (number-not-0 x (sym p ∙ h)); no-first = λ n. refl; no-second = λ n. refl })
 
 -- a cheapest set in numbers
 pub cheapest-done : (set sum chosen : ℕ) → (numberedCheapestTold (record { number = 0; detail = 0; sum = sum; set = set; chosen = chosen }) ≡ told 0 (set ∷ sum ∷ chosen ∷ []))

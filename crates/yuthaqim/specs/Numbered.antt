@@ -8,7 +8,7 @@ use Rattle.packed.specs.Refusals.{Told, told}
 use Rattle.containment.specs.Quote.{QuoteValues, flat}
 use Rattle.yuthaqim.specs.declared.numbered.NumberedReply.{NumberedReply}
 use Rattle.yuthaqim.specs.declared.numbered.NumberedQuote.{NumberedQuote}
-use Rattle.yuthaqim.specs.declared.numbered.NumberedShown.{NumberedShown}
+use Rattle.yuthaqim.specs.declared.numbered.NumberedBoth.{NumberedBoth}
 use Rattle.yuthaqim.specs.declared.numbered.NumberedCheapest.{NumberedCheapest}
 
 -- the values of success, or those of a refusal
@@ -25,8 +25,8 @@ numberedValues q = record { covered = q .covered; mapping = q .mapping; edges = 
 unfoldable pub numberedQuoteTold : NumberedQuote → Told
 numberedQuoteTold q = toldBy (q .number) (flat (numberedValues q)) (q .detail ∷ flat (numberedValues q))
 
-unfoldable pub numberedShownTold : NumberedShown → Told
-numberedShownTold s = toldBy (s .number) (s .first ∷ s .second ∷ []) (s .detail ∷ [])
+unfoldable pub numberedBothTold : NumberedBoth → Told
+numberedBothTold b = toldBy (b .number) (b .first ∷ b .second ∷ []) (b .detail ∷ [])
 
 unfoldable pub numberedCheapestTold : NumberedCheapest → Told
 numberedCheapestTold c = toldBy (c .number) (c .set ∷ c .sum ∷ c .chosen ∷ []) (c .detail ∷ [])
@@ -35,11 +35,11 @@ numberedCheapestTold c = toldBy (c .number) (c .set ∷ c .sum ∷ c .chosen ∷
 pub record QuoteZeros (q : NumberedQuote) : Type 0 where
   pub no-detail : q .number ≡ 0 → q .detail ≡ 0
 
--- a showing has no detail, and a refusal has no lengths
-pub record ShownZeros (s : NumberedShown) : Type 0 where
-  pub no-detail : s .number ≡ 0 → s .detail ≡ 0
-  pub no-first : (s .number ≡ 0 → ⊥) → s .first ≡ 0
-  pub no-second : (s .number ≡ 0 → ⊥) → s .second ≡ 0
+-- two outputs have no detail, and a refusal has no lengths
+pub record BothZeros (b : NumberedBoth) : Type 0 where
+  pub no-detail : b .number ≡ 0 → b .detail ≡ 0
+  pub no-first : (b .number ≡ 0 → ⊥) → b .first ≡ 0
+  pub no-second : (b .number ≡ 0 → ⊥) → b .second ≡ 0
 
 -- a cheapest set has no detail, and a refusal has no set and no sum
 pub record CheapestZeros (c : NumberedCheapest) : Type 0 where

@@ -9,13 +9,14 @@ ghost use Rattle.matching.specs.Search.{searchOutcome, makeBookOutcome};
 ghost use Rattle.matching.specs.Index.{makeIndexOutcome, checkIndexOutcome, searchIndexedOutcome};
 ghost use Rattle.containment.specs.Quote.{quoteOutcome, blank};
 ghost use Rattle.containment.specs.Answer.{answerOutcome, answerFrom};
+ghost use Rattle.containment.specs.Part.{partOutcome};
 ghost use Rattle.containment.specs.Show.{showOutcome};
 ghost use Rattle.containment.specs.Cheapest.{cheapestOutcome};
-ghost use Rattle.yuthaqim.specs.Numbered.{numberedReplyTold, numberedQuoteTold, numberedShownTold, numberedCheapestTold, QuoteZeros, ShownZeros, CheapestZeros};
+ghost use Rattle.yuthaqim.specs.Numbered.{numberedReplyTold, numberedQuoteTold, numberedBothTold, numberedCheapestTold, QuoteZeros, BothZeros, CheapestZeros};
+use numbered::NumberedBoth;
 use numbered::NumberedCheapest;
 use numbered::NumberedQuote;
 use numbered::NumberedReply;
-use numbered::NumberedShown;
 
 // Reads a pattern.
 #[no_mangle]
@@ -258,6 +259,21 @@ pub extern "C" fn yuthaqim_answer_from(
     numbered::reply(containment::answer_from(question, catalogue, set, book, out, work))
 }
 
+// Finds the part of a question that the extracts answer, and answers it from a book: writes the part as a pattern, and its sheet.
+#[no_mangle]
+pub extern "C" fn yuthaqim_part(
+    question: &[u8],
+    catalogue: &[u8],
+    book: &[u8],
+    part: &mut [u8],
+    answer: &mut [u8],
+    work: &mut [u32],
+) -> NumberedBoth
+    ensures { λ r. ⌜ Settled [] (withWorkspace (length (now (work .entry))) (partOutcome (now (question .entry)) (now (catalogue .entry)) (now (book .entry)) (length (now (part .entry))) (length (now (answer .entry))))) (numberedBothTold r) (now (part .entry) ∷ now (answer .entry) ∷ []) (now (part .exit) ∷ now (answer .exit) ∷ []) (now (work .entry)) (now (work .exit)) × BothZeros r ⌝ }
+{
+    numbered::both(containment::part(question, catalogue, book, part, answer, work))
+}
+
 // Shows why a question is not covered: writes it as a record, and the same without its lowest unmatched link.
 #[no_mangle]
 pub extern "C" fn yuthaqim_show_uncovered(
@@ -266,10 +282,10 @@ pub extern "C" fn yuthaqim_show_uncovered(
     first: &mut [u8],
     second: &mut [u8],
     work: &mut [u32],
-) -> NumberedShown
-    ensures { λ r. ⌜ Settled [] (withWorkspace (length (now (work .entry))) (showOutcome (now (question .entry)) (now (catalogue .entry)) (length (now (first .entry))) (length (now (second .entry))))) (numberedShownTold r) (now (first .entry) ∷ now (second .entry) ∷ []) (now (first .exit) ∷ now (second .exit) ∷ []) (now (work .entry)) (now (work .exit)) × ShownZeros r ⌝ }
+) -> NumberedBoth
+    ensures { λ r. ⌜ Settled [] (withWorkspace (length (now (work .entry))) (showOutcome (now (question .entry)) (now (catalogue .entry)) (length (now (first .entry))) (length (now (second .entry))))) (numberedBothTold r) (now (first .entry) ∷ now (second .entry) ∷ []) (now (first .exit) ∷ now (second .exit) ∷ []) (now (work .entry)) (now (work .exit)) × BothZeros r ⌝ }
 {
-    numbered::shown(containment::show_uncovered(question, catalogue, first, second, work))
+    numbered::both(containment::show_uncovered(question, catalogue, first, second, work))
 }
 
 // Finds the cheapest set of extracts that covers a question, by the charges of the extracts.

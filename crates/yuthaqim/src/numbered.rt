@@ -1,14 +1,14 @@
 // Answers in numbers: an enum doesn't cross to C.
 ghost use mathlib.Core.Path.{_≡_};
 ghost use Rattle.packed.specs.Refusals.{replyTold};
+ghost use Rattle.containment.specs.Both.{bothTold};
 ghost use Rattle.containment.specs.Cheapest.{cheapestTold};
 ghost use Rattle.containment.specs.Quote.{quoteTold};
-ghost use Rattle.containment.specs.Show.{shownTold};
-ghost use Rattle.yuthaqim.specs.Numbered.{numberedReplyTold, numberedQuoteTold, numberedShownTold, numberedCheapestTold, QuoteZeros, ShownZeros, CheapestZeros};
+ghost use Rattle.yuthaqim.specs.Numbered.{numberedReplyTold, numberedQuoteTold, numberedBothTold, numberedCheapestTold, QuoteZeros, BothZeros, CheapestZeros};
+use containment::both::Both;
 use containment::costing::Cheapest;
 use containment::quote_type::Coverage;
 use containment::quote_type::Quote;
-use containment::showing::Shown;
 use packed::reply;
 use packed::reply::Reply;
 
@@ -31,9 +31,9 @@ pub struct NumberedQuote {
     pub mapping: [u32; 512],
 }
 
-// 0 and the lengths of the two records, or a refusal's number and detail. What has no meaning is zero.
+// 0 and the lengths of the two outputs, or a refusal's number and detail. What has no meaning is zero.
 #[repr(C)]
-pub struct NumberedShown {
+pub struct NumberedBoth {
     pub number: usize,
     pub detail: usize,
     pub first: usize,
@@ -101,17 +101,17 @@ pub fn quote(q: Quote) -> NumberedQuote
     }
 }
 
-pub fn shown(s: Shown) -> NumberedShown
-    ensures { λ n. ⌜ (numberedShownTold n ≡ shownTold s) × ShownZeros n ⌝ }
+pub fn both(b: Both) -> NumberedBoth
+    ensures { λ n. ⌜ (numberedBothTold n ≡ bothTold b) × BothZeros n ⌝ }
 {
-    match s {
-        Shown::Done(first, second) => NumberedShown {
+    match b {
+        Both::Done(first, second) => NumberedBoth {
             number: 0,
             detail: 0,
             first,
             second,
         },
-        Shown::Refused(x) => NumberedShown {
+        Both::Refused(x) => NumberedBoth {
             number: reply::number_of(x),
             detail: reply::detail_of(x),
             first: 0,

@@ -23,10 +23,10 @@ pub struct Quoted {
     pub mapping: [u32; 512],
 }
 
-/// The answer of a showing. What has no meaning is zero.
+/// The answer of a call with two outputs. What has no meaning is zero.
 #[repr(C)]
 #[derive(Clone, Copy, Debug, PartialEq, Eq)]
-pub struct Showed {
+pub struct Both {
     pub number: usize,
     pub detail: usize,
     pub first: usize,
@@ -72,7 +72,7 @@ impl Quoted {
     }
 }
 
-impl Showed {
+impl Both {
     pub fn result(self) -> Result<(usize, usize), Refusal> {
         judged(self.number, self.detail, (self.first, self.second))
     }

@@ -1,6 +1,6 @@
 //! The calls.
 
-use crate::{Cheapest, Priced, Quote, Quoted, Refusal, Replied, Showed};
+use crate::{Both, Cheapest, Priced, Quote, Quoted, Refusal, Replied};
 
 /// Each call with its function in the archive, the items of its inputs and of its outputs, what that function answers and
 /// what the call gives. A parameter of a function in the archive is a slice, as its pointer and its length; a number among
@@ -101,10 +101,16 @@ calls! {
     /// name none are ignored. If the book was made from a record, every set that covers the question gives the same. Of
     /// [`UNCOVERED`](crate::UNCOVERED) the detail is the lowest link that this set leaves unmatched.
     answer_from = yuthaqim_answer_from(question: u8, catalogue: u8 [set: u16] book: u8; out: u8) -> Replied, usize;
+    /// Finds the part of a question that the extracts answer, and answers it from a book: writes the part as a pattern, and
+    /// its sheet, which [`answer`] gives for the part by itself. The part has the question's matched links in their order,
+    /// and the items at them, numbered upward. Every choice of the question's links that is covered lies inside it; of a
+    /// covered question it is the question. [`UNCOVERED`](crate::UNCOVERED) is given only where no link is matched. Nothing
+    /// is written unless both fit; [`PATTERN_BYTES`](crate::PATTERN_BYTES) always suffice for the part.
+    part = yuthaqim_part(question: u8, catalogue: u8, book: u8; part: u8, answer: u8) -> Both, (usize, usize);
     /// Shows why a question is uncovered: writes the question read as a record, and the same without its lowest
     /// unmatched link, which is the lowest by its number in the question; a link between the same items of another kind
     /// stays. The links of both records ascend. Every extract lists the same on both, the question doesn't.
-    show_uncovered = yuthaqim_show_uncovered(question: u8, catalogue: u8; first: u8, second: u8) -> Showed, (usize, usize);
+    show_uncovered = yuthaqim_show_uncovered(question: u8, catalogue: u8; first: u8, second: u8) -> Both, (usize, usize);
     /// Finds the cheapest set of extracts that covers a question, by one charge for each extract, in catalogue order. No set
     /// that covers costs less; of those that cost as much it has the fewest extracts, and of those it comes first when the
     /// numbers are read upward. It has no output.

@@ -1,6 +1,7 @@
 //! Files of patterns, catalogues, records, sheets and books; searching a record, by an index beside it too, quoting a
-//! question, finding the cheapest extracts for it, answering it from a book, and showing why it is uncovered. The work is
-//! done by a library whose every call is proved to meet its contract; this crate only hands over slices.
+//! question, finding the cheapest extracts for it, answering it or the part of it that can be had from a book, and
+//! showing why it is uncovered. The work is done by a library whose every call is proved to meet its contract; this crate
+//! only hands over slices.
 //!
 //! A call is lent its output and at least [`WORK_WORDS`] words to work in. It answers how much of the output it wrote, or
 //! a [`Refusal`], which leaves the output as it was. The words may hold anything before a call. Afterwards the first
@@ -40,6 +41,17 @@
 //! let length = yuthaqim::answer_from(&question, &catalogue, cheapest.set, book, &mut same, &mut work)?;
 //! assert_eq!(same[..length], sheet[..length]);
 //!
+//! // With one extract the question is uncovered: the part that this one answers, and its answer.
+//! let slow = [0x08, 0x18, 0x40, 0x08, 0xc0, 0x40, 0x90];
+//! assert_eq!(yuthaqim::quote(&question, &slow, &mut work)?.lowest_unmatched, Some(1));
+//! let mut lists = [0; yuthaqim::BOOK_BYTES];
+//! let length = yuthaqim::make_book(&slow, record, &mut lists, &mut work)?;
+//! let mut part = [0; yuthaqim::PATTERN_BYTES];
+//! let (size, length) = yuthaqim::part(&question, &slow, &lists[..length], &mut part, &mut same, &mut work)?;
+//! assert_eq!(part[..size], slow[1..]);
+//! let length = yuthaqim::read_sheet(&part[..size], &same[..length], &mut content, &mut work)?;
+//! assert_eq!(content[..length], [1, 1, 0, 1, 1, 1, 2]);
+//!
 //! // An index beside the record: a search by it gives the same sheet.
 //! let mut index = [0; yuthaqim::INDEX_ENTRIES];
 //! let entries = yuthaqim::make_index(record, &mut index, &mut work)?;
@@ -65,7 +77,7 @@
 mod answers;
 mod calls;
 
-pub use answers::{Priced, Quoted, Replied, Showed};
+pub use answers::{Both, Priced, Quoted, Replied};
 pub use calls::*;
 
 use std::error::Error;
@@ -137,9 +149,9 @@ pub struct Refusal {
     /// 1 to 16.
     pub number: usize,
     /// Of 1 to 10 the file at fault (1 a pattern, 2 a catalogue, 3 a record, 4 a book or sheet), of [`UNCOVERED`] the
-    /// lowest link that is unmatched, by the set that was named where one was, of [`NO_FIT`] how much the output needs, of
-    /// [`CHARGES`] how many charges there were, of [`INDEX`] how many entries there were if that is wrong, else the first
-    /// position that differs, of the others zero.
+    /// lowest link that is unmatched, by the set that was named where one was, of [`NO_FIT`] how much the first output
+    /// without room needs, of [`CHARGES`] how many charges there were, of [`INDEX`] how many entries there were if that is
+    /// wrong, else the first position that differs, of the others zero.
     pub detail: usize,
 }
 

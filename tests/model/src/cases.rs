@@ -34,7 +34,7 @@ pub fn written() -> (Vec<u8>, String) {
 /// More than a call asks for.
 fn lend_most(script: &mut Script) {
     script.set(ROOM, ROOM_MOST);
-    script.set(SECOND, 180);
+    script.set(SECOND, ROOM_MOST);
     script.set(WORK, WORK_MOST);
 }
 

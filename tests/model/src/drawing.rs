@@ -2,6 +2,7 @@
 //! are drawn.
 
 use crate::files::*;
+use crate::part::choice;
 use crate::rule::{below, next, Drawn, Lists};
 
 pub struct Rule {
@@ -121,29 +122,18 @@ fn draw_question(rule: &mut Rule, size: u32, full: bool, kinds: Kinds) -> Patter
 }
 
 /// Some of m links, but not the spared one; if that leaves none, any one.
-fn draw_links(rule: &mut Rule, m: u32, spared: u32) -> Vec<u32> {
+fn draw_links(rule: &mut Rule, m: u32, spared: u32) -> Vec<usize> {
     let one_in = 1 + rule.draw(4);
     let mut links = Vec::new();
     for e in 0..m {
         if rule.draw(one_in) == 0 && e != spared {
-            links.push(e);
+            links.push(e as usize);
         }
     }
     if links.is_empty() {
-        links.push(rule.draw(m));
+        links.push(rule.draw(m) as usize);
     }
     links
-}
-
-/// The part of a question that has these links and their ends.
-fn part(question: &Pattern, links: &[u32]) -> Pattern {
-    let links: Vec<Link> = links.iter().map(|&e| question.links[e as usize]).collect();
-    let is_end = |u: &u32| links.iter().any(|&(from, to, _)| from == *u || to == *u);
-    let items: Vec<u32> = (0..question.kinds.len() as u32).filter(is_end).collect();
-    let number = |u: u32| items.iter().position(|&item| item == u).unwrap() as u32;
-    let kinds = items.iter().map(|&u| question.kinds[u as usize]).collect();
-    let links = links.iter().map(|&(from, to, kind)| (number(from), number(to), kind)).collect();
-    Pattern { kinds, links }
 }
 
 /// An extract: a pattern of its own, a part of the question in which one item or one link has any kind, or a part of it.
@@ -153,7 +143,7 @@ fn draw_extract(rule: &mut Rule, question: &Pattern, spared: u32, kinds: Kinds) 
         return draw_pattern(rule, kinds);
     }
     let Pattern { kinds: mut items, mut links } =
-        part(question, &draw_links(rule, question.links.len() as u32, spared));
+        choice(question, &draw_links(rule, question.links.len() as u32, spared));
     if form == 1 {
         let item = rule.draw(items.len() as u32) as usize;
         items[item] = kinds.item(rule);

@@ -9,6 +9,7 @@ mod drawing;
 pub mod files;
 pub mod indexing;
 pub mod matching;
+pub mod part;
 pub mod quoting;
 mod replay;
 mod rule;

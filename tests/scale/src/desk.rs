@@ -5,12 +5,13 @@ use crate::tally::{Call, Tally};
 use model::cheapest::{self, Cheapest};
 use model::files::{Refusal, NO_FIT};
 use model::indexing;
+use model::part;
 use model::quoting::{self, Quote};
 use std::fmt::Debug;
-use yuthaqim::{raw, Priced, Quoted, Showed, WORK_WORDS};
+use yuthaqim::{raw, Both, Priced, Quoted, WORK_WORDS};
 
 /// The most that is lent for an output: more than any has.
-const MOST: usize = 75_000;
+pub const MOST: usize = 75_000;
 
 /// What stands before and behind each piece of lent memory.
 const GUARD: usize = 16;
@@ -229,13 +230,16 @@ fn quoted(quote: &Result<Quote, Refusal>) -> Quoted {
     quoted
 }
 
-/// A showing of the model as the library answers it.
-fn showed(showing: &Result<(Vec<u8>, Vec<u8>), Refusal>) -> Showed {
-    match showing {
-        Ok((first, second)) => Showed { number: 0, detail: 0, first: first.len(), second: second.len() },
+/// What the model writes to two outputs.
+pub type TwoFiles = Result<(Vec<u8>, Vec<u8>), Refusal>;
+
+/// The two outputs of the model as the library answers them.
+fn both(files: &TwoFiles) -> Both {
+    match files {
+        Ok((first, second)) => Both { number: 0, detail: 0, first: first.len(), second: second.len() },
         Err(refusal) => {
             let yuthaqim::Refusal { number, detail } = refused(refusal);
-            Showed { number, detail, first: 0, second: 0 }
+            Both { number, detail, first: 0, second: 0 }
         }
     }
 }
@@ -326,6 +330,36 @@ impl Desk<u8> {
         notes.end(&asked, &expected, &answered, expected.as_ref().err().copied(), &held)
     }
 
+    /// A call with two outputs, for which so much is lent.
+    fn two(
+        &mut self,
+        notes: &mut Notes,
+        draw: &mut Draw,
+        asked: Asked,
+        (first, second): (usize, usize),
+        expected: TwoFiles,
+        library: impl FnOnce(&mut [u8], &mut [u8], &mut [u32]) -> Both,
+    ) -> Result<TwoFiles, Difference> {
+        let fill = draw.word();
+        let answered = library(
+            self.out.lend(first, fill as u8),
+            self.second.lend(second, fill as u8),
+            self.work.lend(asked.lent.work, fill),
+        );
+        let (front, rest) = match &expected {
+            Ok((first, second)) => (&first[..], &second[..]),
+            Err(_) => (&[][..], &[][..]),
+        };
+        let held = [
+            ("answer", answered == both(&expected)),
+            ("first output", self.out.begins(front)),
+            ("second output", self.second.begins(rest)),
+            ("workspace", self.work.is_cleared()),
+        ];
+        notes.end(&asked, &expected, &answered, expected.as_ref().err().copied(), &held)?;
+        Ok(expected)
+    }
+
     /// For the second record a few bytes fewer are lent. It is three or four bytes shorter than the first.
     pub fn show(
         &mut self,
@@ -334,32 +368,36 @@ impl Desk<u8> {
         lent: Lent,
         question: &[u8],
         catalogue: &[u8],
-    ) -> Result<Result<(Vec<u8>, Vec<u8>), Refusal>, Difference> {
+    ) -> Result<TwoFiles, Difference> {
         let fewer = draw.below(6);
         let second = |room: usize| room.saturating_sub(fewer);
         let show = |room, work| quoting::show(question, catalogue, room, second(room), work);
         let (lent, expected) = fitted(draw, lent, show);
-        let fill = draw.word();
-        let answered = raw::show_uncovered(
-            question,
-            catalogue,
-            self.out.lend(lent.room, fill as u8),
-            self.second.lend(second(lent.room), fill as u8),
-            self.work.lend(lent.work, fill),
-        );
-        let (front, rest) = match &expected {
-            Ok((first, second)) => (&first[..], &second[..]),
-            Err(_) => (&[][..], &[][..]),
-        };
         let inputs = &[("question", &question as _), ("catalogue", &catalogue as _), ("fewer", &fewer as _)];
         let asked = Asked { call: Call::ShowUncovered, inputs, lent };
-        let held = [
-            ("answer", answered == showed(&expected)),
-            ("first output", self.out.begins(front)),
-            ("second output", self.second.begins(rest)),
-            ("workspace", self.work.is_cleared()),
-        ];
-        notes.end(&asked, &expected, &answered, expected.as_ref().err().copied(), &held)?;
-        Ok(expected)
+        let rooms = (lent.room, second(lent.room));
+        let show =
+            |first: &mut _, second: &mut _, work: &mut _| raw::show_uncovered(question, catalogue, first, second, work);
+        self.two(notes, draw, asked, rooms, expected, show)
+    }
+
+    /// What is lent is for the answer; for the part just so much as is given beside it.
+    pub fn part(
+        &mut self,
+        notes: &mut Notes,
+        draw: &mut Draw,
+        (first, lent): (usize, Lent),
+        question: &[u8],
+        catalogue: &[u8],
+        book: &[u8],
+    ) -> Result<TwoFiles, Difference> {
+        let expected = part::part(question, catalogue, book, first, lent.room, lent.work);
+        let inputs: [(_, &dyn Debug); 4] =
+            [("question", &question), ("catalogue", &catalogue), ("book", &book), ("first", &first)];
+        let asked = Asked { call: Call::Part, inputs: &inputs, lent };
+        let rooms = (first, lent.room);
+        let part =
+            |first: &mut _, second: &mut _, work: &mut _| raw::part(question, catalogue, book, first, second, work);
+        self.two(notes, draw, asked, rooms, expected, part)
     }
 }

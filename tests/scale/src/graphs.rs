@@ -2,6 +2,7 @@
 
 use crate::draw::{Draw, Size};
 use model::files::{Book, Catalogue, Link, Pattern, Record, Sheet};
+use model::part::choice;
 use std::collections::BTreeSet;
 
 /// The kinds in use, of items and of links, so few that different graphs have some in common.
@@ -84,16 +85,6 @@ pub fn has_links_beside(pattern: &Pattern) -> bool {
     pairs.len() < pattern.links.len()
 }
 
-/// The part of a pattern that has these links and their ends.
-fn part(pattern: &Pattern, links: &[Link]) -> Pattern {
-    let items: BTreeSet<u32> = links.iter().flat_map(|&(from, to, _)| [from, to]).collect();
-    let number = |item: u32| items.range(..item).count() as u32;
-    Pattern {
-        kinds: items.iter().map(|&item| pattern.kinds[item as usize]).collect(),
-        links: links.iter().map(|&(from, to, kind)| (number(from), number(to), kind)).collect(),
-    }
-}
-
 /// Extracts for a question: parts of it, and patterns of their own. If it is to be covered, the parts have every link
 /// between them; if not, mostly one link is in none, and in some parts the kind of an item or of a link is another.
 pub fn draw_catalogue(draw: &mut Draw, kinds: &Kinds, question: &Pattern, covered: bool) -> Catalogue {
@@ -101,21 +92,24 @@ pub fn draw_catalogue(draw: &mut Draw, kinds: &Kinds, question: &Pattern, covere
     if number == 0 {
         return Catalogue::new();
     }
-    let spared = (!covered && !draw.one_in(4)).then(|| draw.of(&question.links));
-    let mut parts = vec![Links::new(); number];
-    for &link in &question.links {
+    let spared = (!covered && !draw.one_in(4)).then(|| draw.below(question.links.len()));
+    let mut parts: Vec<Vec<usize>> = vec![Vec::new(); number];
+    for link in 0..question.links.len() {
         if spared != Some(link) {
             parts[draw.below(number)].push(link);
             if draw.one_in(3) {
-                put_link(&mut parts[draw.below(number)], link, 32);
+                let part = &mut parts[draw.below(number)];
+                if part.last() != Some(&link) {
+                    part.push(link);
+                }
             }
         }
     }
-    let mut extract = |links: &Links| {
+    let mut extract = |links: &Vec<usize>| {
         if links.is_empty() {
             return draw_pattern(draw, kinds, 4);
         }
-        let mut extract = part(question, links);
+        let mut extract = choice(question, links);
         if !covered && draw.one_in(8) {
             let item = draw.below(extract.kinds.len());
             extract.kinds[item] = kinds.item(draw);
@@ -131,6 +125,18 @@ pub fn draw_catalogue(draw: &mut Draw, kinds: &Kinds, question: &Pattern, covere
         extract
     };
     parts.iter().map(&mut extract).collect()
+}
+
+/// A choice of a question's links, one at least: any of them, or of those that are matched.
+pub fn draw_choice(draw: &mut Draw, links: usize, matched: &[usize]) -> Vec<usize> {
+    let all: Vec<usize> = (0..links).collect();
+    let of = if draw.one_in(3) { &all } else { matched };
+    let one_in = draw.within(1, 4);
+    let mut choice: Vec<usize> = of.iter().copied().filter(|_| !draw.one_in(one_in)).collect();
+    if choice.is_empty() {
+        choice.push(draw.of(of));
+    }
+    choice
 }
 
 /// Charges for so many extracts, or one time in eight for another number of them. They tie, cost nothing, have equal sums

@@ -1,12 +1,14 @@
 //! The inputs: which call a seed makes, with which files, and what is lent.
 
-use crate::desk::{exactly, fitted, Asked, Desk, Difference, Lent, Notes};
+use crate::desk::{exactly, fitted, Asked, Desk, Difference, Lent, Notes, TwoFiles, MOST};
 use crate::draw::{draw_size, Draw, Size};
 use crate::graphs::*;
 use crate::layout::{content, file, of_book, of_catalogue, of_old_record, of_pattern, of_record};
 use crate::tally::Call;
 use model::cheapest::cheapest;
 use model::files::{graph_fields, Catalogue, Pattern, Refusal, OLD_RECORD_BYTES, WORK_WORDS};
+use model::part::{choice, part};
+use model::quoting::Quote;
 use model::{answering, files, indexing, matching, quoting};
 use std::fmt::Debug;
 use yuthaqim::{BOOK_BYTES, CATALOGUE_BYTES, INDEX_ENTRIES, PATTERN_BYTES, RECORD_BYTES};
@@ -47,6 +49,25 @@ fn draw_subject_of(draw: &mut Draw, kinds: Kinds, covered: bool) -> Subject {
     let question = draw_pattern(draw, &kinds, items);
     let catalogue = draw_catalogue(draw, &kinds, &question, covered);
     Subject { kinds, size, question, catalogue }
+}
+
+/// The links of a question that are matched.
+fn matched(quote: &Quote) -> Vec<usize> {
+    (0..quote.mapping.len()).filter(|&e| !quote.mapping[e].is_empty()).collect()
+}
+
+/// One whose question is mostly matched in part: others are drawn again, a few times.
+fn draw_matched_in_part(draw: &mut Draw) -> Subject {
+    let mut subject = draw_subject(draw, false);
+    for _ in 0..draw.of(&[0, 8, 8, 8]) {
+        let (question, catalogue) = (of_pattern(&subject.question).bytes(), of_catalogue(&subject.catalogue).bytes());
+        let quote = quoting::quote(&question, &catalogue, WORK_WORDS).unwrap();
+        if !quote.covered && !matched(&quote).is_empty() {
+            break;
+        }
+        subject = draw_subject(draw, false);
+    }
+    subject
 }
 
 impl Subject {
@@ -121,10 +142,12 @@ impl Test {
     pub fn input(&mut self, seed: u64) -> Result<(), Difference> {
         let draw = &mut Draw::new(seed);
         match draw.below(100) {
-            0..=25 => self.lone_file(draw),
-            26..=27 => self.sort_record(draw),
+            0..=23 => self.lone_file(draw),
+            24..=25 => self.sort_record(draw),
+            26..=27 => self.part(draw),
             28..=43 => self.file_beside(draw),
-            44..=62 => self.lone_content(draw),
+            44..=60 => self.lone_content(draw),
+            61..=62 => self.part_and_search(draw),
             63..=74 => self.content_beside(draw),
             75..=77 => self.search(draw),
             78 => self.index(draw),
@@ -441,6 +464,133 @@ impl Test {
         if answered.outcome.is_ok_and(|sheet| sheet != [0]) {
             self.notes.tally.with_pairs += 1;
             self.notes.tally.beside += u64::from(beside);
+        }
+        Ok(())
+    }
+
+    /// From a book that belongs to no record.
+    fn part(&mut self, draw: &mut Draw) -> Result<(), Difference> {
+        let subject = draw_matched_in_part(draw);
+        let lent = Lent::draw(draw);
+        let question = subject.question(draw, 16);
+        let catalogue = subject.catalogue(draw, 16);
+        let sheets = draw_book(draw, subject.size, &subject.catalogue);
+        let layout = of_book(draw, &sheets, 16);
+        let book = file(draw, layout, 8, BOOK_BYTES);
+        let _ = self.part_of(draw, lent, &question, &catalogue, &book)?;
+        if question == of_pattern(&subject.question).bytes() {
+            self.choices(draw, &subject.question, &catalogue)?;
+        }
+        Ok(())
+    }
+
+    /// The part with about so much lent for both outputs as they need: with what it gives stands how much was lent.
+    fn part_of(
+        &mut self,
+        draw: &mut Draw,
+        lent: Lent,
+        question: &[u8],
+        catalogue: &[u8],
+        book: &[u8],
+    ) -> Result<(Lent, TwoFiles), Difference> {
+        let whole = part(question, catalogue, book, MOST, BOOK_BYTES, WORK_WORDS);
+        let needed = whole.map_or(1, |(part, _)| part.len());
+        let first = match draw.below(16) {
+            0 => draw.below(needed),
+            1 => needed - 1,
+            2..=5 => needed,
+            _ => needed + draw.below(60),
+        };
+        let (lent, _) = fitted(draw, lent, |room, work| part(question, catalogue, book, MOST, room, work));
+        Ok((lent, self.bytes.part(&mut self.notes, draw, (first, lent), question, catalogue, book)?))
+    }
+
+    /// Choices of a question's links: those that are covered lie inside the part.
+    fn choices(&mut self, draw: &mut Draw, question: &Pattern, catalogue: &[u8]) -> Result<(), Difference> {
+        let Ok(quote) = quoting::quote(&of_pattern(question).bytes(), catalogue, WORK_WORDS) else {
+            return Ok(());
+        };
+        let matched = matched(&quote);
+        if matched.is_empty() {
+            return Ok(());
+        }
+        for _ in 0..3 {
+            let links = draw_choice(draw, question.links.len(), &matched);
+            let chosen = of_pattern(&choice(question, &links)).bytes();
+            if !quoting::quote(&chosen, catalogue, WORK_WORDS).unwrap().covered {
+                continue;
+            }
+            let whole = Lent { room: BOOK_BYTES, work: WORK_WORDS };
+            self.bytes.quote(&mut self.notes, draw, whole, &chosen, catalogue)?;
+            if !links.iter().all(|e| matched.contains(e)) {
+                return Err(format!("covered, and not inside the part: {links:?} of {question:?}\n{catalogue:02x?}\n"));
+            }
+            self.notes.tally.choices += 1;
+            self.notes.tally.smaller += u64::from(links.len() < matched.len());
+        }
+        Ok(())
+    }
+
+    /// From the book of a record, and the record searched for the part, without an index and with its own: all are the same, down
+    /// to the refusal. Each of the part's links lists what the question lists under it, or more.
+    fn part_and_search(&mut self, draw: &mut Draw) -> Result<(), Difference> {
+        let subject = draw_matched_in_part(draw);
+        let question = of_pattern(&subject.question).bytes();
+        let catalogue = of_catalogue(&subject.catalogue).bytes();
+        // The question, or what is matched of it, or both.
+        let quote = quoting::quote(&question, &catalogue, WORK_WORDS).unwrap();
+        let matched = matched(&quote);
+        let planted = [subject.question.clone(), choice(&subject.question, &matched)];
+        let planted =
+            if matched.is_empty() { &planted[..1] } else { draw.of(&[&planted[..1], &planted[1..], &planted]) };
+        let record = draw_record(draw, &subject.kinds, subject.size, planted);
+        let record = of_record(&record).bytes();
+        let whole = Lent { room: BOOK_BYTES, work: WORK_WORDS };
+        let made = reply!(self.bytes, draw, exactly(whole), MakeBook, matching::make_book(catalogue, record))?;
+        let Ok(book) = made.outcome else {
+            return Ok(());
+        };
+        self.choices(draw, &subject.question, &catalogue)?;
+        let lent = Lent::draw(draw);
+        let (lent, given) = self.part_of(draw, lent, &question, &catalogue, &book)?;
+        if matched.is_empty() {
+            return Ok(());
+        }
+        let part = of_pattern(&choice(&subject.question, &matched)).bytes();
+        if quote.covered && part != question {
+            return Err(format!("covered, and not the whole: {part:02x?}\n"));
+        }
+        let searched = reply!(self.bytes, draw, exactly(lent), Search, matching::search(part, record))?;
+        let index = index_of(&record);
+        let indexed =
+            reply!(self.bytes, draw, exactly(lent), SearchIndexed, indexing::search_indexed(part, record, index))?;
+        let asked = reply!(self.bytes, draw, exactly(lent), Answer, answering::answer(part, catalogue, book))?;
+        if indexed.outcome != searched.outcome || asked.outcome != searched.outcome {
+            return Err(format!("part searched for: {:?}\nanswered: {:?}\n", searched.outcome, asked.outcome));
+        }
+        let Ok((written, answer)) = given else {
+            return Ok(());
+        };
+        if written != part || Ok(&answer) != searched.outcome.as_ref() {
+            return Err(format!("part: {written:02x?}, {answer:02x?}\nsearch: {:?}\n", searched.outcome));
+        }
+        if quote.covered {
+            self.notes.tally.whole += 1;
+            return Ok(());
+        }
+        let record = matching::record_of(&record, WORK_WORDS).unwrap();
+        let own = matching::sheet(&files::judge_pattern(&part).unwrap(), &record);
+        let asked = matching::sheet(&subject.question, &record);
+        for (list, &e) in own.iter().zip(&matched) {
+            if !asked[e].iter().all(|pair| list.contains(pair)) {
+                return Err(format!("link {e} lists {:?}, and in the part {list:?}\n", asked[e]));
+            }
+        }
+        self.notes.tally.parts += 1;
+        if answer != [0] {
+            self.notes.tally.parts_with_pairs += 1;
+            let more = own.iter().zip(&matched).any(|(list, &e)| list.len() > asked[e].len());
+            self.notes.tally.wider += u64::from(more);
         }
         Ok(())
     }

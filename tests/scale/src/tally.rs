@@ -27,6 +27,7 @@ pub enum Call {
     MakeIndex,
     CheckIndex,
     SearchIndexed,
+    Part,
 }
 
 impl Call {
@@ -64,6 +65,16 @@ pub struct Tally {
     pub cheapest: u64,
     pub not_chosen: u64,
     pub tied: u64,
+    /// Parts of uncovered questions that were answered from the book of a record, and the record searched for them; those of
+    /// them whose sheet has pairs, and those of these that list more than the question's own sheet does.
+    pub parts: u64,
+    pub parts_with_pairs: u64,
+    pub wider: u64,
+    /// Parts of covered questions, answered likewise.
+    pub whole: u64,
+    /// Choices of a question's links that are covered, each of them inside its part, and those of them that are not all of it.
+    pub choices: u64,
+    pub smaller: u64,
     /// Old files that were sorted, and those of them whose links were not in order.
     pub sorted: u64,
     pub disordered: u64,
@@ -92,6 +103,7 @@ impl fmt::Display for Tally {
         line(f, "all", &std::array::from_fn(|number| self.counts.iter().map(|counts| counts[number]).sum()))?;
         let Tally { answered, with_pairs, beside, shown, one_kind, from_sets, indexed, apart, .. } = self;
         let Tally { cheapest, not_chosen, tied, sorted, disordered, .. } = self;
+        let Tally { parts, parts_with_pairs, wider, whole, choices, smaller, .. } = self;
         writeln!(
             f,
             "{answered} covered questions answered as the record is searched, {with_pairs} of them with pairs, {beside} of \
@@ -104,6 +116,12 @@ impl fmt::Display for Tally {
             "{shown} showings with the same lists of all extracts and another sheet of the question, {one_kind} of them with \
              the pair that goes still there, in another kind"
         )?;
+        writeln!(
+            f,
+            "{parts} parts of uncovered questions answered as the record is searched for them, {parts_with_pairs} of them \
+             with pairs, {wider} of these with more than the question lists; {whole} of covered questions, all of them whole"
+        )?;
+        writeln!(f, "{choices} choices of links that are covered, each inside the part, {smaller} of them smaller")?;
         writeln!(f, "{apart} answers from books of no record that are not those of the chosen set")?;
         writeln!(f, "{cheapest} cheapest sets, {not_chosen} of them not the chosen one, {tied} tied with another up to the numbers")?;
         writeln!(

@@ -59,8 +59,8 @@ fn quotes(script: &mut Script) {
     script.round(SHOW_UNCOVERED);
 }
 
-/// The book of a record, where it fits, and the answers from it, beside searches where the question is covered, without an
-/// index and with one.
+/// The book of a record, where it fits, the part and the answers from it, beside searches where the question is covered, without
+/// an index and with one.
 fn answers(script: &mut Script, rule: &mut Rule, files: &Files, items: u32, kinds: Kinds) {
     lay_record(script, rule, items, kinds);
     script.once(MAKE_BOOK);
@@ -68,6 +68,7 @@ fn answers(script: &mut Script, rule: &mut Rule, files: &Files, items: u32, kind
         return;
     }
     keep_as(script, BOOK_PART);
+    script.round(PART);
     script.round(ANSWER);
     if files.is_covered() {
         script.hold();
@@ -92,8 +93,9 @@ fn covering(rule: &mut Rule, files: &Files) -> u16 {
     }
 }
 
-/// Answers from the chosen set and from any other.
+/// The part, and answers from the chosen set and from any other.
 fn both_answers(script: &mut Script, rule: &mut Rule, files: &Files) {
+    script.round(PART);
     script.round(ANSWER);
     let set = if rule.draw(2) == 0 { covering(rule, files) } else { rule.draw(65_536) as u16 };
     script.set(SET, set.into());
@@ -201,6 +203,7 @@ fn case(
         }
         quotes(script);
         if book {
+            script.round(PART);
             script.round(ANSWER);
             script.once(ANSWER_FROM);
         }

@@ -117,12 +117,18 @@ impl Good {
     }
 }
 
-/// Files of the worked cases. A showing wants an uncovered question, the converter links out of order.
+/// Whether a call is made on an uncovered question.
+fn of_uncovered(call: usize) -> bool {
+    [SHOW_UNCOVERED, PART].contains(&call)
+}
+
+/// Files of the worked cases. A showing wants an uncovered question, and a part is made of one; the converter has links out of
+/// order.
 fn small(call: usize) -> Good {
     let record = |links: &[Link]| graph_fields(&[1, 6, 8], links);
     Good {
         question: D.to_vec(),
-        catalogue: if call == SHOW_UNCOVERED { SLOW.to_vec() } else { C.to_vec() },
+        catalogue: if of_uncovered(call) { SLOW.to_vec() } else { C.to_vec() },
         record: match call {
             SORT_RECORD => pack_old_record(&record(&[(1, 2, 0), (0, 1, 0)])),
             _ => pack_record(&record(&[(0, 1, 0), (1, 2, 0)])),
@@ -155,9 +161,10 @@ fn large(made: usize, packed: impl Fn(&[u32]) -> Vec<u8>) -> Good {
     }
 }
 
-/// Links of one pair that differ in their kinds alone: the question's, which the extracts cover or, for a showing, don't.
+/// Links of one pair that differ in their kinds alone: the question's, which the extracts cover or, for a showing or a part,
+/// don't.
 fn of_kinds(call: usize) -> Good {
-    let extracts: &[&[u32]] = if call == SHOW_UNCOVERED { &[&[1]] } else { &[&[1], &[0], &[0, 1]] };
+    let extracts: &[&[u32]] = if of_uncovered(call) { &[&[1]] } else { &[&[1], &[0], &[0, 1]] };
     Good {
         question: worked::pattern(&kinds::one(&[0, 1])),
         catalogue: worked::catalogue(&kinds::each(extracts)),
@@ -231,7 +238,7 @@ pub fn write(script: &mut Script) {
     script.group();
     large(MAKE_BOOK, pack_record).lay_all(script);
     script.content(&[u32::MAX]);
-    sweep_all(script, &[SEARCH, MAKE_BOOK, QUOTE, ANSWER, CHEAPEST, ANSWER_FROM], 101);
+    sweep_all(script, &[SEARCH, MAKE_BOOK, QUOTE, ANSWER, CHEAPEST, ANSWER_FROM, PART], 101);
     large(MAKE_INDEX, pack_record).lay_book(script);
     sweep_all(script, &[MAKE_INDEX, CHECK_INDEX, SEARCH_INDEXED], 1);
     large(MAKE_BOOK, pack_old_record).lay(script, RECORD_PART);

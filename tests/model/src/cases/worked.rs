@@ -150,11 +150,12 @@ fn chosen_by_the_client(script: &mut Script, name: &str) {
     answered_from(script, "a book of no record", 7);
 }
 
-/// The book of a record, the answer from it, and the search.
+/// The book of a record, the answer and the part from it, and the search.
 pub fn answered(script: &mut Script, name: &str) {
     say(script, &format!("{name}, make_book"), MAKE_BOOK);
     keep_as(script, BOOK_PART);
     say(script, &format!("{name}, answer"), ANSWER);
+    say(script, &format!("{name}, part"), PART);
     beside_plain(script, name);
 }
 

@@ -7,6 +7,7 @@ use crate::cheapest::cheapest;
 use crate::files::*;
 use crate::indexing::{check_index, make_index, search_indexed};
 use crate::matching::{make_book, search};
+use crate::part::part;
 use crate::quoting::{quote, show};
 
 /// What is lent to a call: the parts, the content, a set of extracts; how many words are lent to a reader, and how much of an
@@ -146,6 +147,11 @@ calls! {
             |l| Outcome::checked(check_index(l.record, &l.index(), l.work));
         SEARCH_INDEXED 20 "search_indexed" [Question, Record, Index, Room]
             |l| Outcome::sheet(search_indexed(l.question, l.record, &l.index(), l.room, l.work));
+        PART 21 "part" [Question, Catalogue, Book, Room, Second]
+            |l| {
+                let (first, second) = l.rooms();
+                Outcome::both(part(l.question, l.catalogue, l.book, first, second, l.work))
+            };
     }
     // The states of a join after each step, and the search that the program makes apart from the library's, which to the
     // model is the same.

@@ -6,7 +6,8 @@ use Prim.Native.Nat.{ℕ, _+_, _≤_, _-_}
 use native.Mathlib.Omega.{arith}
 use Rattle.matching.specs.Masks.{Mask}
 use Rattle.containment.specs.Tries.{EdgeMatchedBy}
-use Rattle.containment.proofs.TriesLaws.{matches-yes, matches-no, edges-none, edges-more, edges-same}
+use Rattle.containment.proofs.SetBits.{passing-none, passing-more, passing-same}
+use Rattle.containment.proofs.TriesLaws.{matches-yes, matches-no}
 use Rattle.containment.proofs.costing.edges_of.Statement.{statement}
 use Rattle.containment.proofs.costing.edges_of.Tie as tie
 
@@ -17,7 +18,7 @@ abbrev μ-loop : tie.MeasureT-loop
 μ-loop mapping a m mask₀ e₀ mask e = m - e
 
 loop-holds : tie.Need-loop-holds Inv-loop μ-loop
-loop-holds c = (search needs, edges-none _ _)
+loop-holds c = (search needs, passing-none _)
 
 mul-at : tie.Need-mul-at Inv-loop μ-loop
 mul-at c = search needs
@@ -45,8 +46,8 @@ loop-again c =
     let a = c .before .before .before .before .args in
     let l = c .before .before .before .loop in (
       search needs,
-      ⊎-elim (λ w. subst (Mask (EdgeMatchedBy (a .mapping .now) (a .a) (l .e + 1))) (sym (w .2)) (edges-more _ _ (l .inv .1) (matches-yes _ _ _ (w .0 .taken)) _ (w .1 .ensures)))
-          (λ w. subst (Mask (EdgeMatchedBy (a .mapping .now) (a .a) (l .e + 1))) (sym (w .1)) (edges-same _ _ (l .inv .1) (matches-no _ _ _ (w .0 .left))))
+      ⊎-elim (λ w. subst (Mask (EdgeMatchedBy (a .mapping .now) (a .a) (l .e + 1))) (sym (w .2)) (passing-more _ (l .inv .1) (matches-yes _ _ _ (w .0 .taken)) _ (w .1 .ensures)))
+          (λ w. subst (Mask (EdgeMatchedBy (a .mapping .now) (a .a) (l .e + 1))) (sym (w .1)) (passing-same _ (l .inv .1) (matches-no _ _ _ (w .0 .left))))
           (c .if1 .came),
     )
 
