@@ -14,7 +14,7 @@ use Rattle.packed.specs.OldRecord.{oldRecord}
 use Rattle.packed.specs.Formats.{code, rank, edges, label, joined, pattern, catalogue, labels, rising, record′, pairs, lists, standing, sheet, book}
 use Rattle.packed.specs.Refusals.{numberOf}
 use Rattle.packed.specs.declared.reply.Refusal.{Refusal}
-use Rattle.packed.specs.declared.reply.Refusal.the-variants.{TooLong, Truncated, OutOfRange, NoSuchNode, DuplicateEdge, NotAscending, IsolatedNode, ZeroCount, Trailing, TooManyPairs, NotContained, NoRoom, Contained, SmallWorkspace, WrongCharges, WrongIndex}
+use Rattle.packed.specs.declared.reply.Refusal.the-variants.{TooLong, Truncated, OutOfRange, NoSuchNode, DuplicateEdge, NotAscending, IsolatedNode, ZeroCount, Trailing, TooManyPairs, NotContained, NoRoom, Contained, SmallWorkspace, WrongCharges, WrongIndex, WrongQuestions}
 use Rattle.packed.specs.Calls.{Outcome, give, refuse, withWorkspace, rejected, inFile, readFile, writeFile, judged, pairsOf, withinPairsBy, fit, fitFile}
 use Rattle.matching.specs.Index.{alike, ownIndex}
 use Rattle.containment.specs.Show.{fitBoth}
@@ -27,23 +27,31 @@ pub record Numbered (n : ℕ) : Type 0 where
 pub numbered : (n : ℕ) → leb 1 n ≡ true → leb n 16 ≡ true → Numbered n
 numbered n p q = record { least = leb-true 1 n p; most = leb-true n 16 q }
 
-pub refusal-numbered : (x : Refusal) → Numbered (numberOf x)
-refusal-numbered (TooLong d) = numbered 1 refl refl
-refusal-numbered (Truncated d) = numbered 2 refl refl
-refusal-numbered (OutOfRange d) = numbered 3 refl refl
-refusal-numbered (NoSuchNode d) = numbered 4 refl refl
-refusal-numbered (DuplicateEdge d) = numbered 5 refl refl
-refusal-numbered (NotAscending d) = numbered 6 refl refl
-refusal-numbered (IsolatedNode d) = numbered 7 refl refl
-refusal-numbered (ZeroCount d) = numbered 8 refl refl
-refusal-numbered (Trailing d) = numbered 9 refl refl
-refusal-numbered (TooManyPairs d) = numbered 10 refl refl
-refusal-numbered (NotContained d) = numbered 11 refl refl
-refusal-numbered (NoRoom d) = numbered 12 refl refl
-refusal-numbered Contained = numbered 13 refl refl
-refusal-numbered SmallWorkspace = numbered 14 refl refl
-refusal-numbered (WrongCharges d) = numbered 15 refl refl
-refusal-numbered (WrongIndex d) = numbered 16 refl refl
+-- a refusal has a number, which 0, success, is not
+pub record Positive (n : ℕ) : Type 0 where
+  pub least : 1 ≤ n
+
+positive : (n : ℕ) → leb 1 n ≡ true → Positive n
+positive n p = record { least = leb-true 1 n p }
+
+pub refusal-numbered : (x : Refusal) → Positive (numberOf x)
+refusal-numbered (TooLong d) = positive 1 refl
+refusal-numbered (Truncated d) = positive 2 refl
+refusal-numbered (OutOfRange d) = positive 3 refl
+refusal-numbered (NoSuchNode d) = positive 4 refl
+refusal-numbered (DuplicateEdge d) = positive 5 refl
+refusal-numbered (NotAscending d) = positive 6 refl
+refusal-numbered (IsolatedNode d) = positive 7 refl
+refusal-numbered (ZeroCount d) = positive 8 refl
+refusal-numbered (Trailing d) = positive 9 refl
+refusal-numbered (TooManyPairs d) = positive 10 refl
+refusal-numbered (NotContained d) = positive 11 refl
+refusal-numbered (NoRoom d) = positive 12 refl
+refusal-numbered Contained = positive 13 refl
+refusal-numbered SmallWorkspace = positive 14 refl
+refusal-numbered (WrongCharges d) = positive 15 refl
+refusal-numbered (WrongIndex d) = positive 16 refl
+refusal-numbered (WrongQuestions d) = positive 17 refl
 
 -- the numbers that fall to what stands in a file, or in content
 pub record FileFault (n : ℕ) : Type 0 where

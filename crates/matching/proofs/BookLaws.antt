@@ -14,11 +14,11 @@ use Rattle.packed.specs.Formats.{catalogue, sheet as sheetFormat}
 use Rattle.packed.specs.Contents.{viewsOf, pairCount, sheetFields, sheetLength}
 use Rattle.packed.specs.Reading.{Stands}
 use Rattle.packed.specs.LoadedGraph.{Holds}
-use Rattle.packed.specs.Matches.{marked, markedFrom, anyEmpty, emptied, allOrNone, matchesOf, SheetWritten}
+use Rattle.packed.specs.Matches.{marked, markedFrom, anyEmpty, emptied, allOrNone, matchesOf, Marked, SheetWritten}
 use Rattle.packed.proofs.Sets.{sets-append, sets-drop}
 use Rattle.packed.proofs.SheetLaws.{Fit, fit-none, fit-next, fit-all, length-one, length-most}
 use Rattle.packed.proofs.BookSheetLaws.{none-total}
-use Rattle.packed.proofs.MatchLaws.{fit-lists, matches-encode}
+use Rattle.packed.proofs.MatchLaws.{fit-lists, matches-long, matches-encode}
 use Rattle.packed.proofs.AcceptedBounds.{catalogue-views}
 use Rattle.packed.specs.declared.by_value.Pattern.{Pattern as Given}
 use Rattle.matching.specs.Simulation.{oneWay, Pattern, ruled, Graph, patternOf, matchSets, viewSheet}
@@ -42,6 +42,13 @@ unfolding pairCount
 total-most fit-none = omega arith
 total-most (fit-next r h f) = omega (arith, total-most f)
 
+-- a sheet of up to 32 lists takes at most so many bytes
+pub size-at-most : (d m : ℕ) (w : List ℕ) → Marked d w → m ≤ 32 → sheetLength m (pairCount (matchesOf d m w)) ≤ 786489
+unfolding matchesOf
+size-at-most d m w h few =
+    let t = total-most (fit-all _ (fit-lists d m w h)) in
+    omega (arith, length-most m (pairCount (matchesOf d m w)) (8192 * m) (omega (arith, t, matches-long d m w)))
+
 -- a pattern that is given is matched by its own rule
 pub own-rule : (p : Given) → ruled oneWay (patternIn p) ≡ patternIn p
 unfolding patternIn
@@ -59,8 +66,7 @@ module _ {p : Given} {s : List ℕ} {n m : ℕ} {w : List ℕ} {d : ℕ} {w′ :
   listed = matchSets (patternIn p) (graphIn s n m w)
 
   made-long : length made ≡ p .edges
-  unfolding patternIn
-  made-long = ap length (q .sets) ∙ sets-length (patternIn p) (graphIn s n m w) ∙ length-upTo _ (p .edges)
+  made-long = matches-long d (p .edges) w′
 
   -- the bytes that are counted
   pub size-is : sheetLength (p .edges) (pairCount made) ≡ length (sheetBytes listed)
@@ -68,12 +74,6 @@ module _ {p : Given} {s : List ℕ} {n m : ℕ} {w : List ℕ} {d : ℕ} {w′ :
       let x = sheet-by (p .edges) made made-long (matches-encode d (p .edges) w′ (q .marked)) in
       let y = rw made-long at (x .size) in
       sym y ∙ ap (λ (ls : List (List ℕ)). length (sheetBytes ls)) (q .sets)
-
-  pub size-most : p .edges ≤ 32 → sheetLength (p .edges) (pairCount made) ≤ 786489
-  unfolding matchesOf
-  size-most h =
-      let t = total-most (fit-all _ (fit-lists d (p .edges) w′ (q .marked))) in
-      omega (arith, length-most (p .edges) (pairCount made) (8192 * p .edges) (omega (arith, t, made-long)))
 
   -- the bytes that are written
   pub bytes-are : {out out′ : List ℕ} {r : ℕ} (x : SheetWritten d (p .edges) w′ out r out′) → x .bytes ≡ sheetBytes listed
@@ -295,7 +295,7 @@ sizing-next z some v at q r e =
     record {
       turn = turned-next t some v at q;
       is = omega (arith, z .is, e, size-is q, ap length (past-next t some v at q), length-append (bookPast t) (sheet t some v at q));
-      most = omega (arith, z .most, e, size-most q f);
+      most = omega (arith, z .most, e, size-at-most _ _ _ (q .marked) f);
     }
 
 -- the sizes of the sheets are kept
@@ -345,7 +345,7 @@ module _ {c s : List ℕ} {n m : ℕ} {w₀ : List ℕ} {k size byte a : ℕ} {s
 
 -- ---- its bytes
 -- the rest of the lent book, from a byte on, once the front of that was written
-rest-written : (out : List ℕ) (at : ℕ) (part bytes : List ℕ) → at ≤ length out → part ≡ sets (take (length out - at) (drop at out)) 0 bytes
+pub rest-written : (out : List ℕ) (at : ℕ) (part bytes : List ℕ) → at ≤ length out → part ≡ sets (take (length out - at) (drop at out)) 0 bytes
     → putMid at (length out - at) out part ≡ sets out at bytes
 rest-written out at part bytes h e =
     let l : length (drop at out) ≤ length out - at = omega (arith, length-drop at out) in

@@ -8,6 +8,7 @@ use lib.ListN.{length, getD, set, length-set}
 use lib.Seq.{getD-set-same, getD-set-other}
 use lib.Bits.{bitOr}
 use Rattle.packed.specs.Order.{Outside}
+use Rattle.matching.specs.Loaded.{Edges}
 use Rattle.packed.specs.Distinct.{Increasing}
 use Rattle.packed.specs.Limits.{pairWidth}
 use Rattle.packed.specs.Walks.{fieldOr, pairPlace, codesOn}
@@ -31,17 +32,21 @@ pool-less l p =
       rises = λ i j h k. p .rises i j h (omega arith);
     }
 
-pub pool-keep : {d : ℕ} {w w′ : List ℕ} → Pool d w → Outside 8192 d w w′ → Pool d w′
+-- the words below 8192 stay where only those behind are written
+pub edges-around : {d : ℕ} {w w′ : List ℕ} → Outside 8192 d w w′ → Edges w w′
+edges-around o = record { long = o .long; same = o .low }
+
+pub pool-keep : {d : ℕ} {w w′ : List ℕ} → Pool d w → Edges w w′ → Pool d w′
 pool-keep p o =
     let m = p .most in
     record {
       most = m;
       long = o .long ∙ p .long;
-      small = λ i h. rw (o .low i (omega arith)) (p .small i h);
-      rises = λ i j h k. rw (o .low i (omega arith), o .low j (omega arith)) (p .rises i j h k);
+      small = λ i h. rw (o .same i (omega arith)) (p .small i h);
+      rises = λ i j h k. rw (o .same i (omega arith), o .same j (omega arith)) (p .rises i j h k);
     }
 
-pub walkable-keep : {s : List ℕ} {start n d : ℕ} {w w′ : List ℕ} → Walkable s start n d w → Outside 8192 d w w′ → Walkable s start n d w′
+pub walkable-keep : {s : List ℕ} {start n d : ℕ} {w w′ : List ℕ} → Walkable s start n d w → Edges w w′ → Walkable s start n d w′
 walkable-keep t o =
     record {
       pool = pool-keep (t .pool) o;
@@ -52,7 +57,7 @@ walkable-keep t o =
           let p = t .present c i in
           let m = t .pool .most in
           let b = p .below in
-          record { at = p .at; below = b; holds = o .low (p .at) (omega arith) ∙ p .holds };
+          record { at = p .at; below = b; holds = o .same (p .at) (omega arith) ∙ p .holds };
     }
 
 -- a place with a code that is not lower stands not before
@@ -271,7 +276,7 @@ module _ {s : List ℕ} {first n x d : ℕ} {w₀ w : List ℕ} {i past : ℕ} (
               fits = omega arith;
               ascends = increasing-tail code _ rises;
               present = λ c i. t .rest .present c (later-in i);
-            }) around;
+            }) (edges-around around);
             next = λ c l e j h q.
                 let a : code < c = increasing-at (code ∷ c ∷ l) (subst (λ (z : List ℕ). Increasing (code ∷ z)) e rises) 0 1 (omega arith) (omega arith) in
                 let v = found .1 in

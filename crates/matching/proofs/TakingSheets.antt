@@ -8,14 +8,14 @@ use native.Mathlib.Omega.{arith}
 use lib.ListN.{length, getD, take}
 use lib.Seq.{getD-take, length-take-le}
 use Rattle.packed.specs.Bits.{gap}
-use Rattle.packed.specs.Order.{Outside}
+use Rattle.matching.specs.Loaded.{Edges}
 use Rattle.packed.specs.Walks.{codesAt, pairPlace, listFirst, listCount, listEnd, Spans, listsEnd, listsFirst, listsCount, sheetEnd}
 use Rattle.packed.specs.BookSheets.{listAt, sheetAt}
 use Rattle.packed.specs.declared.cursor.Extent.{Extent}
 use Rattle.matching.specs.Lists.{In}
 use Rattle.matching.specs.Masks.{Has, Mask, OneOf}
 use Rattle.matching.specs.Candidates.{Walkable, Sheeted, SheetedAt, Booked, Taken, Listing, SheetListing, SheetListingAt, BookListing}
-use Rattle.matching.proofs.Taking.{pool-keep, walkable-keep}
+use Rattle.matching.proofs.Taking.{edges-around, pool-keep, walkable-keep}
 use Rattle.matching.proofs.MaskBits.{mask-cast, mask-self, none-has, one-none, one-last, one-more, one-cases}
 
 -- the numbers below n with Q
@@ -29,11 +29,11 @@ union-own Q j n {r} m e =
 
 -- ---- the codes stay, whatever becomes of the masks
 module _ {d : ℕ} {w w′ : List ℕ} where
-  pub sheeted-keep : {s : List ℕ} {start lists : ℕ} → Sheeted s start lists d w → Outside 8192 d w w′ → Sheeted s start lists d w′
+  pub sheeted-keep : {s : List ℕ} {start lists : ℕ} → Sheeted s start lists d w → Edges w w′ → Sheeted s start lists d w′
   sheeted-keep t o =
       record { pool = pool-keep (t .pool) o; short = t .short; few = t .few; begins = t .begins; each = λ f l. walkable-keep (t .each f l) o }
 
-  pub booked-keep : {s counts : List ℕ} {k : ℕ} → Booked s counts k d w → Outside 8192 d w w′ → Booked s counts k d w′
+  pub booked-keep : {s counts : List ℕ} {k : ℕ} → Booked s counts k d w → Edges w w′ → Booked s counts k d w′
   booked-keep t o =
       record { pool = pool-keep (t .pool) o; short = t .short; few = t .few; small = t .small; each = λ a l. sheeted-keep (t .each a l) o }
 
@@ -105,7 +105,7 @@ module _ {s : List ℕ} {start lists : ℕ} {t : List ℕ} {a m d : ℕ} {w₀ w
         let here : Walkable s (listFirst at) (listCount s at) d w₀ =
         subst (λ (x : ℕ). Walkable s (listFirst x) (listCount s x) d w₀) (sym (g .ends)) (p .each f h) in
         let there : Walkable s (l .first) (l .count) d w₀ = rw (list .first, list .count) here in
-        walkable-keep there (g .taken .around)
+        walkable-keep there (edges-around (g .taken .around))
 
     pub sheet-more : {x : ℕ} {w′ : List ℕ} → Mask (λ e. (e < m) × Has (getD t (16 * e + a) 0) f) x → Taken d (Listing s (l .first) (l .count) x) w w′
         → TakingSheet s start lists t a m d w₀ w′ (l .next) (f + 1)
@@ -163,7 +163,7 @@ module _ {s counts : List ℕ} {k : ℕ} {t : List ℕ} {set m d : ℕ} {w₀ w 
   module _ (p : Booked s counts k d w₀) (l : a < k) where
     -- the sheet a can be walked
     pub book-sheet : SheetedAt s at (getD counts a 0) d w
-    book-sheet = sheeted-keep (subst (λ (x : ℕ). SheetedAt s x (getD counts a 0) d w₀) (sym (g .begins)) (p .each a l)) (g .taken .around)
+    book-sheet = sheeted-keep (subst (λ (x : ℕ). SheetedAt s x (getD counts a 0) d w₀) (sym (g .begins)) (p .each a l)) (edges-around (g .taken .around))
 
     pub book-more : {r next : ℕ} {w′ : List ℕ} → k ≤ length counts → ((e : ℕ) → e < r → (e < m) × Has set a) → ((e : ℕ) → e < m → Has set a → e < r)
         → next ≡ sheetEnd s at (getD counts a 0) → Taken d (SheetListingAt s at (getD counts a 0) t a r) w w′

@@ -1,4 +1,4 @@
--- The views of an accepted catalogue, read one by one from its bits.
+-- Patterns of an accepted file, the views of a catalogue or the questions of one call, read one by one from its bits.
 use Prim.Native.Nat.{ℕ, suc, _+_, _-_, _*_, _%_, _<_, _≤_}
 use mathlib.Core.Path.{_≡_, refl, sym, ap, ap₂, subst, _∙_}
 use mathlib.Core.Logic.{⊎-elim}
@@ -10,9 +10,9 @@ use native.Mathlib.Omega.{arith}
 use native.Mathlib.Nat.{zero-add}
 use Rattle.packed.specs.Bits.{bits, bitsOf}
 use Rattle.packed.specs.Format.{done, whole, got, push, scan, ok, decode}
-use Rattle.packed.specs.Formats.{pattern, catalogue}
+use Rattle.packed.specs.Formats.{pattern, patterns, catalogue}
 use Rattle.packed.specs.Contents.{nodesOf, edgesOf, patternSize, patternsIn, viewsOf}
-use Rattle.packed.specs.Plain.{PlainPattern, Whole}
+use Rattle.packed.specs.Plain.{PlainPattern, PlainPatterns, Whole}
 use Rattle.packed.specs.ByValue.{HoldsPattern}
 use Rattle.packed.specs.Reading.{from, Reading, Refuses, Content}
 use Rattle.packed.specs.declared.reply.Refusal.{Refusal}
@@ -21,11 +21,11 @@ use Rattle.packed.proofs.BitsLaws.{length-bits, length-bitsOf}
 use Rattle.packed.proofs.RoundTrip.{scan-done, scan-lay, lay-scan}
 use Rattle.packed.proofs.AcceptedLaws.{Accepts, accepts-whole, whole-length}
 use Rattle.packed.proofs.AcceptedGraphs.{accepts-pattern}
-use Rattle.packed.proofs.Accepted.{catalogue-accepted}
+use Rattle.packed.proofs.Accepted.{questions-accepted, catalogue-accepted}
 use Rattle.packed.proofs.AcceptedBounds.{Bounded, plain-bounded, patternsIn-flatten}
 use Rattle.packed.proofs.CallLaws.{front-is}
 use Rattle.matching.specs.Lists.{In}
-use Rattle.matching.specs.Matched.{ViewAt}
+use Rattle.matching.specs.Matched.{PatternAt, ViewAt}
 use Rattle.matching.specs.declared.views.View.{View}
 use Rattle.matching.proofs.ListLaws.{not-in-none, in-cases}
 
@@ -72,9 +72,9 @@ module _ {s : List ℕ} {at : ℕ} {w₀ : List ℕ} {next n : ℕ} {w : List �
       let b = plain-bounded (r .read) (q .0) (q .1) in
       rw front-read (b .most-nodes, b .most-edges, omega (arith, b .size))
 
-  pub view-held : {p : Given} → HoldsPattern front p → (ws : List ℕ) (end : ℕ) → from (whole pattern) s at ≡ got ws (drop end (bits s)) → end ≤ 8 * length s
+  front-held : {p : Given} → HoldsPattern front p → (ws : List ℕ) (end : ℕ) → from (whole pattern) s at ≡ got ws (drop end (bits s)) → end ≤ 8 * length s
       → HoldsPattern ws p × (next ≡ end)
-  view-held {p} h ws end e l =
+  front-held {p} h ws end e l =
       let g = got-read in
       let a : r .read ≡ ws = cc in
       let d : drop next (bits s) ≡ drop end (bits s) = cc in (
@@ -82,9 +82,12 @@ module _ {s : List ℕ} {at : ℕ} {w₀ : List ℕ} {next n : ℕ} {w : List �
         omega (arith, ap length d, length-drop next (bits s), length-drop end (bits s), length-bits s, r .inside),
       )
 
-pub view-refused : {A : Type 0} {s : List ℕ} {at file : ℕ} {x : Refusal} → Refuses (whole pattern) s at file x
-    → (ws : List ℕ) (end : ℕ) → from (whole pattern) s at ≡ got ws (drop end (bits s)) → A
-view-refused q ws end e = absurd (let n = q .number in let z : _≡_ {A = ℕ} 0 1 = cc in omega arith)
+pub view-held : {s : List ℕ} {byte : ℕ} {w₀ : List ℕ} {next n : ℕ} {w : List ℕ} (r : Reading (whole pattern) s (8 * byte) w₀ 0 done next w n) (room : n ≤ length w₀)
+    → {p : Given} → HoldsPattern (front r room) p → (ws : List ℕ) (end : ℕ) → PatternAt s byte ws end → HoldsPattern ws p × (next ≡ end)
+view-held r room h ws end a = front-held r room h ws end (a .reads) (a .within)
+
+pub view-refused : {A : Type 0} {s : List ℕ} {byte file : ℕ} {x : Refusal} → Refuses (whole pattern) s (8 * byte) file x → (ws : List ℕ) (end : ℕ) → PatternAt s byte ws end → A
+view-refused q ws end a = absurd (let n = q .number in let e = a .reads in let z : _≡_ {A = ℕ} 0 1 = cc in omega arith)
 
 -- ---- the views one after the other
 -- bits that are patterns with these contents, each up to a whole byte
@@ -118,6 +121,14 @@ follow-aligned : {bs : List Bool} {vs : List (List ℕ)} → Follow bs vs → le
 follow-aligned none-follow = refl
 follow-aligned (next-follows {bs = own} {rest = rest} q f) = let a : length own % 8 ≡ 0 = whole-length q in omega (arith, length-append own rest, follow-aligned f)
 
+-- where the first stands, and the others follow it
+pub record Found (s : List ℕ) (byte : ℕ) (v : List ℕ) (vs : List (List ℕ)) : Type 0 where
+  pub end : ℕ
+  pub at : PatternAt s byte v end
+  pub body : List Bool
+  pub plain : PlainPattern v body
+  pub others : Follow (drop end (bits s)) vs
+
 -- what `view_at` gives is the first, and the others are ahead
 pub record Advanced (s : List ℕ) (v : List ℕ) (vs : List (List ℕ)) (r : View) : Type 0 where
   pub body : List Bool
@@ -130,21 +141,35 @@ scanned : (s : List ℕ) (byte : ℕ) {v : List ℕ} (own rest left : List Bool)
 unfolding from
 scanned s byte {v} own rest left e q h d = ap (scan (whole pattern)) e ∙ plain-scanned rest q h ∙ ap (got v) (sym d)
 
-pub advance : {s : List ℕ} {byte : ℕ} {v : List ℕ} {vs : List (List ℕ)} {r : View} → Ahead s byte (v ∷ vs) → ViewAt s byte r → Advanced s v vs r
-advance {s} {byte} {v} {vs} {r} a view =
+pub found : {s : List ℕ} {byte : ℕ} {v : List ℕ} {vs : List (List ℕ)} → Ahead s byte (v ∷ vs) → Found s byte v vs
+found {s} {byte} {v} {vs} a =
     let f = first (a .follow) in
     let i = a .inside in
     let end : ℕ = 8 * byte + length (f .own) in
     let n : 8 * length s - 8 * byte ≡ length (f .own) + length (f .rest) =
     omega (arith, length-drop (8 * byte) (bits s), length-bits s, ap length (f .splits), length-append (f .own) (f .rest)) in
     let d : drop end (bits s) ≡ f .rest = sym (drop-drop (length (f .own)) (8 * byte) (bits s)) ∙ ap (drop (length (f .own))) (f .splits) ∙ drop-at (f .own) (f .rest) (length (f .own)) refl in
-    let g : from (whole pattern) s (8 * byte) ≡ got v (drop end (bits s)) = scanned s byte (f .own) (f .rest) (drop end (bits s)) (f .splits) (f .plain) (follow-aligned (f .others)) d in
-    let q = view v end g (omega arith) in
     record {
+      end = end;
+      at = record {
+        inside = i;
+        within = omega arith;
+        reads = scanned s byte (f .own) (f .rest) (drop end (bits s)) (f .splits) (f .plain) (follow-aligned (f .others)) d;
+      };
       body = f .plain .body;
       plain = f .plain .laid;
+      others = subst (λ l. Follow l vs) (sym d) (f .others);
+    }
+
+pub advance : {s : List ℕ} {byte : ℕ} {v : List ℕ} {vs : List (List ℕ)} {r : View} → Ahead s byte (v ∷ vs) → ViewAt s byte r → Advanced s v vs r
+advance {s} {v = v} {vs} {r} a view =
+    let f = found a in
+    let q = view v (f .end) (f .at) in
+    record {
+      body = f .body;
+      plain = f .plain;
       holds = q .0;
-      ahead = record { inside = omega (arith, q .1); follow = subst (λ l. Follow l vs) (sym d ∙ ap (λ (k : ℕ). drop k (bits s)) (sym (q .1))) (f .others) };
+      ahead = record { inside = omega (arith, q .1, f .at .within); follow = subst (λ (k : ℕ). Follow (drop k (bits s)) vs) (sym (q .1)) (f .others) };
     }
 
 follow-by : (cs : List (List ℕ)) (ls : List (List Bool)) → length cs ≡ length ls → ((i : ℕ) → i < length cs → Whole PlainPattern (getD cs i []) (getD ls i [])) → Follow (flatten ls) cs
@@ -154,24 +179,33 @@ follow-by [] (l ∷ ls) e h = absurd (omega arith)
 follow-by (c ∷ cs) [] e h = absurd (omega arith)
 follow-by (c ∷ cs) (l ∷ ls) e h = next-follows (h 0 (omega arith)) (follow-by cs ls (omega arith) (λ i k. h (suc i) (omega arith)))
 
--- the views of an accepted catalogue are ahead of its first byte
+-- patterns from a byte on are ahead of it
+patterns-ahead : (s : List ℕ) (byte number : ℕ) (inner : List ℕ) (laid : List Bool) → byte ≤ length s → drop (8 * byte) (bits s) ≡ laid → PlainPatterns number inner laid
+    → Ahead s byte (patternsIn number inner)
+patterns-ahead s byte number inner laid inside here t =
+    let m = t .many in
+    let each : (i : ℕ) → i < length (t .contents) → Whole PlainPattern (getD (t .contents) i []) (getD (t .laid) i []) = λ i h. t .each i (omega arith) in
+    let bounded : (i : ℕ) → i < length (t .contents) → Bounded (getD (t .contents) i []) =
+    λ i h. let p = each i h in plain-bounded (getD (t .contents) i []) (p .body) (p .laid) in
+    let same : patternsIn number inner ≡ t .contents = ap₂ patternsIn (sym m) (t .content) ∙ patternsIn-flatten (t .contents) bounded in
+    record {
+      inside = inside;
+      follow = subst (λ vs. Follow (drop (8 * byte) (bits s)) vs) (sym same)
+          (subst (λ l. Follow l (t .contents)) (sym (here ∙ t .layout)) (follow-by (t .contents) (t .laid) (m ∙ sym (t .many-laid)) each));
+    }
+
+-- so are the accepted questions of one call
+pub questions-ahead : (number : ℕ) (s ws : List ℕ) → decode (patterns number) s ≡ ok ws → Ahead s 0 (patternsIn number ws)
+questions-ahead number s ws e = patterns-ahead s 0 number ws (bits s) (omega arith) refl (questions-accepted number s ws .0 e)
+
+-- and the views of an accepted catalogue, behind their number
 pub all-ahead : (s cs : List ℕ) → decode catalogue s ≡ ok cs → Ahead s 1 (viewsOf cs)
 unfolding viewsOf
 all-ahead s cs e =
     let q = catalogue-accepted s cs .0 e in
-    let t = q .patterns in
-    let m = t .many in
-    let each : (i : ℕ) → i < length (t .contents) → Whole PlainPattern (getD (t .contents) i []) (getD (t .laid) i []) = λ i h. t .each i (omega arith) in
     let number : length (bitsOf 5 (q .number) ++ replicate 3 false) ≡ 8 =
     length-append (bitsOf 5 (q .number)) (replicate 3 false) ∙ omega (arith, length-bitsOf 5 (q .number), length-replicate 3 false) in
     let split : bits s ≡ (bitsOf 5 (q .number) ++ replicate 3 false) ++ q .laid = q .layout ∙ simp append-assoc in
-    let bounded : (i : ℕ) → i < length (t .contents) → Bounded (getD (t .contents) i []) =
-    λ i h. let p = each i h in plain-bounded (getD (t .contents) i []) (p .body) (p .laid) in
-    let same : patternsIn (q .number) (q .inner) ≡ t .contents =
-    ap₂ patternsIn (sym (t .many)) (t .content) ∙ patternsIn-flatten (t .contents) bounded in
-    let here : drop (8 * 1) (bits s) ≡ flatten (t .laid) =
-    ap (drop (8 * 1)) split ∙ drop-at (bitsOf 5 (q .number) ++ replicate 3 false) (q .laid) 8 number ∙ t .layout in
-    rw (q .content) (record {
-      inside = omega (arith, length-bits s, ap length split, length-append (bitsOf 5 (q .number) ++ replicate 3 false) (q .laid), number);
-      follow = subst (λ vs. Follow (drop (8 * 1) (bits s)) vs) (sym same) (subst (λ l. Follow l (t .contents)) (sym here) (follow-by (t .contents) (t .laid) (m ∙ sym (t .many-laid)) each));
-    })
+    let here : drop (8 * 1) (bits s) ≡ q .laid = ap (drop (8 * 1)) split ∙ drop-at (bitsOf 5 (q .number) ++ replicate 3 false) (q .laid) 8 number in
+    rw (q .content)
+    (patterns-ahead s 1 (q .number) (q .inner) (q .laid) (omega (arith, length-bits s, ap length split, length-append (bitsOf 5 (q .number) ++ replicate 3 false) (q .laid), number)) here (q .patterns))

@@ -44,6 +44,12 @@ pub record SheetSized (p : Given) (s : List ℕ) (n m : ℕ) (w : List ℕ) (d :
   pub marked : MarkedPairs d w′
   pub sets : matchesOf d (p .edges) w′ ≡ matchSets (patternIn p) (graphIn s n m w)
 
+-- a pattern with the content ws stands from a byte on, up to the bit offset end
+pub record PatternAt (s : List ℕ) (byte : ℕ) (ws : List ℕ) (end : ℕ) : Type 0 where
+  pub inside : byte ≤ length s
+  pub within : end ≤ 8 * length s
+  pub reads : from (whole pattern) s (8 * byte) ≡ got ws (drop end (bits s))
+
 -- the pattern from a byte on, if one is there: its fields by value, and the byte after it
 abbrev pub ViewAt : List ℕ → ℕ → View → Type 0
-ViewAt s byte r = (ws : List ℕ) (end : ℕ) → from (whole pattern) s (8 * byte) ≡ got ws (drop end (bits s)) → end ≤ 8 * length s → (HoldsPattern ws (r .pattern)) × (8 * r .next ≡ end)
+ViewAt s byte r = (ws : List ℕ) (end : ℕ) → PatternAt s byte ws end → HoldsPattern ws (r .pattern) × (8 * r .next ≡ end)

@@ -1,4 +1,4 @@
-// The views of an accepted catalogue, one after the other, by value.
+// The patterns of an accepted file, one after the other, by value: the views of a catalogue, or the questions of one call.
 ghost use Prim.Native.Nat.{_*_};
 ghost use Rattle.packed.specs.Reading.{Stands};
 ghost use Rattle.matching.specs.Matched.{ViewAt};
@@ -7,7 +7,7 @@ use packed::by_value::Pattern;
 use packed::pattern;
 use packed::reply::Part;
 
-// A view, and the byte after it.
+// A pattern, and the byte after it.
 pub struct View {
     pub pattern: Pattern,
     pub next: usize,
@@ -17,7 +17,7 @@ fn no_words() -> [u32; 114] {
     [0u32; 114]
 }
 
-// The view that begins on a byte of a catalogue.
+// The pattern that begins on a byte of such a file. Which file it is doesn't matter: where none is, the refusal is not told.
 pub fn view_at(s: &[u8], byte: usize) -> View
     requires { ⌜ Stands (now s) (8 * byte) 0 ⌝ }
     ensures { λ r. ⌜ ViewAt (now (s .entry)) byte r ⌝ }

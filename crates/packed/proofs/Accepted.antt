@@ -1,5 +1,5 @@
 -- A file is accepted, with its content, exactly when the plain rules hold.
-use Prim.Native.Nat.{ℕ, _+_, _/_, _≤_}
+use Prim.Native.Nat.{ℕ, _+_, _/_, _≤_, _*_}
 use mathlib.Core.Path.{_≡_, refl, ap, sym, subst, _∙_}
 use mathlib.Core.List.{List, [], _++_, append-nil}
 use mathlib.Core.Bool.{Bool, true, false}
@@ -10,23 +10,26 @@ use native.Mathlib.Omega.{arith}
 use borrow.Author.Tests.{ltb-false, le-ltb}
 use Rattle.packed.specs.Bits.{bits, gap}
 use Rattle.packed.specs.Format.{Format, Result, ok, bad, pick, got, ended, lay, whole, bytesOf, decode, encode}
-use Rattle.packed.specs.Formats.{pattern, catalogue, record′, sheet, book}
+use Rattle.packed.specs.Formats.{pattern, catalogue, record′, sheet, book, patterns}
 use Rattle.packed.specs.Contents.{edgesOf, edgeCounts}
-use Rattle.packed.specs.Calls.{accepted, rejected, inFile, readFile, readPattern, readCatalogue, readRecord, readSheet, readBook}
+use Rattle.packed.specs.Calls.{accepted, rejected, inFile, readFile, readPattern, readQuestions, readCatalogue, readRecord, readSheet, readBook}
 use Rattle.packed.specs.OldRecord.{oldRecord, OldRecordFile}
-use Rattle.packed.specs.Plain.{Laid, PlainSheet, PatternFile, CatalogueFile, RecordFile, SheetFile, BookFile}
+use Rattle.packed.specs.Plain.{Laid, PlainSheet, PatternFile, CatalogueFile, RecordFile, SheetFile, BookFile, QuestionsFile}
 use Rattle.packed.proofs.BitsLaws.{gap-small, gap-fills}
 use Rattle.packed.proofs.RoundTrip.{Bytes, inBytes-ok, decode-encode, encode-decode}
 use Rattle.packed.proofs.Files.{bytes-bytesOf, length-bytesOf}
 use Rattle.packed.proofs.AcceptedLaws.{Accepts, accepts-whole, accepts-file, whole-same}
 use Rattle.packed.proofs.AcceptedGraphs.{accepts-pattern, accepts-record, accepts-old}
-use Rattle.packed.proofs.AcceptedTurns.{accepts-catalogue, catalogue-length, turns-length}
+use Rattle.packed.proofs.AcceptedTurns.{accepts-patterns, patterns-length, accepts-catalogue, catalogue-length, turns-length}
 use Rattle.packed.proofs.AcceptedSheets.{accepts-sheet, accepts-book}
 
 -- ---- bytes of any number
 
 pub pattern-accepted : (s ws : List ℕ) → decode pattern s ≡ ok ws ↔ PatternFile s ws
 pattern-accepted s ws = accepts-file pattern (accepts-pattern 0) s ws
+
+pub questions-accepted : (number : ℕ) (s ws : List ℕ) → decode (patterns number) s ≡ ok ws ↔ QuestionsFile number s ws
+questions-accepted number s ws = Iff·trans (accepts-file (patterns number) (accepts-patterns number 0 refl) s ws) (whole-same (patterns-length number) ws (bits s))
 
 pub catalogue-accepted : (s ws : List ℕ) → decode catalogue s ≡ ok ws ↔ CatalogueFile s ws
 catalogue-accepted s ws = Iff·trans (accepts-file catalogue accepts-catalogue s ws) (whole-same catalogue-length ws (bits s))
@@ -63,6 +66,9 @@ module _ (most file : ℕ) (F : Format) (s ws : List ℕ) {A : Type 0} (plain : 
 
 pub pattern-read : (s ws : List ℕ) → readPattern s ≡ accepted ws ↔ ((length s ≤ 56) × PatternFile s ws)
 pattern-read s ws = read-accepted 56 1 pattern s ws (pattern-accepted s ws)
+
+pub questions-read : (number : ℕ) (s ws : List ℕ) → readQuestions number s ≡ accepted ws ↔ ((length s ≤ 56 * number) × QuestionsFile number s ws)
+questions-read number s ws = read-accepted (56 * number) 1 (patterns number) s ws (questions-accepted number s ws)
 
 pub catalogue-read : (s ws : List ℕ) → readCatalogue s ≡ accepted ws ↔ ((length s ≤ 897) × CatalogueFile s ws)
 catalogue-read s ws = read-accepted 897 2 catalogue s ws (catalogue-accepted s ws)

@@ -1,4 +1,4 @@
--- What formats one after the other accept, and the formats of a catalogue and of a book.
+-- What formats one after the other accept, and the formats of patterns one after the other and of a catalogue.
 use Prim.Native.Nat.{ℕ, zero, suc, _+_, _%_, _<_}
 use mathlib.Core.Path.{_≡_, refl, ap, _∙_, subst}
 use mathlib.Core.List.{List, [], _∷_, _++_, flatten}
@@ -8,8 +8,8 @@ use lib.ListN.{length, getD, replicate, length-append}
 use native.Mathlib.Omega.{arith}
 use Rattle.packed.specs.Bits.{bitsOf, gap}
 use Rattle.packed.specs.Format.{Format, done, pad, then, times, whole}
-use Rattle.packed.specs.Formats.{pattern, catalogue}
-use Rattle.packed.specs.Plain.{Laid, Whole, InTurn, PlainPattern, PlainCatalogue}
+use Rattle.packed.specs.Formats.{pattern, patterns, catalogue}
+use Rattle.packed.specs.Plain.{Laid, Whole, InTurn, PlainPattern, PlainPatterns, PlainCatalogue}
 use Rattle.packed.proofs.BitsLaws.{length-bitsOf}
 use Rattle.packed.proofs.AcceptedLaws.{Accepts, accepts-same, Nothing, accepts-done, Asked, accepts-ask, Then, accepts-then, Padded, accepts-pad, accepts-whole, whole-length}
 use Rattle.packed.proofs.AcceptedGraphs.{accepts-pattern}
@@ -117,9 +117,19 @@ turns-length R (suc n) ws bs q =
     let l = ap length (r .layout) ∙ length-append (r .front) (r .back) in
     omega arith
 
+-- ---- patterns
+
+pub accepts-patterns : (number at : ℕ) → at % 8 ≡ 0 → Accepts (patterns number) at (PlainPatterns number)
+accepts-patterns number at h =
+    subst (λ (F : Format). Accepts F at (PlainPatterns number)) (row-times pattern number)
+    (accepts-row (λ i. pattern) (λ i. PlainPattern) (λ i. accepts-pattern) number at h)
+
+pub patterns-length : (number : ℕ) (ws : List ℕ) (bs : List Bool) → PlainPatterns number ws bs → length bs % 8 ≡ 0
+patterns-length number ws bs q = turns-length (λ i. PlainPattern) number ws bs q
+
 -- ---- a catalogue
 
-plain-catalogue : (ws : List ℕ) (bs : List Bool) → Asked 5 0 17 (λ number. Padded 3 (InTurn (λ i. Whole PlainPattern) number)) ws bs ↔ PlainCatalogue ws bs
+plain-catalogue : (ws : List ℕ) (bs : List Bool) → Asked 5 0 17 (λ number. Padded 3 (PlainPatterns number)) ws bs ↔ PlainCatalogue ws bs
 plain-catalogue ws bs = (
   λ q. record {
     number = q .value;
@@ -147,14 +157,11 @@ pub accepts-catalogue : Accepts catalogue 0 PlainCatalogue
 unfolding catalogue gap
 accepts-catalogue =
     accepts-same plain-catalogue
-    (accepts-ask 5 0 17 3 (λ number. pad (times number (whole pattern))) 0 _ (λ number l m.
-    accepts-pad (times number (whole pattern)) 5
-    (subst (λ (F : Format). Accepts F 8 (InTurn (λ i. Whole PlainPattern) number)) (row-times pattern number)
-    (accepts-row (λ i. pattern) (λ i. PlainPattern) (λ i. accepts-pattern) number 8 refl))))
+    (accepts-ask 5 0 17 3 (λ number. pad (patterns number)) 0 _ (λ number l m. accepts-pad (patterns number) 5 (accepts-patterns number 8 refl)))
 
 pub catalogue-length : (ws : List ℕ) (bs : List Bool) → PlainCatalogue ws bs → length bs % 8 ≡ 0
 catalogue-length ws bs q =
-    let a = turns-length (λ i. PlainPattern) (q .number) (q .inner) (q .laid) (q .patterns) in
+    let a = patterns-length (q .number) (q .inner) (q .laid) (q .patterns) in
     let l = ap length (q .layout) ∙ length-append (bitsOf 5 (q .number)) (replicate 3 false ++ q .laid) in
     let w = length-bitsOf 5 (q .number) in
     omega arith

@@ -20,6 +20,7 @@ pub mod AcceptedTurns
 pub mod AcceptedSheets
 pub mod Accepted
 pub mod AcceptedBounds
+pub mod Questions
 -- the moves of a reader and of a writer
 pub mod ReadingLaws
 pub mod WritingLaws

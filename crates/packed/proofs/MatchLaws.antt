@@ -142,11 +142,15 @@ unfolding markedFrom
 length-from e zero ps qs = refl
 length-from e (suc m) ps qs = ap suc (length-from (suc e) m ps qs)
 
+pub matches-long : (n m : ℕ) (w : List ℕ) → length (matchesOf n m w) ≡ m
+unfolding matchesOf
+matches-long n m w = length-all (listsOf m n w) ∙ length-from 0 m (codesOf n w) (masksOf n w)
+
 pub matches-encode : (n m : ℕ) (w : List ℕ) → Marked n w → Encoded m (matchesOf n m w)
 unfolding matchesOf
 matches-encode n m w k =
     let ls : List (List ℕ) = listsOf m n w in
-    sheet-encodes m (allOrNone ls) (length-all ls ∙ length-from 0 m (codesOf n w) (masksOf n w)) (fit-all ls (fit-lists n m w k)) (all-twice ls)
+    sheet-encodes m (allOrNone ls) (matches-long n m w) (fit-all ls (fit-lists n m w k)) (all-twice ls)
 
 -- ---- adding the bits of a mask
 

@@ -1,13 +1,13 @@
 -- What each call answers, and what it settles for every input.
-use Prim.Native.Nat.{ℕ}
+use Prim.Native.Nat.{ℕ, _*_, _<_}
 use mathlib.Core.Path.{_≡_}
 use mathlib.Core.List.{List, [], _∷_, _++_, map, flatten}
 use mathlib.Core.Bool.{_||_}
-use lib.ListN.{length, drop, replicate}
+use lib.ListN.{length, drop, getD, replicate}
 use lib.Dec.{ltb}
 use Rattle.packed.specs.Limits.{patternMost, catalogueMost, recordMost, bookMost, pairsMost, workspace}
 use Rattle.packed.specs.Format.{Format, Result, ok, bad, pick, decode, encode}
-use Rattle.packed.specs.Formats.{pattern, catalogue, record′, sheet, book}
+use Rattle.packed.specs.Formats.{pattern, patterns, catalogue, record′, sheet, book}
 use Rattle.packed.specs.Contents.{edgesOf, edgeCounts, sheetsIn, distinct}
 use Rattle.packed.specs.Refusals.{Told, told}
 
@@ -87,6 +87,20 @@ judged (rejected n d) k = refuse n d
 
 abbrev pub readPattern : List ℕ → Verdict
 readPattern s = readFile patternMost 1 pattern s
+
+-- the questions of one call, so many in one file
+abbrev pub readQuestions : ℕ → List ℕ → Verdict
+readQuestions number s = readFile (patternMost * number) 1 (patterns number) s
+
+-- so many accepted questions, one file after the other
+pub record QuestionFiles (number : ℕ) (s ws : List ℕ) : Type 0 where
+  pub files : List (List ℕ)
+  pub contents : List (List ℕ)
+  pub many : length files ≡ number
+  pub many-contents : length contents ≡ number
+  pub each : (i : ℕ) → i < number → readPattern (getD files i []) ≡ accepted (getD contents i [])
+  pub bytes : s ≡ flatten files
+  pub content : ws ≡ flatten contents
 
 abbrev pub readCatalogue : List ℕ → Verdict
 readCatalogue s = readFile catalogueMost 2 catalogue s

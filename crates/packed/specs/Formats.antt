@@ -62,9 +62,13 @@ pattern =
     countField patternNodesWidth 1 patternNodesMost (λ nodes. countField patternEdgesWidth 1 patternEdgesMost (λ number.
     then (times nodes label) (edges endWidth kindWidth nodes (joined nodes) number [])))
 
+-- ---- so many patterns, each on a byte: the questions of one call
+abbrev pub patterns : ℕ → Format
+patterns number = times number (whole pattern)
+
 -- ---- a catalogue: the number of views, and the views, each on a byte
 unfoldable pub catalogue : Format
-catalogue = countField viewsWidth 0 viewsMost (λ number. pad (times number (whole pattern)))
+catalogue = countField viewsWidth 0 viewsMost (λ number. pad (patterns number))
 
 -- ---- pairs of nodes, in order: what a sheet lists
 

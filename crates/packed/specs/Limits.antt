@@ -33,6 +33,10 @@ patternEdgesMost = 32
 abbrev pub viewsMost : ℕ
 viewsMost = 16
 
+-- "a client sends up to eight questions"
+abbrev pub questionsMost : ℕ
+questionsMost = 8
+
 -- the most nodes and edges of a record, and pairs of a list
 abbrev pub nodesMost : ℕ
 nodesMost = 4096

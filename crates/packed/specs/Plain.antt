@@ -117,7 +117,14 @@ pub record PlainPattern (ws : List ℕ) (bs : List Bool) : Type 0 where
 abbrev pub PatternFile : List ℕ → List ℕ → Type 0
 PatternFile s ws = Whole PlainPattern ws (bits s)
 
--- ---- a catalogue: the number of patterns, zero bits up to a byte, and the patterns, each as in a file of its own
+-- ---- the questions of one call: so many patterns, each as in a file of its own
+abbrev pub PlainPatterns : ℕ → Laid
+PlainPatterns number = InTurn (λ i. Whole PlainPattern) number
+
+abbrev pub QuestionsFile : ℕ → List ℕ → List ℕ → Type 0
+QuestionsFile number s ws = PlainPatterns number ws (bits s)
+
+-- ---- a catalogue: the number of patterns, zero bits up to a byte, and the patterns
 pub record PlainCatalogue (ws : List ℕ) (bs : List Bool) : Type 0 where
   pub number : ℕ
   pub inner : List ℕ
@@ -125,7 +132,7 @@ pub record PlainCatalogue (ws : List ℕ) (bs : List Bool) : Type 0 where
   pub content : ws ≡ number ∷ inner
   pub layout : bs ≡ bitsOf 5 number ++ (replicate 3 false ++ laid)
   pub most : number ≤ 16
-  pub patterns : InTurn (λ i. Whole PlainPattern) number inner laid
+  pub patterns : PlainPatterns number inner laid
 
 abbrev pub CatalogueFile : List ℕ → List ℕ → Type 0
 CatalogueFile s ws = PlainCatalogue ws (bits s)

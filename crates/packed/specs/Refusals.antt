@@ -2,7 +2,7 @@
 use Prim.Native.Nat.{ℕ}
 use mathlib.Core.List.{List, [], _∷_}
 use Rattle.packed.specs.declared.reply.Refusal.{Refusal}
-use Rattle.packed.specs.declared.reply.Refusal.the-variants.{TooLong, Truncated, OutOfRange, NoSuchNode, DuplicateEdge, NotAscending, IsolatedNode, ZeroCount, Trailing, TooManyPairs, NotContained, NoRoom, Contained, SmallWorkspace, WrongCharges, WrongIndex}
+use Rattle.packed.specs.declared.reply.Refusal.the-variants.{TooLong, Truncated, OutOfRange, NoSuchNode, DuplicateEdge, NotAscending, IsolatedNode, ZeroCount, Trailing, TooManyPairs, NotContained, NoRoom, Contained, SmallWorkspace, WrongCharges, WrongIndex, WrongQuestions}
 use Rattle.packed.specs.declared.reply.Reply.{Reply}
 use Rattle.packed.specs.declared.reply.Reply.the-variants as reply-is
 
@@ -23,9 +23,10 @@ numberOf Contained = 13
 numberOf SmallWorkspace = 14
 numberOf (WrongCharges d) = 15
 numberOf (WrongIndex d) = 16
+numberOf (WrongQuestions d) = 17
 
 -- 1 to 10: the file's number; 11: the lowest unmatched edge; 12: the size needed; 13 and 14: zero; 15: how many charges were lent; 16: how many
--- entries were lent, or the first that differs
+-- entries were lent, or the first that differs; 17: how many questions were sent
 abbrev pub detailOf : Refusal → ℕ
 detailOf (TooLong d) = d
 detailOf (Truncated d) = d
@@ -43,6 +44,7 @@ detailOf Contained = 0
 detailOf SmallWorkspace = 0
 detailOf (WrongCharges d) = d
 detailOf (WrongIndex d) = d
+detailOf (WrongQuestions d) = d
 
 -- what an answer tells: a number, 0 for success, and values
 pub data Told : Type 0 where

@@ -3,11 +3,12 @@ ghost use mathlib.Core.Path.{_≡_};
 ghost use mathlib.Core.List.{[]};
 ghost use Prim.Native.Nat.{_≤_};
 ghost use lib.ListN.{length, take};
+ghost use Rattle.packed.specs.Limits.{questionsMost};
 ghost use Rattle.packed.specs.Format.{decode};
 ghost use Rattle.packed.specs.Formats.{sheet, book};
 ghost use Rattle.packed.specs.OldRecord.{oldRecord, readOldRecord};
 ghost use Rattle.packed.specs.ByValue.{HoldsPattern, NoPattern};
-ghost use Rattle.packed.specs.Calls.{readFile, readPattern, readCatalogue, readRecord};
+ghost use Rattle.packed.specs.Calls.{readFile, readPattern, readQuestions, readCatalogue, readRecord};
 ghost use Rattle.packed.specs.Accepting.{replyOf, AcceptsFile, AcceptsWith, HoldsViews, NoViews};
 ghost use Rattle.packed.specs.LoadedGraph.{WordsLoaded};
 ghost use Rattle.packed.specs.OldLoading.{Orders};
@@ -103,6 +104,18 @@ fn reply_of(p: Part) -> Reply
         Part::Upto(_, n) => Reply::Done(n),
         Part::Refused(x) => Reply::Refused(x),
     }
+}
+
+// The questions of one call, so many: their content goes to the front of the words.
+pub fn accept_questions(s: &[u8], number: u32, work: &mut [u32]) -> Reply
+    requires { ⌜ (number ≤ questionsMost) × (length (now work) ≡ 16384) ⌝ }
+    ensures { λ r. ⌜ AcceptsFile (readQuestions number (now (s .entry))) r (now (work .entry)) (now (work .exit)) ⌝ }
+{
+    let most = limits::PATTERN_MOST * number as usize;
+    if most < s.len() {
+        return Reply::Refused(Refusal::TooLong(1));
+    }
+    reply_of(catalogue::judge_questions(s, number, work))
 }
 
 // A record: the words of its edges go to the front of the workspace.

@@ -1,11 +1,11 @@
-// Catalogues: the number of views, and the views, each on a byte.
+// Patterns one after the other, each on a byte: the questions of one call, and a catalogue's views after their number.
 ghost use mathlib.Core.Path.{_≡_};
 ghost use Prim.Native.Nat.{_*_, _≤_};
 ghost use lib.ListN.{length, getD, replicate};
 ghost use Rattle.packed.specs.Format.{times, whole, decode, encode};
-ghost use Rattle.packed.specs.Formats.{pattern, catalogue};
+ghost use Rattle.packed.specs.Formats.{pattern, patterns, catalogue};
 ghost use Rattle.packed.specs.ByValue.{CountTable};
-ghost use Rattle.packed.specs.Reading.{Stands, Room, ReadsBytesUpTo, JudgesUpTo};
+ghost use Rattle.packed.specs.Reading.{Stands, Room, ReadsBytesUpTo, Judges, JudgesUpTo};
 ghost use Rattle.packed.specs.Writing.{WritesBytes, JudgesFields};
 use crate::bits;
 use crate::field;
@@ -15,16 +15,23 @@ use crate::reply::Field;
 use crate::reply::Part;
 use crate::reply::Refusal;
 
-// So many patterns, each on a byte, in a catalogue.
-fn read_patterns(s: &[u8], start: usize, number: u32, words: &mut [u32], first: usize) -> Part
+// So many patterns, each on a byte, in the file so numbered.
+fn read_patterns(
+    s: &[u8],
+    start: usize,
+    number: u32,
+    file: u32,
+    words: &mut [u32],
+    first: usize,
+) -> Part
     requires { ⌜ Stands (now s) (8 * start) first × Room (now words) first (114 * number) ⌝ }
-    ensures { λ r. ⌜ ReadsBytesUpTo (114 * number) (times number (whole pattern)) (now (s .entry)) start (now (words .entry)) first 2 r (now (words .exit)) ⌝ }
+    ensures { λ r. ⌜ ReadsBytesUpTo (114 * number) (patterns number) (now (s .entry)) start (now (words .entry)) first file r (now (words .exit)) ⌝ }
 {
     let mut byte = start;
     let mut i = first;
     let mut left = number;
     while 0 < left {
-        let p = pattern::read_pattern(s, byte, 2, words, i);
+        let p = pattern::read_pattern(s, byte, file, words, i);
         let Part::Upto(next, word) = p else {
             return p;
         };
@@ -33,6 +40,21 @@ fn read_patterns(s: &[u8], start: usize, number: u32, words: &mut [u32], first: 
         left -= 1;
     }
     Part::Upto(byte, i)
+}
+
+// The questions of one call, so many: their content stands at the front of the words.
+pub(crate) fn judge_questions(s: &[u8], number: u32, words: &mut [u32]) -> Part
+    requires { ⌜ (length (now s) ≤ 65536) × Room (now words) 0 (114 * number) ⌝ }
+    ensures { λ r. ⌜ Judges (decode (patterns number) (now (s .entry))) 1 r (now (words .entry)) (now (words .exit)) ⌝ }
+{
+    let p = read_patterns(s, 0, number, 1, words, 0);
+    let Part::Upto(byte, _) = p else {
+        return p;
+    };
+    if byte < s.len() {
+        return Part::Refused(Refusal::Trailing(1));
+    }
+    p
 }
 
 // A catalogue's number and views.
@@ -58,7 +80,7 @@ fn read_views(s: &[u8], words: &mut [u32]) -> Part
         }
     };
     if bits::is_clear(s, limits::VIEWS_BITS) {
-        read_patterns(s, 1, number, words, 1)
+        read_patterns(s, 1, number, 2, words, 1)
     } else {
         Part::Refused(Refusal::Trailing(2))
     }

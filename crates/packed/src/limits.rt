@@ -25,6 +25,9 @@ pub const PATTERN_EDGES_MOST: usize = 32;
 
 pub const VIEWS_MOST: usize = 16;
 
+// The most questions of one call.
+pub const QUESTIONS_MOST: u32 = 8;
+
 // The most nodes and edges of a record, and pairs of a list.
 pub const NODES_MOST: u32 = 4096;
 

@@ -36,6 +36,8 @@ pub enum Refusal {
     WrongCharges(usize),
     // 16, index: how many entries the lent index has, where that is not one more than the record's nodes; else the first that differs from the record's own
     WrongIndex(usize),
+    // 17, questions: how many questions were sent, where that is none or more than eight
+    WrongQuestions(usize),
 }
 
 // What a call with one output answers: how much of it was written, or the refusal.
@@ -95,6 +97,7 @@ pub fn number_of(x: Refusal) -> usize
         Refusal::SmallWorkspace => 14,
         Refusal::WrongCharges(_) => 15,
         Refusal::WrongIndex(_) => 16,
+        Refusal::WrongQuestions(_) => 17,
     }
 }
 
@@ -119,5 +122,6 @@ pub fn detail_of(x: Refusal) -> usize
         Refusal::SmallWorkspace => 0,
         Refusal::WrongCharges(d) => d,
         Refusal::WrongIndex(d) => d,
+        Refusal::WrongQuestions(d) => d,
     }
 }

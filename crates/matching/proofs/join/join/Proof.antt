@@ -1,6 +1,6 @@
 -- `matching::join::join` meets its contract.
 use borrow.Author.Needs.{needs}
-use Rattle.matching.proofs.Taking.{pool-keep}
+use Rattle.matching.proofs.Taking.{edges-around, pool-keep}
 use Rattle.matching.proofs.TakingSheets.{booked-keep}
 use Rattle.matching.proofs.JoinedLaws.{joined-by}
 use Rattle.matching.proofs.join.join.Statement.{statement}
@@ -13,14 +13,14 @@ take-book-requires : tie.Need-take-book-requires
 take-book-requires c κs =
     let pre = c .before .before .before .before .before .before .before .pre in
     let clear-masks = c .before .before .before .clear-masks in
-    (pre .0 .edges, booked-keep (pre .1) (clear-masks .ensures .around))
+    (pre .0 .edges, booked-keep (pre .1) (edges-around (clear-masks .ensures .around)))
 
 run-requires : tie.Need-run-requires
 run-requires c κs =
     let pre = c .before .before .before .before .before .before .before .before .before .before .before .pre in
     let clear-masks = c .before .before .before .before .before .before .before .clear-masks in
     let take-book = c .before .before .before .take-book in
-    (pre .0, pool-keep (pool-keep (pre .1 .pool) (clear-masks .ensures .around)) (take-book .ensures .around))
+    (pre .0, pool-keep (pool-keep (pre .1 .pool) (edges-around (clear-masks .ensures .around))) (edges-around (take-book .ensures .around)))
 
 same-length : tie.Need-same-length
 same-length c = search needs

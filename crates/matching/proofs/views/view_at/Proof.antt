@@ -46,13 +46,13 @@ returns c =
     let read-pattern = c .before .before .before .before .before .before .before .read-pattern in
     let p = c .before .before .before .before .p in
     let q = rw (p .given .1) at (read-pattern .ensures) in
-    view-held (q .0) (omega (arith, q .1)) (c .pattern-of .ensures)
+    λ ws end a. view-held (q .0) (omega (arith, q .1)) (c .pattern-of .ensures) ws end a
 
 returns-2 : tie.Need-returns-2
 returns-2 c =
     let read-pattern = c .before .before .before .before .read-pattern in
     let enum-told = c .before .enum-told in
-    λ ws end e l. view-refused (rw (enum-told .given .1) at (read-pattern .ensures)) ws end e
+    λ ws end a. view-refused (rw (enum-told .given .1) at (read-pattern .ensures)) ws end a
 
 pub view-at-spec : {M : Type 1} → statement M
 view-at-spec =

@@ -14,12 +14,12 @@ use Rattle.packed.proofs.catalogue.read_patterns.Statement.{statement}
 use Rattle.packed.proofs.catalogue.read_patterns.Tie as tie
 
 abbrev Inv-loop : tie.InvT-loop
-Inv-loop s start number words₀ first byte₀ i₀ left₀ words byte i left =
+Inv-loop s start number file words₀ first byte₀ i₀ left₀ words byte i left =
     (i + 114 * left ≤ first + 114 * number) × (length words ≡ length words₀)
     × Reading (times number (whole pattern)) s (8 * start) words₀ first (times left (whole pattern)) (8 * byte) words i
 
 abbrev μ-loop : tie.MeasureT-loop
-μ-loop s start number words₀ first byte₀ i₀ left₀ words byte i left = left
+μ-loop s start number file words₀ first byte₀ i₀ left₀ words byte i left = left
 
 loop-holds : tie.Need-loop-holds Inv-loop μ-loop
 loop-holds c = (omega arith, refl, starts (omega arith))
