@@ -20,10 +20,9 @@
  * before a call. Afterwards the first YUTHAQIM_WORK_WORDS of them are zero and those beyond are as they were; on
  * YUTHAQIM_DESK all of them are as they were.
  *
- * The stack, as measured on large files: sorting an old record 117,096 bytes, answering 88,408, finding a part TODO-STACK,
- * making a book 88,056,
- * searching 86,680, searching by an index 78,280, quoting 22,436, the cheapest set 18,564, showing 18,468, reading a book
- * 2,760, writing one 2,568, the others under 1,900. So 128 KB suffice.
+ * The stack, as measured on large files: sorting an old record 117,096 bytes, finding a part 94,232, answering 91,464,
+ * making a book 88,568, searching 87,192, searching by an index 78,280, quoting 25,652, showing 22,148, the cheapest set
+ * 21,764, reading a book 2,760, writing one 2,568, the others under 1,900. So 128 KB suffice.
  *
  * Content is a file's fields in order, one word each, padding left out. That of a pattern or a record is the number of
  * items, the number of links, the kind of each item or in a record its kinds, and for each link its from, its to and its
