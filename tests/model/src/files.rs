@@ -379,6 +379,11 @@ pub fn judge_pattern(bytes: &[u8]) -> Result<Pattern, Refusal> {
     Ok(read(bytes, PATTERN_BYTES, PATTERN, walk_pattern)?.0)
 }
 
+/// So many patterns, one file after the other.
+pub fn judge_patterns(bytes: &[u8], number: usize) -> Result<Vec<Pattern>, Refusal> {
+    Ok(read(bytes, PATTERN_BYTES * number, PATTERN, |walk| (0..number).map(|_| walk_pattern(walk)).collect())?.0)
+}
+
 pub fn judge_catalogue(bytes: &[u8]) -> Result<Catalogue, Refusal> {
     Ok(read(bytes, CATALOGUE_BYTES, CATALOGUE, walk_catalogue)?.0)
 }
@@ -386,7 +391,7 @@ pub fn judge_catalogue(bytes: &[u8]) -> Result<Catalogue, Refusal> {
 // What stands around the files of a call.
 
 /// 14, before all files.
-fn judge_desk(work_words: usize) -> Result<(), Refusal> {
+pub fn judge_desk(work_words: usize) -> Result<(), Refusal> {
     if work_words < WORK_WORDS {
         return refused(DESK, 0);
     }

@@ -13,6 +13,7 @@ pub mod part;
 pub mod quoting;
 mod replay;
 mod rule;
+pub mod several;
 pub mod steps;
 
 pub use replay::CALLS;
