@@ -20,7 +20,7 @@
  * before a call. Afterwards the first YUTHAQIM_WORK_WORDS of them are zero and those beyond are as they were; on
  * YUTHAQIM_DESK all of them are as they were.
  *
- * The stack, as measured on large files: sorting an old record 117,096 bytes, finding a part 94,232, answering 91,464,
+ * The stack, as measured on large files: sorting an old record 117,096 bytes, finding a part 94,232, answering 91,496,
  * making a book 88,568, searching 87,192, searching by an index 78,280, quoting 25,652, showing 22,148, the cheapest set
  * 21,764, reading a book 2,760, writing one 2,568, the others under 1,900. So 128 KB suffice.
  *
