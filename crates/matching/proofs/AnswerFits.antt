@@ -10,7 +10,7 @@ use Rattle.packed.specs.Formats.{pattern, record′}
 use Rattle.packed.specs.Contents.{viewsOf}
 use Rattle.packed.specs.Plain.{PlainPattern}
 use Rattle.packed.specs.ByValue.{HoldsPattern}
-use Rattle.packed.specs.Refusals.{Told, told, replyTold}
+use Rattle.packed.specs.Refusals.{told, replyTold}
 use Rattle.packed.specs.declared.reply.Refusal.{Refusal}
 use Rattle.packed.specs.declared.reply.Refusal.the-variants.{NoRoom}
 use Rattle.packed.specs.declared.reply.Reply.{Reply}

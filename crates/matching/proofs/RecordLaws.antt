@@ -66,9 +66,6 @@ module _ {s : List ℕ} {n m : ℕ} {w : List ℕ} (h : Holds s n m w) where
   three-each : length (fieldsOf ws) ≡ 3 * m
   three-each = edges-among .three-each ∙ ap (λ (k : ℕ). 3 * k) (sym (h .edges))
 
-  front-long : length (take m w) ≡ m
-  front-long = length-take-le m w (omega (arith, few, h .long))
-
   front-at : (i : ℕ) → i < m → getD (take m w) i 0 ≡ getD w i 0
   front-at i l = getD-take m w i 0 l
 

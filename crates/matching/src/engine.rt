@@ -16,7 +16,7 @@ pub fn rest_by(
     first: &[u16],
     leave: &mut [u32],
     arrive: &mut [u32],
-    out: &mut [u32],
+    held: &mut [u32],
     free: u32,
     due: u32,
     back: u32,
@@ -25,8 +25,8 @@ pub fn rest_by(
     ending: &[u32; 128],
     starting: &[u32; 128],
 )
-    requires { ⌜ Prepared n d (now work) (now leave) (now arrive) (now out) × (n ≤ 4096) × (n < length (now first)) × Firsts d n (now work) (now first) ⌝ }
-    ensures { λ r. ⌜ Fixed n free due back d (now (leaving .entry)) (now (arriving .entry)) (now (ending .entry)) (now (starting .entry)) (now (work .entry)) (now (leave .entry)) (now (arrive .entry)) (now (out .entry)) 0 (now (work .exit)) (now (leave .exit)) (now (arrive .exit)) (now (out .exit)) ⌝ }
+    requires { ⌜ Prepared n d (now work) (now leave) (now arrive) (now held) × (n ≤ 4096) × (n < length (now first)) × Firsts d n (now work) (now first) ⌝ }
+    ensures { λ r. ⌜ Fixed n free due back d (now (leaving .entry)) (now (arriving .entry)) (now (ending .entry)) (now (starting .entry)) (now (work .entry)) (now (leave .entry)) (now (arrive .entry)) (now (held .entry)) 0 (now (work .exit)) (now (leave .exit)) (now (arrive .exit)) (now (held .exit)) ⌝ }
 {
     turns::late(
         work,
@@ -42,8 +42,8 @@ pub fn rest_by(
         leave,
         arrive,
     );
-    sweeps::sweep(work, d, leave, arrive, free, out);
-    workspace::clear(out, n);
+    sweeps::sweep(work, d, leave, arrive, free, held);
+    workspace::clear(held, n);
 }
 
 // Some rounds; where they don't come to rest, by an index that is made here, so that no chain of losses takes a round for each.
@@ -53,7 +53,7 @@ pub fn rest(
     n: usize,
     leave: &mut [u32],
     arrive: &mut [u32],
-    out: &mut [u32],
+    held: &mut [u32],
     free: u32,
     due: u32,
     back: u32,
@@ -62,8 +62,8 @@ pub fn rest(
     ending: &[u32; 128],
     starting: &[u32; 128],
 )
-    requires { ⌜ Prepared n d (now work) (now leave) (now arrive) (now out) × (n ≤ 4096) ⌝ }
-    ensures { λ r. ⌜ Fixed n free due back d (now (leaving .entry)) (now (arriving .entry)) (now (ending .entry)) (now (starting .entry)) (now (work .entry)) (now (leave .entry)) (now (arrive .entry)) (now (out .entry)) 0 (now (work .exit)) (now (leave .exit)) (now (arrive .exit)) (now (out .exit)) ⌝ }
+    requires { ⌜ Prepared n d (now work) (now leave) (now arrive) (now held) × (n ≤ 4096) ⌝ }
+    ensures { λ r. ⌜ Fixed n free due back d (now (leaving .entry)) (now (arriving .entry)) (now (ending .entry)) (now (starting .entry)) (now (work .entry)) (now (leave .entry)) (now (arrive .entry)) (now (held .entry)) 0 (now (work .exit)) (now (leave .exit)) (now (arrive .exit)) (now (held .exit)) ⌝ }
 {
     let lost = sweeps::fix(
         work,
@@ -71,7 +71,7 @@ pub fn rest(
         n,
         leave,
         arrive,
-        out,
+        held,
         free,
         due,
         back,
@@ -92,7 +92,7 @@ pub fn rest(
         &first,
         leave,
         arrive,
-        out,
+        held,
         free,
         due,
         back,

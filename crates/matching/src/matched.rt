@@ -20,10 +20,10 @@ pub fn match_edges(
     work: &mut [u32],
     leave: &mut [u32],
     arrive: &mut [u32],
-    out: &mut [u32],
+    held: &mut [u32],
 )
-    requires { ⌜ Fair p × Proper p × Ready (now s) n m (now work) × Rises m (now work) × NodeRoom n (now leave) (now arrive) (now out) ⌝ }
-    ensures { λ r. ⌜ EdgesMatched (ruleOf both) p (now (s .entry)) n m (now (work .entry)) (now (work .exit)) × NodeRoom n (now (leave .exit)) (now (arrive .exit)) (now (out .exit)) ⌝ }
+    requires { ⌜ Fair p × Proper p × Ready (now s) n m (now work) × Rises m (now work) × NodeRoom n (now leave) (now arrive) (now held) ⌝ }
+    ensures { λ r. ⌜ EdgesMatched (ruleOf both) p (now (s .entry)) n m (now (work .entry)) (now (work .exit)) × NodeRoom n (now (leave .exit)) (now (arrive .exit)) (now (held .exit)) ⌝ }
 {
     let from = p.from;
     let to = p.to;
@@ -32,7 +32,7 @@ pub fn match_edges(
     let all = link_tables::all(edges);
     let back = link_tables::asked(both, edges);
     start::hold(work, m, &kind, edges);
-    start::spread(s, n, p, leave, arrive, out);
+    start::spread(s, n, p, leave, arrive, held);
     let leaving = link_tables::table(&from, &from, edges);
     let arriving = link_tables::table(&from, &to, edges);
     let ending = link_tables::table_if(both, &to, &to, edges);
@@ -43,7 +43,7 @@ pub fn match_edges(
         n,
         leave,
         arrive,
-        out,
+        held,
         0,
         all,
         back,
@@ -65,10 +65,10 @@ pub fn match_indexed(
     work: &mut [u32],
     leave: &mut [u32],
     arrive: &mut [u32],
-    out: &mut [u32],
+    held: &mut [u32],
 )
-    requires { ⌜ Fair p × Proper p × Ready (now s) n m (now work) × Rises m (now work) × NodeRoom n (now leave) (now arrive) (now out) × (n < length (now first)) × Firsts m n (now work) (now first) ⌝ }
-    ensures { λ r. ⌜ EdgesMatched (ruleOf both) p (now (s .entry)) n m (now (work .entry)) (now (work .exit)) × NodeRoom n (now (leave .exit)) (now (arrive .exit)) (now (out .exit)) ⌝ }
+    requires { ⌜ Fair p × Proper p × Ready (now s) n m (now work) × Rises m (now work) × NodeRoom n (now leave) (now arrive) (now held) × (n < length (now first)) × Firsts m n (now work) (now first) ⌝ }
+    ensures { λ r. ⌜ EdgesMatched (ruleOf both) p (now (s .entry)) n m (now (work .entry)) (now (work .exit)) × NodeRoom n (now (leave .exit)) (now (arrive .exit)) (now (held .exit)) ⌝ }
 {
     let from = p.from;
     let to = p.to;
@@ -77,7 +77,7 @@ pub fn match_indexed(
     let all = link_tables::all(edges);
     let back = link_tables::asked(both, edges);
     start::hold(work, m, &kind, edges);
-    start::spread(s, n, p, leave, arrive, out);
+    start::spread(s, n, p, leave, arrive, held);
     let leaving = link_tables::table(&from, &from, edges);
     let arriving = link_tables::table(&from, &to, edges);
     let ending = link_tables::table_if(both, &to, &to, edges);
@@ -89,7 +89,7 @@ pub fn match_indexed(
         first,
         leave,
         arrive,
-        out,
+        held,
         0,
         all,
         back,

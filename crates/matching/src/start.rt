@@ -130,10 +130,10 @@ pub fn spread(
     p: Pattern,
     leave: &mut [u32],
     arrive: &mut [u32],
-    out: &mut [u32],
+    held: &mut [u32],
 )
-    requires { ⌜ Fair p × (length (now s) ≤ 65536) × (27 + 32 * n ≤ 8 * length (now s)) × NodeRoom n (now leave) (now arrive) (now out) ⌝ }
-    ensures { λ r. ⌜ LinksSpread p (now (s .entry)) n (now (leave .entry)) (now (arrive .entry)) (now (out .entry)) (now (leave .exit)) (now (arrive .exit)) (now (out .exit)) ⌝ }
+    requires { ⌜ Fair p × (length (now s) ≤ 65536) × (27 + 32 * n ≤ 8 * length (now s)) × NodeRoom n (now leave) (now arrive) (now held) ⌝ }
+    ensures { λ r. ⌜ LinksSpread p (now (s .entry)) n (now (leave .entry)) (now (arrive .entry)) (now (held .entry)) (now (leave .exit)) (now (arrive .exit)) (now (held .exit)) ⌝ }
 {
     let labels = p.labels;
     let from = p.from;
@@ -147,7 +147,7 @@ pub fn spread(
         let links = links_of(&leaving, &arriving, x & used);
         leave[v] = links.leave;
         arrive[v] = links.arrive;
-        out[v] = 0;
+        held[v] = 0;
         v += 1;
     }
 }

@@ -91,14 +91,14 @@ fn start(
     n: usize,
     leave: &mut [u32],
     arrive: &mut [u32],
-    out: &mut [u32],
+    held: &mut [u32],
     leaving: &[u32; 128],
     arriving: &[u32; 128],
 ) -> Place
-    requires { ⌜ Pool d (now work) × Fresh q n d all (now work) (now leave) (now arrive) (now out) (now leaving) (now arriving) ⌝ }
-    ensures { λ r. ⌜ Started q n d (now (work .entry)) r (now (work .exit)) (now (leave .exit)) (now (arrive .exit)) (now (out .exit)) ⌝ }
+    requires { ⌜ Pool d (now work) × Fresh q n d all (now work) (now leave) (now arrive) (now held) (now leaving) (now arriving) ⌝ }
+    ensures { λ r. ⌜ Started q n d (now (work .entry)) r (now (work .exit)) (now (leave .exit)) (now (arrive .exit)) (now (held .exit)) ⌝ }
 {
-    sweeps::round(work, d, n, leave, arrive, out, 0, all, leaving, arriving);
+    sweeps::round(work, d, n, leave, arrive, held, 0, all, leaving, arriving);
     Place {
         settled: 0,
         free: all,
@@ -116,12 +116,12 @@ pub fn step(
     n: usize,
     leave: &mut [u32],
     arrive: &mut [u32],
-    out: &mut [u32],
+    held: &mut [u32],
     leaving: &[u32; 128],
     arriving: &[u32; 128],
 ) -> Place
-    requires { ⌜ Fair q × Tabled (q .from) (q .from) (q .edges) (now leaving) × Tabled (q .from) (q .to) (q .edges) (now arriving) × OneStep (patternIn q) (bit (place .settled)) (bit (bitOr (place .settled) c)) × (bitAnd c (place .settled) ≡ 0) × (n ≤ 4096) × Prepared n d (now work) (now leave) (now arrive) (now out) ⌝ }
-    ensures { λ r. ⌜ Stepped q n d c place (now (work .entry)) (now (leave .entry)) (now (arrive .entry)) (now (out .entry)) r (now (work .exit)) (now (leave .exit)) (now (arrive .exit)) (now (out .exit)) ⌝ }
+    requires { ⌜ Fair q × Tabled (q .from) (q .from) (q .edges) (now leaving) × Tabled (q .from) (q .to) (q .edges) (now arriving) × OneStep (patternIn q) (bit (place .settled)) (bit (bitOr (place .settled) c)) × (bitAnd c (place .settled) ≡ 0) × (n ≤ 4096) × Prepared n d (now work) (now leave) (now arrive) (now held) ⌝ }
+    ensures { λ r. ⌜ Stepped q n d c place (now (work .entry)) (now (leave .entry)) (now (arrive .entry)) (now (held .entry)) r (now (work .exit)) (now (leave .exit)) (now (arrive .exit)) (now (held .exit)) ⌝ }
 {
     let from = q.from;
     let due = components::leaving(&from, q.edges, c);
@@ -141,7 +141,7 @@ pub fn step(
         n,
         leave,
         arrive,
-        out,
+        held,
         free,
         due,
         0,
@@ -170,11 +170,11 @@ fn go(
     n: usize,
     leave: &mut [u32],
     arrive: &mut [u32],
-    out: &mut [u32],
+    held: &mut [u32],
     leaving: &[u32; 128],
     arriving: &[u32; 128],
 ) -> u32
-    requires { ⌜ Fair q × AllReached q (now t) × AllComponents (now t) (q .nodes) (now components) × Tabled (q .from) (q .from) (q .edges) (now leaving) × Tabled (q .from) (q .to) (q .edges) (now arriving) × (first .settled ≡ 0) × (n ≤ 4096) × Prepared n d (now work) (now leave) (now arrive) (now out) ⌝ }
+    requires { ⌜ Fair q × AllReached q (now t) × AllComponents (now t) (q .nodes) (now components) × Tabled (q .from) (q .from) (q .edges) (now leaving) × Tabled (q .from) (q .to) (q .edges) (now arriving) × (first .settled ≡ 0) × (n ≤ 4096) × Prepared n d (now work) (now leave) (now arrive) (now held) ⌝ }
     ensures { λ r. ⌜ Going q n d steps first (now (work .entry)) (now (leave .entry)) (now (arrive .entry)) r (now (work .exit)) ⌝ }
 {
     let mut place = first;
@@ -193,7 +193,7 @@ fn go(
             n,
             leave,
             arrive,
-            out,
+            held,
             leaving,
             arriving,
         );
@@ -218,7 +218,7 @@ pub fn run(q: Pattern, steps: usize, work: &mut [u32], d: usize) -> u32
     let each = components::components(&t, q.nodes);
     let mut leave = [all; 4096];
     let mut arrive = [all; 4096];
-    let mut out = [0u32; 4096];
+    let mut held = [0u32; 4096];
     let place = start(
         q,
         all,
@@ -227,7 +227,7 @@ pub fn run(q: Pattern, steps: usize, work: &mut [u32], d: usize) -> u32
         n,
         &mut leave,
         &mut arrive,
-        &mut out,
+        &mut held,
         &leaving,
         &arriving,
     );
@@ -242,7 +242,7 @@ pub fn run(q: Pattern, steps: usize, work: &mut [u32], d: usize) -> u32
         n,
         &mut leave,
         &mut arrive,
-        &mut out,
+        &mut held,
         &leaving,
         &arriving,
     )

@@ -19,9 +19,9 @@ fn carried(f: usize, last: usize, run: u32) -> u32
 
 // Every pair keeps what its ends allow, and adds it to what is held at the node where it begins. The pairs stand in the order of these nodes, so what is held at a
 // node is carried on from pair to pair and not read again.
-pub fn sweep(work: &mut [u32], d: usize, leave: &[u32], arrive: &[u32], free: u32, out: &mut [u32])
-    requires { ⌜ Ends (length (now out)) d (now work) × (length (now leave) ≡ length (now out)) × (length (now arrive) ≡ length (now out)) × Starts d (now work) (now out) ⌝ }
-    ensures { λ r. ⌜ Swept d (now (leave .entry)) (now (arrive .entry)) free (now (work .entry)) (now (out .entry)) (now (work .exit)) (now (out .exit)) ⌝ }
+pub fn sweep(work: &mut [u32], d: usize, leave: &[u32], arrive: &[u32], free: u32, held: &mut [u32])
+    requires { ⌜ Ends (length (now held)) d (now work) × (length (now leave) ≡ length (now held)) × (length (now arrive) ≡ length (now held)) × Starts d (now work) (now held) ⌝ }
+    ensures { λ r. ⌜ Swept d (now (leave .entry)) (now (arrive .entry)) free (now (work .entry)) (now (held .entry)) (now (work .exit)) (now (held .exit)) ⌝ }
 {
     let mut last: usize = 0;
     let mut run: u32 = 0;
@@ -33,26 +33,26 @@ pub fn sweep(work: &mut [u32], d: usize, leave: &[u32], arrive: &[u32], free: u3
         let at = limits::HELD + i;
         let both = leave[f] & arrive[t];
         let old = work[at];
-        let held = old & (free | both);
-        work[at] = held;
-        run = carried(f, last, run) | held;
-        out[f] = run;
+        let kept = old & (free | both);
+        work[at] = kept;
+        run = carried(f, last, run) | kept;
+        held[f] = run;
         last = f;
         i += 1;
     }
 }
 
 // Every pair adds what it is held for to what is held at the node where it ends.
-pub fn arrivals(work: &[u32], d: usize, out: &mut [u32])
-    requires { ⌜ Ends (length (now out)) d (now work) ⌝ }
-    ensures { λ r. ⌜ Arrived d (now (work .entry)) (now (out .entry)) (now (out .exit)) ⌝ }
+pub fn arrivals(work: &[u32], d: usize, held: &mut [u32])
+    requires { ⌜ Ends (length (now held)) d (now work) ⌝ }
+    ensures { λ r. ⌜ Arrived d (now (work .entry)) (now (held .entry)) (now (held .exit)) ⌝ }
 {
     let mut i: usize = 0;
     while i < d {
         let t = (work[i] % limits::NODES) as usize;
         let at = limits::HELD + i;
-        let old = out[t];
-        out[t] = old | work[at];
+        let old = held[t];
+        held[t] = old | work[at];
         i += 1;
     }
 }
@@ -97,21 +97,21 @@ pub fn settle(
     n: usize,
     leave: &mut [u32],
     arrive: &mut [u32],
-    out: &mut [u32],
+    held: &mut [u32],
     due: u32,
     leaving: &[u32; 128],
     arriving: &[u32; 128],
 ) -> u32
-    requires { ⌜ (n ≤ length (now leave)) × (n ≤ length (now arrive)) × (n ≤ length (now out)) ⌝ }
-    ensures { λ r. ⌜ NodesSettled n due (now (leaving .entry)) (now (arriving .entry)) (now (leave .entry)) (now (arrive .entry)) (now (out .entry)) r (now (leave .exit)) (now (arrive .exit)) (now (out .exit)) ⌝ }
+    requires { ⌜ (n ≤ length (now leave)) × (n ≤ length (now arrive)) × (n ≤ length (now held)) ⌝ }
+    ensures { λ r. ⌜ NodesSettled n due (now (leaving .entry)) (now (arriving .entry)) (now (leave .entry)) (now (arrive .entry)) (now (held .entry)) r (now (leave .exit)) (now (arrive .exit)) (now (held .exit)) ⌝ }
 {
     let mut lost: u32 = 0;
     let mut v: usize = 0;
     while v < n {
         let a = leave[v];
         let b = arrive[v];
-        let miss = (a & due) & !out[v];
-        out[v] = 0;
+        let miss = (a & due) & !held[v];
+        held[v] = 0;
         leave[v] = without(leaving, miss, a);
         arrive[v] = without(arriving, miss, b);
         lost = lost | miss;
@@ -127,17 +127,17 @@ pub fn round(
     n: usize,
     leave: &mut [u32],
     arrive: &mut [u32],
-    out: &mut [u32],
+    held: &mut [u32],
     free: u32,
     due: u32,
     leaving: &[u32; 128],
     arriving: &[u32; 128],
 ) -> u32
-    requires { ⌜ Prepared n d (now work) (now leave) (now arrive) (now out) ⌝ }
-    ensures { λ r. ⌜ Fixed n free due 0 d (now (leaving .entry)) (now (arriving .entry)) (now (leaving .entry)) (now (arriving .entry)) (now (work .entry)) (now (leave .entry)) (now (arrive .entry)) (now (out .entry)) r (now (work .exit)) (now (leave .exit)) (now (arrive .exit)) (now (out .exit)) × Round n due d (now (leaving .entry)) (now (work .entry)) (now (leave .entry)) (now (arrive .entry)) r (now (work .exit)) (now (leave .exit)) ⌝ }
+    requires { ⌜ Prepared n d (now work) (now leave) (now arrive) (now held) ⌝ }
+    ensures { λ r. ⌜ Fixed n free due 0 d (now (leaving .entry)) (now (arriving .entry)) (now (leaving .entry)) (now (arriving .entry)) (now (work .entry)) (now (leave .entry)) (now (arrive .entry)) (now (held .entry)) r (now (work .exit)) (now (leave .exit)) (now (arrive .exit)) (now (held .exit)) × Round n due d (now (leaving .entry)) (now (work .entry)) (now (leave .entry)) (now (arrive .entry)) r (now (work .exit)) (now (leave .exit)) ⌝ }
 {
-    sweep(work, d, leave, arrive, free, out);
-    settle(n, leave, arrive, out, due, leaving, arriving)
+    sweep(work, d, leave, arrive, free, held);
+    settle(n, leave, arrive, held, due, leaving, arriving)
 }
 
 // The nodes settled as links arrive at them: the same, with the ends of pairs and of links changed for each other. The links that were missed.
@@ -147,16 +147,16 @@ fn round_back(
     n: usize,
     leave: &mut [u32],
     arrive: &mut [u32],
-    out: &mut [u32],
+    held: &mut [u32],
     back: u32,
     ending: &[u32; 128],
     starting: &[u32; 128],
 ) -> u32
-    requires { ⌜ Prepared n d (now work) (now leave) (now arrive) (now out) ⌝ }
-    ensures { λ r. ⌜ BackSettled n back d (now (ending .entry)) (now (starting .entry)) (now (work .entry)) (now (leave .entry)) (now (arrive .entry)) (now (out .entry)) r (now (leave .exit)) (now (arrive .exit)) (now (out .exit)) ⌝ }
+    requires { ⌜ Prepared n d (now work) (now leave) (now arrive) (now held) ⌝ }
+    ensures { λ r. ⌜ BackSettled n back d (now (ending .entry)) (now (starting .entry)) (now (work .entry)) (now (leave .entry)) (now (arrive .entry)) (now (held .entry)) r (now (leave .exit)) (now (arrive .exit)) (now (held .exit)) ⌝ }
 {
-    arrivals(work, d, out);
-    settle(n, arrive, leave, out, back, ending, starting)
+    arrivals(work, d, held);
+    settle(n, arrive, leave, held, back, ending, starting)
 }
 
 // One round both ways; one way, where back has no link.
@@ -166,7 +166,7 @@ fn round_both(
     n: usize,
     leave: &mut [u32],
     arrive: &mut [u32],
-    out: &mut [u32],
+    held: &mut [u32],
     free: u32,
     due: u32,
     back: u32,
@@ -175,14 +175,25 @@ fn round_both(
     ending: &[u32; 128],
     starting: &[u32; 128],
 ) -> u32
-    requires { ⌜ Prepared n d (now work) (now leave) (now arrive) (now out) ⌝ }
-    ensures { λ r. ⌜ Fixed n free due back d (now (leaving .entry)) (now (arriving .entry)) (now (ending .entry)) (now (starting .entry)) (now (work .entry)) (now (leave .entry)) (now (arrive .entry)) (now (out .entry)) r (now (work .exit)) (now (leave .exit)) (now (arrive .exit)) (now (out .exit)) ⌝ }
+    requires { ⌜ Prepared n d (now work) (now leave) (now arrive) (now held) ⌝ }
+    ensures { λ r. ⌜ Fixed n free due back d (now (leaving .entry)) (now (arriving .entry)) (now (ending .entry)) (now (starting .entry)) (now (work .entry)) (now (leave .entry)) (now (arrive .entry)) (now (held .entry)) r (now (work .exit)) (now (leave .exit)) (now (arrive .exit)) (now (held .exit)) ⌝ }
 {
-    let lost = round(work, d, n, leave, arrive, out, free, due, leaving, arriving);
+    let lost = round(
+        work,
+        d,
+        n,
+        leave,
+        arrive,
+        held,
+        free,
+        due,
+        leaving,
+        arriving,
+    );
     if back == 0 {
         return lost;
     }
-    let more = round_back(work, d, n, leave, arrive, out, back, ending, starting);
+    let more = round_back(work, d, n, leave, arrive, held, back, ending, starting);
     lost | more
 }
 
@@ -193,7 +204,7 @@ pub fn fix(
     n: usize,
     leave: &mut [u32],
     arrive: &mut [u32],
-    out: &mut [u32],
+    held: &mut [u32],
     free: u32,
     due: u32,
     back: u32,
@@ -202,8 +213,8 @@ pub fn fix(
     ending: &[u32; 128],
     starting: &[u32; 128],
 ) -> u32
-    requires { ⌜ Prepared n d (now work) (now leave) (now arrive) (now out) ⌝ }
-    ensures { λ r. ⌜ Fixed n free due back d (now (leaving .entry)) (now (arriving .entry)) (now (ending .entry)) (now (starting .entry)) (now (work .entry)) (now (leave .entry)) (now (arrive .entry)) (now (out .entry)) r (now (work .exit)) (now (leave .exit)) (now (arrive .exit)) (now (out .exit)) ⌝ }
+    requires { ⌜ Prepared n d (now work) (now leave) (now arrive) (now held) ⌝ }
+    ensures { λ r. ⌜ Fixed n free due back d (now (leaving .entry)) (now (arriving .entry)) (now (ending .entry)) (now (starting .entry)) (now (work .entry)) (now (leave .entry)) (now (arrive .entry)) (now (held .entry)) r (now (work .exit)) (now (leave .exit)) (now (arrive .exit)) (now (held .exit)) ⌝ }
 {
     let mut left: usize = 12;
     while left > 0 {
@@ -213,7 +224,7 @@ pub fn fix(
             n,
             leave,
             arrive,
-            out,
+            held,
             free,
             due,
             back,

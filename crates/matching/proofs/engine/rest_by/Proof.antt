@@ -1,5 +1,4 @@
 -- `matching::engine::rest_by` meets its contract.
-use borrow.Author.Needs.{needs}
 use native.Mathlib.Omega.{arith}
 use Rattle.matching.proofs.RoundLaws.{prepared-ends, prepared-starts}
 use Rattle.matching.proofs.TurnLaws.{late-prepared, late-fixed}

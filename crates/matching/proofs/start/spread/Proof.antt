@@ -8,10 +8,10 @@ use Rattle.matching.proofs.start.spread.Statement.{statement}
 use Rattle.matching.proofs.start.spread.Tie as tie
 
 abbrev Inv-loop : tie.InvT-loop
-Inv-loop s n leave₀ arrive₀ out₀ leaving arriving used v₀ leave arrive out v = Spreading s n used leaving arriving leave₀ arrive₀ out₀ leave arrive out v
+Inv-loop s n leave₀ arrive₀ held₀ leaving arriving used v₀ leave arrive held v = Spreading s n used leaving arriving leave₀ arrive₀ held₀ leave arrive held v
 
 abbrev μ-loop : tie.MeasureT-loop
-μ-loop s n leave₀ arrive₀ out₀ leaving arriving used v₀ leave arrive out v = n - v
+μ-loop s n leave₀ arrive₀ held₀ leaving arriving used v₀ leave arrive held v = n - v
 
 by-label-requires : tie.Need-by-label-requires Inv-loop μ-loop
 by-label-requires c κs =
@@ -65,14 +65,14 @@ slice-write-arrive c =
     let loop = c .before .before .before .before .before .loop in
     omega (arith, loop .inv .arrives .long, pre .3 .nodes, pre .3 .arrive-long)
 
-mul-out : tie.Need-mul-out Inv-loop μ-loop
-mul-out c =
+mul-held : tie.Need-mul-held Inv-loop μ-loop
+mul-held c =
     let pre = c .before .before .before .before .before .before .before .before .before .before .before .before .before .before .before .before .before .before .before .before .before .pre in
     let loop = c .before .before .before .before .before .loop in
     omega (arith, loop .inv .outs .long, pre .3 .nodes)
 
-slice-write-out : tie.Need-slice-write-out Inv-loop μ-loop
-slice-write-out c =
+slice-write-held : tie.Need-slice-write-held Inv-loop μ-loop
+slice-write-held c =
     let pre = c .before .before .before .before .before .before .before .before .before .before .before .before .before .before .before .before .before .before .before .before .before .pre in
     let loop = c .before .before .before .before .before .loop in
     omega (arith, loop .inv .outs .long, pre .3 .nodes)
@@ -110,4 +110,4 @@ returns c =
     spreading-end _ _ _ _ _ (loop .inv) (pre .0) (by-label .ensures) (by-label2 .ensures) (λ u l. labels-used .ensures .hit _ (record { at = u; below = l; holds = refl })) (c .loop-test .left)
 
 pub spread-spec : {M : Type 1} → statement M
-spread-spec = tie.close (tie.spec Inv-loop μ-loop by-label-requires by-label-requires-2 labels-used-requires loop-holds labels-at-requires links-of-requires mul-leave slice-write-leave mul-arrive slice-write-arrive mul-out slice-write-out add-v loop-less loop-again same-length same-length-2 same-length-3 returns)
+spread-spec = tie.close (tie.spec Inv-loop μ-loop by-label-requires by-label-requires-2 labels-used-requires loop-holds labels-at-requires links-of-requires mul-leave slice-write-leave mul-arrive slice-write-arrive mul-held slice-write-held add-v loop-less loop-again same-length same-length-2 same-length-3 returns)

@@ -8,11 +8,11 @@ use Rattle.matching.proofs.steps.go.Statement.{statement}
 use Rattle.matching.proofs.steps.go.Tie as tie
 
 abbrev Inv-loop : tie.InvT-loop
-Inv-loop q steps t components work₀ d n leave₀ arrive₀ out₀ leaving arriving place₀ left₀ work leave arrive out place left =
-    Gone q n d steps place₀ work₀ leave₀ arrive₀ out₀ place work leave arrive out left
+Inv-loop q steps t components work₀ d n leave₀ arrive₀ held₀ leaving arriving place₀ left₀ work leave arrive held place left =
+    Gone q n d steps place₀ work₀ leave₀ arrive₀ held₀ place work leave arrive held left
 
 abbrev μ-loop : tie.MeasureT-loop
-μ-loop q steps t components work₀ d n leave₀ arrive₀ out₀ leaving arriving place₀ left₀ work leave arrive out place left = left
+μ-loop q steps t components work₀ d n leave₀ arrive₀ held₀ leaving arriving place₀ left₀ work leave arrive held place left = left
 
 loop-holds : tie.Need-loop-holds Inv-loop μ-loop
 loop-holds c = gone-none _ (c .before .before .before .before .pre .5) (c .before .before .before .before .pre .7)

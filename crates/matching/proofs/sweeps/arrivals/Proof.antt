@@ -8,10 +8,10 @@ use Rattle.matching.proofs.sweeps.arrivals.Statement.{statement}
 use Rattle.matching.proofs.sweeps.arrivals.Tie as tie
 
 abbrev Inv-loop : tie.InvT-loop
-Inv-loop work d out₀ i₀ out i = (i ≤ d) × Arrived i work out₀ out
+Inv-loop work d held₀ i₀ held i = (i ≤ d) × Arrived i work held₀ held
 
 abbrev μ-loop : tie.MeasureT-loop
-μ-loop work d out₀ i₀ out i = d - i
+μ-loop work d held₀ i₀ held i = d - i
 
 loop-holds : tie.Need-loop-holds Inv-loop μ-loop
 loop-holds c = (omega arith, arrived-start _ _)
@@ -38,17 +38,17 @@ slice-read-old c =
     let loop-test = c .before .before .loop-test in
     omega (arith, loop .inv .1 .long, pre .to (loop .i) (omega (arith, loop-test .taken)))
 
-mul-out : tie.Need-mul-out Inv-loop μ-loop
-mul-out c = search needs
+mul-held : tie.Need-mul-held Inv-loop μ-loop
+mul-held c = search needs
 
-shared-slice-read-out : tie.Need-shared-slice-read-out Inv-loop μ-loop
-shared-slice-read-out c = search needs
+shared-slice-read-held : tie.Need-shared-slice-read-held Inv-loop μ-loop
+shared-slice-read-held c = search needs
 
-mul-out-2 : tie.Need-mul-out-2 Inv-loop μ-loop
-mul-out-2 c = search needs
+mul-held-2 : tie.Need-mul-held-2 Inv-loop μ-loop
+mul-held-2 c = search needs
 
-slice-write-out : tie.Need-slice-write-out Inv-loop μ-loop
-slice-write-out c =
+slice-write-held : tie.Need-slice-write-held Inv-loop μ-loop
+slice-write-held c =
     let pre = c .before .before .before .before .before .pre in
     let loop = c .before .before .before .before .loop in
     let loop-test = c .before .before .before .loop-test in
@@ -90,10 +90,10 @@ arrivals-spec =
     add-at
     mul-old
     slice-read-old
-    mul-out
-    shared-slice-read-out
-    mul-out-2
-    slice-write-out
+    mul-held
+    shared-slice-read-held
+    mul-held-2
+    slice-write-held
     add-i
     loop-less
     loop-again

@@ -9,11 +9,11 @@ use Rattle.matching.proofs.sweeps.fix.Statement.{statement}
 use Rattle.matching.proofs.sweeps.fix.Tie as tie
 
 abbrev Inv-loop : tie.InvT-loop
-Inv-loop work₀ d n leave₀ arrive₀ out₀ free due back leaving arriving ending starting left₀ work leave arrive out left =
-    Fixed n free due back d leaving arriving ending starting work₀ leave₀ arrive₀ out₀ 1 work leave arrive out
+Inv-loop work₀ d n leave₀ arrive₀ held₀ free due back leaving arriving ending starting left₀ work leave arrive held left =
+    Fixed n free due back d leaving arriving ending starting work₀ leave₀ arrive₀ held₀ 1 work leave arrive held
 
 abbrev μ-loop : tie.MeasureT-loop
-μ-loop work₀ d n leave₀ arrive₀ out₀ free due back leaving arriving ending starting left₀ work leave arrive out left = left
+μ-loop work₀ d n leave₀ arrive₀ held₀ free due back leaving arriving ending starting left₀ work leave arrive held left = left
 
 loop-holds : tie.Need-loop-holds Inv-loop μ-loop
 loop-holds c =

@@ -8,10 +8,10 @@ use Rattle.matching.proofs.sweeps.settle.Statement.{statement}
 use Rattle.matching.proofs.sweeps.settle.Tie as tie
 
 abbrev Inv-loop : tie.InvT-loop
-Inv-loop n leave₀ arrive₀ out₀ due leaving arriving lost₀ v₀ leave arrive out lost v = Settling n due leaving arriving leave₀ arrive₀ out₀ leave arrive out lost v
+Inv-loop n leave₀ arrive₀ held₀ due leaving arriving lost₀ v₀ leave arrive held lost v = Settling n due leaving arriving leave₀ arrive₀ held₀ leave arrive held lost v
 
 abbrev μ-loop : tie.MeasureT-loop
-μ-loop n leave₀ arrive₀ out₀ due leaving arriving lost₀ v₀ leave arrive out lost v = n - v
+μ-loop n leave₀ arrive₀ held₀ due leaving arriving lost₀ v₀ leave arrive held lost v = n - v
 
 loop-holds : tie.Need-loop-holds Inv-loop μ-loop
 loop-holds c = settling-start _ _ _ _ _ _ _
@@ -52,14 +52,14 @@ slice-read-miss c =
     let loop = c .before .before .before .before .loop in
     omega (arith, loop .inv .outs .long, pre .2)
 
-mul-out : tie.Need-mul-out Inv-loop μ-loop
-mul-out c =
+mul-held : tie.Need-mul-held Inv-loop μ-loop
+mul-held c =
     let pre = c .before .before .before .before .before .before .before .before .pre in
     let loop = c .before .before .before .before .loop in
     omega (arith, loop .inv .outs .long, pre .2)
 
-slice-write-out : tie.Need-slice-write-out Inv-loop μ-loop
-slice-write-out c =
+slice-write-held : tie.Need-slice-write-held Inv-loop μ-loop
+slice-write-held c =
     let pre = c .before .before .before .before .before .before .before .before .pre in
     let loop = c .before .before .before .before .loop in
     omega (arith, loop .inv .outs .long, pre .2)
@@ -135,8 +135,8 @@ settle-spec =
     slice-read-b
     mul-miss
     slice-read-miss
-    mul-out
-    slice-write-out
+    mul-held
+    slice-write-held
     without-requires
     mul-leave
     slice-write-leave

@@ -8,10 +8,10 @@ use Rattle.matching.proofs.sweeps.sweep.Statement.{statement}
 use Rattle.matching.proofs.sweeps.sweep.Tie as tie
 
 abbrev Inv-loop : tie.InvT-loop
-Inv-loop work₀ d leave arrive free out₀ last₀ run₀ i₀ work out last run i = Running d leave arrive free work₀ out₀ work out i last run
+Inv-loop work₀ d leave arrive free held₀ last₀ run₀ i₀ work held last run i = Running d leave arrive free work₀ held₀ work held i last run
 
 abbrev μ-loop : tie.MeasureT-loop
-μ-loop work₀ d leave arrive free out₀ last₀ run₀ i₀ work out last run i = d - i
+μ-loop work₀ d leave arrive free held₀ last₀ run₀ i₀ work held last run i = d - i
 
 loop-holds : tie.Need-loop-holds Inv-loop μ-loop
 loop-holds c =
@@ -92,15 +92,15 @@ slice-write-work c =
 carried-requires : tie.Need-carried-requires Inv-loop μ-loop
 carried-requires c κs = search needs
 
-mul-out : tie.Need-mul-out Inv-loop μ-loop
-mul-out c =
+mul-held : tie.Need-mul-held Inv-loop μ-loop
+mul-held c =
     let pre = c .before .before .before .before .before .before .before .before .before .before .before .pre in
     let loop = c .before .before .before .before .before .before .loop in
     let loop-test = c .before .before .before .before .before .loop-test in
     omega (arith, sweeping-from _ _ _ _ _ _ _ _ _ (pre .0) (loop .inv .sweeping) (loop-test .taken), loop .inv .sweeping .long)
 
-slice-write-out : tie.Need-slice-write-out Inv-loop μ-loop
-slice-write-out c =
+slice-write-held : tie.Need-slice-write-held Inv-loop μ-loop
+slice-write-held c =
     let pre = c .before .before .before .before .before .before .before .before .before .before .before .pre in
     let loop = c .before .before .before .before .before .before .loop in
     let loop-test = c .before .before .before .before .before .loop-test in
@@ -150,8 +150,8 @@ sweep-spec =
     mul-work
     slice-write-work
     carried-requires
-    mul-out
-    slice-write-out
+    mul-held
+    slice-write-held
     add-i
     loop-less
     loop-again
