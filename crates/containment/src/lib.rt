@@ -157,6 +157,6 @@ pub fn part(
         answer,
         &mut work[0..limits::WORKSPACE],
     );
-    workspace::clear(work, limits::WORKSPACE);
+    workspace::clear(work, CLEARED);
     r
 }
