@@ -1,7 +1,7 @@
 /*
  * Yuthaqim from C: files of patterns, catalogues, records, sheets and books; searching a record, by an index beside it
- * too, quoting a question, finding the cheapest extracts for it, answering it or the part of it that can be had from a
- * book, and showing why it is uncovered.
+ * too, quoting a question, finding the cheapest extracts for it, answering it, several at once or the part of it that can
+ * be had from a book, and showing why it is uncovered.
  *
  * Every function of this header is proved to meet its contract for every input: see crates/yuthaqim/src/lib.rt.
  *
@@ -20,9 +20,10 @@
  * before a call. Afterwards the first YUTHAQIM_WORK_WORDS of them are zero and those beyond are as they were; on
  * YUTHAQIM_DESK all of them are as they were.
  *
- * The stack, as measured on large files: sorting an old record 117,096 bytes, finding a part 94,232, answering 91,496,
- * making a book 88,568, searching 87,192, searching by an index 78,280, quoting 25,652, showing 22,148, the cheapest set
- * 21,764, reading a book 2,760, writing one 2,568, the others under 1,900. So 128 KB suffice.
+ * The stack, as measured on large files: sorting an old record 117,096 bytes, answering several questions 106,200,
+ * finding a part 94,104, answering 91,800, making a book 88,536, searching 87,192, searching by an index 78,280, quoting
+ * 28,692, showing 25,188, the cheapest set 24,804, reading a book 2,760, writing one 2,568, the others under 1,900. So
+ * 128 KB suffice.
  *
  * Content is a file's fields in order, one word each, padding left out. That of a pattern or a record is the number of
  * items, the number of links, the kind of each item or in a record its kinds, and for each link its from, its to and its
@@ -60,8 +61,11 @@ extern "C" {
 /* The most entries of a record's index. */
 #define YUTHAQIM_INDEX_ENTRIES 4097
 
-/* The refusals. Where several would fall, YUTHAQIM_DESK comes first, then the faults of the files in the order of a
- * function's parameters, each file front to back, 16 right after the record, then 10, 15, 11 or 13, and 12. */
+/* The most questions of one call; so many times YUTHAQIM_SHEET_BYTES always suffice for their answers. */
+#define YUTHAQIM_QUESTIONS_MOST 8
+
+/* The refusals. Where several would fall, YUTHAQIM_DESK comes first, then 17, then the faults of the files in the order
+ * of a function's parameters, each file front to back, 16 right after the record, then 10, 15, 11 or 13, and 12. */
 enum {
     YUTHAQIM_LONG = 1,       /* long: a file is over its most bytes */
     YUTHAQIM_SHORT = 2,      /* short: its bits, or a writer's words, end before a field does */
@@ -82,15 +86,16 @@ enum {
     YUTHAQIM_COVERED = 13,   /* covered: a showing was wanted for a covered question */
     YUTHAQIM_DESK = 14,      /* desk: fewer than YUTHAQIM_WORK_WORDS words were lent to work in */
     YUTHAQIM_CHARGES = 15,   /* charges: there isn't one charge for each extract of the catalogue */
-    YUTHAQIM_INDEX = 16      /* index: the lent index isn't the record's own */
+    YUTHAQIM_INDEX = 16,     /* index: the lent index isn't the record's own */
+    YUTHAQIM_QUESTIONS = 17  /* questions: none is sent, or more than YUTHAQIM_QUESTIONS_MOST */
 };
 
 /* The detail of a refusal: of 1 to 10 one of these, the file at fault; of 11 the lowest unmatched link; of 12 the bytes
- * that the first output without room needs, or the words where content is the output, or the entries where an index is;
- * of 13 and 14 zero; of 15 the number of charges; of 16 the number of entries if that is wrong, else the first position,
- * from 0, that differs. */
+ * that the first output without room needs, or the words where content is the output, or the entries where an index is,
+ * or the bytes of all answers where several questions are answered; of 13 and 14 zero; of 15 the number of charges; of 16
+ * the number of entries if that is wrong, else the first position, from 0, that differs; of 17 the number that was sent. */
 enum {
-    YUTHAQIM_IN_PATTERN = 1, /* the question, or another lone pattern */
+    YUTHAQIM_IN_PATTERN = 1, /* the question, or several, or another lone pattern */
     YUTHAQIM_IN_CATALOGUE = 2,
     YUTHAQIM_IN_RECORD = 3,
     YUTHAQIM_IN_BOOK = 4 /* a book or a lone sheet */
@@ -128,6 +133,14 @@ struct yuthaqim_part {
     size_t detail;
     size_t first;  /* the bytes of the part, a pattern */
     size_t second; /* the bytes of its answer, the part's sheet */
+};
+
+/* The answers of several questions. What has no meaning is zero. */
+struct yuthaqim_several {
+    size_t number; /* 0, or the refusal's number */
+    size_t detail;
+    size_t bytes;    /* the bytes of all answers */
+    uint32_t sheets; /* how many sheets of the book were needed: those of the extracts chosen for at least one question */
 };
 
 /* The cheapest set. What has no meaning is zero. In a set the bit worth 2^a says extract a. */
@@ -238,6 +251,16 @@ struct yuthaqim_reply yuthaqim_answer_from(const uint8_t *question, size_t quest
                                            size_t catalogue_length, uint16_t set, const uint8_t *book,
                                            size_t book_length, uint8_t *out, size_t out_length, uint32_t *work,
                                            size_t work_length);
+
+/* Answers several questions from one book, up to YUTHAQIM_QUESTIONS_MOST: writes their sheets one after the other, each
+ * the one that yuthaqim_answer gives for its question. The questions come as one file, each on the byte after the one
+ * before, with at most YUTHAQIM_PATTERN_BYTES times their number. Of 11 the detail is the lowest unmatched link of the
+ * first question that isn't covered. It is refused with 12 if one sheet is over YUTHAQIM_SHEET_BYTES or all are over what
+ * is lent, and then the detail is the bytes of all, which have no limit of their own. */
+struct yuthaqim_several yuthaqim_answer_several(const uint8_t *questions, size_t questions_length, uint32_t number,
+                                                const uint8_t *catalogue, size_t catalogue_length, const uint8_t *book,
+                                                size_t book_length, uint8_t *out, size_t out_length, uint32_t *work,
+                                                size_t work_length);
 
 /* Finds the part of a question that the extracts answer, and answers it from a book: writes the part as a pattern, and
  * its sheet, which yuthaqim_answer gives for the part by itself. The part has the question's matched links in their

@@ -2,7 +2,7 @@
 
 use crate::baseline;
 use std::hint::black_box;
-use yuthaqim::{BOOK_BYTES, BOOK_WORDS, INDEX_ENTRIES, PATTERN_BYTES, WORK_WORDS};
+use yuthaqim::{BOOK_BYTES, BOOK_WORDS, INDEX_ENTRIES, PATTERN_BYTES, QUESTIONS_MOST, WORK_WORDS};
 
 #[derive(Clone, Copy, Debug, PartialEq, Eq)]
 pub enum Call {
@@ -17,12 +17,14 @@ pub enum Call {
     AnswerBySort,
     PartOfCovered,
     Part,
+    OneOfSeveral,
+    Several,
     Quote,
     Cheapest,
 }
 
 /// Those that are measured on the workloads. The cheapest set has workloads of its own.
-pub const CALLS: [Call; 12] = [
+pub const CALLS: [Call; 14] = [
     Call::ReadRecord,
     Call::MakeIndex,
     Call::CheckIndex,
@@ -34,6 +36,8 @@ pub const CALLS: [Call; 12] = [
     Call::AnswerBySort,
     Call::PartOfCovered,
     Call::Part,
+    Call::OneOfSeveral,
+    Call::Several,
     Call::Quote,
 ];
 
@@ -51,6 +55,8 @@ impl Call {
             Call::AnswerBySort => "answer, sorting",
             Call::PartOfCovered => "part if covered, beside answer",
             Call::Part => "part if uncovered",
+            Call::OneOfSeveral => "several: one question, beside answer",
+            Call::Several => "several: eight questions, beside eight answers",
             Call::Quote => "quote",
             Call::Cheapest => "cheapest set",
         }
@@ -63,6 +69,9 @@ pub struct Files {
     pub record: Vec<u8>,
     pub index: Vec<u16>,
     pub question: Vec<u8>,
+    /// That and others, each a file of its own, and one after the other.
+    pub questions: Vec<Vec<u8>>,
+    pub paper: Vec<u8>,
     pub catalogue: Vec<u8>,
     pub book: Vec<u8>,
     pub charges: Vec<u32>,
@@ -73,6 +82,7 @@ pub struct Files {
 pub struct Desk {
     words: Vec<u32>,
     bytes: Vec<u8>,
+    answers: Vec<u8>,
     part: Vec<u8>,
     entries: Vec<u16>,
     work: Vec<u32>,
@@ -84,6 +94,7 @@ pub enum Outcome {
     Words(Vec<u32>),
     Bytes(Vec<u8>),
     Both(Vec<u8>, Vec<u8>),
+    Several(Vec<u8>, usize),
     Entries(Vec<u16>),
     Checked(usize),
     Quote(Box<baseline::Quote>),
@@ -94,7 +105,8 @@ pub enum Outcome {
 impl Desk {
     pub fn new() -> Desk {
         let (words, bytes, part) = (vec![0; BOOK_WORDS], vec![0; BOOK_BYTES], vec![0; PATTERN_BYTES]);
-        Desk { words, bytes, part, entries: vec![0; INDEX_ENTRIES], work: vec![0; WORK_WORDS] }
+        let answers = vec![0; QUESTIONS_MOST as usize * BOOK_BYTES];
+        Desk { words, bytes, answers, part, entries: vec![0; INDEX_ENTRIES], work: vec![0; WORK_WORDS] }
     }
 
     /// A call that gives content, a file or an index: how much it wrote. The check gives how many entries there are.
@@ -110,7 +122,10 @@ impl Desk {
             Call::MakeBook => yuthaqim::make_book(catalogue, record, bytes, work),
             Call::ReadBook => yuthaqim::read_book(catalogue, book, words, work),
             Call::Answer | Call::AnswerBySort => yuthaqim::answer(question, catalogue, book, bytes, work),
-            Call::Quote | Call::Cheapest | Call::Part | Call::PartOfCovered => unreachable!("it has no output, or two"),
+            Call::Quote | Call::Cheapest => unreachable!("it has no output"),
+            Call::Part | Call::PartOfCovered | Call::OneOfSeveral | Call::Several => {
+                unreachable!("it gives two values")
+            }
         }
     }
 
@@ -123,12 +138,28 @@ impl Desk {
         yuthaqim::raw::part(question, catalogue, book, &mut self.part, &mut self.bytes, &mut self.work)
     }
 
+    /// One question, or all of them.
+    fn several(&mut self, call: Call, files: &Files) -> yuthaqim::Several {
+        let Files { question, questions, paper, catalogue, book, .. } = files;
+        let (paper, number) = if call == Call::Several { (paper, questions.len()) } else { (question, 1) };
+        yuthaqim::raw::answer_several(paper, number as u32, catalogue, book, &mut self.answers, &mut self.work)
+    }
+
+    /// Each question answered by itself, as it is timed.
+    pub fn run_answers(&mut self, files: &Files) {
+        for question in &files.questions {
+            let answer = yuthaqim::answer(question, &files.catalogue, &files.book, &mut self.bytes, &mut self.work);
+            let _ = black_box(answer);
+        }
+    }
+
     /// A call of the library, as it is timed.
     pub fn run(&mut self, call: Call, files: &Files) {
         match call {
             Call::Quote => drop(black_box(yuthaqim::raw::quote(&files.question, &files.catalogue, &mut self.work))),
             Call::Cheapest => drop(black_box(self.cheapest(files))),
             Call::Part | Call::PartOfCovered => drop(black_box(self.part(files))),
+            Call::OneOfSeveral | Call::Several => drop(black_box(self.several(call, files))),
             _ => drop(black_box(self.length(call, files))),
         }
     }
@@ -145,6 +176,10 @@ impl Desk {
                 .part(files)
                 .result()
                 .map(|(first, second)| Outcome::Both(self.part[..first].to_vec(), self.bytes[..second].to_vec())),
+            Call::OneOfSeveral | Call::Several => self
+                .several(call, files)
+                .result()
+                .map(|given| Outcome::Several(self.answers[..given.bytes].to_vec(), given.sheets)),
             Call::ReadRecord | Call::ReadBook => {
                 self.length(call, files).map(|length| Outcome::Words(self.words[..length].to_vec()))
             }
@@ -166,9 +201,19 @@ impl Desk {
     }
 }
 
+/// Questions answered one by one by the baseline, and how many extracts are chosen for at least one of them.
+fn baseline_several(questions: &[Vec<u8>], catalogue: &[u8], book: &[u8]) -> Result<Outcome, baseline::Refusal> {
+    let (mut answers, mut chosen) = (Vec::new(), 0);
+    for question in questions {
+        answers.extend(baseline::answer(question, catalogue, book, BOOK_BYTES)?);
+        chosen |= baseline::quote(question, catalogue)?.chosen;
+    }
+    Ok(Outcome::Several(answers, chosen.count_ones() as usize))
+}
+
 /// The same call by the baseline, which searches without an index.
 pub fn baseline_outcome(call: Call, files: &Files) -> Outcome {
-    let Files { record, index, question, catalogue, book, charges } = files;
+    let Files { record, index, question, questions, catalogue, book, charges, .. } = files;
     let outcome = match call {
         Call::ReadRecord => baseline::read_record(record, BOOK_WORDS).map(Outcome::Words),
         Call::MakeIndex => baseline::make_index(record, INDEX_ENTRIES).map(Outcome::Entries),
@@ -180,6 +225,8 @@ pub fn baseline_outcome(call: Call, files: &Files) -> Outcome {
         Call::AnswerBySort => baseline::answer_by_sorting(question, catalogue, book, BOOK_BYTES).map(Outcome::Bytes),
         Call::Part | Call::PartOfCovered => baseline::part(question, catalogue, book, PATTERN_BYTES, BOOK_BYTES)
             .map(|(part, answer)| Outcome::Both(part, answer)),
+        Call::OneOfSeveral => baseline_several(&questions[..1], catalogue, book),
+        Call::Several => baseline_several(questions, catalogue, book),
         Call::Quote => baseline::quote(question, catalogue).map(|quote| Outcome::Quote(quote.into())),
         Call::Cheapest => baseline::cheapest(question, catalogue, charges).map(Outcome::Cheapest),
     };

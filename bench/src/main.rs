@@ -42,6 +42,8 @@ fn files_of(workload: &Workload, desk: &mut Desk) -> Files {
         panic!("there is no index of {}", workload.name);
     };
     (files.book, files.index) = (book, index);
+    files.questions = workload.questions(yuthaqim::QUESTIONS_MOST as usize);
+    files.paper = files.questions.concat();
     files
 }
 
@@ -128,9 +130,10 @@ fn case_of<'a>(
         let product = || timed(number, || desk.borrow_mut().run(call, &files));
         let first = product_first.then(product);
         let baseline = match call {
-            // Beside the library's own search without an index, and its own answer.
+            // Beside the library's own search without an index, and its own answers.
             Call::SearchIndexed => timed(number, || desk.borrow_mut().run(Call::Search, &files)),
-            Call::PartOfCovered => timed(number, || desk.borrow_mut().run(Call::Answer, &files)),
+            Call::PartOfCovered | Call::OneOfSeveral => timed(number, || desk.borrow_mut().run(Call::Answer, &files)),
+            Call::Several => timed(number, || desk.borrow_mut().run_answers(&files)),
             _ => timed(number, || drop(black_box(baseline_outcome(call, &files)))),
         };
         Turn { product: first.unwrap_or_else(product), other: Time::default(), baseline }

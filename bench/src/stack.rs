@@ -56,7 +56,8 @@ fn old_record(content: &[u32]) -> Vec<u8> {
 
 /// The stack that each call takes of the files of a workload.
 fn depths(files: &Files) -> Vec<(&'static str, usize)> {
-    let Files { record, index, question, catalogue, book, .. } = files;
+    let Files { record, index, question, questions, paper, catalogue, book, .. } = files;
+    let number = questions.len() as u32;
     let mut work = vec![0; WORK_WORDS];
     let mut sheet = vec![0; SHEET_BYTES];
     let length = search(question, record, &mut sheet, &mut work).expect("a sheet");
@@ -77,6 +78,7 @@ fn depths(files: &Files) -> Vec<(&'static str, usize)> {
     let mut words = vec![0; BOOK_WORDS];
     let mut bytes = vec![0; BOOK_BYTES];
     let mut more = vec![0; BOOK_BYTES];
+    let mut many = vec![0; QUESTIONS_MOST as usize * BOOK_BYTES];
     let mut entries = vec![0; INDEX_ENTRIES];
     let mut found = Vec::new();
     macro_rules! measure {
@@ -109,6 +111,7 @@ fn depths(files: &Files) -> Vec<(&'static str, usize)> {
         "cheapest set": raw::cheapest(question, catalogue, &charges, &mut work);
         "answer": answer(question, catalogue, book, &mut bytes, &mut work);
         "answer from a set": answer_from(question, catalogue, u16::MAX, book, &mut bytes, &mut work);
+        "answer several": answer_several(paper, number, catalogue, book, &mut many, &mut work);
         "part": part(question, catalogue, book, &mut more, &mut bytes, &mut work);
         "show": show_uncovered(question, catalogue, &mut bytes, &mut more, &mut work);
         "show": show_uncovered(question, NO_VIEWS, &mut bytes, &mut more, &mut work);

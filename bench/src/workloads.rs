@@ -35,6 +35,13 @@ impl Workload {
         catalogue_file(&some)
     }
 
+    /// So many questions: its own, and then the first extracts.
+    pub fn questions(&self, number: usize) -> Vec<Vec<u8>> {
+        let mut questions = vec![self.question.clone()];
+        questions.extend(self.extracts[..number - 1].iter().map(pattern_file));
+        questions
+    }
+
     pub fn extracts(&self) -> usize {
         self.extracts.len()
     }

@@ -46,7 +46,7 @@ static const uint32_t SHOWN_FIELDS[] = {4, 4, 1, 2, 4, 8, 0, 1, 0, 0, 2, 0, 1, 3
 static const uint32_t FEWER_FIELDS[] = {4, 3, 1, 2, 4, 8, 0, 1, 0, 1, 3, 0, 2, 3, 0};
 
 static uint32_t work[YUTHAQIM_WORK_WORDS + 1];
-static uint8_t bytes[YUTHAQIM_BOOK_BYTES];
+static uint8_t bytes[2 * YUTHAQIM_BOOK_BYTES];
 static uint8_t more[YUTHAQIM_RECORD_BYTES];
 static uint32_t words[YUTHAQIM_BOOK_WORDS];
 static uint16_t entries[YUTHAQIM_INDEX_ENTRIES];
@@ -560,6 +560,126 @@ static void parts(void) {
     expect_bytes("answer_from: the part by all extracts", r, by_both, sizeof by_both);
 }
 
+/* What several questions came to: their answers one after the other, nothing beyond them, and the sheets that they needed. */
+static void expect_several(const char *what, struct yuthaqim_several s, const uint8_t *expected, size_t length,
+                           uint32_t sheets) {
+    expect(what, s.number, s.bytes,
+           s.number == 0 && s.detail == 0 && s.bytes == length && s.sheets == sheets &&
+               is_written(bytes, sizeof bytes, expected, length));
+}
+
+/* A refusal has no bytes and no sheets. */
+static void expect_no_several(const char *what, struct yuthaqim_several s, size_t number, size_t detail) {
+    expect_refusal(what, s.number, s.detail, number, detail);
+    expect("  and no bytes and no sheets", s.number, s.detail, s.bytes == 0 && s.sheets == 0);
+}
+
+/* D, and then section to slow; what they list on K9, and the book of C on K9. */
+static const uint8_t D_AND_ONE[] = {0x20, 0x80, 0x08, 0x86, 0x02, 0x00, 0x80, 0x98, 0x23, 0x00, 0x10, 0x20, 0x08, 0x08};
+static const uint8_t D_AND_ONE_SHEETS[] = {0x80, 0x02, 0x00, 0x00, 0x02, 0x00, 0x08, 0x00, 0x00, 0x08, 0x00, 0x20, 0x02,
+                                           0x00, 0x40, 0x00, 0x80, 0x08, 0x01, 0x00, 0x80, 0x02, 0x00, 0x00, 0x02};
+static const uint8_t K9_BOOK[] = {0x80, 0x02, 0x00, 0x00, 0x02, 0x80, 0x02, 0x00, 0x00, 0x02, 0x00, 0x08, 0x00,
+                                  0x80, 0x10, 0x80, 0x02, 0x00, 0x00, 0x02, 0x00, 0x08, 0x00, 0x80, 0x10};
+
+/* So many questions of these bytes, with C and the book of K9, and so much lent. */
+static struct yuthaqim_several several_lent(const uint8_t *questions, size_t length, uint32_t number, size_t room) {
+    mark();
+    return yuthaqim_answer_several(questions, length, number, C, sizeof C, K9_BOOK, sizeof K9_BOOK, bytes, room, work,
+                                   LENGTH(work));
+}
+
+static void several(void) {
+    static uint8_t twice[2 * sizeof D], sheets[2 * sizeof K9_SHEET], ones[8 * 4], one_sheets[8 * 5], longer[57];
+    static const uint8_t zeros[] = {0, 0, 0}, one_alone[] = {0x08, 0x10, 0x20, 0x08, 0x08};
+    static const uint8_t d_and_fast[] = {0x20, 0x80, 0x08, 0x86, 0x02, 0x00, 0x80,
+                                         0x98, 0x23, 0x00, 0x10, 0x22, 0x18, 0x08};
+    struct yuthaqim_several s;
+
+    for (size_t i = 0; i < 8; i++) {
+        memcpy(ones + 4 * i, D_AND_ONE + sizeof D, 4);
+        memcpy(one_sheets + 5 * i, D_AND_ONE_SHEETS + sizeof K9_SHEET, 5);
+    }
+    for (size_t i = 0; i < 2; i++) {
+        memcpy(twice + i * sizeof D, D, sizeof D);
+        memcpy(sheets + i * sizeof K9_SHEET, K9_SHEET, sizeof K9_SHEET);
+    }
+    memcpy(longer, ones, 4);
+    expect_several("answer_several: D and section to slow",
+                   several_lent(D_AND_ONE, sizeof D_AND_ONE, 2, sizeof bytes), D_AND_ONE_SHEETS,
+                   sizeof D_AND_ONE_SHEETS, 3);
+    expect_several("answer_several: D twice", several_lent(twice, sizeof twice, 2, sizeof bytes), sheets, sizeof sheets,
+                   2);
+    expect_several("answer_several: section to slow eight times", several_lent(ones, sizeof ones, 8, sizeof one_sheets),
+                   one_sheets, sizeof one_sheets, 1);
+    mark();
+    s = yuthaqim_answer_several(twice, sizeof twice, 2, C, sizeof C, zeros, sizeof zeros, bytes, sizeof bytes, work,
+                                LENGTH(work));
+    expect_several("answer_several: nothing found", s, zeros, 2, 2);
+    expect_no_several("answer_several: lent 24", several_lent(D_AND_ONE, sizeof D_AND_ONE, 2, 24), YUTHAQIM_NO_FIT, 25);
+    expect_no_several("answer_several: no question", several_lent(D_AND_ONE, 0, 0, 25), YUTHAQIM_QUESTIONS, 0);
+    expect_no_several("answer_several: nine questions", several_lent(ones, sizeof ones, 9, 25), YUTHAQIM_QUESTIONS, 9);
+    expect_no_several("answer_several: as many as can be said", several_lent(ones, sizeof ones, UINT32_MAX, 25),
+                      YUTHAQIM_QUESTIONS, UINT32_MAX);
+    expect_no_several("answer_several: a question too many", several_lent(D_AND_ONE, sizeof D_AND_ONE, 1, 25),
+                      YUTHAQIM_TAIL, YUTHAQIM_IN_PATTERN);
+    expect_no_several("answer_several: a question too few", several_lent(D_AND_ONE, sizeof D_AND_ONE, 3, 25),
+                      YUTHAQIM_SHORT, YUTHAQIM_IN_PATTERN);
+    expect_no_several("answer_several: 56 bytes for one", several_lent(longer, 56, 1, 25), YUTHAQIM_TAIL,
+                      YUTHAQIM_IN_PATTERN);
+    expect_no_several("answer_several: 57 bytes for one", several_lent(longer, 57, 1, 25), YUTHAQIM_LONG,
+                      YUTHAQIM_IN_PATTERN);
+    mark();
+    s = yuthaqim_answer_several(d_and_fast, sizeof d_and_fast, 2, one_alone, sizeof one_alone, zeros, 1, bytes, 0, work,
+                                LENGTH(work));
+    expect_no_several("answer_several: D is the first uncovered one", s, YUTHAQIM_UNCOVERED, 1);
+    mark();
+    s = yuthaqim_answer_several(D_AND_ONE, 0, 0, C, sizeof C, K9_BOOK, sizeof K9_BOOK, bytes, sizeof bytes, work,
+                                YUTHAQIM_WORK_WORDS - 1);
+    expect_no_several("answer_several: too few words to work in", s, YUTHAQIM_DESK, 0);
+}
+
+/* A book of the one list (0,0) to (n - 1, n - 1), for the catalogue of a self-link: its length. */
+static size_t to_itself(uint32_t n, const uint8_t *catalogue, size_t catalogue_length, uint8_t *book, size_t room) {
+    words[0] = 1;
+    words[1] = n;
+    for (uint32_t v = 0; v < n; v++) {
+        words[2 + 2 * v] = v;
+        words[3 + 2 * v] = v;
+    }
+    return yuthaqim_write_book(catalogue, catalogue_length, words, 2 + 2 * n, book, room, work, LENGTH(work)).value;
+}
+
+/* A self-link, and sixteen items with 32 links, all matched by it: one answer that is too long, and a sum that may be. */
+static void sums(void) {
+    static const uint8_t self[] = {0x08, 0x08, 0x20, 0x00, 0x00};
+    static uint32_t fields[2 + 16 + 3 * 32] = {16, 32};
+    static uint8_t questions[2 * YUTHAQIM_PATTERN_BYTES], book[YUTHAQIM_BOOK_BYTES];
+    struct yuthaqim_several s;
+    size_t length, size;
+
+    for (uint32_t e = 0; e < 32; e++) {
+        fields[18 + 3 * e] = e % 16;
+        fields[19 + 3 * e] = (e + 1 + e / 16) % 16;
+    }
+    memcpy(questions, self + 1, 4);
+    size = yuthaqim_write_pattern(fields, LENGTH(fields), questions + 4, YUTHAQIM_PATTERN_BYTES, work,
+                                  LENGTH(work)).value;
+    length = to_itself(700, self, sizeof self, book, sizeof book);
+    mark();
+    s = yuthaqim_answer_several(questions, 4 + size, 2, self, sizeof self, book, length, bytes, sizeof bytes, work,
+                                LENGTH(work));
+    expect_no_several("answer_several: one answer is too long", s, YUTHAQIM_NO_FIT, 69359);
+    memmove(questions, questions + 4, size);
+    memcpy(questions + size, questions, size);
+    length = to_itself(682, self, sizeof self, book, sizeof book);
+    mark();
+    s = yuthaqim_answer_several(questions, 2 * size, 2, self, sizeof self, book, length, bytes, sizeof bytes, work,
+                                LENGTH(work));
+    expect("answer_several: the sum has no limit", s.number, s.bytes,
+           s.number == 0 && s.bytes == 131058 && s.sheets == 1 && memcmp(bytes, bytes + 65529, 65529) == 0 &&
+               are_marks(bytes, 131058, sizeof bytes) && is_cleared());
+}
+
 static void showing(void) {
     static uint8_t second[YUTHAQIM_RECORD_BYTES];
     struct yuthaqim_showing s;
@@ -607,7 +727,7 @@ static void refusals(void) {
     r = yuthaqim_read_record(more, YUTHAQIM_RECORD_BYTES, words, LENGTH(words), work, LENGTH(work));
     expect_refusal("read_record: marks", r.number, r.value, YUTHAQIM_COUNT, YUTHAQIM_IN_RECORD);
     mark();
-    r = yuthaqim_read_book(C, sizeof C, bytes, sizeof bytes, words, LENGTH(words), work, LENGTH(work));
+    r = yuthaqim_read_book(C, sizeof C, bytes, YUTHAQIM_BOOK_BYTES, words, LENGTH(words), work, LENGTH(work));
     expect_refusal("read_book: marks", r.number, r.value, YUTHAQIM_ORDER, YUTHAQIM_IN_BOOK);
 }
 
@@ -622,6 +742,8 @@ int main(void) {
     charging();
     answering();
     parts();
+    several();
+    sums();
     showing();
     refusals();
     printf("%d wrong\n", failures);

@@ -18,20 +18,14 @@ use Rattle.packed.specs.declared.reply.Reply.the-variants as reply-is
 use Rattle.packed.specs.declared.by_value.Pattern.{Pattern as Given}
 use Rattle.packed.proofs.WalkLaws.{book-pairs}
 use Rattle.packed.proofs.CallLaws.{read-says, judged-accepted, gathered-many, gathered-few, refusal-answered, body-declined}
-use Rattle.packed.proofs.MatchLaws.{matches-encode}
-use Rattle.matching.specs.Simulation.{ascending}
 use Rattle.matching.specs.Offered.{viewPatterns}
 use Rattle.matching.specs.Search.{sheetBytes}
 use Rattle.matching.specs.Join.{View, answerSets}
-use Rattle.matching.proofs.ByEdge.{answerTo}
 use Rattle.matching.specs.Loaded.{patternIn}
 use Rattle.matching.specs.Candidates.{Pool}
 use Rattle.matching.specs.Joining.{Agrees, Joined}
-use Rattle.matching.proofs.ListLaws.{length-each}
-use Rattle.matching.proofs.UpToLaws.{length-upTo}
-use Rattle.matching.proofs.JoinLaws.{answer-each}
 use Rattle.matching.proofs.PatternLaws.{pattern-same}
-use Rattle.matching.proofs.SheetBytes.{sheet-is}
+use Rattle.matching.proofs.BookLaws.{made-encodes}
 use Rattle.containment.specs.Choice.{coversIn, lowestUnmatched, used}
 use Rattle.containment.specs.Quote.{tableOf, usedBy}
 use Rattle.containment.specs.Answer.{viewsIn, answerBytes, answerIn}
@@ -60,22 +54,10 @@ module _ {q : Given} {table : List ℕ} {set : ℕ} {s counts : List ℕ} {k d :
             omega arith);
       }
 
-  module _ (vs : List View) (g : Agrees q table set s counts k vs) where
-    abbrev kept : List (List ℕ)
-    kept = matchesOf d (q .edges) w′
-
-    kept-long : length kept ≡ q .edges
-    unfolding patternIn
-    kept-long =
-        ap length (j .sets vs g ∙ answer-each (patternIn q) vs)
-        ∙ length-each (λ e. ascending (answerTo (patternIn q) vs e)) (patternIn q .edges)
-        ∙ length-upTo _ (q .edges)
-
-    -- the bytes that are written
-    pub answer-encodes : encode (sheet (q .edges)) (sheetFields kept) ≡ ok (sheetBytes (answerSets (patternIn q) vs))
-    answer-encodes =
-        let x = matches-encode d (q .edges) w′ joined-marked in
-        x .is ∙ ap ok (sym (sheet-is (q .edges) kept (x .bytes) kept-long (x .is)) ∙ ap sheetBytes (j .sets vs g))
+  -- the bytes that are written
+  pub answer-encodes : (vs : List View) → Agrees q table set s counts k vs
+      → encode (sheet (q .edges)) (sheetFields (matchesOf d (q .edges) w′)) ≡ ok (sheetBytes (answerSets (patternIn q) vs))
+  answer-encodes vs g = made-encodes (q .edges) joined-marked (j .sets vs g)
 
 -- ---- what is answered from an accepted book
 

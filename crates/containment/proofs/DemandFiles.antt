@@ -1,19 +1,23 @@
 -- Which refusals are those of files: 1 to 9, of the first that isn't accepted.
-use Prim.Native.Nat.{ℕ, _<_, _≤_}
+use Prim.Native.Nat.{ℕ, zero, suc, _<_, _≤_}
 use mathlib.Core.Path.{_≡_, refl, sym, ap, subst, _∙_}
 use mathlib.Core.Logic.{_↔_}
 use mathlib.Core.Bool.{Bool, true, false, _||_}
-use mathlib.Core.List.{List}
+use mathlib.Core.List.{List, flatten}
 use lib.ListN.{length}
 use lib.Dec.{ltb, eqb}
 use native.Mathlib.Omega.{arith}
 use Rattle.packed.specs.Format.{pick}
+use Rattle.packed.specs.Contents.{edgeCounts, sheetsIn}
 use Rattle.packed.specs.Calls.{Outcome, give, refuse, withWorkspace, Verdict, accepted, rejected, judged, readPattern, readCatalogue, pairsOf, withinPairsBy, fit, fitFile}
+use Rattle.matching.specs.Lists.{upTo}
 use Rattle.matching.specs.Index.{alike, ownIndex}
+use Rattle.matching.specs.Offered.{Offered}
 use Rattle.containment.specs.Quote.{Quoted, quotedBy, quoted, covering, quoteFor, quoteOutcome}
 use Rattle.containment.specs.Answer.{answerIn}
 use Rattle.containment.specs.Cheapest.{cheapestFrom, cheapestFor}
 use Rattle.containment.specs.Part.{withFirst, fitPart}
+use Rattle.containment.specs.Several.{allCovered, sheetsNeeded, answerAt, anyLong, fitSeveral, severalIn}
 use Rattle.containment.specs.Show.{fitBoth, showFor}
 use Rattle.containment.specs.Demands.{Files, no-more, first, FirstRejected, here, later, HandsUp, quotedFiles}
 use Rattle.containment.proofs.DemandRules.{number-same, detail-same, not-refused, enough-words, enough-for}
@@ -32,7 +36,7 @@ hands-up {a = a} s n d words l = (
 not-accepted : {ws : List ℕ} {n d : ℕ} → accepted ws ≡ rejected n d → ⊥
 not-accepted e = let z : _≡_ {A = ℕ} 0 1 = cc in omega arith
 
-content-same : {ws vs : List ℕ} → accepted ws ≡ accepted vs → ws ≡ vs
+pub content-same : {ws vs : List ℕ} → accepted ws ≡ accepted vs → ws ≡ vs
 content-same e = cc
 
 pub says-judged : (v : Verdict) {next : List ℕ → Files} {k : List ℕ → Outcome} → ((ws : List ℕ) → v ≡ accepted ws → Says (next ws) (k ws)) → Says (first v next) (judged v k)
@@ -112,6 +116,21 @@ pub says-show : (room room′ : ℕ) (x : Quoted) → Says no-more (showFor room
 unfolding showFor
 says-show room room′ x = says-either (covering x (x .usable)) (says-late 13 _ (omega arith)) (says-fit-both room room′ _ _)
 
--- with the two files that they have
+-- ---- what is answered of several queries
+says-all-covered : (x : ℕ → Quoted) (n : ℕ) {a : Outcome} → Says no-more a → Says no-more (allCovered x n a)
+unfolding allCovered
+says-all-covered x zero h = h
+says-all-covered x (suc n) h = says-all-covered x n (says-either (covering (x n) (x n .usable)) h (says-late 11 _ (omega arith)))
+
+says-fit-several : (room needed : ℕ) (o : ℕ → List ℕ) (n : ℕ) → Says no-more (fitSeveral room needed o n)
+unfolding fitSeveral
+says-fit-several room needed o n = says-either (ltb room (length (flatten (upTo o n))) || anyLong o n) (says-late 12 _ (omega arith)) (says-give _ _)
+
+pub says-several : (x : ℕ → Quoted) (n : ℕ) (o : Offered) (bs : List ℕ) (room : ℕ) → Says no-more (severalIn x n o bs room)
+unfolding severalIn
+says-several x n o bs room =
+    says-within-pairs _ bs (says-all-covered x n (says-fit-several room (sheetsNeeded x n (length (o .views))) (answerAt x (sheetsIn (edgeCounts (o .content)) bs)) n))
+
+-- ---- with the two files that the calls that quote have
 pub says-quoted : (q c : List ℕ) {next : List ℕ → Files} (k : Quoted → Outcome) → ((qs cs : List ℕ) → Says (next cs) (k (quotedBy qs cs))) → Says (quotedFiles q c next) (quoted q c k)
 says-quoted q c k h = says-judged (readPattern q) (λ qs _. says-judged (readCatalogue c) (λ cs _. h qs cs))

@@ -30,7 +30,7 @@ use Rattle.containment.specs.Choice.{everyView}
 use Rattle.containment.specs.Quote.{mapping, quotedBy, usedBy}
 use Rattle.containment.specs.Answer.{answerBytes, Choose, answerIn, answerFor, answerBy}
 use Rattle.containment.specs.Show.{recordBytes, fitBoth, showFor, showOutcome}
-use Rattle.containment.specs.Demands.{Question, Catalogue, Record, Sheet, FewPairs, ManyPairs, Book, extractOf, linkOf, Covers, Leaves, Covered, Uncovered, lackingIn, chosenOf, answerOf, firstOf, secondOf, Full, Over, OverFile, OverEither, Fitted, Reads, Writes, Matched, MatchedIn, LowestUnmatched}
+use Rattle.containment.specs.Demands.{Question, Catalogue, Record, Sheet, FewPairs, ManyPairs, Book, extractOf, linkOf, Covers, Leaves, Covered, Uncovered, lackingIn, chosenOf, answerOf, firstOf, secondOf, Full, Over, OverFile, OverEither, FittedBeside, Fitted, Reads, Writes, Matched, MatchedIn, LowestUnmatched}
 use Rattle.containment.proofs.SetBits.{test-cases, never}
 use Rattle.containment.proofs.ChoiceLaws.{MatchedBy, matched-say as matched-in-table, matched-by as matched-by-table, covers-exactly, chosen-covers, used-covered, used-uncovered, lowest-is, lowest-below}
 use Rattle.containment.proofs.QuoteLaws.{test-is, matched-exactly, ListedEdge, matched-say, matched-by, listed-whole}
@@ -130,8 +130,8 @@ wrote file F s ws e = let r = written-accepted F ws s .0 (result-ok file (encode
 
 -- ---- 12, or the outputs
 
-module _ (words : ℕ) (a : Outcome) {NoFit : ℕ → Type 0} {outputs : List (List ℕ)} where
-  fitted-few : words < 16384 → Fitted words NoFit outputs (withWorkspace words a)
+module _ (words : ℕ) (a : Outcome) {NoFit : ℕ → Type 0} {values : List ℕ} {outputs : List (List ℕ)} where
+  fitted-few : words < 16384 → FittedBeside values words NoFit outputs (withWorkspace words a)
   fitted-few h =
       let w = few-words words a h in
       record {
@@ -141,7 +141,7 @@ module _ (words : ℕ) (a : Outcome) {NoFit : ℕ → Type 0} {outputs : List (L
         no-other = inl w;
       }
 
-  fitted-tight : 16384 ≤ words → (n : ℕ) → a ≡ refuse 12 n → NoFit n → ((d : ℕ) → NoFit d → d ≡ n) → Fitted words NoFit outputs (withWorkspace words a)
+  fitted-tight : 16384 ≤ words → (n : ℕ) → a ≡ refuse 12 n → NoFit n → ((d : ℕ) → NoFit d → d ≡ n) → FittedBeside values words NoFit outputs (withWorkspace words a)
   fitted-tight h n q t only =
       let w = enough-words words a h ∙ q in
       record {
@@ -151,7 +151,7 @@ module _ (words : ℕ) (a : Outcome) {NoFit : ℕ → Type 0} {outputs : List (L
         no-other = inr (inl (n, w));
       }
 
-  fitted-given : 16384 ≤ words → a ≡ give [] outputs → ((d : ℕ) → NoFit d → ⊥) → Fitted words NoFit outputs (withWorkspace words a)
+  fitted-given : 16384 ≤ words → a ≡ give values outputs → ((d : ℕ) → NoFit d → ⊥) → FittedBeside values words NoFit outputs (withWorkspace words a)
   fitted-given h q fits =
       let w = enough-words words a h ∙ q in
       record {
@@ -162,8 +162,8 @@ module _ (words : ℕ) (a : Outcome) {NoFit : ℕ → Type 0} {outputs : List (L
       }
 
   -- an answer that is 12 with what is needed or the outputs, by a test
-  pub fitted-by : (n : ℕ) → ((a ≡ refuse 12 n) × NoFit n) ⊎ ((a ≡ give [] outputs) × (NoFit n → ⊥)) → ((d : ℕ) → NoFit d → d ≡ n)
-      → Fitted words NoFit outputs (withWorkspace words a)
+  pub fitted-by : (n : ℕ) → ((a ≡ refuse 12 n) × NoFit n) ⊎ ((a ≡ give values outputs) × (NoFit n → ⊥)) → ((d : ℕ) → NoFit d → d ≡ n)
+      → FittedBeside values words NoFit outputs (withWorkspace words a)
   fitted-by n c only =
       ⊎-elim fitted-few
       (λ (h : 16384 ≤ words). ⊎-elim

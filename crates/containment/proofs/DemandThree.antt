@@ -99,6 +99,13 @@ same-sheets : (G H : Graph) (vs : List (List ℕ)) → ((P : Pattern) → In P (
 same-sheets G H [] h = refl
 same-sheets G H (v ∷ vs) h = ap₂ (λ (x : List (List ℕ)) (l : List (List (List ℕ))). x ∷ l) (h (patternOf v) (here refl)) (same-sheets G H vs (λ P i. h P (there i)))
 
+-- an answer by a set is the same from sheets that agree on those of the set
+pub same-lists-in : (set : ℕ) (qs cs bs bs′ : List ℕ)
+    → ((a : ℕ) → a < length (viewPatterns cs) → T (bit set a) → getD (sheetsIn (edgeCounts cs) bs) a [] ≡ getD (sheetsIn (edgeCounts cs) bs′) a [])
+    → answerOf set qs cs bs ≡ answerOf set qs cs bs′
+same-lists-in set qs cs bs bs′ s =
+    ap (answerSets (patternOf qs)) (views-same set set (viewPatterns cs) (sheetsIn (edgeCounts cs) bs) (sheetsIn (edgeCounts cs) bs′) (λ a l. refl) s)
+
 same-answer : (choose : Choose) (q c qs cs b b′ bs bs′ : List ℕ) → Question q qs → Catalogue c cs → Book cs b bs → Book cs b′ bs′
     → (Covers (choose (quotedBy qs cs)) qs cs → (a : ℕ) → a < length (viewPatterns cs) → T (bit (choose (quotedBy qs cs)) a)
     → getD (sheetsIn (edgeCounts cs) bs) a [] ≡ getD (sheetsIn (edgeCounts cs) bs′) a [])
@@ -108,7 +115,7 @@ same-answer choose q c qs cs b b′ bs bs′ p d k k′ s room =
     ⊎-elim
     (λ h.
     given-by q c qs cs p d b bs k choose room h
-    ∙ ap (λ vs. fitFile room (sheetBytes (answerSets (patternOf qs) vs))) (views-same set set (viewPatterns cs) (sheetsIn (edgeCounts cs) bs) (sheetsIn (edgeCounts cs) bs′) (λ a l. refl) (s h))
+    ∙ ap (λ ls. fitFile room (sheetBytes ls)) (same-lists-in set qs cs bs bs′ (s h))
     ∙ sym (given-by q c qs cs p d b′ bs′ k′ choose room h))
     (λ n. refused-by q c qs cs p d b bs k choose room n ∙ sym (refused-by q c qs cs p d b′ bs′ k′ choose room n))
     (test-cases (coveredIn set qs cs))

@@ -1,23 +1,23 @@
 -- Demands 1 and 2 hold.
-use Prim.Native.Nat.{ℕ, _+_, _*_, _<_, _≤_}
+use Prim.Native.Nat.{ℕ, zero, suc, _+_, _*_, _<_, _≤_}
 use mathlib.Core.Path.{_≡_, refl, sym, ap, _∙_}
-use mathlib.Core.Bool.{Bool, true, false}
+use mathlib.Core.Bool.{Bool, true, false, _||_}
 use mathlib.Core.Logic.{⊎-elim, _↔_, inl, inr}
-use mathlib.Core.List.{List, [], _∷_, _++_}
+use mathlib.Core.List.{List, [], _∷_, _++_, flatten}
 use lib.ListN.{length, getD}
 use lib.Dec.{T, eqb, ltb}
 use borrow.Author.Tests.{lt-ltb, le-ltb}
 use native.Mathlib.Omega.{arith}
 use Rattle.packed.specs.Format.{pick}
 use Rattle.packed.specs.Formats.{code}
-use Rattle.packed.specs.Contents.{edgesOf, edgeCounts, ends, fieldsOf}
+use Rattle.packed.specs.Contents.{edgesOf, edgeCounts, sheetsIn, ends, fieldsOf}
 use Rattle.packed.specs.Plain.{BookFile}
 use Rattle.packed.specs.OldRecord.{sortedFields, recordSorted}
 use Rattle.packed.specs.Calls.{Outcome, give, refuse, toldOf, fronts, outputsOf, workOf, withWorkspace, judged, readPattern, readCatalogue, readRecord, readSheet, readBook, writeSheet, writeBook, patternRead, catalogueRead, recordRead, sheetRead, bookRead, patternWritten, catalogueWritten, recordWritten, sheetWritten, bookWritten}
 use Rattle.packed.proofs.SheetLaws.{fields-none, fields-some}
 use Rattle.packed.proofs.Accepted.{pattern-read, catalogue-read, record-read, sheet-read, book-read}
 use Rattle.packed.proofs.CallRoundTrips.{pattern-back, pattern-again, catalogue-back, catalogue-again, record-back, record-again, sheet-back, sheet-again, book-back, book-again}
-use Rattle.matching.specs.Lists.{In, some}
+use Rattle.matching.specs.Lists.{In, some, upTo}
 use Rattle.matching.specs.Simulation.{Pair, Edge, noEdge, Pattern, bit, patternOf, graphOf, asGraph, matchSets, viewSheet, Graph}
 use Rattle.matching.specs.Join.{matched}
 use Rattle.matching.specs.Search.{searchOutcome, makeBookOutcome}
@@ -31,16 +31,17 @@ use Rattle.matching.proofs.Listed.{listed-exactly}
 use Rattle.matching.proofs.SheetBytes.{none-bytes}
 use Rattle.matching.proofs.AllOrNone.{sets-even}
 use Rattle.matching.proofs.RecordLaws.{graph-narrow}
-use Rattle.matching.specs.Offered.{viewPatterns}
+use Rattle.matching.specs.Offered.{viewPatterns, Offered, offeredBy}
 use Rattle.containment.specs.Choice.{everyView, coversIn}
 use Rattle.containment.specs.Quote.{Quoted, quotedBy, usableViews, covering, usedBy, QuoteValues, flat, one, mapping, valuesFrom, quoteValues, quoteFor, quoteOutcome}
 use Rattle.containment.specs.Answer.{Choose, answerIn, answerFor, answerBy}
 use Rattle.containment.specs.Cheapest.{cheapestFrom, cheapestFor, cheapestOutcome}
 use Rattle.containment.specs.Show.{showFor, showOutcome}
 use Rattle.containment.specs.Part.{withFirst, fitPart, partFor, partOutcome}
+use Rattle.containment.specs.Several.{questionAt, counted, allCovered, sheetsNeeded, answerAt, anyLong, fitSeveral, severalIn, severalOutcome}
 use Rattle.containment.specs.Listing.{lineOf, lineOutcome}
 use Rattle.containment.specs.Demands.{Full, Settles, writePattern, writeCatalogue, writeRecord, Worked, Demand1, Question, Catalogue, Record, ownOf, FewPairs, Book, extractOf, linkOf, Covered, lacking, chosenOf, Matching, Matched, Demand2}
-use Rattle.containment.proofs.Numbered.{numbered, pattern-faults, catalogue-faults, record-faults, old-faults, sheet-faults, book-faults, gives, refuses, either, workspace-settles, within-pairs-settles, own-settles, fit-settles, fitFile-settles, fitBoth-settles, read-settles, write-settles, write-short, read-few}
+use Rattle.containment.proofs.Numbered.{numbered, pattern-faults, patterns-faults, catalogue-faults, record-faults, old-faults, sheet-faults, book-faults, gives, refuses, either, workspace-settles, within-pairs-settles, own-settles, fit-settles, fitFile-settles, fitBoth-settles, read-settles, write-settles, write-short, read-few}
 use Rattle.containment.proofs.SetBits.{never}
 use Rattle.containment.proofs.ChoiceLaws.{chosen-none, chosen-covers, chosen-needed}
 use Rattle.containment.proofs.CoveredBytes.{coveredBy, question-bounds, few-views, record-is}
@@ -48,6 +49,7 @@ use Rattle.containment.proofs.QuoteLaws.{test-is, mapping-exactly, quot
 use Rattle.containment.proofs.DemandRules.{number-same, not-refused, refused-judged, goes-on, bytes-by, few-words, enough-words, enough-for, full-words, full-judged, full-twice, full-within-pairs, fitted, fitted-file, fitted-both, pattern-reads, catalogue-reads, record-reads, sheet-reads, book-reads, pattern-writes, catalogue-writes, record-writes, sheet-writes, book-writes, many-pairs-read, many-pairs-written, many-pairs-answer, listed-matched, matched-listed, covers-plain, shown-both, full-shown, given-by, full-answered}
 use Rattle.containment.proofs.DemandFiles.{hands-up, says-judged, says-quoted, says-give, says-fit, says-fit-file, says-within-pairs, says-own, says-quote, says-cheapest, says-answer, says-show}
 use Rattle.containment.proofs.Parts.{says-after, many-pairs-part}
+use Rattle.containment.proofs.Severals.{several-hands-up, several-reads-none, many-pairs-several}
 use Rattle.containment.proofs.DemandIndex.{index-made, check-exactly, check-yes, search-exactly, check-whole, search-whole, way-same, way-searched}
 use Rattle.containment.proofs.DemandSheets.{pair-fields, searched-back, searched-length, book-made, views-sound}
 
@@ -81,6 +83,21 @@ fit-part-settles room o h =
     (λ f. inl (record { values = f .values; outputs = o ∷ f .outputs; is = ap (withFirst o) (f .is) }))
     (λ r. inr (record { number = r .number; detail = r .detail; is = ap (withFirst o) (r .is); least = r .least; most = r .most }))
     h)
+
+-- several queries
+covered-settles : (x : ℕ → Quoted) (n : ℕ) {a : Outcome} → Settles a → Settles (allCovered x n a)
+unfolding allCovered
+covered-settles x zero h = h
+covered-settles x (suc n) h = covered-settles x n (either (covering (x n) (x n .usable)) h (refuses _ (numbered 11 refl refl)))
+
+fit-several-settles : (room needed : ℕ) (o : ℕ → List ℕ) (n : ℕ) → Settles (fitSeveral room needed o n)
+unfolding fitSeveral
+fit-several-settles room needed o n = either (ltb room (length (flatten (upTo o n))) || anyLong o n) (refuses _ (numbered 12 refl refl)) (gives _ _)
+
+several-settles : (x : ℕ → Quoted) (n : ℕ) (o : Offered) (bs : List ℕ) (room : ℕ) → Settles (severalIn x n o bs room)
+unfolding severalIn
+several-settles x n o bs room =
+    within-pairs-settles (edgeCounts (o .content)) bs (covered-settles x n (fit-several-settles room (sheetsNeeded x n (length (o .views))) (answerAt x (sheetsIn (edgeCounts (o .content)) bs)) n))
 
 cheapest-settles : (charges : List ℕ) (x : Quoted) → Settles (cheapestFor charges x)
 unfolding cheapestFor cheapestFrom
@@ -119,7 +136,7 @@ book-exactly cs s ws = (
 )
 
 pub demand-1 : Demand1
-unfolding recordSorted fronts patternRead catalogueRead recordRead sheetRead bookRead patternWritten catalogueWritten recordWritten sheetWritten bookWritten searchOutcome makeBookOutcome makeIndexOutcome checkIndexOutcome searchIndexedOutcome quoteFor quoteOutcome cheapestOutcome answerFor answerBy showOutcome partFor partOutcome lineOutcome toldOf outputsOf
+unfolding recordSorted fronts patternRead catalogueRead recordRead sheetRead bookRead patternWritten catalogueWritten recordWritten sheetWritten bookWritten searchOutcome makeBookOutcome makeIndexOutcome checkIndexOutcome searchIndexedOutcome quoteFor quoteOutcome cheapestOutcome answerFor answerBy showOutcome partFor partOutcome counted severalOutcome lineOutcome toldOf outputsOf
 demand-1 = record {
   read-pattern = λ s room words. workspace-settles words (pattern-first s (fit-settles room));
   read-catalogue = λ s room words. workspace-settles words (catalogue-first s (fit-settles room));
@@ -150,6 +167,11 @@ demand-1 = record {
       (pattern-first q (λ qs. catalogue-first c (λ cs. read-settles 65536 4 (book-faults (edgeCounts cs)) b (λ bs.
       within-pairs-settles (edgeCounts cs) bs
       (either (some (matched (patternOf qs) (usableViews (quotedBy qs cs))) (patternOf qs .edges)) (fit-part-settles room _ (answered-settles usedBy _ c b room′)) (refuses _ (numbered 11 refl refl)))))));
+  several = λ q number c b room words.
+      workspace-settles words
+      (either (eqb number 0 || ltb 8 number) (refuses _ (numbered 17 refl refl))
+      (read-settles (56 * number) 1 (patterns-faults number) q (λ ws. catalogue-first c (λ cs. read-settles 65536 4 (book-faults (edgeCounts cs)) b (λ bs.
+      several-settles (questionAt number ws (offeredBy cs)) number (offeredBy cs) bs room)))));
   line = λ q k room. fit-settles room (lineOf q k);
   read-pattern-files = λ s room. hands-up (says-judged (readPattern s) (λ ws _. says-fit room ws));
   read-catalogue-files = λ s room. hands-up (says-judged (readCatalogue s) (λ ws _. says-fit room ws));
@@ -174,6 +196,8 @@ demand-1 = record {
   part-files = λ q c b room room′.
       hands-up
       (says-judged (readPattern q) (λ qs p. says-judged (readCatalogue c) (λ cs d. says-judged (readBook cs b) (λ bs k. says-within-pairs (edgeCounts cs) bs (says-after q c qs cs p d b bs k room room′)))));
+  several-files = several-hands-up;
+  several-unread = several-reads-none;
   never-long = λ ws d. (write-short 1 pattern-faults ws d, write-short 2 catalogue-faults ws d, write-short 3 record-faults ws d);
   never-long-beside = λ cs ws d. (write-short 4 (sheet-faults (edgesOf cs)) ws d, write-short 4 (book-faults (edgeCounts cs)) ws d);
   quote-never = λ q c words d e. let l = quote-few q c (enough-for words _ (λ z. let y = number-same z in omega arith) e .1) in omega arith;
@@ -198,6 +222,7 @@ demand-1 = record {
   write-many-pairs = many-pairs-written;
   answer-many-pairs = many-pairs-answer;
   part-many-pairs = λ q c b qs cs bs p d k room room′ words e. many-pairs-part q c qs cs p d b bs k room room′ words e;
+  several-many-pairs = many-pairs-several;
   search-gives = λ way p r ps rs e f room words. fitted-file _ words room _ (way-searched way p r ps rs e f room);
   search-only = λ p r room words f. let t = full-twice _ _ _ (full-words words _ f) in (t .0, t .1, t .2, t .3);
   search-indexed-only = search-whole;

@@ -22,6 +22,9 @@ pub mod BookLaws
 pub mod CandidateLaws
 pub mod AnsweringLaws
 pub mod CoveredBytes
+-- several queries
+pub mod SeveralLaws
+pub mod SeveralAnswers
 -- the calls
 pub mod AnswerLaws
 pub mod ShowLaws
@@ -38,6 +41,7 @@ pub mod DemandThree
 pub mod DemandsOneTwo
 pub mod Sorting
 pub mod Parts
+pub mod Severals
 -- the listing
 pub mod ListingLaws
 pub mod Listings

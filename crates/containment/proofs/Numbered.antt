@@ -1,4 +1,4 @@
--- Every refusal has a number from 1 to 16: a file's by its format, and the others by the calls that give them.
+-- Every refusal has a number from 1 to 17: a file's by its format, and the others by the calls that give them.
 use Prim.Native.Nat.{ℕ, zero, suc, _+_, _%_, _^_, _≤_}
 use mathlib.Core.Path.{_≡_, refl}
 use mathlib.Core.Logic.{inl, inr}
@@ -11,7 +11,7 @@ use borrow.Author.Tests.{leb-true}
 use Rattle.packed.specs.Bits.{bitsOf, num, bits, zeros, gap}
 use Rattle.packed.specs.Format.{Format, done, ask, test, pad, then, times, whole, Got, got, fault, pick, push, within, scan, lay, Result, ok, bad, ended, inBytes, decode, encode}
 use Rattle.packed.specs.OldRecord.{oldRecord}
-use Rattle.packed.specs.Formats.{code, rank, edges, label, joined, pattern, catalogue, labels, rising, record′, pairs, lists, standing, sheet, book}
+use Rattle.packed.specs.Formats.{code, rank, edges, label, joined, pattern, patterns, catalogue, labels, rising, record′, pairs, lists, standing, sheet, book}
 use Rattle.packed.specs.Refusals.{numberOf}
 use Rattle.packed.specs.declared.reply.Refusal.{Refusal}
 use Rattle.packed.specs.declared.reply.Refusal.the-variants.{TooLong, Truncated, OutOfRange, NoSuchNode, DuplicateEdge, NotAscending, IsolatedNode, ZeroCount, Trailing, TooManyPairs, NotContained, NoRoom, Contained, SmallWorkspace, WrongCharges, WrongIndex, WrongQuestions}
@@ -22,10 +22,10 @@ use Rattle.containment.specs.Demands.{Settles}
 
 pub record Numbered (n : ℕ) : Type 0 where
   pub least : 1 ≤ n
-  pub most : n ≤ 16
+  pub most : n ≤ 17
 
-pub numbered : (n : ℕ) → leb 1 n ≡ true → leb n 16 ≡ true → Numbered n
-numbered n p q = record { least = leb-true 1 n p; most = leb-true n 16 q }
+pub numbered : (n : ℕ) → leb 1 n ≡ true → leb n 17 ≡ true → Numbered n
+numbered n p q = record { least = leb-true 1 n p; most = leb-true n 17 q }
 
 -- a refusal has a number, which 0, success, is not
 pub record Positive (n : ℕ) : Type 0 where
@@ -163,9 +163,12 @@ pattern-faults =
     asks three (λ nodes. asks three (λ number.
     then-faults (times-faults nodes (asks three (λ v. ends))) (edges-faults 4 3 nodes (joined nodes) (λ es. tests (file-fault 7 refl refl) ends) number [])))
 
+pub patterns-faults : (number : ℕ) → Faults (patterns number)
+patterns-faults number = times-faults number (whole-faults pattern-faults)
+
 pub catalogue-faults : Faults catalogue
 unfolding catalogue
-catalogue-faults = asks three (λ number. pads (times-faults number (whole-faults pattern-faults)))
+catalogue-faults = asks three (λ number. pads (patterns-faults number))
 
 rising-faults : (nodes n least : ℕ) → Faults (rising nodes n least)
 unfolding rising

@@ -1,25 +1,28 @@
--- The cases K1 to K10 of the requirements, proved in one table with one statement: on bytes and fields, over the functions that the contracts of the
--- calls cite.
+-- The cases K1 to K10 of the requirements, and cases of several questions in one call, proved in one table with one statement: on bytes and fields,
+-- over the functions that the contracts of the calls cite.
 use Prim.Native.Nat.{ℕ, _+_, _-_, _*_}
 use Prim.Native.Char.{code as codeOf}
 use Prim.Native.String.{String, [] as []ˢ, _∷_ as _∷ˢ_}
 use mathlib.Core.Path.{_≡_, refl}
-use mathlib.Core.List.{List, [], _∷_, _++_, map}
+use mathlib.Core.List.{List, [], _∷_, _++_, map, flatten}
 use lib.ListN.{length, take, replicate}
 use lib.Dec.{eqb, ltb}
 use Rattle.packed.specs.Bits.{bitsOf, num, numFrom, bits, zeros, gap}
 use Rattle.packed.specs.Format.{pick, then, times, whole, within, scan, lay, bytesOf, decode, encode}
-use Rattle.packed.specs.Formats.{linked, edges, isEnd, allEnds, label, joined, pattern, catalogue, pairs, labels, rising, record′, lists, standing, sheet}
-use Rattle.packed.specs.Contents.{patternSize, patternsIn, viewsOf, edgeCounts, ends, fieldsOf, pairCount, sheetFields, member, insert, distinct, eachEdge, fromRanks, sortedEdges}
+use Rattle.packed.specs.Formats.{linked, edges, isEnd, allEnds, label, joined, pattern, catalogue, pairs, labels, rising, record′, lists, standing, sheet, book}
+use Rattle.packed.specs.Contents.{patternSize, patternsIn, viewsOf, edgeCounts, codesIn, listsIn, afterLists, sheetLists, afterSheet, sheetsIn, ends, fieldsOf, pairCount, sheetFields, member, insert, distinct, eachEdge, fromRanks, sortedEdges}
 use Rattle.packed.specs.OldRecord.{oldRecord, sortedFields, recordSorted}
-use Rattle.packed.specs.Calls.{Outcome, give, withWorkspace, readFile, writeFile, judged, fit, fitFile, patternRead, catalogueRead, recordRead, sheetRead, patternWritten, catalogueWritten, recordWritten, sheetWritten}
+use Rattle.packed.specs.Calls.{Outcome, give, refuse, withWorkspace, readFile, writeFile, judged, pairsOf, withinPairsBy, fit, fitFile, patternRead, catalogueRead, recordRead, sheetRead, patternWritten, catalogueWritten, recordWritten, sheetWritten}
 use Rattle.matching.specs.Lists.{_and_, _or_, _implies_, every, some, keep, gather, each, below, upTo}
 use Rattle.matching.specs.Greatest.{settle, greatest}
 use Rattle.matching.specs.Simulation.{same, has, sameEdge, everyPair as allPairs, bit, edgesIn, patternOf, graphOf, asGraph, fits, asksArrivals, followsOut, followsIn, follows, sim, total, row, ascending, matchSets, viewSheet}
 use Rattle.matching.specs.Search.{sheetBytes, searchOutcome}
-use Rattle.matching.specs.Join.{isMatch, complete}
+use Rattle.matching.specs.Join.{pairOf, isMatch, under, candidates, supportedOut, supportedIn, supported, join, complete, keptFor, answerSets}
+use Rattle.matching.specs.Part.{rank}
 use Rattle.containment.specs.Choice.{matches, matchedIn, coversIn, lowestUnmatched, addsTo, taken, kept, chosen, used}
 use Rattle.containment.specs.Quote.{maskIn, matchMask, maskAt, mapping, valuesFrom, quoteValues, flat, quoteFor, quoteOutcome}
+use Rattle.containment.specs.Answer.{viewsIn, answerBytes}
+use Rattle.containment.specs.Several.{questionAt, counted, allCovered, isNeeded, sheetsNeeded, answerAt, anyLong, fitSeveral, severalIn, severalOutcome}
 use Rattle.containment.specs.Show.{asRecord, graphFields, fewerFields, recordBytes, fitBoth, showFor, showOutcome}
 
 -- ---- how a case is written
@@ -143,6 +146,20 @@ s6Fields = fields "1 1 0 1 1 1 2"
 abbrev pub s9 : List ℕ
 s9 = hex "80 02 00 00 02 00 08 00 00 08 00 20 02 00 40 00 80 08 01 00"
 
+-- the book of K9
+abbrev pub b9 : List ℕ
+b9 = hex "80 02 00 00 02 80 02 00 00 02 00 08 00 80 10 80 02 00 00 02 00 08 00 80 10"
+
+-- several questions: D and section to slow; and D and fast to reading, beside section to slow alone
+abbrev pub dLink : List ℕ
+dLink = d ++ oneLink
+
+abbrev pub dFast : List ℕ
+dFast = d ++ hex "10 22 18 08"
+
+abbrev pub cLink : List ℕ
+cLink = hex "08 10 20 08 08"
+
 -- a row of a quote's table: three masks and zeros
 abbrev pub rowOf : ℕ → ℕ → ℕ → List ℕ
 rowOf x y z = x ∷ y ∷ z ∷ replicate 13 0
@@ -197,8 +214,27 @@ table =
     ∷ call (sheetRead oneLink (hex "00") 1) (output (fields "0"))
     ∷ call (sheetWritten oneLink (fields "0") 1) (output (hex "00"))
     ∷ call (searchOutcome oneLink r10 1) (output (hex "00"))
+    -- several questions: their answers, and how many sheets they needed
+    ∷ call (severalOutcome dLink 2 c b9 25) (give (3 ∷ []) ((s9 ++ hex "80 02 00 00 02") ∷ []))
+    ∷ call (severalOutcome (d ++ d) 2 c (hex "00 00 00") 2) (give (2 ∷ []) (hex "00 00" ∷ []))
+    -- 12 with the sum
+    ∷ call (severalOutcome dLink 2 c b9 24) (refuse 12 25)
+    -- 17 with the number, whatever the files
+    ∷ call (severalOutcome dLink 0 c b9 25) (refuse 17 0)
+    ∷ call (severalOutcome dLink 9 c b9 25) (refuse 17 9)
+    ∷ call (severalOutcome dLink 4294967295 c b9 25) (refuse 17 4294967295)
+    -- the paper of questions is judged before the catalogue: over 56 bytes for one, and no more; then front to back: bytes after the last, too few,
+    -- a padding bit of the first, a count of the second out of range
+    ∷ call (severalOutcome (oneLink ++ replicate 53 0) 1 (hex "ff") b9 25) (refuse 1 1)
+    ∷ call (severalOutcome (oneLink ++ replicate 52 0) 1 (hex "ff") b9 25) (refuse 9 1)
+    ∷ call (severalOutcome dLink 1 (hex "ff") b9 25) (refuse 9 1)
+    ∷ call (severalOutcome dLink 3 (hex "ff") b9 25) (refuse 2 1)
+    ∷ call (severalOutcome (hex "20 80 08 86 02 00 80 98 23 01 88") 2 (hex "ff") b9 25) (refuse 9 1)
+    ∷ call (severalOutcome (d ++ hex "88 00") 2 (hex "ff") b9 25) (refuse 3 1)
+    -- 11 for the first uncovered question, though the second leaves a lower link
+    ∷ call (severalOutcome dFast 2 cLink (hex "00") 2) (refuse 11 1)
     ∷ []
 
 pub cases : Agree table
-unfolding Agree table digit hex next turned numbers bitsOf num numFrom bits zeros gap then times whole within scan lay bytesOf decode encode linked edges isEnd allEnds label joined pattern catalogue pairs labels rising record′ lists standing sheet patternSize patternsIn viewsOf edgeCounts ends fieldsOf pairCount sheetFields member insert distinct eachEdge fromRanks sortedEdges oldRecord sortedFields recordSorted withWorkspace readFile writeFile judged fit fitFile patternRead catalogueRead recordRead sheetRead patternWritten catalogueWritten recordWritten sheetWritten _and_ _or_ _implies_ every some keep gather each below upTo settle greatest same has sameEdge allPairs bit edgesIn patternOf graphOf asGraph fits asksArrivals followsOut followsIn follows sim total row ascending matchSets viewSheet sheetBytes searchOutcome isMatch complete matches matchedIn coversIn lowestUnmatched addsTo taken kept chosen used maskIn matchMask maskAt mapping valuesFrom quoteValues flat quoteFor quoteOutcome asRecord graphFields fewerFields recordBytes fitBoth showFor showOutcome
+unfolding Agree table digit hex next turned numbers bitsOf num numFrom bits zeros gap then times whole within scan lay bytesOf decode encode linked edges isEnd allEnds label joined pattern catalogue pairs labels rising record′ lists standing sheet book patternSize patternsIn viewsOf edgeCounts codesIn listsIn afterLists sheetLists afterSheet sheetsIn ends fieldsOf pairCount sheetFields member insert distinct eachEdge fromRanks sortedEdges oldRecord sortedFields recordSorted withWorkspace readFile writeFile judged pairsOf withinPairsBy fit fitFile patternRead catalogueRead recordRead sheetRead patternWritten catalogueWritten recordWritten sheetWritten _and_ _or_ _implies_ every some keep gather each below upTo settle greatest same has sameEdge allPairs bit edgesIn patternOf graphOf asGraph fits asksArrivals followsOut followsIn follows sim total row ascending matchSets viewSheet sheetBytes searchOutcome pairOf isMatch under candidates supportedOut supportedIn supported join complete keptFor answerSets rank matches matchedIn coversIn lowestUnmatched addsTo taken kept chosen used maskIn matchMask maskAt mapping valuesFrom quoteValues flat quoteFor quoteOutcome asRecord graphFields fewerFields recordBytes fitBoth showFor showOutcome flatten viewsIn answerBytes questionAt counted allCovered isNeeded sheetsNeeded answerAt anyLong fitSeveral severalIn severalOutcome
 cases = refl

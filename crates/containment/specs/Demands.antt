@@ -4,23 +4,24 @@
 -- lent byte and of every word of the workspace what they are once that answer is known. So what is said here of answers holds of the programs.
 -- An answer is a function of the bytes and fields that are lent, of the length of each output (`room`) and of the workspace (`words`).
 -- Proofs: proofs/DemandsOneTwo.antt and proofs/DemandThree.antt, by proofs/DemandRules.antt, DemandSheets.antt, DemandIndex.antt and DemandJoin.antt; of the
--- join by steps, proofs/DemandSteps.antt; of the part, proofs/Parts.antt; of the cheapest set, proofs/CheapestSets.antt; of the listing, proofs/Listings.antt.
+-- join by steps, proofs/DemandSteps.antt; of the part, proofs/Parts.antt; of several
+-- questions, proofs/Severals.antt; of the cheapest set, proofs/CheapestSets.antt; of the listing, proofs/Listings.antt.
 use Prim.Native.Nat.{ℕ, _+_, _-_, _*_, _^_, _<_, _≤_, _/_}
 use mathlib.Core.Path.{_≡_}
 use mathlib.Core.Logic.{_⊎_, _↔_}
 use mathlib.Core.Bool.{Bool, true, false}
-use mathlib.Core.List.{List, [], _∷_, _++_, map}
+use mathlib.Core.List.{List, [], _∷_, _++_, map, flatten}
 use lib.ListN.{length, getD, drop, replicate}
 use lib.Dec.{T}
-use Rattle.packed.specs.Limits.{patternMost, catalogueMost, recordMost, oldRecordMost, bookMost, pairsMost, workspace}
+use Rattle.packed.specs.Limits.{patternMost, questionsMost, catalogueMost, recordMost, oldRecordMost, bookMost, pairsMost, workspace}
 use Rattle.packed.specs.Formats.{code, pattern, catalogue, record′}
 use Rattle.packed.specs.Plain.{Below, PatternFile, CatalogueFile, RecordFile, SheetFile, BookFile}
 use Rattle.packed.specs.Contents.{edgesOf, edgeCounts, sheetsIn, ends, fieldsOf, pairCount, sheetFields, sheetLength}
 use Rattle.packed.specs.Refusals.{Told, told}
 use Rattle.packed.specs.declared.by_value.Pattern.{Pattern as Given}
 use Rattle.packed.specs.OldRecord.{readOldRecord, OldRecordFile, sortedFields, recordSorted}
-use Rattle.packed.specs.Calls.{Outcome, give, refuse, fronts, Settled, FulfilsOne, withWorkspace, Verdict, accepted, rejected, readPattern, readCatalogue, readRecord, readSheet, readBook, writeFile, writeSheet, writeBook, pairsOf, fit, fitFile, patternRead, catalogueRead, recordRead, sheetRead, bookRead, patternWritten, catalogueWritten, recordWritten, sheetWritten, bookWritten}
-use Rattle.matching.specs.Lists.{In, keep}
+use Rattle.packed.specs.Calls.{Outcome, give, refuse, fronts, Settled, FulfilsOne, withWorkspace, Verdict, accepted, rejected, readPattern, readQuestions, QuestionFiles, readCatalogue, readRecord, readSheet, readBook, writeFile, writeSheet, writeBook, pairsOf, fit, fitFile, patternRead, catalogueRead, recordRead, sheetRead, bookRead, patternWritten, catalogueWritten, recordWritten, sheetWritten, bookWritten}
+use Rattle.matching.specs.Lists.{In, some, keep}
 use Rattle.matching.specs.Simulation.{Pair, Edge, between, noEdge, oneWay, Pattern, ruled, Graph, patternOf, graphOf, givenEdge, patternIn, asGraph, bit, fits, IsSim, MatchingBy, sim, sound, matchSets, viewSheet, asPair}
 use Rattle.matching.specs.Join.{without, Offer, answerSets, matched}
 use Rattle.matching.specs.Components.{reaches, Nodes, leavingOf, stateAt, Shut, OneStep, StepsTo, pairAt, IsHeld, Holds, Ran}
@@ -34,6 +35,7 @@ use Rattle.containment.specs.Answer.{viewsIn, Choose, answerBy, answerFr
 use Rattle.containment.specs.Cheapest.{cost, IsCheapest, cheapestOutcome}
 use Rattle.containment.specs.Show.{graphFields, fewerFields, recordBytes, fitBoth, showOutcome}
 use Rattle.containment.specs.Part.{partOutcome}
+use Rattle.containment.specs.Several.{severalOutcome}
 use Rattle.containment.specs.Listing.{bytes, linkLine, lineOf, lineOutcome}
 use Rattle.containment.specs.declared.quote_type.Quote.{Quote}
 
@@ -43,6 +45,10 @@ use Rattle.containment.specs.declared.quote_type.Quote.{Quote}
 -- pattern, a book beside that of its catalogue; 10 falls to a book in which over 8,192 different pairs stand.
 abbrev pub Question : List ℕ → List ℕ → Type 0
 Question q qs = readPattern q ≡ accepted qs
+
+-- so many questions in one paper
+abbrev pub Questions : ℕ → List ℕ → List ℕ → Type 0
+Questions number q ws = readQuestions number q ≡ accepted ws
 
 abbrev pub Catalogue : List ℕ → List ℕ → Type 0
 Catalogue c cs = readCatalogue c ≡ accepted cs
@@ -123,6 +129,10 @@ searchBy with-own q r rs room = searchIndexedOutcome q r (ownOf rs) room
 abbrev pub answerOf : ℕ → List ℕ → List ℕ → List ℕ → List (List ℕ)
 answerOf set qs cs bs = answerSets (patternOf qs) (viewsIn set (viewPatterns cs) (sheetsIn (edgeCounts cs) bs))
 
+-- the same by the set that the question's quote chooses, in bytes
+abbrev pub ownAnswer : List ℕ → List ℕ → List ℕ → List ℕ
+ownAnswer cs bs qs = sheetBytes (answerOf (chosenOf qs cs) qs cs bs)
+
 -- the content of "the two shown records": the question read as a record, and the same without its lowest unmatched link
 abbrev pub firstOf : List ℕ → List ℕ
 firstOf qs = graphFields qs
@@ -139,13 +149,13 @@ pub record Full (a : Outcome) : Type 0 where
   pub outputs : List (List ℕ)
   pub is : a ≡ give values outputs
 
--- a refusal with a number from 1 to 16
+-- a refusal with a number from 1 to 17
 pub record Refused (a : Outcome) : Type 0 where
   pub number : ℕ
   pub detail : ℕ
   pub is : a ≡ refuse number detail
   pub least : 1 ≤ number
-  pub most : number ≤ 16
+  pub most : number ≤ 17
 
 abbrev pub Settles : Outcome → Type 0
 Settles a = Full a ⊎ Refused a
@@ -182,6 +192,17 @@ thenNone ws = no-more
 abbrev pub quotedFiles : List ℕ → List ℕ → (List ℕ → Files) → Files
 quotedFiles q c next = first (readPattern q) (λ qs. first (readCatalogue c) next)
 
+-- the files of the call that answers several questions: "its first fault decides the refusal, .., then catalogue, book"
+abbrev pub severalFiles : ℕ → List ℕ → List ℕ → List ℕ → Files
+severalFiles number q c b = first (readQuestions number q) (λ ws. first (readCatalogue c) (λ cs. first (readBook cs b) thenNone))
+
+-- 17: "when no question or more than eight are sent", and else
+abbrev pub WrongNumber : ℕ → Type 0
+WrongNumber number = (number ≡ 0) ⊎ (questionsMost < number)
+
+abbrev pub RightNumber : ℕ → Type 0
+RightNumber number = (1 ≤ number) × (number ≤ questionsMost)
+
 -- 12: "an output needs more bytes than were lent"; "where content is the output, 12 counts words", and "where an index is the output, 12 counts entries".
 -- It needs d.
 abbrev pub Over : ℕ → List ℕ → ℕ → Type 0
@@ -205,12 +226,17 @@ pub record FirstDiffers (own index : List ℕ) (d : ℕ) : Type 0 where
 abbrev pub NotOwn : List ℕ → List ℕ → ℕ → Type 0
 NotOwn own index d = ((length index ≡ length own → ⊥) × (d ≡ length index)) ⊎ FirstDiffers own index d
 
--- what a call answers once nothing but 14 and 12 can fall to it: "each refusal is given in its case and no other"; else its outputs, whole
-pub record Fitted (words : ℕ) (NoFit : ℕ → Type 0) (outputs : List (List ℕ)) (a : Outcome) : Type 0 where
+-- what a call answers once nothing but 14 and 12 can fall to it: "each refusal is given in its case and no other"; else its values, and its outputs,
+-- whole
+pub record FittedBeside (values : List ℕ) (words : ℕ) (NoFit : ℕ → Type 0) (outputs : List (List ℕ)) (a : Outcome) : Type 0 where
   pub small-workspace : (d : ℕ) → (a ≡ refuse 14 d) ↔ ((words < workspace) × (d ≡ 0))
   pub no-fit : (d : ℕ) → (a ≡ refuse 12 d) ↔ ((workspace ≤ words) × NoFit d)
-  pub gives : (a ≡ give [] outputs) ↔ ((workspace ≤ words) × ((d : ℕ) → NoFit d → ⊥))
-  pub no-other : (a ≡ refuse 14 0) ⊎ (((d : ℕ) × (a ≡ refuse 12 d)) ⊎ (a ≡ give [] outputs))
+  pub gives : (a ≡ give values outputs) ↔ ((workspace ≤ words) × ((d : ℕ) → NoFit d → ⊥))
+  pub no-other : (a ≡ refuse 14 0) ⊎ (((d : ℕ) × (a ≡ refuse 12 d)) ⊎ (a ≡ give values outputs))
+
+-- where it has no values
+abbrev pub Fitted : ℕ → (ℕ → Type 0) → List (List ℕ) → Outcome → Type 0
+Fitted words NoFit outputs a = FittedBeside [] words NoFit outputs a
 
 -- reading: an accepted file's content is given, and nothing of another file
 pub record Reads (read : List ℕ → ℕ → Outcome) (Accepted : List ℕ → List ℕ → Type 0) : Type 0 where
@@ -252,6 +278,7 @@ pub record Demand1 : Type 0 where
   pub answer : (choose : Choose) (q c b : List ℕ) (room words : ℕ) → Settles (withWorkspace words (answerBy choose q c b room))
   pub show : (q c : List ℕ) (room room′ words : ℕ) → Settles (withWorkspace words (showOutcome q c room room′))
   pub part : (q c b : List ℕ) (room room′ words : ℕ) → Settles (withWorkspace words (partOutcome q c b room room′))
+  pub several : (q : List ℕ) (number : ℕ) (c b : List ℕ) (room words : ℕ) → Settles (withWorkspace words (severalOutcome q number c b room))
   pub cheapest : (q c charges : List ℕ) (words : ℕ) → Settles (withWorkspace words (cheapestOutcome q c charges))
   pub line : (q : Quote) (k room : ℕ) → Settles (lineOutcome q k room)
   -- "within a paper: 1, then front to back": what falls to each file is in packed/specs/Formats.antt; here, that it is handed up
@@ -275,6 +302,9 @@ pub record Demand1 : Type 0 where
   pub answer-files : (choose : Choose) (q c b : List ℕ) (room : ℕ) → HandsUp (quotedFiles q c (λ cs. first (readBook cs b) thenNone)) (answerBy choose q c b room)
   pub show-files : (q c : List ℕ) (room room′ : ℕ) → HandsUp (quotedFiles q c thenNone) (showOutcome q c room room′)
   pub part-files : (q c b : List ℕ) (room room′ : ℕ) → HandsUp (quotedFiles q c (λ cs. first (readBook cs b) thenNone)) (partOutcome q c b room room′)
+  -- 17 stands before the files: where the number is wrong none is judged
+  pub several-files : (q : List ℕ) (number : ℕ) (c b : List ℕ) (room : ℕ) → RightNumber number → HandsUp (severalFiles number q c b) (severalOutcome q number c b room)
+  pub several-unread : (q : List ℕ) (number : ℕ) (c b : List ℕ) (room : ℕ) → WrongNumber number → HandsUp no-more (severalOutcome q number c b room)
   -- "a writer never gives 1" of the content that it is handed
   pub never-long : (ws : List ℕ) (d : ℕ) → (writePattern ws ≡ rejected 1 d → ⊥) × (writeCatalogue ws ≡ rejected 1 d → ⊥) × (writeRecord ws ≡ rejected 1 d → ⊥)
   pub never-long-beside : (cs ws : List ℕ) (d : ℕ) → (writeSheet cs ws ≡ rejected 1 d → ⊥) × (writeBook cs ws ≡ rejected 1 d → ⊥)
@@ -310,6 +340,8 @@ pub record Demand1 : Type 0 where
       → (withWorkspace words (answerBy choose q c b room) ≡ refuse 10 d) ↔ ((workspace ≤ words) × ManyPairs cs bs × (d ≡ 4))
   pub part-many-pairs : (q c b qs cs bs : List ℕ) → Question q qs → Catalogue c cs → readBook cs b ≡ accepted bs → (room room′ words d : ℕ)
       → (withWorkspace words (partOutcome q c b room room′) ≡ refuse 10 d) ↔ ((workspace ≤ words) × ManyPairs cs bs × (d ≡ 4))
+  pub several-many-pairs : (number : ℕ) (q c b ws cs bs : List ℕ) → RightNumber number → Questions number q ws → Catalogue c cs → readBook cs b ≡ accepted bs → (room words d : ℕ)
+      → (withWorkspace words (severalOutcome q number c b room) ≡ refuse 10 d) ↔ ((workspace ≤ words) × ManyPairs cs bs × (d ≡ 4))
   -- a search gives the sheet of accepted files, making a book the book, and neither anything of others, nor with another index than the record's own
   pub search-gives : (way : Way) (p r ps rs : List ℕ) → Question p ps → Record r rs → (room words : ℕ)
       → Fitted words (OverFile room (sheetOf (patternOf ps) rs)) (sheetOf (patternOf ps) rs ∷ []) (withWorkspace words (searchBy way p r rs room))
@@ -694,7 +726,7 @@ partFile qs cs = choiceFile (matchedLink qs cs) qs
 
 -- its answer, "from the book by the part's own quote"
 abbrev pub partAnswer : List ℕ → List ℕ → List ℕ → List ℕ
-partAnswer qs cs bs = sheetBytes (answerOf (chosenOf (partOfQuestion qs cs) cs) (partOfQuestion qs cs) cs bs)
+partAnswer qs cs bs = ownAnswer cs bs (partOfQuestion qs cs)
 
 -- link i of a choice is link v of the question, which is taken: as many of those before it are
 pub record LinkFrom (takes : Edge → Bool) (qs : List ℕ) (i v : ℕ) : Type 0 where
@@ -772,6 +804,73 @@ pub record Parts : Type 0 where
   -- demand 3 of it: its answer from the book of a record is what searching the record for it gives, in either way
   pub equals : (way : Way) (q c r qs cs rs : List ℕ) → Question q qs → Catalogue c cs → Record r rs → SomeMatched qs cs → length (bookOf cs rs) ≤ bookMost → (room words : ℕ)
       → withWorkspace words (answerOutcome (partFile qs cs) c (bookOf cs rs) room) ≡ withWorkspace words (searchBy way (partFile qs cs) r rs room)
+
+-- ---- what holds of several questions in one call. Their contents stand in a list: a paper of them is taken apart by `QuestionFiles`
+-- (packed/specs/Calls.antt), which has the file and the content of each, in order.
+
+-- each is covered, or i is the first that isn't
+abbrev pub AllCovered : List (List ℕ) → List ℕ → Type 0
+AllCovered contents cs = (i : ℕ) → i < length contents → Covered (getD contents i []) cs
+
+pub record FirstUncovered (contents : List (List ℕ)) (cs : List ℕ) (i : ℕ) : Type 0 where
+  pub below : i < length contents
+  pub uncovered : Uncovered (getD contents i []) cs
+  pub before : (j : ℕ) → j < i → Covered (getD contents j []) cs
+
+-- what each gets by itself
+abbrev pub ownAnswers : List (List ℕ) → List ℕ → List ℕ → List (List ℕ)
+ownAnswers contents cs bs = map (ownAnswer cs bs) contents
+
+-- "the extracts chosen for at least one question": the extract a is one of them; the test for it; and how many of the extracts pass the test
+abbrev pub ChosenForOne : List (List ℕ) → List ℕ → ℕ → Type 0
+ChosenForOne contents cs a = (i : ℕ) × (i < length contents) × T (bit (chosenOf (getD contents i []) cs) a)
+
+abbrev pub isChosenForOne : List (List ℕ) → List ℕ → ℕ → Bool
+isChosenForOne contents cs a = some (λ qs. bit (chosenOf qs cs) a) contents
+
+abbrev pub sheetsFor : List (List ℕ) → List ℕ → ℕ
+sheetsFor contents cs = rank (isChosenForOne contents cs) (length (viewPatterns cs))
+
+-- "12 if an answer is over 65,536 bytes or the sum over those lent, detail the sum"
+abbrev pub OverSum : ℕ → List (List ℕ) → ℕ → Type 0
+OverSum room answers d = ((room < length (flatten answers)) ⊎ ((o : List ℕ) × In o answers × (bookMost < length o))) × (d ≡ length (flatten answers))
+
+pub record Severals : Type 0 where
+  -- "the questions come as one paper, their number beside it, each on the byte after the one before": it is accepted exactly if it is so many
+  -- accepted questions, one file after the other
+  pub accepts : (number : ℕ) (q ws : List ℕ) → Questions number q ws ↔ QuestionFiles number q ws
+  -- "they are to be answered in one call from one book; the result says how many of its sheets they needed": where each is covered the call gives
+  -- the answers, one after the other, and that number, or 12, or 14
+  pub gives : (number : ℕ) (q c b ws cs bs : List ℕ) → RightNumber number → (f : QuestionFiles number q ws) → Catalogue c cs → Book cs b bs → AllCovered (f .contents) cs → (room words : ℕ)
+      → FittedBeside (sheetsFor (f .contents) cs ∷ []) words (OverSum room (ownAnswers (f .contents) cs bs)) (flatten (ownAnswers (f .contents) cs bs) ∷ [])
+      (withWorkspace words (severalOutcome q number c b room))
+  -- "each equal to what its question gets by itself"
+  pub answers : (number : ℕ) (q c b ws cs bs : List ℕ) (f : QuestionFiles number q ws) → Catalogue c cs → Book cs b bs → (i : ℕ) → i < number → Covered (getD (f .contents) i []) cs
+      → (room : ℕ) → answerOutcome (getD (f .files) i []) c b room ≡ fitFile room (getD (ownAnswers (f .contents) cs bs) i [])
+  -- "namely those of the extracts chosen for at least one question": the test says exactly that
+  pub chosen : (contents : List (List ℕ)) (cs : List ℕ) (a : ℕ) → T (isChosenForOne contents cs a) ↔ ChosenForOne contents cs a
+  -- no other sheet is needed: two accepted books that agree on these give the same
+  pub same : (number : ℕ) (q c b b′ ws cs bs bs′ : List ℕ) (f : QuestionFiles number q ws) → Catalogue c cs → Book cs b bs → Book cs b′ bs′
+      → (AllCovered (f .contents) cs → (a : ℕ) → a < length (viewPatterns cs) → ChosenForOne (f .contents) cs a
+      → getD (sheetsIn (edgeCounts cs) bs) a [] ≡ getD (sheetsIn (edgeCounts cs) bs′) a [])
+      → (room : ℕ) → severalOutcome q number c b room ≡ severalOutcome q number c b′ room
+  -- demand 3 of each: its answer from the book of a record is what searching the record for it gives, in either way; and so the output has the
+  -- sheets of the questions on the record, one after the other
+  pub equals : (way : Way) (number : ℕ) (q c r ws cs rs : List ℕ) (f : QuestionFiles number q ws) → Catalogue c cs → Record r rs → (i : ℕ) → i < number → Covered (getD (f .contents) i []) cs
+      → length (bookOf cs rs) ≤ bookMost → (room words : ℕ)
+      → withWorkspace words (answerOutcome (getD (f .files) i []) c (bookOf cs rs) room) ≡ withWorkspace words (searchBy way (getD (f .files) i []) r rs room)
+  pub sheets : (number : ℕ) (q c r ws cs rs bs : List ℕ) (f : QuestionFiles number q ws) → Catalogue c cs → Record r rs → AllCovered (f .contents) cs → Book cs (bookOf cs rs) bs
+      → ownAnswers (f .contents) cs bs ≡ map (λ qs. sheetOf (patternOf qs) rs) (f .contents)
+  -- 17, "when no question or more than eight are sent, after 14, detail the number sent", exactly then
+  pub wrong-number : (q : List ℕ) (number : ℕ) (c b : List ℕ) (room words d : ℕ)
+      → (withWorkspace words (severalOutcome q number c b room) ≡ refuse 17 d) ↔ ((workspace ≤ words) × WrongNumber number × (d ≡ number))
+  -- 11, "for the first uncovered question", exactly then, with its lowest unmatched link
+  pub refused : (number : ℕ) (q c b ws cs bs : List ℕ) → RightNumber number → (f : QuestionFiles number q ws) → Catalogue c cs → Book cs b bs → (room words d : ℕ)
+      → (withWorkspace words (severalOutcome q number c b room) ≡ refuse 11 d)
+      ↔ ((workspace ≤ words) × ((i : ℕ) × FirstUncovered (f .contents) cs i × (d ≡ lacking (getD (f .contents) i []) cs)))
+  -- nothing is given of other files, nor of other numbers
+  pub only : (q : List ℕ) (number : ℕ) (c b : List ℕ) (room words : ℕ) → Full (withWorkspace words (severalOutcome q number c b room))
+      → RightNumber number × ((ws : List ℕ) × (cs : List ℕ) × (bs : List ℕ) × (f : QuestionFiles number q ws) × Catalogue c cs × Book cs b bs × AllCovered (f .contents) cs)
 
 -- ---- what holds of the cheapest set
 

@@ -4,6 +4,7 @@ pub mod Answer
 pub mod Show
 pub mod Part
 pub mod Both
+pub mod Several
 pub mod Cheapest
 pub mod Listing
 pub mod Demands
@@ -11,3 +12,4 @@ pub mod Demands
 pub mod Steps
 pub mod Tries
 pub mod Parting
+pub mod SeveralSteps

@@ -9,6 +9,7 @@ mod parting;
 mod query;
 pub mod quote_type;
 mod quoting;
+pub mod several;
 mod showing;
 
 ghost use mathlib.Core.List.{[], _∷_};
@@ -20,6 +21,7 @@ ghost use Rattle.containment.specs.Both.{bothTold};
 ghost use Rattle.containment.specs.Cheapest.{cheapestOutcome, cheapestTold};
 ghost use Rattle.containment.specs.Part.{partOutcome};
 ghost use Rattle.containment.specs.Quote.{quoteOutcome, quoteTold, blank};
+ghost use Rattle.containment.specs.Several.{severalOutcome, severalTold};
 ghost use Rattle.containment.specs.Show.{showOutcome};
 use both::Both;
 use costing::Cheapest;
@@ -28,6 +30,7 @@ use packed::reply::Refusal;
 use packed::reply::Reply;
 use packed::workspace;
 use quote_type::Quote;
+use several::Several;
 
 // How much of the workspace is zero after every call.
 const CLEARED: usize = limits::WORKSPACE;
@@ -155,6 +158,33 @@ pub fn part(
         book,
         part,
         answer,
+        &mut work[0..limits::WORKSPACE],
+    );
+    workspace::clear(work, CLEARED);
+    r
+}
+
+// Answers several questions from one book: writes their sheets one after the other, each as its question gets it by itself. The result also says how
+// many sheets of the book were needed.
+pub fn answer_several(
+    questions: &[u8],
+    number: u32,
+    catalogue: &[u8],
+    book: &[u8],
+    out: &mut [u8],
+    work: &mut [u32],
+) -> Several
+    ensures { λ r. ⌜ Settled [] (withWorkspace (length (now (work .entry))) (severalOutcome (now (questions .entry)) number (now (catalogue .entry)) (now (book .entry)) (length (now (out .entry))))) (severalTold r) (now (out .entry) ∷ []) (now (out .exit) ∷ []) (now (work .entry)) (now (work .exit)) ⌝ }
+{
+    if work.len() < limits::WORKSPACE {
+        return Several::Refused(Refusal::SmallWorkspace);
+    }
+    let r = several::answer_several(
+        questions,
+        number,
+        catalogue,
+        book,
+        out,
         &mut work[0..limits::WORKSPACE],
     );
     workspace::clear(work, CLEARED);

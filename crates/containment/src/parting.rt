@@ -67,7 +67,7 @@ fn nodes_at(q: Pattern, taken: u32) -> u32
 }
 
 // How many numbers below n are in the set: the number of n among them.
-fn number_in(set: u32, n: usize) -> u32
+pub fn number_in(set: u32, n: usize) -> u32
     requires { ⌜ n ≤ 32 ⌝ }
     ensures { λ r. ⌜ (r ≡ rank (bit set) n) × (r ≤ n) ⌝ }
 {

@@ -4,12 +4,13 @@ use mathlib.Core.Path.{_≡_, refl, ap, ap₂, sym, _∙_}
 use mathlib.Core.Bool.{Bool, true, false, _&&_}
 use mathlib.Core.List.{List, [], _∷_, _++_, append-assoc, append-nil}
 use lib.Dec.{eqb, leb}
-use lib.ListN.{length, set}
+use lib.ListN.{length, getD, set}
 use native.Mathlib.Nat.{mod-eq-of-lt}
 use native.Mathlib.Omega.{arith}
 use borrow.Author.Tests.{eqb-true, leb-true, leb-false, lt-ltb, le-ltb, lt-leb, le-leb, ne-eqb}
+use Rattle.packed.specs.Format.{pick}
 use Rattle.folder.specs.declared.numbers.Text.{Text}
-use Rattle.folder.specs.Numbers.{most, isDigit, lineFeed, onto, linesOf, allDigits, isThere, valueFrom, valueOf, isCharge, listOf, listTold, ListRead}
+use Rattle.folder.specs.Numbers.{most, isDigit, lineFeed, onto, linesOf, allDigits, isThere, valueFrom, valueOf, isCharge, Listed, listOf, listTold, ListRead, NumberTold, number, none, numberIn, numberTold, NumberRead}
 use Rattle.folder.specs.Reading.{emptyText, withLine, withDigit, isNumber, State, state, endLine, nextInList, next, steps, atEnd, listed, whole, OfText}
 use Rattle.folder.proofs.NumberLaws.{below-digits}
 
@@ -22,6 +23,10 @@ both-first false b h = h
 both-second : (a b : Bool) → a && b ≡ true → b ≡ true
 both-second true b h = h
 both-second false b h = absurd (let y : _≡_ {A = ℕ} 0 1 = cc in omega arith)
+
+and-false : (a : Bool) → a && false ≡ false
+and-false true = refl
+and-false false = refl
 
 first-false : (a : Bool) → a && true ≡ false → a ≡ false
 first-false true h = h
@@ -337,3 +342,44 @@ list-read ws bs h = says bs [] (emptyText true) ws (start true) (omega arith)
 
 pub list-reads : (ws ws′ : List ℕ) (t : Text) → OfText true ws (state t ws′) → ListRead ws (listTold t ws′)
 list-reads ws ws′ t h = record { bytes = h .bytes; few = h .few; is = ap listed (h .is) ∙ list-read ws (h .bytes) (omega (arith, h .few)) }
+
+-- ---- one number
+
+-- lines after n others are n at least
+at-least : (n : ℕ) (ws : List ℕ) (ls : List (List ℕ)) → n ≤ listOf n ws ls .count
+unfolding listOf
+at-least n ws [] = omega arith
+at-least n ws (l ∷ ls) = by (isCharge l) refl (at-least (n + 1) (set ws n (valueOf l)) ls)
+  where
+    by : (c : Bool) → isCharge l ≡ c → n + 1 ≤ listOf (n + 1) (set ws n (valueOf l)) ls .count → n ≤ listOf n ws (l ∷ ls) .count
+    by true h k = rw (good-line n ws l ls h) (omega (arith, k))
+    by false h k = rw (bad-line n ws l ls h) (omega arith)
+
+-- what is told of a list with one word, if one number is wanted
+abbrev oneOf : Listed → NumberTold
+oneOf t = pick (t .good && eqb (t .count) 1) (number (getD (t .words) 0 0)) none
+
+never : (t : Listed) → t .good && eqb (t .count) 1 ≡ false → oneOf t ≡ none
+never t h = rw h
+
+one-number : (ls : List (List ℕ)) → oneOf (listOf 0 (0 ∷ []) ls) ≡ numberIn ls
+unfolding listOf numberIn
+one-number [] = refl
+one-number (l ∷ []) = by (isCharge l) refl
+  where
+    by : (c : Bool) → isCharge l ≡ c → oneOf (listOf 0 (0 ∷ []) (l ∷ [])) ≡ numberIn (l ∷ [])
+    by true h = rw h
+    by false h = rw h
+one-number (l ∷ k ∷ ls) = by (isCharge l) refl (isCharge k) refl
+  where
+    by : (c : Bool) → isCharge l ≡ c → (d : Bool) → isCharge k ≡ d → oneOf (listOf 0 (0 ∷ []) (l ∷ k ∷ ls)) ≡ none
+    by true h true g =
+        let t = listOf 2 (set (set (0 ∷ []) 0 (valueOf l)) 1 (valueOf k)) ls in
+        rw (h, g) (never t (rw (ne-eqb (t .count) 1 (λ e. omega (arith, at-least 2 (set (set (0 ∷ []) 0 (valueOf l)) 1 (valueOf k)) ls))) (and-false (t .good))))
+    by true h false g = rw (h, g)
+    by false h d g = rw h
+
+pub number-reads : (t : Text) (ws : List ℕ) → ListRead (0 ∷ []) (listTold t ws)
+    → NumberRead (numberTold (record { good = t .good && eqb (t .count) 1; value = getD ws 0 0 }))
+unfolding numberTold
+number-reads t ws h = record { bytes = h .bytes; few = h .few; is = ap oneOf (h .is) ∙ one-number (linesOf (h .bytes)) }

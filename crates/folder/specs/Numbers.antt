@@ -1,4 +1,4 @@
--- Text files of decimal numbers: what the bytes of `charges` (decisions 8.8 and 8.9) and of `set` (decision 8.12) say.
+-- Text files of decimal numbers: what the bytes of `charges` (decisions 8.8 and 8.9), of `set` (decision 8.12) and of `number` (decision 8.21) say.
 use Prim.Native.Nat.{ℕ, _+_, _-_, _*_, _^_, _≤_}
 use mathlib.Core.Bool.{Bool, true, false, _&&_}
 use mathlib.Core.Path.{_≡_}
@@ -8,6 +8,7 @@ use lib.Bits.{bitOr}
 use lib.ListN.{length, set}
 use Rattle.packed.specs.Format.{pick}
 use Rattle.folder.specs.declared.numbers.Text.{Text}
+use Rattle.folder.specs.declared.numbers.Number.{Number}
 
 -- 8.8: a number is at most this
 abbrev pub most : ℕ
@@ -72,6 +73,23 @@ listOf n ws (l ∷ ls) =
     (listOf (n + 1) (set ws n (valueOf l)) ls)
     (record { count = n + 1; good = false; words = ws })
 
+-- ---- one number: a list of one line
+
+-- the number, or that there is none
+pub data NumberTold : Type 0 where
+  number : ℕ → NumberTold
+  none : NumberTold
+
+-- 8.21: one line, which is a number
+unfoldable pub numberIn : List (List ℕ) → NumberTold
+numberIn [] = none
+numberIn (l ∷ []) = pick (isCharge l) (number (valueOf l)) none
+numberIn (l ∷ k ∷ ls) = none
+
+-- what reading tells of a number
+unfoldable pub numberTold : Number → NumberTold
+numberTold n = pick (n .good) (number (n .value)) none
+
 -- ---- a set: numbers between spaces and line ends
 
 -- what stands between two spaces or line ends, or nothing, and the number of its line, from 1
@@ -131,3 +149,9 @@ pub record SetRead (t : SetTold) : Type 0 where
   pub bytes : List ℕ
   pub few : length bytes ≤ 2 ^ 63
   pub is : t ≡ setOf 0 (piecesOf 1 bytes)
+
+-- .. or what its one line says
+pub record NumberRead (t : NumberTold) : Type 0 where
+  pub bytes : List ℕ
+  pub few : length bytes ≤ 2 ^ 63
+  pub is : t ≡ numberIn (linesOf bytes)

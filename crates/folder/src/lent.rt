@@ -9,6 +9,13 @@ pub fn question_bytes() -> [u8; 57]
     [0; 57]
 }
 
+// Up to eight questions, one after the other.
+pub fn questions_bytes() -> [u8; 449]
+    ensures { λ r. ⌜ 449 ≡ length r ⌝ }
+{
+    [0; 449]
+}
+
 pub fn catalogue_bytes() -> [u8; 898]
     ensures { λ r. ⌜ 898 ≡ length r ⌝ }
 {
@@ -60,6 +67,13 @@ pub fn output_bytes() -> [u8; 65536]
     ensures { λ r. ⌜ 65536 ≡ length r ⌝ }
 {
     [0; 65536]
+}
+
+// The answers of eight questions, to be written: eight times that.
+pub fn answers_bytes() -> [u8; 524288]
+    ensures { λ r. ⌜ 524288 ≡ length r ⌝ }
+{
+    [0; 524288]
 }
 
 // A part of a question, to be written: a pattern.

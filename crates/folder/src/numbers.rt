@@ -3,7 +3,7 @@
 ghost use mathlib.Core.Path.{_≡_};
 ghost use mathlib.Core.Bool.{true};
 ghost use lib.ListN.{set};
-ghost use Rattle.folder.specs.Numbers.{listTold, setTold, ListRead, SetRead};
+ghost use Rattle.folder.specs.Numbers.{listTold, setTold, numberTold, ListRead, SetRead, NumberRead};
 ghost use Rattle.folder.specs.Reading.{emptyText, withLine, withDigit, endMember, nextInSet, state, endLine, nextInList, next, steps, atEnd, Follows, OfText};
 use crate::files;
 
@@ -226,4 +226,22 @@ pub fn read_set(name: &[u8]) -> Text
 {
     let mut none = [0u32; 1];
     read(name, false, &mut none)
+}
+
+// A number, or that there is none.
+pub struct Number {
+    pub good: bool,
+    pub value: u32,
+}
+
+// The one number of a list of one line. A file that can't be opened has none.
+pub fn read_number(name: &[u8]) -> Number
+    ensures { λ r. ⌜ NumberRead (numberTold r) ⌝ }
+{
+    let mut value = [0u32; 1];
+    let text = read_list(name, &mut value);
+    Number {
+        good: text.good & (text.count == 1),
+        value: value[0],
+    }
 }

@@ -1,11 +1,15 @@
 // Judges the files that it finds in the folder it is run in: `question`, `catalogue`, `record`, a `sheet` and an `answer` beside the question, a
-// `book` and `charges` beside the catalogue, a `part` and a `part_answer` beside it, the records `first` and `second`, an `index` beside the record, a
-// `set`, and a record `old`, stored before links had kinds. One that is not there gets no line.
+// `book` and `charges` beside the catalogue, a `part` and a `part_answer` beside it, `questions` beside their `number`, the records `first` and `second`,
+// an `index` beside the record, a `set`, and a record `old`, stored before links had kinds. One that is not there gets no line.
+ghost use mathlib.Core.Path.{_≡_};
+ghost use lib.ListN.{length};
 use folder::entries;
 use folder::files;
 use folder::lent;
 use folder::lines;
 use folder::numbers;
+use packed::accept;
+use packed::limits;
 use packed::reply::Refusal;
 use packed::reply::Reply;
 
@@ -74,6 +78,34 @@ fn judge_part() {
     let n = files::read(b"part", &mut part);
     judge_pattern(&part[0..n], b"part");
     judge_sheet(&part[0..n], b"part_answer");
+}
+
+// So many questions, one after the other.
+fn accepted(questions: &[u8], number: u32, work: &mut [u32]) -> Reply
+    requires { ⌜ length (now work) ≡ 16384 ⌝ }
+{
+    if 0 < number {
+        if number <= limits::QUESTIONS_MOST {
+            return accept::accept_questions(questions, number, work);
+        }
+    }
+    Reply::Refused(Refusal::WrongQuestions(number as usize))
+}
+
+fn judge_questions() {
+    if !files::is_there(b"questions") {
+        return;
+    }
+    let number = numbers::read_number(b"number");
+    if !number.good {
+        lines::failed(b"number");
+        return;
+    }
+    let mut questions = lent::questions_bytes();
+    let n = files::read(b"questions", &mut questions);
+    let mut work = lent::work_words();
+    let reply = accepted(&questions[0..n], number.value, &mut work);
+    say(b"questions", reply);
 }
 
 fn judge_index() {
@@ -157,6 +189,7 @@ fn judge(question: &[u8], catalogue: &[u8]) {
     judge_book(catalogue);
     judge_sheet(question, b"answer");
     judge_part();
+    judge_questions();
     judge_record(b"first");
     judge_record(b"second");
     judge_index();

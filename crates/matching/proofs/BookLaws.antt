@@ -58,36 +58,34 @@ pub sheeted-by : {p : Given} {s : List ℕ} {n m : ℕ} {w w′ : List ℕ} → 
 sheeted-by {p = p} {s = s} {n = n} {m = m} {w = w} q =
     record { edges = q .edges; marked = q .marked; sets = q .sets ∙ ap (λ (P : Pattern). matchSets P (graphIn s n m w)) (own-rule p) }
 
-module _ {p : Given} {s : List ℕ} {n m : ℕ} {w : List ℕ} {d : ℕ} {w′ : List ℕ} (q : SheetSized p s n m w d w′) where
-  abbrev made : List (List ℕ)
-  made = matchesOf d (p .edges) w′
-
-  abbrev listed : List (List ℕ)
-  listed = matchSets (patternIn p) (graphIn s n m w)
-
-  made-long : length made ≡ p .edges
-  made-long = matches-long d (p .edges) w′
-
+-- the sheet for m edges that the first d pairs make has the lists ls
+module _ (m : ℕ) {d : ℕ} {w : List ℕ} {ls : List (List ℕ)} (marks : Marked d w) (sets : matchesOf d m w ≡ ls) where
   -- the bytes that are counted
-  pub size-is : sheetLength (p .edges) (pairCount made) ≡ length (sheetBytes listed)
-  size-is =
-      let x = sheet-by (p .edges) made made-long (matches-encode d (p .edges) w′ (q .marked)) in
-      let y = rw made-long at (x .size) in
-      sym y ∙ ap (λ (ls : List (List ℕ)). length (sheetBytes ls)) (q .sets)
+  pub made-size : sheetLength m (pairCount (matchesOf d m w)) ≡ length (sheetBytes ls)
+  made-size =
+      let n = matches-long d m w in
+      let x = sheet-by m (matchesOf d m w) n (matches-encode d m w marks) in
+      let y = rw n at (x .size) in
+      sym y ∙ ap (λ (l : List (List ℕ)). length (sheetBytes l)) sets
 
   -- the bytes that are written
-  pub bytes-are : {out out′ : List ℕ} {r : ℕ} (x : SheetWritten d (p .edges) w′ out r out′) → x .bytes ≡ sheetBytes listed
-  bytes-are x = sym (sheet-is (p .edges) made (x .bytes) made-long (x .is)) ∙ ap sheetBytes (q .sets)
+  pub made-bytes : {out out′ : List ℕ} {r : ℕ} (x : SheetWritten d m w out r out′) → x .bytes ≡ sheetBytes ls
+  made-bytes x = sym (sheet-is m (matchesOf d m w) (x .bytes) (matches-long d m w) (x .is)) ∙ ap sheetBytes sets
 
   -- and they are those of the sheet
-  pub encodes : encode (sheetFormat (p .edges)) (sheetFields made) ≡ ok (sheetBytes listed)
-  encodes =
-      let x = matches-encode d (p .edges) w′ (q .marked) in
-      x .is ∙ ap ok (sym (sheet-is (p .edges) made (x .bytes) made-long (x .is)) ∙ ap sheetBytes (q .sets))
+  pub made-encodes : encode (sheetFormat m) (sheetFields (matchesOf d m w)) ≡ ok (sheetBytes ls)
+  made-encodes =
+      let x = matches-encode d m w marks in
+      x .is ∙ ap ok (sym (sheet-is m (matchesOf d m w) (x .bytes) (matches-long d m w) (x .is)) ∙ ap sheetBytes sets)
 
   -- what is kept of its size
-  pub size-kept : sheetLength (p .edges) (pairCount made) ≡ sheetSize listed
-  size-kept = ap (λ (k : ℕ). sheetLength k (pairCount made)) (sym made-long) ∙ ap sheetSize (q .sets)
+  pub made-kept : sheetLength m (pairCount (matchesOf d m w)) ≡ sheetSize ls
+  made-kept = ap (λ (k : ℕ). sheetLength k (pairCount (matchesOf d m w))) (sym (matches-long d m w)) ∙ ap sheetSize sets
+
+-- the bytes of a pattern's sheet
+pub encodes : {p : Given} {s : List ℕ} {n m : ℕ} {w : List ℕ} {d : ℕ} {w′ : List ℕ} → SheetSized p s n m w d w′
+    → encode (sheetFormat (p .edges)) (sheetFields (matchesOf d (p .edges) w′)) ≡ ok (sheetBytes (matchSets (patternIn p) (graphIn s n m w)))
+encodes {p = p} q = made-encodes (p .edges) (q .marked) (q .sets)
 
 -- ---- a sheet that lists nothing
 none-marked : (e m : ℕ) (qs : List ℕ) → markedFrom e m [] qs ≡ replicate m []
@@ -111,18 +109,19 @@ none-matches m w =
     ∙ pick-same (anyEmpty (replicate m [])) (none-emptied m)
 
 -- it is made from no pairs
+pub nothing-made : (m : ℕ) (w : List ℕ) (ls : List (List ℕ)) → 16384 ≤ length w → length ls ≡ m → sheetSize ls ≡ 1 → Marked 0 w × (matchesOf 0 m w ≡ ls)
+nothing-made m w ls long l e =
+    let z : pairCount ls ≡ 0 = length-one (length ls) (pairCount ls) e in
+    (record { long = long; most = omega arith; rises = λ i j e a b. absurd (omega arith) }, none-matches m w ∙ ap (λ (k : ℕ). replicate k []) (sym l) ∙ sym (none-total ls z))
+
 pub sheeted-none : (p : Given) (s : List ℕ) (n m : ℕ) (w : List ℕ) → Ready s n m w
     → sheetSize (matchSets (patternIn p) (graphIn s n m w)) ≡ 1 → SheetSized p s n m w 0 w
 unfolding patternIn
 sheeted-none p s n m w r e =
     let ls : List (List ℕ) = matchSets (patternIn p) (graphIn s n m w) in
     let l : length ls ≡ p .edges = sets-length (patternIn p) (graphIn s n m w) ∙ length-upTo _ (p .edges) in
-    let z : pairCount ls ≡ 0 = length-one (length ls) (pairCount ls) e in
-    record {
-      edges = record { long = refl; same = λ i h. refl };
-      marked = record { long = omega (arith, r .long); most = omega arith; rises = λ i j e a b. absurd (omega arith) };
-      sets = none-matches (p .edges) w ∙ ap (λ (k : ℕ). replicate k []) (sym l) ∙ sym (none-total ls z);
-    }
+    let x = nothing-made (p .edges) w ls (omega (arith, r .long)) l e in
+    record { edges = record { long = refl; same = λ i h. refl }; marked = x .0; sets = x .1 }
 
 -- ---- the views that are left
 -- the sheets of views on a graph
@@ -294,7 +293,7 @@ sizing-next z some v at q r e =
     let f = turn-fair t some v at .edges in
     record {
       turn = turned-next t some v at q;
-      is = omega (arith, z .is, e, size-is q, ap length (past-next t some v at q), length-append (bookPast t) (sheet t some v at q));
+      is = omega (arith, z .is, e, made-size (v .pattern .edges) (q .marked) (q .sets), ap length (past-next t some v at q), length-append (bookPast t) (sheet t some v at q));
       most = omega (arith, z .most, e, size-at-most _ _ _ (q .marked) f);
     }
 
@@ -324,7 +323,7 @@ module _ {c s : List ℕ} {n m : ℕ} {w₀ : List ℕ} {k size byte a : ℕ} {s
         each = below-more (λ j. getD (set sizes a r) j 0 ≡ sheetSize (viewSheet (patternOf (getD more j [])) (graphIn s n m w₀))) a
             (λ j h. getD-set-other sizes a j r 0 (λ p. omega arith) ∙ z .each j h
             ∙ ap (λ (u : List ℕ). sheetSize (viewSheet (patternOf u) (graphIn s n m w₀))) (sym (List·getD-append (t .past) (x ∷ []) [] j (omega (arith, t .many)))))
-            (getD-set-same sizes a r 0 (keeping-room some) ∙ e ∙ size-kept (sheeted-by q) ∙ ap sheetSize (turn-lists t some v at)
+            (getD-set-same sizes a r 0 (keeping-room some) ∙ e ∙ made-kept (v .pattern .edges) (sheeted-by q .marked) (sheeted-by q .sets) ∙ ap sheetSize (turn-lists t some v at)
             ∙ ap (λ (u : List ℕ). sheetSize (viewSheet (patternOf u) (graphIn s n m w₀)))
             (sym (ap (λ (j : ℕ). getD more j []) (sym (t .many) ∙ sym (add-zero (length (t .past)))) ∙ getD-append-add (t .past) (x ∷ []) 0 [])));
       }
@@ -377,7 +376,7 @@ module _ {c s : List ℕ} {n m : ℕ} {w₀ out₀ : List ℕ} {k at byte a : �
   module _ (some : a < k) (v : View) (y : ViewAt c byte v) {d : ℕ} {w′ : List ℕ} (q : SheetSized (v .pattern) s n m w d w′)
       {r : ℕ} {part : List ℕ} (x : SheetWritten d (v .pattern .edges) w′ (take (length out - at) (drop at out)) r part) where
     pub filling-sized : Sizing c s n m w₀ k (at + r) (v .next) (a + 1) w′
-    filling-sized = sizing-next (z .sizing) some v y q r (x .number ∙ ap length (bytes-are q x) ∙ sym (size-is q))
+    filling-sized = sizing-next (z .sizing) some v y q r (x .number ∙ ap length (made-bytes (v .pattern .edges) (q .marked) (q .sets) x) ∙ sym (made-size (v .pattern .edges) (q .marked) (q .sets)))
 
     pub filling-next : BookFilling c s n m w₀ out₀ k (at + r) (v .next) (a + 1) (putMid at (length out - at) out part) w′
     unfolding filling-sized sizing-next turned-next
@@ -388,7 +387,7 @@ module _ {c s : List ℕ} {n m : ℕ} {w₀ out₀ : List ℕ} {k at byte a : �
           fits = z .fits;
           front =
               rest-written out at part (x .bytes) filling-inside (x .front)
-              ∙ ap₂ (λ (o l : List ℕ). sets o at l) (z .front) (bytes-are q x)
+              ∙ ap₂ (λ (o l : List ℕ). sets o at l) (z .front) (made-bytes (v .pattern .edges) (q .marked) (q .sets) x)
               ∙ ap (λ (i : ℕ). sets (sets out₀ 0 (bookPast turn)) i (sheet turn some v y q)) (z .sizing .is ∙ sym (zero-add (length (bookPast turn))))
               ∙ sets-append out₀ 0 (bookPast turn) (sheet turn some v y q)
               ∙ ap (sets out₀ 0) (sym e);

@@ -51,6 +51,8 @@ const SEARCH_INDEXED: usize = 20;
 
 pub const PART: usize = 21;
 
+const ANSWER_SEVERAL: usize = 22;
+
 // The states of a join after each of its steps, which no client sees.
 const STEPS: usize = 62;
 
@@ -163,6 +165,19 @@ fn cheapest(question: &[u8], catalogue: &[u8], charges: &[u32], work: &mut [u32]
     outcome::values(outcome::PRICE, c.number, value, c.set as usize, e)
 }
 
+// Several questions stand in the place of one.
+fn several(
+    questions: &[u8],
+    number: u32,
+    catalogue: &[u8],
+    book: &[u8],
+    out: &mut [u8],
+    work: &mut [u32],
+) -> Outcome {
+    let s = yuthaqim::yuthaqim_answer_several(questions, number, catalogue, book, out, work);
+    outcome::several(s.number, s.detail, s.bytes, s.sheets as usize, out)
+}
+
 // A call that writes bytes.
 fn make(
     k: usize,
@@ -230,6 +245,10 @@ fn on_parts(
     }
     if (k == CHECK_INDEX) | (k == SEARCH_INDEXED) {
         return indexed::call(k, a, c, d, &mut out[0..n], work);
+    }
+    if k == ANSWER_SEVERAL {
+        let number = (cells::number(registers, cells::QUESTIONS) % 0x1_0000_0000) as u32;
+        return several(a, number, b, d, &mut out[0..n], work);
     }
     if k == STEPS {
         let links = cells::number(registers, cells::LINKS);

@@ -57,6 +57,9 @@ pub const KIND_FORM: usize = 35;
 // The set that a client answers from.
 pub const SET: usize = 36;
 
+// How many questions are sent in one call.
+pub const QUESTIONS: usize = 37;
+
 // So many registers can be set by an instruction.
 pub const REGISTERS: usize = 64;
 

@@ -14,14 +14,17 @@ pub const ENTRIES: usize = 3;
 // The lengths of two outputs, which are written one after the other.
 pub const BOTH: usize = 4;
 
+// The bytes of several answers, and the sheets that they needed beside it.
+pub const SEVERAL: usize = 5;
+
 // 1 where a question is covered, and the chosen views beside it, else 0 and the lowest unmatched link.
-pub const QUOTE: usize = 5;
+pub const QUOTE: usize = 6;
 
 // A sum, and the set that costs it beside it.
-pub const PRICE: usize = 6;
+pub const PRICE: usize = 7;
 
 // The number of a join's steps, and the settled items beside it.
-pub const STEPS: usize = 7;
+pub const STEPS: usize = 8;
 
 // 0 or the refusal's number; the two values, of which a refusal's detail is the first; how much was written, a digest of it; and at how many
 // places of an output that the call alone knows the marks are not as they should be.
@@ -90,6 +93,20 @@ pub fn bytes(number: usize, value: usize, out: &[u8]) -> Outcome {
 
 pub fn sheet(number: usize, value: usize, out: &[u8]) -> Outcome {
     bytes_of(SHEET, number, value, out)
+}
+
+// The bytes of several answers, none where they were refused, and how many sheets they needed.
+pub fn several(number: usize, detail: usize, bytes: usize, sheets: usize, out: &[u8]) -> Outcome {
+    let value = if number == 0 { bytes } else { detail };
+    Outcome {
+        form: SEVERAL,
+        number,
+        value,
+        other: sheets,
+        written: bytes,
+        digest: digest::over_bytes(digest::START, out, bytes),
+        faults: 0,
+    }
 }
 
 // What is answered by values alone, also where it was refused, with a digest of all of them.

@@ -112,6 +112,11 @@ fn say_lengths(form: usize, value: usize, other: usize) {
             say_number(other);
             say(b" bytes");
         }
+        outcome::SEVERAL => {
+            say(b" bytes, ");
+            say_number(other);
+            say(b" sheets");
+        }
         _ => say(b" bytes"),
     }
 }
@@ -120,7 +125,7 @@ fn say_accepted(cells: &[u64], out: &[u8], words: &[u32]) {
     let form = cells::number(cells, cells::FORM);
     let value = cells::number(cells, cells::VALUE);
     let other = cells::number(cells, cells::OTHER);
-    if outcome::BOTH < form {
+    if outcome::SEVERAL < form {
         say_values(form, value, other, cells::at(cells, cells::DIGEST));
     } else {
         say_lengths(form, value, other);

@@ -12,7 +12,7 @@ use Rattle.containment.specs.declared.quote_type.Coverage.{Coverage}
 use Rattle.containment.specs.declared.quote_type.Coverage.the-variants as coverage-is
 use Rattle.containment.specs.declared.quote_type.Quote.{Quote}
 use Rattle.containment.proofs.Numbered.{refusal-numbered}
-use Rattle.yuthaqim.specs.Numbered.{toldBy, numberedQuoteTold, numberedBothTold, numberedCheapestTold, QuoteZeros, BothZeros, CheapestZeros}
+use Rattle.yuthaqim.specs.Numbered.{toldBy, numberedQuoteTold, numberedBothTold, numberedSeveralTold, numberedCheapestTold, QuoteZeros, BothZeros, SeveralZeros, CheapestZeros}
 use Rattle.yuthaqim.specs.declared.numbered.NumberedQuote.{NumberedQuote}
 
 pub settled-as : {none : List ℕ} {a : Outcome} {r r′ : Told} {outs outs′ : List (List ℕ)} {work work′ : List ℕ}
@@ -61,6 +61,19 @@ pub both-refused : (x : Refusal) {n d : ℕ} → n ≡ numberOf x → d ≡ deta
     × BothZeros (record { number = n; detail = d; first = 0; second = 0 })
 unfolding numberedBothTold
 both-refused x p r = (rw (p, r, refused-told), record { no-detail = λ h. absurd (number-not-0 x (sym p ∙ h)); no-first = λ n. refl; no-second = λ n. refl })
+
+-- several answers in numbers
+pub several-done : (a b : ℕ) → (numberedSeveralTold (record { number = 0; detail = 0; bytes = a; sheets = b }) ≡ told 0 (a ∷ b ∷ []))
+    × SeveralZeros (record { number = 0; detail = 0; bytes = a; sheets = b })
+unfolding numberedSeveralTold toldBy
+several-done a b = (refl, record { no-detail = λ h. refl; no-bytes = λ n. absurd (n refl); no-sheets = λ n. absurd (n refl) })
+
+pub several-refused : (x : Refusal) {n d : ℕ} → n ≡ numberOf x → d ≡ detailOf x
+    → (numberedSeveralTold (record { number = n; detail = d; bytes = 0; sheets = 0 }) ≡ told (numberOf x) (detailOf x ∷ []))
+    × SeveralZeros (record { number = n; detail = d; bytes = 0; sheets = 0 })
+unfolding numberedSeveralTold
+several-refused x p r =
+    (rw (p, r, refused-told), record { no-detail = λ h. absurd (number-not-0 x (sym p ∙ h)); no-bytes = λ n. refl; no-sheets = λ n. refl })
 
 -- a cheapest set in numbers
 pub cheapest-done : (set sum chosen : ℕ) → (numberedCheapestTold (record { number = 0; detail = 0; sum = sum; set = set; chosen = chosen }) ≡ told 0 (set ∷ sum ∷ chosen ∷ []))

@@ -9,6 +9,7 @@ use Rattle.containment.specs.Quote.{QuoteValues, flat}
 use Rattle.yuthaqim.specs.declared.numbered.NumberedReply.{NumberedReply}
 use Rattle.yuthaqim.specs.declared.numbered.NumberedQuote.{NumberedQuote}
 use Rattle.yuthaqim.specs.declared.numbered.NumberedBoth.{NumberedBoth}
+use Rattle.yuthaqim.specs.declared.numbered.NumberedSeveral.{NumberedSeveral}
 use Rattle.yuthaqim.specs.declared.numbered.NumberedCheapest.{NumberedCheapest}
 
 -- the values of success, or those of a refusal
@@ -28,6 +29,9 @@ numberedQuoteTold q = toldBy (q .number) (flat (numberedValues q)) (q .detail �
 unfoldable pub numberedBothTold : NumberedBoth → Told
 numberedBothTold b = toldBy (b .number) (b .first ∷ b .second ∷ []) (b .detail ∷ [])
 
+unfoldable pub numberedSeveralTold : NumberedSeveral → Told
+numberedSeveralTold s = toldBy (s .number) (s .bytes ∷ s .sheets ∷ []) (s .detail ∷ [])
+
 unfoldable pub numberedCheapestTold : NumberedCheapest → Told
 numberedCheapestTold c = toldBy (c .number) (c .set ∷ c .sum ∷ c .chosen ∷ []) (c .detail ∷ [])
 
@@ -40,6 +44,12 @@ pub record BothZeros (b : NumberedBoth) : Type 0 where
   pub no-detail : b .number ≡ 0 → b .detail ≡ 0
   pub no-first : (b .number ≡ 0 → ⊥) → b .first ≡ 0
   pub no-second : (b .number ≡ 0 → ⊥) → b .second ≡ 0
+
+-- several answers have no detail, and a refusal has no bytes and no sheets
+pub record SeveralZeros (s : NumberedSeveral) : Type 0 where
+  pub no-detail : s .number ≡ 0 → s .detail ≡ 0
+  pub no-bytes : (s .number ≡ 0 → ⊥) → s .bytes ≡ 0
+  pub no-sheets : (s .number ≡ 0 → ⊥) → s .sheets ≡ 0
 
 -- a cheapest set has no detail, and a refusal has no set and no sum
 pub record CheapestZeros (c : NumberedCheapest) : Type 0 where

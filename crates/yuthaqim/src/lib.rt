@@ -10,13 +10,15 @@ ghost use Rattle.matching.specs.Index.{makeIndexOutcome, checkIndexOutcome, sea
 ghost use Rattle.containment.specs.Quote.{quoteOutcome, blank};
 ghost use Rattle.containment.specs.Answer.{answerOutcome, answerFrom};
 ghost use Rattle.containment.specs.Part.{partOutcome};
+ghost use Rattle.containment.specs.Several.{severalOutcome};
 ghost use Rattle.containment.specs.Show.{showOutcome};
 ghost use Rattle.containment.specs.Cheapest.{cheapestOutcome};
-ghost use Rattle.yuthaqim.specs.Numbered.{numberedReplyTold, numberedQuoteTold, numberedBothTold, numberedCheapestTold, QuoteZeros, BothZeros, CheapestZeros};
+ghost use Rattle.yuthaqim.specs.Numbered.{numberedReplyTold, numberedQuoteTold, numberedBothTold, numberedSeveralTold, numberedCheapestTold, QuoteZeros, BothZeros, SeveralZeros, CheapestZeros};
 use numbered::NumberedBoth;
 use numbered::NumberedCheapest;
 use numbered::NumberedQuote;
 use numbered::NumberedReply;
+use numbered::NumberedSeveral;
 
 // Reads a pattern.
 #[no_mangle]
@@ -272,6 +274,21 @@ pub extern "C" fn yuthaqim_part(
     ensures { λ r. ⌜ Settled [] (withWorkspace (length (now (work .entry))) (partOutcome (now (question .entry)) (now (catalogue .entry)) (now (book .entry)) (length (now (part .entry))) (length (now (answer .entry))))) (numberedBothTold r) (now (part .entry) ∷ now (answer .entry) ∷ []) (now (part .exit) ∷ now (answer .exit) ∷ []) (now (work .entry)) (now (work .exit)) × BothZeros r ⌝ }
 {
     numbered::both(containment::part(question, catalogue, book, part, answer, work))
+}
+
+// Answers several questions from one book: writes their sheets one after the other.
+#[no_mangle]
+pub extern "C" fn yuthaqim_answer_several(
+    questions: &[u8],
+    number: u32,
+    catalogue: &[u8],
+    book: &[u8],
+    out: &mut [u8],
+    work: &mut [u32],
+) -> NumberedSeveral
+    ensures { λ r. ⌜ Settled [] (withWorkspace (length (now (work .entry))) (severalOutcome (now (questions .entry)) number (now (catalogue .entry)) (now (book .entry)) (length (now (out .entry))))) (numberedSeveralTold r) (now (out .entry) ∷ []) (now (out .exit) ∷ []) (now (work .entry)) (now (work .exit)) × SeveralZeros r ⌝ }
+{
+    numbered::several(containment::answer_several(questions, number, catalogue, book, out, work))
 }
 
 // Shows why a question is not covered: writes it as a record, and the same without its lowest unmatched link.

@@ -4,11 +4,13 @@ ghost use Rattle.packed.specs.Refusals.{replyTold};
 ghost use Rattle.containment.specs.Both.{bothTold};
 ghost use Rattle.containment.specs.Cheapest.{cheapestTold};
 ghost use Rattle.containment.specs.Quote.{quoteTold};
-ghost use Rattle.yuthaqim.specs.Numbered.{numberedReplyTold, numberedQuoteTold, numberedBothTold, numberedCheapestTold, QuoteZeros, BothZeros, CheapestZeros};
+ghost use Rattle.containment.specs.Several.{severalTold};
+ghost use Rattle.yuthaqim.specs.Numbered.{numberedReplyTold, numberedQuoteTold, numberedBothTold, numberedSeveralTold, numberedCheapestTold, QuoteZeros, BothZeros, SeveralZeros, CheapestZeros};
 use containment::both::Both;
 use containment::costing::Cheapest;
 use containment::quote_type::Coverage;
 use containment::quote_type::Quote;
+use containment::several::Several;
 use packed::reply;
 use packed::reply::Reply;
 
@@ -38,6 +40,15 @@ pub struct NumberedBoth {
     pub detail: usize,
     pub first: usize,
     pub second: usize,
+}
+
+// 0, the bytes written and the sheets needed, or a refusal's number and detail. What has no meaning is zero.
+#[repr(C)]
+pub struct NumberedSeveral {
+    pub number: usize,
+    pub detail: usize,
+    pub bytes: usize,
+    pub sheets: u32,
 }
 
 // 0 and the cheapest set, its sum and the set that a quote chooses, or a refusal's number and detail. What has no meaning is zero.
@@ -116,6 +127,25 @@ pub fn both(b: Both) -> NumberedBoth
             detail: reply::detail_of(x),
             first: 0,
             second: 0,
+        },
+    }
+}
+
+pub fn several(s: Several) -> NumberedSeveral
+    ensures { λ n. ⌜ (numberedSeveralTold n ≡ severalTold s) × SeveralZeros n ⌝ }
+{
+    match s {
+        Several::Done(bytes, sheets) => NumberedSeveral {
+            number: 0,
+            detail: 0,
+            bytes,
+            sheets,
+        },
+        Several::Refused(x) => NumberedSeveral {
+            number: reply::number_of(x),
+            detail: reply::detail_of(x),
+            bytes: 0,
+            sheets: 0,
         },
     }
 }

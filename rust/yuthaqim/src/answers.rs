@@ -1,6 +1,6 @@
 //! What the archive's functions answer, as include/yuthaqim.h declares it.
 
-use crate::{Cheapest, Quote, Refusal};
+use crate::{Answers, Cheapest, Quote, Refusal};
 
 /// The answer of a call with one output.
 #[repr(C)]
@@ -31,6 +31,16 @@ pub struct Both {
     pub detail: usize,
     pub first: usize,
     pub second: usize,
+}
+
+/// The answers of several questions. What has no meaning is zero.
+#[repr(C)]
+#[derive(Clone, Copy, Debug, PartialEq, Eq)]
+pub struct Several {
+    pub number: usize,
+    pub detail: usize,
+    pub bytes: usize,
+    pub sheets: u32,
 }
 
 /// The cheapest set. What has no meaning is zero.
@@ -75,6 +85,12 @@ impl Quoted {
 impl Both {
     pub fn result(self) -> Result<(usize, usize), Refusal> {
         judged(self.number, self.detail, (self.first, self.second))
+    }
+}
+
+impl Several {
+    pub fn result(self) -> Result<Answers, Refusal> {
+        judged(self.number, self.detail, Answers { bytes: self.bytes, sheets: self.sheets as usize })
     }
 }
 

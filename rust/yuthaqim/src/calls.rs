@@ -1,6 +1,6 @@
 //! The calls.
 
-use crate::{Both, Cheapest, Priced, Quote, Quoted, Refusal, Replied};
+use crate::{Answers, Both, Cheapest, Priced, Quote, Quoted, Refusal, Replied, Several};
 
 /// Each call with its function in the archive, the items of its inputs and of its outputs, what that function answers and
 /// what the call gives. A parameter of a function in the archive is a slice, as its pointer and its length; a number among
@@ -101,6 +101,14 @@ calls! {
     /// name none are ignored. If the book was made from a record, every set that covers the question gives the same. Of
     /// [`UNCOVERED`](crate::UNCOVERED) the detail is the lowest link that this set leaves unmatched.
     answer_from = yuthaqim_answer_from(question: u8, catalogue: u8 [set: u16] book: u8; out: u8) -> Replied, usize;
+    /// Answers several questions from one book, up to [`QUESTIONS_MOST`](crate::QUESTIONS_MOST): writes their sheets one after
+    /// the other, each the one that [`answer`] gives for its question. The questions come as one file, each on the byte after
+    /// the one before, with at most [`PATTERN_BYTES`](crate::PATTERN_BYTES) times their number. Of
+    /// [`UNCOVERED`](crate::UNCOVERED) the detail is the lowest unmatched link of the first question that isn't covered.
+    /// [`NO_FIT`](crate::NO_FIT) is given if one sheet is over [`SHEET_BYTES`](crate::SHEET_BYTES) or all are over what is
+    /// lent; its detail is the bytes of all.
+    answer_several = yuthaqim_answer_several(questions: u8 [number: u32] catalogue: u8, book: u8; out: u8)
+        -> Several, Answers;
     /// Finds the part of a question that the extracts answer, and answers it from a book: writes the part as a pattern, and
     /// its sheet, which [`answer`] gives for the part by itself. The part has the question's matched links in their order,
     /// and the items at them, numbered upward. Every choice of the question's links that is covered lies inside it; of a

@@ -1,7 +1,7 @@
 //! Files of patterns, catalogues, records, sheets and books; searching a record, by an index beside it too, quoting a
-//! question, finding the cheapest extracts for it, answering it or the part of it that can be had from a book, and
-//! showing why it is uncovered. The work is done by a library whose every call is proved to meet its contract; this crate
-//! only hands over slices.
+//! question, finding the cheapest extracts for it, answering it, several at once or the part of it that can be had from a
+//! book, and showing why it is uncovered. The work is done by a library whose every call is proved to meet its contract;
+//! this crate only hands over slices.
 //!
 //! A call is lent its output and at least [`WORK_WORDS`] words to work in. It answers how much of the output it wrote, or
 //! a [`Refusal`], which leaves the output as it was. The words may hold anything before a call. Afterwards the first
@@ -41,6 +41,14 @@
 //! let length = yuthaqim::answer_from(&question, &catalogue, cheapest.set, book, &mut same, &mut work)?;
 //! assert_eq!(same[..length], sheet[..length]);
 //!
+//! // Several questions in one call, here that one and a section with a slow run: what each gets by itself, one after the
+//! // other, and how many sheets of the book that took.
+//! let questions = [&question[..], &[0x10, 0x20, 0x08, 0x08]].concat();
+//! let answers = yuthaqim::answer_several(&questions, 2, &catalogue, book, &mut same, &mut work)?;
+//! assert_eq!((answers.bytes, answers.sheets), (length + 5, 3));
+//! assert_eq!(same[..length], sheet[..length]);
+//! assert_eq!(same[length..length + 5], [0x80, 0x02, 0x00, 0x00, 0x02]);
+//!
 //! // With one extract the question is uncovered: the part that this one answers, and its answer.
 //! let slow = [0x08, 0x18, 0x40, 0x08, 0xc0, 0x40, 0x90];
 //! assert_eq!(yuthaqim::quote(&question, &slow, &mut work)?.lowest_unmatched, Some(1));
@@ -77,7 +85,7 @@
 mod answers;
 mod calls;
 
-pub use answers::{Both, Priced, Quoted, Replied};
+pub use answers::{Both, Priced, Quoted, Replied, Several};
 pub use calls::*;
 
 use std::error::Error;
@@ -105,6 +113,9 @@ pub const BOOK_WORDS: usize = 43_701;
 /// The most entries of a record's index.
 pub const INDEX_ENTRIES: usize = 4_097;
 
+/// The most questions of one call; so many times [`SHEET_BYTES`] always suffice for their answers.
+pub const QUESTIONS_MOST: u32 = 8;
+
 /// The numbers of the refusals.
 pub const LONG: usize = 1;
 pub const SHORT: usize = 2;
@@ -122,9 +133,10 @@ pub const COVERED: usize = 13;
 pub const DESK: usize = 14;
 pub const CHARGES: usize = 15;
 pub const INDEX: usize = 16;
+pub const QUESTIONS: usize = 17;
 
 /// The word of each refusal, from 1 on.
-const WORDS: [&str; 16] = [
+const WORDS: [&str; 17] = [
     "long",
     "short",
     "count",
@@ -141,17 +153,19 @@ const WORDS: [&str; 16] = [
     "desk",
     "charges",
     "index",
+    "questions",
 ];
 
 /// Why a call refuses.
 #[derive(Clone, Copy, Debug, PartialEq, Eq)]
 pub struct Refusal {
-    /// 1 to 16.
+    /// 1 to 17.
     pub number: usize,
     /// Of 1 to 10 the file at fault (1 a pattern, 2 a catalogue, 3 a record, 4 a book or sheet), of [`UNCOVERED`] the
     /// lowest link that is unmatched, by the set that was named where one was, of [`NO_FIT`] how much the first output
-    /// without room needs, of [`CHARGES`] how many charges there were, of [`INDEX`] how many entries there were if that is
-    /// wrong, else the first position that differs, of the others zero.
+    /// without room needs, or all answers together where several questions are answered, of [`CHARGES`] how many charges
+    /// there were, of [`INDEX`] how many entries there were if that is wrong, else the first position that differs, of
+    /// [`QUESTIONS`] how many questions were sent, of the others zero.
     pub detail: usize,
 }
 
@@ -194,6 +208,15 @@ impl Quote {
     pub fn extracts(&self) -> impl Iterator<Item = usize> {
         extracts(self.chosen)
     }
+}
+
+/// The answers of several questions, one after the other.
+#[derive(Clone, Copy, Debug, PartialEq, Eq)]
+pub struct Answers {
+    /// The bytes of all of them.
+    pub bytes: usize,
+    /// How many sheets of the book were needed: those of the extracts that are chosen for at least one question.
+    pub sheets: usize,
 }
 
 /// The cheapest set of extracts that covers a question.

@@ -27,7 +27,7 @@ pub fn written() -> (Vec<u8>, String) {
     refusals::write(&mut script);
     script.name("all calls\n");
     script.all();
-    assert!(script.file.len() < 300_000, "{} bytes", script.file.len());
+    assert!(script.file.len() < 400_000, "{} bytes", script.file.len());
     (script.file, script.printed)
 }
 

@@ -38,6 +38,7 @@ const LINK_KIND: usize = 33;
 const LINK_KINDS: usize = 34;
 const KIND_FORM: usize = 35;
 pub const SET: usize = 36;
+pub const QUESTIONS: usize = 37;
 const REGISTERS: usize = 64;
 
 /// The instructions.
@@ -70,7 +71,7 @@ const SHORT_BY_ONE: usize = 101;
 /// The numbers that calls may have.
 const NUMBERS: usize = 64;
 
-/// The parts of the memory that the calls take: a pattern or question, a catalogue, a record, a sheet, book or index.
+/// The parts of the memory that the calls take: a pattern, a question or several, a catalogue, a record, a sheet, book or index.
 pub const QUESTION_PART: usize = 0;
 pub const CATALOGUE_PART: usize = 1;
 pub const RECORD_PART: usize = 2;
@@ -388,6 +389,7 @@ impl Script {
             book,
             content: &self.words[..self.registers[CONTENT].min(WORDS)],
             set: self.registers[SET] as u16,
+            number: self.registers[QUESTIONS] as u32,
             words: self.registers[ROOM].min(WORDS),
             room: self.registers[ROOM].min(OUTPUT),
             second: self.registers[SECOND],
@@ -559,6 +561,7 @@ impl Script {
             (0, Form::Bytes | Form::Sheet) => format!("{value} bytes"),
             (0, Form::Entries) => format!("{value} entries"),
             (0, Form::Both) => format!("{value} and {other} bytes"),
+            (0, Form::Several) => format!("{value} bytes, {other} sheets"),
             (0, Form::Quote) if *value == 1 => format!("covered, chosen {other}, digest {digest:016x}"),
             (0, Form::Quote) => format!("uncovered, lowest {other}, digest {digest:016x}"),
             (0, Form::Price) => format!("cost {value}, set {other}, digest {digest:016x}"),

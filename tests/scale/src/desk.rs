@@ -7,11 +7,13 @@ use model::files::{Refusal, NO_FIT};
 use model::indexing;
 use model::part;
 use model::quoting::{self, Quote};
+use model::several;
 use std::fmt::Debug;
-use yuthaqim::{raw, Both, Priced, Quoted, WORK_WORDS};
+use yuthaqim::{raw, Both, Priced, Quoted, Several, BOOK_BYTES, WORK_WORDS};
 
-/// The most that is lent for an output: more than any has.
+/// The most that is lent for an output: more than any has but for several answers, and more than eight of these have.
 pub const MOST: usize = 75_000;
+const MANY: usize = 8 * BOOK_BYTES + 100;
 
 /// What stands before and behind each piece of lent memory.
 const GUARD: usize = 16;
@@ -50,7 +52,7 @@ impl Lent {
             5 => draw.below(needed),
             _ => needed + draw.within(1, 40),
         };
-        Lent { room: room.min(MOST), ..self }
+        Lent { room: room.min(MANY), ..self }
     }
 }
 
@@ -174,7 +176,7 @@ pub struct Desk<T> {
 impl<T: Copy + PartialEq + Debug + From<u8>> Desk<T> {
     pub fn new() -> Desk<T> {
         let fill = T::from(0);
-        Desk { out: Memory::new(MOST, fill), second: Memory::new(MOST, fill), work: Memory::new(WORK_WORDS + GUARD, 0) }
+        Desk { out: Memory::new(MANY, fill), second: Memory::new(MOST, fill), work: Memory::new(WORK_WORDS + GUARD, 0) }
     }
 
     /// A call with one output.
@@ -240,6 +242,19 @@ fn both(files: &TwoFiles) -> Both {
         Err(refusal) => {
             let yuthaqim::Refusal { number, detail } = refused(refusal);
             Both { number, detail, first: 0, second: 0 }
+        }
+    }
+}
+
+/// The answers of the model as the library gives them.
+fn answers(several: &Result<several::Several, Refusal>) -> Several {
+    match several {
+        Ok(several::Several { answers, sheets }) => {
+            Several { number: 0, detail: 0, bytes: answers.len(), sheets: *sheets as u32 }
+        }
+        Err(refusal) => {
+            let yuthaqim::Refusal { number, detail } = refused(refusal);
+            Several { number, detail, bytes: 0, sheets: 0 }
         }
     }
 }
@@ -354,6 +369,33 @@ impl Desk<u8> {
             ("answer", answered == both(&expected)),
             ("first output", self.out.begins(front)),
             ("second output", self.second.begins(rest)),
+            ("workspace", self.work.is_cleared()),
+        ];
+        notes.end(&asked, &expected, &answered, expected.as_ref().err().copied(), &held)?;
+        Ok(expected)
+    }
+
+    pub fn several(
+        &mut self,
+        notes: &mut Notes,
+        draw: &mut Draw,
+        lent: Lent,
+        (questions, number): (&[u8], u32),
+        catalogue: &[u8],
+        book: &[u8],
+    ) -> Result<Result<several::Several, Refusal>, Difference> {
+        let model = |room, work| several::answer_several(questions, number, catalogue, book, room, work);
+        let (lent, expected) = fitted(draw, lent, model);
+        let inputs: [(_, &dyn Debug); 4] =
+            [("questions", &questions), ("number", &number), ("catalogue", &catalogue), ("book", &book)];
+        let asked = Asked { call: Call::AnswerSeveral, inputs: &inputs, lent };
+        let fill = draw.word();
+        let (out, work) = (self.out.lend(lent.room, fill as u8), self.work.lend(lent.work, fill));
+        let answered = raw::answer_several(questions, number, catalogue, book, out, work);
+        let written = expected.as_ref().map_or(&[][..], |several| &several.answers);
+        let held = [
+            ("answer", answered == answers(&expected)),
+            ("output", self.out.begins(written)),
             ("workspace", self.work.is_cleared()),
         ];
         notes.end(&asked, &expected, &answered, expected.as_ref().err().copied(), &held)?;

@@ -3,7 +3,7 @@
 use crate::desk::{exactly, fitted, Asked, Desk, Difference, Lent, Notes, TwoFiles, MOST};
 use crate::draw::{draw_size, Draw, Size};
 use crate::graphs::*;
-use crate::layout::{content, file, of_book, of_catalogue, of_old_record, of_pattern, of_record};
+use crate::layout::{content, file, of_book, of_catalogue, of_old_record, of_pattern, of_questions, of_record};
 use crate::tally::Call;
 use model::cheapest::cheapest;
 use model::files::{graph_fields, Catalogue, Pattern, Refusal, OLD_RECORD_BYTES, WORK_WORDS};
@@ -96,6 +96,33 @@ impl Subject {
     }
 }
 
+/// Questions for a catalogue, up to eight: the subject's own, extracts, choices of its links, and some of these again.
+fn draw_questions(draw: &mut Draw, subject: &Subject) -> Vec<Pattern> {
+    let number = draw.within(1, 8);
+    let all: Vec<usize> = (0..subject.question.links.len()).collect();
+    let mut questions: Vec<Pattern> = Vec::new();
+    while questions.len() < number {
+        questions.push(match draw.below(5) {
+            0 if !questions.is_empty() => questions[draw.below(questions.len())].clone(),
+            1 | 2 if !subject.catalogue.is_empty() => subject.catalogue[draw.below(subject.catalogue.len())].clone(),
+            3 => choice(&subject.question, &draw_choice(draw, all.len(), &all)),
+            _ => subject.question.clone(),
+        });
+    }
+    questions
+}
+
+/// How many questions are said to be there: mostly as many as are, else one more, one less, or any number.
+fn draw_number(draw: &mut Draw, questions: usize) -> u32 {
+    match draw.below(32) {
+        0 => draw.of(&[0, 9, u32::MAX]),
+        1 => questions as u32 + 1,
+        2 => questions as u32 - 1,
+        3 => draw.word(),
+        _ => questions as u32,
+    }
+}
+
 /// The index of a record, of no items where it can't be read.
 fn index_of(record: &[u8]) -> Vec<u16> {
     indexing::make_index(record, INDEX_ENTRIES, WORK_WORDS).unwrap_or(vec![0])
@@ -146,7 +173,8 @@ impl Test {
             24..=25 => self.sort_record(draw),
             26..=27 => self.part(draw),
             28..=43 => self.file_beside(draw),
-            44..=60 => self.lone_content(draw),
+            44..=58 => self.lone_content(draw),
+            59..=60 => self.several(draw),
             61..=62 => self.part_and_search(draw),
             63..=74 => self.content_beside(draw),
             75..=77 => self.search(draw),
@@ -465,6 +493,52 @@ impl Test {
             self.notes.tally.with_pairs += 1;
             self.notes.tally.beside += u64::from(beside);
         }
+        Ok(())
+    }
+
+    /// Several questions from the book of a record or from one of none; where they are answered, each as by itself.
+    fn several(&mut self, draw: &mut Draw) -> Result<(), Difference> {
+        let covered = !draw.one_in(4);
+        let subject = draw_subject(draw, covered);
+        let questions = draw_questions(draw, &subject);
+        let catalogue = subject.catalogue(draw, 16);
+        let book = if draw.one_in(2) {
+            let record = of_record(&draw_record(draw, &subject.kinds, subject.size, &questions)).bytes();
+            let catalogue = of_catalogue(&subject.catalogue).bytes();
+            let Ok(book) = matching::make_book(&catalogue, &record, BOOK_BYTES, WORK_WORDS) else {
+                return Ok(());
+            };
+            book
+        } else {
+            let sheets = draw_book(draw, subject.size, &subject.catalogue);
+            let layout = of_book(draw, &sheets, 16);
+            file(draw, layout, 8, BOOK_BYTES)
+        };
+        let number = draw_number(draw, questions.len());
+        let paper = file(draw, of_questions(&questions), 4, PATTERN_BYTES * questions.len());
+        let lent = Lent::draw(draw);
+        let given = self.bytes.several(&mut self.notes, draw, lent, (&paper, number), &catalogue, &book)?;
+        let Ok(given) = given else {
+            return Ok(());
+        };
+        // A damaged file may have other questions.
+        let questions = files::judge_patterns(&paper, number as usize).unwrap();
+        let whole = Lent { room: BOOK_BYTES, work: WORK_WORDS };
+        let (mut answers, mut chosen) = (Vec::new(), 0);
+        for question in &questions {
+            let question = of_pattern(question).bytes();
+            let alone = reply!(self.bytes, draw, exactly(whole), Answer, answering::answer(question, catalogue, book))?;
+            let alone = alone.outcome.unwrap_or_default();
+            self.notes.tally.questions_with_pairs += u64::from(alone.first() != Some(&0));
+            answers.extend(alone);
+            chosen += quoting::quote(&question, &catalogue, WORK_WORDS).unwrap().chosen.len();
+        }
+        if answers != given.answers {
+            return Err(format!("several: {:02x?}\neach by itself: {answers:02x?}\n", given.answers));
+        }
+        self.notes.tally.several += 1;
+        self.notes.tally.questions += questions.len() as u64;
+        self.notes.tally.shared += u64::from(given.sheets < chosen);
         Ok(())
     }
 

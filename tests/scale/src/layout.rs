@@ -130,6 +130,15 @@ pub fn of_pattern(pattern: &Pattern) -> Layout {
     layout
 }
 
+/// Questions one after the other.
+pub fn of_questions(questions: &[Pattern]) -> Layout {
+    let mut layout = Layout::default();
+    for question in questions {
+        layout.add_pattern(question);
+    }
+    layout
+}
+
 pub fn of_catalogue(extracts: &[Pattern]) -> Layout {
     let mut layout = Layout::default();
     layout.field(5, extracts.len() as u32);

@@ -28,6 +28,7 @@ pub enum Call {
     CheckIndex,
     SearchIndexed,
     Part,
+    AnswerSeveral,
 }
 
 impl Call {
@@ -37,7 +38,7 @@ impl Call {
 }
 
 /// The refusals are numbered from 1 to this.
-const REFUSALS: usize = 16;
+const REFUSALS: usize = 17;
 
 /// At 0 how often a call succeeded, then how often it gave each refusal.
 type Counts = [u64; REFUSALS + 1];
@@ -75,6 +76,12 @@ pub struct Tally {
     /// Choices of a question's links that are covered, each of them inside its part, and those of them that are not all of it.
     pub choices: u64,
     pub smaller: u64,
+    /// Calls that answered several questions, each as by itself; the questions, those of them whose sheet has pairs, and the calls
+    /// in which two of them needed the same sheet of the book.
+    pub several: u64,
+    pub questions: u64,
+    pub questions_with_pairs: u64,
+    pub shared: u64,
     /// Old files that were sorted, and those of them whose links were not in order.
     pub sorted: u64,
     pub disordered: u64,
@@ -104,6 +111,7 @@ impl fmt::Display for Tally {
         let Tally { answered, with_pairs, beside, shown, one_kind, from_sets, indexed, apart, .. } = self;
         let Tally { cheapest, not_chosen, tied, sorted, disordered, .. } = self;
         let Tally { parts, parts_with_pairs, wider, whole, choices, smaller, .. } = self;
+        let Tally { several, questions, questions_with_pairs, shared, .. } = self;
         writeln!(
             f,
             "{answered} covered questions answered as the record is searched, {with_pairs} of them with pairs, {beside} of \
@@ -122,6 +130,11 @@ impl fmt::Display for Tally {
              with pairs, {wider} of these with more than the question lists; {whole} of covered questions, all of them whole"
         )?;
         writeln!(f, "{choices} choices of links that are covered, each inside the part, {smaller} of them smaller")?;
+        writeln!(
+            f,
+            "{several} calls with several questions, {questions} of them answered as by themselves, {questions_with_pairs} with \
+             pairs; in {shared} calls two needed the same sheet"
+        )?;
         writeln!(f, "{apart} answers from books of no record that are not those of the chosen set")?;
         writeln!(f, "{cheapest} cheapest sets, {not_chosen} of them not the chosen one, {tied} tied with another up to the numbers")?;
         writeln!(

@@ -1,11 +1,13 @@
 //! Questions and catalogues that are drawn: quotes and showings; answers from the book of a record beside searches of it;
-//! answers from books of no record; all on damaged files too.
+//! answers from books of no record, of one question and of several; all on damaged files too.
 
 use super::searches::{lay_record, places};
 use super::*;
 use crate::drawing::*;
 use crate::files::*;
+use crate::part::choice;
 use crate::quoting::{quote, Quote};
+use crate::several::QUESTIONS_MOST;
 
 /// The most items of a question, whether question and catalogue are as large as can be, the most items of a record; how
 /// many questions, how many of them have a record, and how many a book of no record.
@@ -68,6 +70,7 @@ fn answers(script: &mut Script, rule: &mut Rule, files: &Files, items: u32, kind
         return;
     }
     keep_as(script, BOOK_PART);
+    several(script, rule, files);
     script.round(PART);
     script.round(ANSWER);
     if files.is_covered() {
@@ -100,6 +103,38 @@ fn both_answers(script: &mut Script, rule: &mut Rule, files: &Files) {
     let set = if rule.draw(2) == 0 { covering(rule, files) } else { rule.draw(65_536) as u16 };
     script.set(SET, set.into());
     script.round(ANSWER_FROM);
+}
+
+/// Another question with the same catalogue: an extract, some of the question's links, or the question itself.
+fn draw_other(rule: &mut Rule, files: &Files, question: &Pattern) -> Vec<u8> {
+    match rule.draw(4) {
+        0 => files.question.clone(),
+        1 => {
+            let links: Vec<usize> = (0..question.links.len()).filter(|_| rule.draw(2) == 0).collect();
+            let links = if links.is_empty() { vec![0] } else { links };
+            pattern_file(&choice(question, &links))
+        }
+        _ if files.extracts.is_empty() => files.question.clone(),
+        _ => pattern_file(&files.extracts[rule.draw(files.extracts.len() as u32) as usize]),
+    }
+}
+
+/// The question and others, up to eight, in any order: as many as the number says, another number, and on damaged bytes; then the
+/// question alone again.
+fn several(script: &mut Script, rule: &mut Rule, files: &Files) {
+    let question = judge_pattern(&files.question).unwrap();
+    let number = 1 + rule.draw(QUESTIONS_MOST);
+    let mut questions: Vec<Vec<u8>> = (1..number).map(|_| draw_other(rule, files, &question)).collect();
+    questions.insert(rule.draw(number) as usize, files.question.clone());
+    script.bytes(QUESTION_PART, &questions.concat());
+    script.set(QUESTIONS, number as usize);
+    script.round(ANSWER_SEVERAL);
+    script.set(QUESTIONS, (number + 2 * rule.draw(2)) as usize - 1);
+    script.once(ANSWER_SEVERAL);
+    script.set(QUESTIONS, number as usize);
+    damage(script, rule, QUESTION_PART, PATTERN_BYTES * number as usize + 4);
+    script.once(ANSWER_SEVERAL);
+    script.bytes(QUESTION_PART, &files.question);
 }
 
 /// A book that may belong to no record, sheet by sheet: a crowded one can't be written whole. One sheet in eight is
@@ -189,6 +224,7 @@ fn case(
     }
     if book {
         lay_book(script, rule, &files);
+        several(script, rule, &files);
         both_answers(script, rule, &files);
         if rule.draw(2) == 0 {
             turned_kind(script, rule, &files, true);
@@ -206,6 +242,7 @@ fn case(
             script.round(PART);
             script.round(ANSWER);
             script.once(ANSWER_FROM);
+            script.once(ANSWER_SEVERAL);
         }
     }
     files.is_covered()

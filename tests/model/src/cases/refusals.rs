@@ -23,6 +23,21 @@ const PATTERNS: Faulty = &[
     (LOOSE, &[0x10, 0x20, 0x00, 0x00]),
     (TAIL, &[0x08, 0x20, 0x00, 0x01]),
 ];
+/// Of two questions: a fault of the first, and those of the second after a good one.
+const TWO: Faulty = &[
+    (LONG, &[0; 2 * PATTERN_BYTES + 1]),
+    (SHORT, &[]),
+    (COUNT, &[0x88]),
+    (TAIL, &[0x08, 0x20, 0x00, 0x01]),
+    (SHORT, &[0x10, 0x20, 0x08, 0x08]),
+    (COUNT, &[0x10, 0x20, 0x08, 0x08, 0x88]),
+    (STRAY, &[0x10, 0x20, 0x08, 0x08, 0x08, 0x20, 0x01, 0x00]),
+    (SHORT, &[0x10, 0x20, 0x08, 0x08, 0x08, 0x20, 0x00]),
+    (TWICE, &[0x10, 0x20, 0x08, 0x08, 0x10, 0x40, 0x08, 0x0b, 0x01, 0x60]),
+    (LOOSE, &[0x10, 0x20, 0x08, 0x08, 0x10, 0x20, 0x00, 0x00]),
+    (TAIL, &[0x10, 0x20, 0x08, 0x08, 0x08, 0x20, 0x00, 0x01]),
+    (TAIL, &[0x10, 0x20, 0x08, 0x08, 0x10, 0x20, 0x08, 0x08, 0x10]),
+];
 const CATALOGUES: Faulty = &[
     (LONG, &[0; CATALOGUE_BYTES + 1]),
     (SHORT, &[]),
@@ -73,6 +88,7 @@ fn faulty(call: usize, part: usize) -> Faulty {
     match part {
         BOOK_PART if [CHECK_INDEX, SEARCH_INDEXED].contains(&call) => INDEXES,
         RECORD_PART if call == SORT_RECORD => OLD_RECORDS,
+        QUESTION_PART if call == ANSWER_SEVERAL => TWO,
         _ => [PATTERNS, CATALOGUES, RECORDS, BOOKS][part],
     }
 }
@@ -122,12 +138,20 @@ fn of_uncovered(call: usize) -> bool {
     [SHOW_UNCOVERED, PART].contains(&call)
 }
 
+/// A question, and where several are sent another after it.
+fn asked(call: usize, question: Vec<u8>, other: &[u8]) -> Vec<u8> {
+    match call {
+        ANSWER_SEVERAL => [&question, other].concat(),
+        _ => question,
+    }
+}
+
 /// Files of the worked cases. A showing wants an uncovered question, and a part is made of one; the converter has links out of
 /// order.
 fn small(call: usize) -> Good {
     let record = |links: &[Link]| graph_fields(&[1, 6, 8], links);
     Good {
-        question: D.to_vec(),
+        question: asked(call, D.to_vec(), &ONE),
         catalogue: if of_uncovered(call) { SLOW.to_vec() } else { C.to_vec() },
         record: match call {
             SORT_RECORD => pack_old_record(&record(&[(1, 2, 0), (0, 1, 0)])),
@@ -166,7 +190,7 @@ fn large(made: usize, packed: impl Fn(&[u32]) -> Vec<u8>) -> Good {
 fn of_kinds(call: usize) -> Good {
     let extracts: &[&[u32]] = if of_uncovered(call) { &[&[1]] } else { &[&[1], &[0], &[0, 1]] };
     Good {
-        question: worked::pattern(&kinds::one(&[0, 1])),
+        question: asked(call, worked::pattern(&kinds::one(&[0, 1])), &worked::pattern(&kinds::one(&[1]))),
         catalogue: worked::catalogue(&kinds::each(extracts)),
         record: kinds::of_links(),
         made: made(call),
@@ -192,7 +216,8 @@ fn sweep_all(script: &mut Script, calls: &[usize], stride: usize) {
 
 /// Questions of zeros, from no bytes to some more than they may have.
 fn zeros(script: &mut Script, call: usize) {
-    script.place(QUESTION_PART, ZEROS, ZEROS + PATTERN_BYTES + 16);
+    let most = if call == ANSWER_SEVERAL { 2 * PATTERN_BYTES } else { PATTERN_BYTES };
+    script.place(QUESTION_PART, ZEROS, ZEROS + most + 16);
     script.once(call);
     script.cuts(QUESTION_PART, 1);
 }
@@ -204,6 +229,7 @@ fn lay_content(script: &mut Script, call: usize) {
 
 pub fn write(script: &mut Script) {
     script.set(SET, 0xffff);
+    script.set(QUESTIONS, 2);
     for (call, parts) in calls() {
         let good = small(call);
         good.lay_all(script);
@@ -239,6 +265,10 @@ pub fn write(script: &mut Script) {
     large(MAKE_BOOK, pack_record).lay_all(script);
     script.content(&[u32::MAX]);
     sweep_all(script, &[SEARCH, MAKE_BOOK, QUOTE, ANSWER, CHEAPEST, ANSWER_FROM, PART], 101);
+    let large_question = script.part(QUESTION_PART).to_vec();
+    script.bytes(QUESTION_PART, &large_question.repeat(2));
+    sweep_all(script, &[ANSWER_SEVERAL], 101);
+    script.bytes(QUESTION_PART, &large_question);
     large(MAKE_INDEX, pack_record).lay_book(script);
     sweep_all(script, &[MAKE_INDEX, CHECK_INDEX, SEARCH_INDEXED], 1);
     large(MAKE_BOOK, pack_old_record).lay(script, RECORD_PART);

@@ -4,6 +4,7 @@ use super::*;
 use crate::cheapest::Cheapest;
 use crate::files::*;
 use crate::quoting::Quote;
+use crate::several::Several;
 use std::collections::BTreeMap;
 
 const RULES: &str = include_str!("rules.txt");
@@ -102,6 +103,7 @@ fn lay_arguments(script: &mut Script, names: &Names, call: &Call, arguments: &[&
                 script.bytes(BOOK_PART, &entries.into_iter().flat_map(u16::to_be_bytes).collect::<Vec<u8>>());
             }
             Takes::Set => script.set(SET, text.parse().unwrap()),
+            Takes::Number => script.set(QUESTIONS, text.parse().unwrap()),
             Takes::Room => script.set(ROOM, text.parse().unwrap()),
             Takes::Second => script.set(SECOND, text.parse().unwrap()),
             part => lay(script, part.part().unwrap(), &bytes(names, text)),
@@ -131,6 +133,10 @@ fn expected(names: &Names, form: Form, answer: &str) -> Outcome {
         Form::Both => Outcome::both(or(refusal, || {
             let (first, second) = rest.split_once(" and ").unwrap();
             (bytes(names, first), bytes(names, second))
+        })),
+        Form::Several => Outcome::several(or(refusal, || {
+            let (answers, sheets) = rest.split_once(" of ").unwrap();
+            Several { answers: bytes(names, answers), sheets: sheets.strip_suffix(" sheets").unwrap().parse().unwrap() }
         })),
         Form::Quote => Outcome::quoted(or(refusal, || Quote {
             covered: first == "covered,",
@@ -175,6 +181,6 @@ mod tests {
     fn every_call_answers_what_its_line_says() {
         write(&mut Script::new());
         let calls = lines().1.iter().filter(|line| matches!(line, Line::Call { .. })).count();
-        assert_eq!(calls, 399);
+        assert_eq!(calls, 437);
     }
 }

@@ -134,6 +134,43 @@ pub fn answered_from(script: &mut Script, name: &str, set: usize) {
     say(script, &format!("{name}, answer from {set}"), ANSWER_FROM);
 }
 
+/// So many questions, which are laid.
+fn several(script: &mut Script, name: &str, number: usize) {
+    script.set(QUESTIONS, number);
+    say(script, &format!("{name}, {number} questions, answer_several"), ANSWER_SEVERAL);
+}
+
+/// The book of one list, from (0, 0) to (n - 1, n - 1), for the catalogue of a self-link.
+fn to_itself(script: &mut Script, n: usize) {
+    script.content(&[1]);
+    script.lists(1, Lists { least: n, most: 0, first: 0, step: 4_097, gap: 0, items: 4_096 });
+    script.once(WRITE_BOOK);
+    keep_as(script, BOOK_PART);
+}
+
+/// A self-link, and sixteen items with 32 links, all matched by it: where one answer is too long, and where the sum is longer than
+/// one may be.
+fn sums(script: &mut Script) {
+    let own = pattern(&[1, 1, 0, 0, 0, 0]);
+    let links: Vec<Link> = (0..32).map(|e| (e % 16, (e + 1 + e / 16) % 16, 0)).collect();
+    let sixteen = pattern(&graph_fields(&[0; 16], &links));
+    script.bytes(CATALOGUE_PART, &catalogue(&[1, 1, 1, 0, 0, 0, 0]));
+    script.set(ROOM, 132_000);
+    to_itself(script, 700);
+    script.bytes(QUESTION_PART, &sixteen);
+    say(script, "32 links of 700 pairs, answer", ANSWER);
+    assert_eq!((script.last().number, script.last().value), (12, 67_257));
+    script.bytes(QUESTION_PART, &[&own[..], &sixteen].concat());
+    several(script, "a link of 700 pairs and 32", 2);
+    assert_eq!((script.last().number, script.last().value), (12, 69_359));
+    to_itself(script, 682);
+    script.bytes(QUESTION_PART, &sixteen.repeat(2));
+    several(script, "32 links of 682 pairs twice", 2);
+    assert_eq!((script.last().number, script.last().value, script.last().other), (0, 131_058, 1));
+    script.round(ANSWER_SEVERAL);
+    script.set(ROOM, ROOM_MOST);
+}
+
 /// D by C on K9: every set that covers answers as the search, bits that name no extract are ignored, and the others leave
 /// a link unmatched. From a book of no record two sets that cover give different answers.
 fn chosen_by_the_client(script: &mut Script, name: &str) {
@@ -276,6 +313,7 @@ pub fn crowd(script: &mut Script, name: &str, kinds: [u32; 2], other: u32) {
     script.once(WRITE_SHEET);
     script.keep(BOOK_PART);
     say(script, &format!("{name}, answer"), ANSWER);
+    several(script, name, 1);
     answered_from(script, name, 2);
     say(script, &format!("{name}, read"), READ_BOOK);
     if script.is_accepted() {
@@ -329,6 +367,7 @@ pub fn write(script: &mut Script) {
     answered(script, "a ring of 8 on a ring of 4096");
     crowd(script, "8192 different pairs", [0, 0], 0);
     crowd(script, "8193 different pairs", [0, 0], 2);
+    sums(script);
     script.name("the worked cases\n");
     script.group();
 }

@@ -9,9 +9,10 @@ use crate::indexing::{check_index, make_index, search_indexed};
 use crate::matching::{make_book, search};
 use crate::part::part;
 use crate::quoting::{quote, show};
+use crate::several::answer_several;
 
-/// What is lent to a call: the parts, the content, a set of extracts; how many words are lent to a reader, and how much of an
-/// output and of a second one to the others; and the words to work in.
+/// What is lent to a call: the parts, the content, a set of extracts, how many questions there are; how many words are lent to a
+/// reader, and how much of an output and of a second one to the others; and the words to work in.
 pub struct Lent<'a> {
     pub question: &'a [u8],
     pub catalogue: &'a [u8],
@@ -19,6 +20,7 @@ pub struct Lent<'a> {
     pub book: &'a [u8],
     pub content: &'a [u32],
     pub set: u16,
+    pub number: u32,
     pub words: usize,
     pub room: usize,
     pub second: usize,
@@ -43,8 +45,9 @@ impl Lent<'_> {
     }
 }
 
-/// What a call takes, in its order: parts of the memory, of which an index stands in a book's place; the content, which is the
-/// charges of the cheapest set too; a set of extracts; and how much is lent for an output and for a second one.
+/// What a call takes, in its order: parts of the memory, of which an index stands in a book's place and several questions in
+/// that of one; the content, which is the charges of the cheapest set too; a set of extracts; how many questions there are; and
+/// how much is lent for an output and for a second one.
 #[derive(Clone, Copy)]
 pub enum Takes {
     Question,
@@ -54,6 +57,7 @@ pub enum Takes {
     Index,
     Content,
     Set,
+    Number,
     Room,
     Second,
 }
@@ -152,6 +156,8 @@ calls! {
                 let (first, second) = l.rooms();
                 Outcome::both(part(l.question, l.catalogue, l.book, first, second, l.work))
             };
+        ANSWER_SEVERAL 22 "answer_several" [Question, Number, Catalogue, Book, Room]
+            |l| Outcome::several(answer_several(l.question, l.number, l.catalogue, l.book, l.room, l.work));
     }
     // The states of a join after each step, and the search that the program makes apart from the library's, which to the
     // model is the same.

@@ -4,6 +4,7 @@ use crate::answering::Choice;
 use crate::cheapest::Cheapest;
 use crate::files::{Pattern, Refusal};
 use crate::quoting::Quote;
+use crate::several::Several;
 use crate::steps::{steps, Items};
 
 /// FNV-1a, a number at a time.
@@ -36,8 +37,9 @@ pub enum Output {
 }
 
 /// What the values of an accepted answer are. The first is how much was written: words, bytes, those of a sheet, the entries of
-/// an index, or the bytes of the first of two outputs, with those of the second beside it. A quote has 1 and the chosen set, or 0
-/// and the lowest unmatched link; the cheapest set its sum and itself; the steps of a join their number and the settled items.
+/// an index, or the bytes of the first of two outputs, with those of the second beside it. Several answers have their bytes and
+/// the sheets that they needed. A quote has 1 and the chosen set, or 0 and the lowest unmatched link; the cheapest set its sum
+/// and itself; the steps of a join their number and the settled items.
 #[derive(Clone, Copy, Debug, PartialEq)]
 pub enum Form {
     Words,
@@ -45,6 +47,7 @@ pub enum Form {
     Sheet,
     Entries,
     Both,
+    Several,
     Quote,
     Price,
     Steps,
@@ -121,6 +124,13 @@ impl Outcome {
         match result {
             Ok((first, second)) => Outcome::wrote(Form::Both, first.len(), second.len(), [first, second].concat()),
             Err(refusal) => Outcome::refused(Form::Both, refusal),
+        }
+    }
+
+    pub fn several(result: Result<Several, Refusal>) -> Outcome {
+        match result {
+            Ok(Several { answers, sheets }) => Outcome::wrote(Form::Several, answers.len(), sheets, answers),
+            Err(refusal) => Outcome::refused(Form::Several, refusal),
         }
     }
 
