@@ -28,6 +28,9 @@
  * Content is a file's fields in order, one word each, padding left out. That of a pattern or a record is the number of
  * items, the number of links, the kind of each item or in a record its kinds, and for each link its from, its to and its
  * kind, which is 0 to 7. That of a sheet is 0 alone where nothing was found, else 1 and then the counts and pairs.
+ *
+ * A catalogue of zero bytes is one without extracts, like the byte 0: every call that takes a catalogue takes it, and its
+ * content is the word 0. It is written as the byte 0. A book for it has zero bytes.
  */
 #ifndef YUTHAQIM_H
 #define YUTHAQIM_H

@@ -707,6 +707,53 @@ static void showing(void) {
     expect_refusal("show_uncovered: no room for the second", s.number, s.detail, YUTHAQIM_NO_FIT, 30);
 }
 
+/* A catalogue of zero bytes is one without extracts. */
+static void no_catalogue(void) {
+    static const uint32_t zero_field[] = {0};
+    static const uint8_t zero_byte[] = {0x00};
+    struct yuthaqim_reply r;
+    struct yuthaqim_quote q;
+    struct yuthaqim_showing s;
+
+    mark();
+    expect_words("read_catalogue: no bytes",
+                 yuthaqim_read_catalogue(zero_byte, 0, words, LENGTH(words), work, LENGTH(work)), zero_field, 1);
+    mark();
+    r = yuthaqim_read_catalogue(zero_byte, 0, words, 0, work, LENGTH(work));
+    expect_refusal("read_catalogue: no bytes, and no room", r.number, r.value, YUTHAQIM_NO_FIT, 1);
+    mark();
+    expect_bytes("write_catalogue: no extracts",
+                 yuthaqim_write_catalogue(zero_field, 1, bytes, sizeof bytes, work, LENGTH(work)), zero_byte, 1);
+    mark();
+    r = yuthaqim_write_catalogue(zero_field, 0, bytes, sizeof bytes, work, LENGTH(work));
+    expect_refusal("write_catalogue: no words", r.number, r.value, YUTHAQIM_SHORT, YUTHAQIM_IN_CATALOGUE);
+    mark();
+    expect_words("read_book: no bytes beside no bytes",
+                 yuthaqim_read_book(zero_byte, 0, zero_byte, 0, words, LENGTH(words), work, LENGTH(work)), zero_field, 0);
+    mark();
+    r = yuthaqim_read_book(zero_byte, 0, zero_byte, 1, words, LENGTH(words), work, LENGTH(work));
+    expect_refusal("read_book: a byte beside no bytes", r.number, r.value, YUTHAQIM_TAIL, YUTHAQIM_IN_BOOK);
+    mark();
+    expect_bytes("make_book: no extracts",
+                 yuthaqim_make_book(zero_byte, 0, K6, sizeof K6, bytes, sizeof bytes, work, LENGTH(work)), zero_byte, 0);
+    mark();
+    q = yuthaqim_quote(D, sizeof D, zero_byte, 0, work, LENGTH(work));
+    expect("quote: D with no extracts", q.number, q.lowest,
+           q.number == 0 && q.covered == 0 && q.edges == 4 && q.chosen == 0 && q.lowest == 0 && masks(&q) == 0 &&
+               is_cleared());
+    mark();
+    expect_no_cheapest("cheapest: no extracts, a charge",
+                       yuthaqim_cheapest(D, sizeof D, zero_byte, 0, zero_field, 1, work, LENGTH(work)), YUTHAQIM_CHARGES,
+                       1);
+    mark();
+    r = yuthaqim_answer(D, sizeof D, zero_byte, 0, zero_byte, 0, bytes, sizeof bytes, work, LENGTH(work));
+    expect_refusal("answer: no extracts", r.number, r.value, YUTHAQIM_UNCOVERED, 0);
+    expect_no_part("part: a catalogue of no bytes", part_of_d(zero_byte, 0, zero_byte, 0), YUTHAQIM_UNCOVERED, 0);
+    mark();
+    s = yuthaqim_show_uncovered(D, sizeof D, zero_byte, 0, bytes, 33, more, 30, work, LENGTH(work));
+    expect("show_uncovered: D with no extracts", s.number, s.first, s.number == 0 && s.first == 33 && s.second == 30);
+}
+
 static void refusals(void) {
     struct yuthaqim_reply r;
 
@@ -745,6 +792,7 @@ int main(void) {
     several();
     sums();
     showing();
+    no_catalogue();
     refusals();
     printf("%d wrong\n", failures);
     return failures != 0;

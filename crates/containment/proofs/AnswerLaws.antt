@@ -8,8 +8,8 @@ use lib.Seq.{sets}
 use lib.Dec.{T, ltb}
 use native.Mathlib.Omega.{arith}
 use borrow.Author.Tests.{lt-ltb, le-ltb}
-use Rattle.packed.specs.Format.{ok, pick, decode}
-use Rattle.packed.specs.Formats.{pattern, catalogue}
+use Rattle.packed.specs.Format.{pick}
+use Rattle.packed.specs.Formats.{pattern}
 use Rattle.packed.specs.Contents.{edgesOf, viewsOf}
 use Rattle.packed.specs.ByValue.{HoldsPattern}
 use Rattle.packed.specs.Accepting.{Held, HoldsViews}
@@ -20,6 +20,7 @@ use Rattle.packed.specs.declared.reply.Reply.{Reply}
 use Rattle.packed.specs.declared.reply.Reply.the-variants as reply-is
 use Rattle.packed.specs.declared.by_value.Pattern.{Pattern as Given}
 use Rattle.packed.proofs.Sets.{sets-front}
+use Rattle.packed.proofs.Accepted.{catalogue-read}
 use Rattle.packed.proofs.AcceptedBounds.{catalogue-views}
 use Rattle.packed.proofs.CallLaws.{refusal-answered, read-says}
 use Rattle.matching.specs.Lists.{In}
@@ -86,11 +87,11 @@ query-few t = let h = few-edges t in omega (arith, t .holds .edges)
 
 -- the views of a catalogue that was accepted
 module _ (s : List ℕ) {n k : ℕ} {w counts : List ℕ} (h : Held (λ cs. HoldsViews cs k counts) (readCatalogue s) n w) where
-  pub views-read : (decode catalogue s ≡ ok (h .fields)) × (length s ≤ 897)
-  views-read = read-says 897 2 catalogue s (h .fields) (h .is)
+  pub views-small : length s ≤ 897
+  views-small = catalogue-read s (h .fields) .0 (h .is) .0
 
   abbrev pub views-by : Views s k
-  views-by = record { content = h .fields; is = views-read .0; number = h .holds .number }
+  views-by = record { content = h .fields; is = h .is; number = h .holds .number }
 
   -- with the numbers of their edges
   abbrev pub counts-by : ViewCounts counts k

@@ -10,7 +10,7 @@ use lib.Pow.{shr-shr}
 use borrow.Author.Tests.{le-ltb}
 use native.Mathlib.Omega.{arith}
 use Rattle.packed.specs.Format.{ok, pick, decode}
-use Rattle.packed.specs.Formats.{pattern, catalogue, record′, book}
+use Rattle.packed.specs.Formats.{pattern, record′, book}
 use Rattle.packed.specs.Contents.{edgesOf, viewsOf, edgeCounts, sheetsIn, sheetFields, member}
 use Rattle.packed.specs.Walks.{listsFirst}
 use Rattle.packed.specs.BookSheets.{listAt, sheetAt}
@@ -19,7 +19,7 @@ use Rattle.packed.specs.Plain.{PlainPattern}
 use Rattle.packed.specs.Calls.{give, refuse, accepted, judged, readSheet, pairsOf, withinPairsBy, fitFile}
 use Rattle.packed.proofs.DistinctLaws.{member-distinct}
 use Rattle.packed.proofs.SheetLaws.{all-twice, sheet-encodes}
-use Rattle.packed.proofs.Accepted.{pattern-accepted, catalogue-accepted, record-accepted, sheet-accepted, book-accepted, pattern-read, catalogue-read, record-read, sheet-read, book-read}
+use Rattle.packed.proofs.Accepted.{pattern-accepted, record-accepted, sheet-accepted, book-accepted, pattern-read, record-read, sheet-read, book-read}
 use Rattle.packed.proofs.AcceptedBounds.{catalogue-views}
 use Rattle.packed.proofs.WalkLaws.{book-pairs}
 use Rattle.packed.proofs.BookSheetLaws.{sheets-back, list-is, list-stands, list-small, list-in-book}
@@ -90,9 +90,6 @@ views-same set set′ (P ∷ Ps) xs ys f h =
 pub question-is : (q qs : List ℕ) → Question q qs → decode pattern q ≡ ok qs
 question-is q qs h = pattern-accepted q qs .1 (pattern-read q qs .0 h .1)
 
-pub catalogue-is : (c cs : List ℕ) → Catalogue c cs → decode catalogue c ≡ ok cs
-catalogue-is c cs h = catalogue-accepted c cs .1 (catalogue-read c cs .0 h .1)
-
 pub record-is : (r rs : List ℕ) → Record r rs → decode record′ r ≡ ok rs
 record-is r rs h = record-accepted r rs .1 (record-read r rs .0 h .1)
 
@@ -118,7 +115,7 @@ pub question-bounds : (q qs : List ℕ) → Question q qs → QueryBounds qs
 question-bounds q qs h = plain-bounds (pattern-read q qs .0 h .1 .laid)
 
 pub few-views : (c cs : List ℕ) → Catalogue c cs → length (viewPatterns cs) ≤ 16
-few-views c cs h = let v = catalogue-views c cs (catalogue-is c cs h) in omega (arith, length-map (viewsOf cs) patternOf, v .many, v .most)
+few-views c cs h = let v = catalogue-views c cs h in omega (arith, length-map (viewsOf cs) patternOf, v .many, v .most)
 
 -- a view's rule is no stronger than a query's: both are matched one-way
 views-rule : (vs : List (List ℕ)) (a : ℕ) → getD (map patternOf vs) a noPattern .rule ≡ oneWay
@@ -137,13 +134,13 @@ views-weaker qs set cs P i b =
 module _ (c r cs rs : List ℕ) (d : Catalogue c cs) (f : Record r rs) where
   -- its sheets are the views' match sets
   pub made-sheets : sheetsIn (edgeCounts cs) (bookFields (viewSheets cs (graphOf rs))) ≡ viewSheets cs (graphOf rs)
-  made-sheets = rw (counts-are c r cs rs (catalogue-is c cs d) (record-is r rs f)) (sheets-back (viewSheets cs (graphOf rs)))
+  made-sheets = rw (counts-are c r cs rs d (record-is r rs f)) (sheets-back (viewSheets cs (graphOf rs)))
 
   -- it is accepted, and not crowded
   pub made-book : length (bookOf cs rs) ≤ 65536 → Book cs (bookOf cs rs) (bookFields (viewSheets cs (graphOf rs)))
   made-book h = record {
-    read = made-back c r cs rs (catalogue-is c cs d) (record-is r rs f) h;
-    few = made-few c r cs rs (catalogue-is c cs d) (record-is r rs f);
+    read = made-back c r cs rs d (record-is r rs f) h;
+    few = made-few c r cs rs d (record-is r rs f);
   }
 
 -- ---- what is answered from an accepted book

@@ -18,7 +18,7 @@ use Rattle.matching.specs.Offered.{viewPatterns}
 use Rattle.containment.specs.Answer.{viewsIn}
 use Rattle.containment.specs.Demands.{Question, Catalogue, Record, Sheet, Book, sheetOf, bookOf, answerOf}
 use Rattle.containment.proofs.AnswerLaws.{views-sound as each-sound}
-use Rattle.containment.proofs.CoveredBytes.{question-is, catalogue-is, record-is, question-bounds, answer-sheet, given-file}
+use Rattle.containment.proofs.CoveredBytes.{question-is, record-is, question-bounds, answer-sheet, given-file}
 use Rattle.containment.proofs.DemandRules.{goes-on, enough-for, not-refused}
 
 -- ---- the fields of a pair
@@ -57,4 +57,4 @@ answer-size q qs cs b bs p k set =
 
 -- ---- the patterns of a catalogue
 pub views-sound : (c cs : List ℕ) → Catalogue c cs → (P : Pattern) → In P (viewPatterns cs) → T (sound P)
-views-sound c cs e = each-sound (record { content = cs; is = catalogue-is c cs e; number = refl })
+views-sound c cs e = each-sound (record { content = cs; is = e; number = refl })

@@ -23,7 +23,7 @@ use Rattle.containment.specs.Show.{recordBytes}
 use Rattle.containment.specs.Demands.{Question, Catalogue, Record, Sheet, Book, Covers, Uncovered, answerOf, lackingIn, lacking, linkOf, firstOf, secondOf, Matched, LowestUnmatched, Showing, Demand3, Answering}
 use Rattle.containment.proofs.SetBits.{test-cases}
 use Rattle.containment.proofs.ShowLaws.{lowest-of, shows, shows-book}
-use Rattle.containment.proofs.CoveredBytes.{views-same, question-is, catalogue-is, question-bounds, made-sheets, made-book, answer-alike, coveredIn, answer-search, answer-back, given-file}
+use Rattle.containment.proofs.CoveredBytes.{views-same, question-is, question-bounds, made-sheets, made-book, answer-alike, coveredIn, answer-search, answer-back, given-file}
 use Rattle.containment.proofs.DemandRules.{not-refused, judged-same, matched-whole, shown-both, shown-exactly, used-chosen, used-all, used-covers, used-leaves, lowest-plain, refused-by, given-by, refused-exactly}
 use Rattle.containment.proofs.DemandSheets.{answer-size}
 use Rattle.containment.proofs.DemandIndex.{way-same}
@@ -34,7 +34,7 @@ module _ (q c qs cs : List ℕ) (p : Question q qs) (d : Catalogue c cs) where
   shown-by : Uncovered qs cs → Showing qs cs
   unfolding asGraph
   shown-by n =
-      let s = shows q c qs cs (question-is q qs p) (catalogue-is c cs d) n in
+      let s = shows q c qs cs (question-is q qs p) d n in
       record {
         first-accepted = s .first-read;
         second-accepted = s .second-read;
@@ -44,7 +44,7 @@ module _ (q c qs cs : List ℕ) (p : Question q qs) (d : Catalogue c cs) where
         in-first = s .in-first;
         not-in-second = s .not-second;
         equal = s .same;
-        equal-books = shows-book q c qs cs (question-is q qs p) (catalogue-is c cs d) n;
+        equal-books = shows-book q c qs cs (question-is q qs p) d n;
         differ = s .differs;
       }
 
@@ -53,7 +53,7 @@ module _ (q c qs cs : List ℕ) (p : Question q qs) (d : Catalogue c cs) where
   lowest-whole n =
       let Q = patternOf qs in
       let Ps = viewPatterns cs in
-      let l = lowest-of q c qs cs (question-is q qs p) (catalogue-is c cs d) n in
+      let l = lowest-of q c qs cs (question-is q qs p) d n in
       record {
         below = omega (arith, l .below, question-bounds q qs p .many);
         unmatched = λ m. l .unmatched (matched-whole Q Ps (linkOf qs (lacking qs cs)) .1 m);
@@ -63,12 +63,12 @@ module _ (q c qs cs : List ℕ) (p : Question q qs) (d : Catalogue c cs) where
   -- the two shown records have the same lists
   same-lists : Uncovered qs cs → (P : Pattern) → In P (viewPatterns cs) → viewSheet P (graphOf (firstOf qs)) ≡ viewSheet P (graphOf (secondOf qs cs))
   same-lists n P i =
-      let s = shows q c qs cs (question-is q qs p) (catalogue-is c cs d) n in
+      let s = shows q c qs cs (question-is q qs p) d n in
       let e = linkOf qs (lacking qs cs) in
       let G = graphOf (firstOf qs) in
       let H = asGraph (patternOf qs) in
       alike-views P G H (s .means)
-      ∙ uncovered-views (patternOf qs) (viewPatterns cs) e (lowest-of q c qs cs (question-is q qs p) (catalogue-is c cs d) n .unmatched) P i
+      ∙ uncovered-views (patternOf qs) (viewPatterns cs) e (lowest-of q c qs cs (question-is q qs p) d n .unmatched) P i
       ∙ sym (ap (viewSheet P) (s .lacks) ∙ alike-views P (without e G) (without e H) (alike-without e G H (s .means)))
 
   -- ---- accepted books

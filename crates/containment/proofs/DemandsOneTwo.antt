@@ -41,7 +41,7 @@ use Rattle.containment.specs.Part.{withFirst, fitPart, partFor, partOutc
 use Rattle.containment.specs.Several.{questionAt, counted, allCovered, sheetsNeeded, answerAt, anyLong, fitSeveral, severalIn, severalOutcome}
 use Rattle.containment.specs.Listing.{lineOf, lineOutcome}
 use Rattle.containment.specs.Demands.{Full, Settles, writePattern, writeCatalogue, writeRecord, Worked, Demand1, Question, Catalogue, Record, ownOf, FewPairs, Book, extractOf, linkOf, Covered, lacking, chosenOf, Matching, Matched, Demand2}
-use Rattle.containment.proofs.Numbered.{numbered, pattern-faults, patterns-faults, catalogue-faults, record-faults, old-faults, sheet-faults, book-faults, gives, refuses, either, workspace-settles, within-pairs-settles, own-settles, fit-settles, fitFile-settles, fitBoth-settles, read-settles, write-settles, write-short, read-few}
+use Rattle.containment.proofs.Numbered.{numbered, pattern-faults, patterns-faults, catalogue-faults, record-faults, old-faults, sheet-faults, book-faults, gives, refuses, either, workspace-settles, within-pairs-settles, own-settles, fit-settles, fitFile-settles, fitBoth-settles, read-settles, write-settles, write-short, read-few, catalogue-few}
 use Rattle.containment.proofs.SetBits.{never}
 use Rattle.containment.proofs.ChoiceLaws.{chosen-none, chosen-covers, chosen-needed}
 use Rattle.containment.proofs.CoveredBytes.{coveredBy, question-bounds, few-views, record-is}
@@ -60,7 +60,9 @@ pattern-first : (s : List ℕ) {k : List ℕ → Outcome} → ((ws : List ℕ) �
 pattern-first s h = read-settles 56 1 pattern-faults s h
 
 catalogue-first : (s : List ℕ) {k : List ℕ → Outcome} → ((ws : List ℕ) → Settles (k ws)) → Settles (judged (readCatalogue s) k)
-catalogue-first s h = read-settles 897 2 catalogue-faults s h
+unfolding readCatalogue judged
+catalogue-first [] h = h (0 ∷ [])
+catalogue-first (b ∷ s) h = read-settles 897 2 catalogue-faults (b ∷ s) h
 
 record-first : (s : List ℕ) {k : List ℕ → Outcome} → ((ws : List ℕ) → Settles (k ws)) → Settles (judged (readRecord s) k)
 record-first s h = read-settles 44036 3 record-faults s h
@@ -125,7 +127,7 @@ quote-few : (q c : List ℕ) {n d : ℕ} → quoteOutcome q c ≡ refuse n d →
 unfolding quoteOutcome quoteFor
 quote-few q c e =
     ⊎-elim (read-few 56 1 pattern-faults q)
-    (λ x. ⊎-elim (read-few 897 2 catalogue-faults c) (λ y. absurd (not-refused (y .2))) (refused-judged (readCatalogue c) _ (x .2)))
+    (λ x. ⊎-elim (catalogue-few c) (λ y. absurd (not-refused (y .2))) (refused-judged (readCatalogue c) _ (x .2)))
     (refused-judged (readPattern q) _ e)
 
 -- a book is accepted if none of 1 to 9 falls to it, and 10 doesn't
@@ -346,7 +348,7 @@ demand-2 = record {
   choice-needs = λ qs cs a t h.
       never (sym h ∙ chosen-needed (mapping (patternOf qs) (viewPatterns cs)) everyView (edgesOf qs) (length (viewPatterns cs)) a (test-is _ .1 t));
   patterns = record { back = λ s ws room room′ words y. pattern-back s ws room room′ words (bytes-by s y); again = pattern-again };
-  catalogues = record { back = λ s ws room room′ words y. catalogue-back s ws room room′ words (bytes-by s y); again = catalogue-again };
+  catalogues = record { back = λ s ws room room′ words y. catalogue-back s ws room room′ words (bytes-by s (y .0)) (y .1); again = catalogue-again };
   records = record { back = λ s ws room room′ words y. record-back s ws room room′ words (bytes-by s y); again = record-again };
   sheets = λ p. record { back = λ s ws room room′ words y. sheet-back p s ws room room′ words (bytes-by s y); again = sheet-again p };
   all-books = λ c. record { back = λ s ws room room′ words y. book-back c s ws room room′ words (bytes-by s y); again = book-again c };

@@ -39,6 +39,7 @@ pub mod DemandJoin
 pub mod DemandSteps
 pub mod DemandThree
 pub mod DemandsOneTwo
+pub mod EmptyCatalogues
 pub mod Sorting
 pub mod Parts
 pub mod Severals

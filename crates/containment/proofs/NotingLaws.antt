@@ -2,7 +2,7 @@
 use Prim.Native.Nat.{ℕ, suc, _+_, _*_, _/_, _^_, _<_, _≤_}
 use mathlib.Core.Path.{_≡_, refl, sym, ap, ap₂, subst, _∙_}
 use mathlib.Core.List.{List, [], _∷_, _++_, map}
-use lib.ListN.{length, take, drop, getD, replicate, length-map}
+use lib.ListN.{length, take, drop, getD, replicate, length-map, length-drop}
 use lib.Seq.{take-suc, take-all, drop-cons, getD-take, length-take-le}
 use native.Mathlib.Omega.{arith}
 use native.Mathlib.Numerals.{add-one}
@@ -56,7 +56,11 @@ noted-end {a = a} h e t v =
     h .is t v ∙ ap (λ (l : List (List ℕ)). mapping (patternOf (t .content)) (map patternOf l)) (take-all a (viewsOf (v .content)) (omega (arith, views-many v)))
 
 module _ {q : Given} {c : List ℕ} {k a byte : ℕ} {table : List ℕ} (h : Noted q c k a byte table) (l : a < k) where
-  -- the next view
+  -- where the next view begins
+  pub noted-inside : Views c k → byte ≤ length c
+  noted-inside v = h .ahead v .inside (omega (arith, length-drop a (viewsOf (v .content)), views-many v))
+
+  -- what it is
   pub noted-next : {r : View} → ViewAt c byte r → (v : Views c k) → Advanced c (getD (viewsOf (v .content)) a []) (drop (suc a) (viewsOf (v .content))) r
   noted-next view v =
       advance (subst (Ahead c byte) (drop-cons (viewsOf (v .content)) a [] (omega (arith, views-many v))) (h .ahead v)) view

@@ -15,7 +15,7 @@ use Rattle.packed.specs.Formats.{code, rank, edges, label, joined, pattern, pat
 use Rattle.packed.specs.Refusals.{numberOf}
 use Rattle.packed.specs.declared.reply.Refusal.{Refusal}
 use Rattle.packed.specs.declared.reply.Refusal.the-variants.{TooLong, Truncated, OutOfRange, NoSuchNode, DuplicateEdge, NotAscending, IsolatedNode, ZeroCount, Trailing, TooManyPairs, NotContained, NoRoom, Contained, SmallWorkspace, WrongCharges, WrongIndex, WrongQuestions}
-use Rattle.packed.specs.Calls.{Outcome, give, refuse, withWorkspace, rejected, inFile, readFile, writeFile, judged, pairsOf, withinPairsBy, fit, fitFile}
+use Rattle.packed.specs.Calls.{Outcome, give, refuse, withWorkspace, rejected, inFile, readFile, writeFile, judged, readCatalogue, pairsOf, withinPairsBy, fit, fitFile}
 use Rattle.matching.specs.Index.{alike, ownIndex}
 use Rattle.containment.specs.Show.{fitBoth}
 use Rattle.containment.specs.Demands.{Settles}
@@ -285,3 +285,8 @@ read-few most file {F} f s {n} {d} = go (ltb most (length s)) (decode-results f 
     go true q e = let z : 1 ≡ n = cc in omega arith
     go false is-ok e = absurd (let z : _≡_ {A = ℕ} 0 1 = cc in omega arith)
     go false (is-bad {n = m} x) e = let z : m ≡ n = cc in let l = x .most in omega arith
+
+pub catalogue-few : (c : List ℕ) {n d : ℕ} → readCatalogue c ≡ rejected n d → n ≤ 9
+unfolding readCatalogue
+catalogue-few [] e = absurd (let z : _≡_ {A = ℕ} 0 1 = cc in omega arith)
+catalogue-few (b ∷ c) e = read-few 897 2 catalogue-faults (b ∷ c) e

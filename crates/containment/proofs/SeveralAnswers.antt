@@ -54,7 +54,7 @@ use Rattle.containment.proofs.QueryLaws.{fair, plain}
 use Rattle.containment.proofs.MappingLaws.{mapping-length}
 use Rattle.containment.proofs.AnsweringLaws.{joined-marked, book-agrees}
 use Rattle.containment.proofs.CoveredBytes.{answer-sheet}
-use Rattle.containment.proofs.SeveralLaws.{AskedFrom, asked-start, asked-query, asked-more, neither}
+use Rattle.containment.proofs.SeveralLaws.{AskedFrom, asked-start, asked-inside, asked-query, asked-more, neither}
 
 -- ---- outputs one after the other
 flatten-last : (ls : List (List ℕ)) (l : List ℕ) → flatten (ls ++ (l ∷ [])) ≡ flatten ls ++ l
@@ -153,8 +153,8 @@ module _ {s : List ℕ} {number : ℕ} {tables used book counts : List ℕ} {k d
   counted-start = record { from = asked-start; most = omega arith; is = refl; bound = omega arith; edges = record { long = refl; same = λ i l. refl } }
 
   module _ {total byte i : ℕ} {w₁ : List ℕ} (c : Counted total byte i w₁) where
-    pub counted-stands : Stands s (8 * byte) 0
-    counted-stands = record { small = x .asked .short; inside = omega (arith, c .from .ahead (x .asked) .inside); few = omega arith }
+    pub counted-stands : i < number → Stands s (8 * byte) 0
+    counted-stands l = record { small = x .asked .short; inside = omega (arith, asked-inside (c .from) l (x .asked)); few = omega arith }
 
     pub counted-booked : Booked book counts k d w₁
     counted-booked = booked-keep (x .loaded .pairs) (c .edges)

@@ -4,7 +4,7 @@ use mathlib.Core.Path.{_≡_, refl, sym, ap, ap₂, subst, _∙_}
 use mathlib.Core.Bool.{Bool, true, false, _||_}
 use mathlib.Core.Logic.{⊎-elim}
 use mathlib.Core.List.{List, [], map}
-use lib.ListN.{length, drop, getD, replicate, set, length-set}
+use lib.ListN.{length, drop, getD, replicate, set, length-set, length-drop}
 use lib.Seq.{drop-cons, getD-set-same, getD-set-other}
 use lib.Dec.{eqb, ltb}
 use lib.Bits.{bitOr}
@@ -57,6 +57,10 @@ pub record AskedFrom (s : List ℕ) (number i byte : ℕ) : Type 0 where
 
 pub asked-start : {s : List ℕ} {number : ℕ} → AskedFrom s number 0 0
 asked-start {s} {number} = record { ahead = λ a. questions-ahead number s (a .content) (a .is) }
+
+-- the i-th begins in the file
+pub asked-inside : {s : List ℕ} {number i byte : ℕ} → AskedFrom s number i byte → i < number → Asked s number → byte ≤ length s
+asked-inside {number = number} {i = i} f l a = f .ahead a .inside (omega (arith, length-drop i (patternsIn number (a .content)), length-patternsIn number (a .content)))
 
 module _ {s : List ℕ} {number i byte : ℕ} (f : AskedFrom s number i byte) (l : i < number) (r : View) (view : ViewAt s byte r) where
   -- what `view_at` gives is the i-th, and the others are ahead

@@ -29,7 +29,7 @@ use Rattle.containment.specs.Demands.{Questions, Catalogue, Record, Many
 use Rattle.containment.proofs.SetBits.{test-cases, never}
 use Rattle.containment.proofs.QuoteLaws.{test-is, place-of}
 use Rattle.containment.proofs.CoveredBytes.{coveredIn, coveredBy, covered-bytes}
-use Rattle.containment.proofs.Numbered.{patterns-faults, catalogue-faults, book-faults, read-few}
+use Rattle.containment.proofs.Numbered.{patterns-faults, book-faults, read-few, catalogue-few}
 use Rattle.containment.proofs.DemandRules.{number-same, detail-same, not-refused, goes-on, enough-words, enough-for, full-words, full-judged, full-twice, full-within-pairs, refused-judged, fitted-by, many-pairs-exactly, used-chosen, used-covers, given-by}
 use Rattle.containment.proofs.DemandFiles.{Says, content-same, hands-up, says-judged, says-late, says-several}
 use Rattle.containment.proofs.DemandThree.{demand-3, same-lists-in}
@@ -364,7 +364,7 @@ several-most : (q : List ℕ) (number : ℕ) (c b : List ℕ) (room : ℕ) {n d 
 unfolding severalOutcome severalIn
 several-most q number c b room right e =
     ⊎-elim (λ v. let l = read-few (56 * number) 1 (patterns-faults number) q v in omega arith)
-    (λ t. ⊎-elim (λ v. let l = read-few 897 2 catalogue-faults c v in omega arith)
+    (λ t. ⊎-elim (λ v. let l = catalogue-few c v in omega arith)
     (λ u. ⊎-elim (λ v. let l = read-few 65536 4 (book-faults (edgeCounts (u .0))) b v in omega arith)
     (λ z. ⊎-elim
     (λ h. let m = number-same (sym (z .2) ∙ many-pairs _ (z .0) _ h) in omega arith)

@@ -7,9 +7,9 @@ use lib.ListN.{length, getD, length-map}
 use lib.Dec.{T, T-not}
 use native.Mathlib.Omega.{arith}
 use Rattle.packed.specs.Format.{ok, decode}
-use Rattle.packed.specs.Formats.{pattern, catalogue}
+use Rattle.packed.specs.Formats.{pattern}
 use Rattle.packed.specs.Contents.{viewsOf, sheetFields}
-use Rattle.packed.specs.Calls.{accepted, readRecord}
+use Rattle.packed.specs.Calls.{accepted, readCatalogue, readRecord}
 use Rattle.packed.specs.Plain.{PlainPattern}
 use Rattle.packed.proofs.Accepted.{pattern-accepted, record-accepted, record-read}
 use Rattle.packed.proofs.AcceptedBounds.{catalogue-views}
@@ -126,7 +126,7 @@ module _ {qs : List ℕ} {bs : List Bool} (q : PlainPattern qs bs) where
         }
 
 -- ---- of an accepted question and an accepted catalogue
-module _ (s c qs cs : List ℕ) (p : decode pattern s ≡ ok qs) (d : decode catalogue c ≡ ok cs) where
+module _ (s c qs cs : List ℕ) (p : decode pattern s ≡ ok qs) (d : readCatalogue c ≡ accepted cs) where
   few-views : length (viewPatterns cs) ≤ 16
   few-views = let v = catalogue-views c cs d in omega (arith, length-map (viewsOf cs) patternOf, v .many, v .most)
 
@@ -163,7 +163,7 @@ unfolding bookBytes
 book-same f g [] h = refl
 book-same f g (v ∷ vs) h = ap₂ (λ (x y : List ℕ). x ++ y) (h v (here refl)) (book-same f g vs (λ w i. h w (there i)))
 
-module _ (s c qs cs : List ℕ) (p : decode pattern s ≡ ok qs) (d : decode catalogue c ≡ ok cs) where
+module _ (s c qs cs : List ℕ) (p : decode pattern s ≡ ok qs) (d : readCatalogue c ≡ accepted cs) where
   module _ (n : Leaves everyView qs cs) where
     -- the two records have the same book
     pub shows-book : bookBytes (viewSheets cs (graphOf (graphFields qs))) ≡ bookBytes (viewSheets cs (graphOf (fewerFields qs (lackingIn everyView qs cs))))

@@ -1,5 +1,5 @@
--- The cases K1 to K10 of the requirements, and cases of several questions in one call, proved in one table with one statement: on bytes and fields,
--- over the functions that the contracts of the calls cite.
+-- The cases K1 to K10 of the requirements, and cases of several questions in one call and of the empty catalogue, proved in one table with one statement:
+-- on bytes and fields, over the functions that the contracts of the calls cite.
 use Prim.Native.Nat.{ℕ, _+_, _-_, _*_}
 use Prim.Native.Char.{code as codeOf}
 use Prim.Native.String.{String, [] as []ˢ, _∷_ as _∷ˢ_}
@@ -12,16 +12,18 @@ use Rattle.packed.specs.Format.{pick, then, times, whole, within, scan, lay, by
 use Rattle.packed.specs.Formats.{linked, edges, isEnd, allEnds, label, joined, pattern, catalogue, pairs, labels, rising, record′, lists, standing, sheet, book}
 use Rattle.packed.specs.Contents.{patternSize, patternsIn, viewsOf, edgeCounts, codesIn, listsIn, afterLists, sheetLists, afterSheet, sheetsIn, ends, fieldsOf, pairCount, sheetFields, member, insert, distinct, eachEdge, fromRanks, sortedEdges}
 use Rattle.packed.specs.OldRecord.{oldRecord, sortedFields, recordSorted}
-use Rattle.packed.specs.Calls.{Outcome, give, refuse, withWorkspace, readFile, writeFile, judged, pairsOf, withinPairsBy, fit, fitFile, patternRead, catalogueRead, recordRead, sheetRead, patternWritten, catalogueWritten, recordWritten, sheetWritten}
+use Rattle.packed.specs.Calls.{Outcome, give, refuse, withWorkspace, readFile, writeFile, judged, readCatalogue, pairsOf, withinPairsBy, fit, fitFile, patternRead, catalogueRead, recordRead, sheetRead, bookRead, patternWritten, catalogueWritten, recordWritten, sheetWritten}
 use Rattle.matching.specs.Lists.{_and_, _or_, _implies_, every, some, keep, gather, each, below, upTo}
 use Rattle.matching.specs.Greatest.{settle, greatest}
 use Rattle.matching.specs.Simulation.{same, has, sameEdge, everyPair as allPairs, bit, edgesIn, patternOf, graphOf, asGraph, fits, asksArrivals, followsOut, followsIn, follows, sim, total, row, ascending, matchSets, viewSheet}
-use Rattle.matching.specs.Search.{sheetBytes, searchOutcome}
-use Rattle.matching.specs.Join.{pairOf, isMatch, under, candidates, supportedOut, supportedIn, supported, join, complete, keptFor, answerSets}
+use Rattle.matching.specs.Search.{sheetBytes, bookBytes, viewSheets, searchOutcome, makeBookOutcome}
+use Rattle.matching.specs.Join.{pairOf, isMatch, matched, under, candidates, supportedOut, supportedIn, supported, join, complete, keptFor, answerSets}
 use Rattle.matching.specs.Part.{rank}
 use Rattle.containment.specs.Choice.{matches, matchedIn, coversIn, lowestUnmatched, addsTo, taken, kept, chosen, used}
-use Rattle.containment.specs.Quote.{maskIn, matchMask, maskAt, mapping, valuesFrom, quoteValues, flat, quoteFor, quoteOutcome}
-use Rattle.containment.specs.Answer.{viewsIn, answerBytes}
+use Rattle.containment.specs.Quote.{viewsInSet, maskIn, matchMask, maskAt, mapping, valuesFrom, quoteValues, flat, quoteFor, quoteOutcome}
+use Rattle.containment.specs.Answer.{viewsIn, answerBytes, answerIn, answerFor, answerBy, answerOutcome}
+use Rattle.containment.specs.Cheapest.{cheapestFrom, cheapestFor, cheapestOutcome}
+use Rattle.containment.specs.Part.{partFor, partOutcome}
 use Rattle.containment.specs.Several.{questionAt, counted, allCovered, isNeeded, sheetsNeeded, answerAt, anyLong, fitSeveral, severalIn, severalOutcome}
 use Rattle.containment.specs.Show.{asRecord, graphFields, fewerFields, recordBytes, fitBoth, showFor, showOutcome}
 
@@ -175,6 +177,14 @@ first = hex "00 20 00 80 00 00 00 20 00 00 00 40 00 00 00 80 00 00 01 00 00 00 2
 abbrev pub second : List ℕ
 second = hex "00 20 00 60 00 00 00 20 00 00 00 40 00 00 00 80 00 00 01 00 00 00 20 00 40 0c 00 10 01 80"
 
+-- and without its edge 0 → 1
+abbrev pub second4 : List ℕ
+second4 = hex "00 20 00 60 00 00 00 20 00 00 00 40 00 00 00 80 00 00 01 00 00 00 40 00 40 0c 00 10 01 80"
+
+-- a file of zero bytes
+abbrev pub none : List ℕ
+none = []
+
 -- ---- the cases
 
 unfoldable pub table : List Case
@@ -233,8 +243,28 @@ table =
     ∷ call (severalOutcome (d ++ hex "88 00") 2 (hex "ff") b9 25) (refuse 3 1)
     -- 11 for the first uncovered question, though the second leaves a lower link
     ∷ call (severalOutcome dFast 2 cLink (hex "00") 2) (refuse 11 1)
+    -- the empty catalogue, as that of K4: read, also with nothing lent; its content is written as 00, and no words are no content
+    ∷ call (catalogueRead none 1) (output (fields "0"))
+    ∷ call (catalogueRead none 0) (refuse 12 1)
+    ∷ call (catalogueWritten (fields "0") 1) (output c4)
+    ∷ call (catalogueWritten [] 1) (refuse 2 2)
+    ∷ call (quoteOutcome d none) (give (0 ∷ (replicate 512 0 ++ (4 ∷ 0 ∷ 0 ∷ []))) [])
+    -- its book has no bytes, whatever the record and with nothing lent; any byte is 9
+    ∷ call (makeBookOutcome none r6 0) (output none)
+    ∷ call (makeBookOutcome none r6 8) (output none)
+    ∷ call (bookRead none none 0) (output [])
+    ∷ call (bookRead none (hex "00") 1) (refuse 9 4)
+    -- nothing is answered from it
+    ∷ call (answerOutcome d none none 20) (refuse 11 0)
+    ∷ call (answerOutcome d none (hex "00") 20) (refuse 9 4)
+    ∷ call (severalOutcome dLink 2 none none 25) (refuse 11 0)
+    ∷ call (partOutcome d none none 10 20) (refuse 11 0)
+    ∷ call (cheapestOutcome d none []) (refuse 11 0)
+    ∷ call (cheapestOutcome d none (fields "7")) (refuse 15 1)
+    -- the second shown record lacks 0 → 1
+    ∷ call (showOutcome d none 33 30) (give [] (first ∷ second4 ∷ []))
     ∷ []
 
 pub cases : Agree table
-unfolding Agree table digit hex next turned numbers bitsOf num numFrom bits zeros gap then times whole within scan lay bytesOf decode encode linked edges isEnd allEnds label joined pattern catalogue pairs labels rising record′ lists standing sheet book patternSize patternsIn viewsOf edgeCounts codesIn listsIn afterLists sheetLists afterSheet sheetsIn ends fieldsOf pairCount sheetFields member insert distinct eachEdge fromRanks sortedEdges oldRecord sortedFields recordSorted withWorkspace readFile writeFile judged pairsOf withinPairsBy fit fitFile patternRead catalogueRead recordRead sheetRead patternWritten catalogueWritten recordWritten sheetWritten _and_ _or_ _implies_ every some keep gather each below upTo settle greatest same has sameEdge allPairs bit edgesIn patternOf graphOf asGraph fits asksArrivals followsOut followsIn follows sim total row ascending matchSets viewSheet sheetBytes searchOutcome pairOf isMatch under candidates supportedOut supportedIn supported join complete keptFor answerSets rank matches matchedIn coversIn lowestUnmatched addsTo taken kept chosen used maskIn matchMask maskAt mapping valuesFrom quoteValues flat quoteFor quoteOutcome asRecord graphFields fewerFields recordBytes fitBoth showFor showOutcome flatten viewsIn answerBytes questionAt counted allCovered isNeeded sheetsNeeded answerAt anyLong fitSeveral severalIn severalOutcome
+unfolding Agree table digit hex next turned numbers bitsOf num numFrom bits zeros gap then times whole within scan lay bytesOf decode encode linked edges isEnd allEnds label joined pattern catalogue pairs labels rising record′ lists standing sheet book patternSize patternsIn viewsOf edgeCounts codesIn listsIn afterLists sheetLists afterSheet sheetsIn ends fieldsOf pairCount sheetFields member insert distinct eachEdge fromRanks sortedEdges oldRecord sortedFields recordSorted withWorkspace readFile writeFile judged readCatalogue pairsOf withinPairsBy fit fitFile patternRead catalogueRead recordRead sheetRead bookRead patternWritten catalogueWritten recordWritten sheetWritten _and_ _or_ _implies_ every some keep gather each below upTo settle greatest same has sameEdge allPairs bit edgesIn patternOf graphOf asGraph fits asksArrivals followsOut followsIn follows sim total row ascending matchSets viewSheet sheetBytes bookBytes viewSheets searchOutcome makeBookOutcome pairOf isMatch matched under candidates supportedOut supportedIn supported join complete keptFor answerSets rank matches matchedIn coversIn lowestUnmatched addsTo taken kept chosen used viewsInSet maskIn matchMask maskAt mapping valuesFrom quoteValues flat quoteFor quoteOutcome asRecord graphFields fewerFields recordBytes fitBoth showFor showOutcome flatten viewsIn answerBytes answerIn answerFor answerBy cheapestFrom cheapestFor cheapestOutcome partFor partOutcome questionAt counted allCovered isNeeded sheetsNeeded answerAt anyLong fitSeveral severalIn severalOutcome
 cases = refl

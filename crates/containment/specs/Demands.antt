@@ -4,7 +4,7 @@
 -- lent byte and of every word of the workspace what they are once that answer is known. So what is said here of answers holds of the programs.
 -- An answer is a function of the bytes and fields that are lent, of the length of each output (`room`) and of the workspace (`words`).
 -- Proofs: proofs/DemandsOneTwo.antt and proofs/DemandThree.antt, by proofs/DemandRules.antt, DemandSheets.antt, DemandIndex.antt and DemandJoin.antt; of the
--- join by steps, proofs/DemandSteps.antt; of the part, proofs/Parts.antt; of several
+-- join by steps, proofs/DemandSteps.antt; of the empty catalogue, proofs/EmptyCatalogues.antt; of the part, proofs/Parts.antt; of several
 -- questions, proofs/Severals.antt; of the cheapest set, proofs/CheapestSets.antt; of the listing, proofs/Listings.antt.
 use Prim.Native.Nat.{ℕ, _+_, _-_, _*_, _^_, _<_, _≤_, _/_}
 use mathlib.Core.Path.{_≡_}
@@ -15,7 +15,7 @@ use lib.ListN.{length, getD, drop, replicate}
 use lib.Dec.{T}
 use Rattle.packed.specs.Limits.{patternMost, questionsMost, catalogueMost, recordMost, oldRecordMost, bookMost, pairsMost, workspace}
 use Rattle.packed.specs.Formats.{code, pattern, catalogue, record′}
-use Rattle.packed.specs.Plain.{Below, PatternFile, CatalogueFile, RecordFile, SheetFile, BookFile}
+use Rattle.packed.specs.Plain.{Below, PatternFile, CatalogueFile, EmptyCatalogue, RecordFile, SheetFile, BookFile}
 use Rattle.packed.specs.Contents.{edgesOf, edgeCounts, sheetsIn, ends, fieldsOf, pairCount, sheetFields, sheetLength}
 use Rattle.packed.specs.Refusals.{Told, told}
 use Rattle.packed.specs.declared.by_value.Pattern.{Pattern as Given}
@@ -316,11 +316,12 @@ pub record Demand1 : Type 0 where
   -- a file is accepted, with its content, exactly when the plain conditions of its format hold (packed/specs/Plain.antt:
   -- counts in range, ends that are items, no repeat, each item at a link, ascending, no zero count after a 1, padding zero and nothing after it)
   pub accepts-pattern : (s ws : List ℕ) → Question s ws ↔ ((length s ≤ patternMost) × PatternFile s ws)
-  pub accepts-catalogue : (s ws : List ℕ) → Catalogue s ws ↔ ((length s ≤ catalogueMost) × CatalogueFile s ws)
+  pub accepts-catalogue : (s ws : List ℕ) → Catalogue s ws ↔ ((length s ≤ catalogueMost) × (EmptyCatalogue s ws ⊎ CatalogueFile s ws))
   pub accepts-record : (s ws : List ℕ) → Record s ws ↔ ((length s ≤ recordMost) × RecordFile s ws)
   pub accepts-sheet : (ps s ws : List ℕ) → Sheet ps s ws ↔ ((length s ≤ bookMost) × SheetFile (edgesOf ps) s ws)
   pub accepts-book : (cs s ws : List ℕ) → Book cs s ws ↔ ((length s ≤ bookMost) × BookFile (edgeCounts cs) s ws × FewPairs cs ws)
-  -- a reader gives the content of an accepted file and of no other; a writer the file that has the content by the same conditions
+  -- a reader gives the content of an accepted file and of no other; a writer the file that has the content by the same conditions, so that no catalogue is
+  -- written as the empty file
   pub reads-pattern : Reads patternRead Question
   pub reads-catalogue : Reads catalogueRead Catalogue
   pub reads-record : Reads recordRead Record
@@ -418,9 +419,16 @@ pub record MatchedIn (Q : Pattern) (Ps : List Pattern) (set : ℕ) (e : Edge) : 
   pub kind : getD (getD Ps extract noPattern .edges) link noEdge .kind ≡ e .kind
   pub lists : In (code (e .from) (e .to)) (getD (viewSheet (getD Ps extract noPattern) (asGraph Q)) link [])
 
--- what was read is written back as the same bytes s; what was written is read back as the same content ws
-pub record RoundTrip (read : List ℕ → ℕ → Outcome) (write : List ℕ → ℕ → Outcome) : Type 0 where
-  pub back : (s ws : List ℕ) (room room′ words : ℕ) → Below 256 s → withWorkspace words (read s room) ≡ give [] (ws ∷ []) → length s ≤ room′
+-- the files that are written back: any of bytes; of catalogues, "demand 2's writing back leaves out the empty file", and no other
+abbrev pub AnyFile : List ℕ → Type 0
+AnyFile s = Below 256 s
+
+abbrev pub NotEmpty : List ℕ → Type 0
+NotEmpty s = Below 256 s × (0 < length s)
+
+-- what was read of such a file is written back as the same bytes s; what was written is read back as the same content ws
+pub record RoundTrip (Such : List ℕ → Type 0) (read : List ℕ → ℕ → Outcome) (write : List ℕ → ℕ → Outcome) : Type 0 where
+  pub back : (s ws : List ℕ) (room room′ words : ℕ) → Such s → withWorkspace words (read s room) ≡ give [] (ws ∷ []) → length s ≤ room′
       → withWorkspace words (write ws room′) ≡ give [] (s ∷ [])
   pub again : (s ws : List ℕ) (room room′ words : ℕ) → withWorkspace words (write ws room) ≡ give [] (s ∷ []) → length ws ≤ room′
       → withWorkspace words (read s room′) ≡ give [] (ws ∷ [])
@@ -484,11 +492,41 @@ pub record Demand2 : Type 1 where
   pub choice-covers : (qs cs : List ℕ) → Covered qs cs → Covers (chosenOf qs cs) qs cs
   pub choice-needs : (qs cs : List ℕ) (a : ℕ) → T (bit (chosenOf qs cs) a) → Covers (chosenOf qs cs - 2 ^ a) qs cs → ⊥
   -- "files read are written back as the same bytes; files written are read back as the same content"
-  pub patterns : RoundTrip patternRead patternWritten
-  pub catalogues : RoundTrip catalogueRead catalogueWritten
-  pub records : RoundTrip recordRead recordWritten
-  pub sheets : (p : List ℕ) → RoundTrip (sheetRead p) (sheetWritten p)
-  pub all-books : (c : List ℕ) → RoundTrip (bookRead c) (bookWritten c)
+  pub patterns : RoundTrip AnyFile patternRead patternWritten
+  pub catalogues : RoundTrip NotEmpty catalogueRead catalogueWritten
+  pub records : RoundTrip AnyFile recordRead recordWritten
+  pub sheets : (p : List ℕ) → RoundTrip AnyFile (sheetRead p) (sheetWritten p)
+  pub all-books : (c : List ℕ) → RoundTrip AnyFile (bookRead c) (bookWritten c)
+
+-- ---- what holds of the empty catalogue. "New clients have an empty file. It now means a catalogue without extracts, like the byte 00, where before it drew 2."
+
+pub record EmptyCatalogues : Type 0 where
+  -- both are accepted with the content 0, which has no extracts
+  pub empty : Catalogue [] (0 ∷ [])
+  pub byte-00 : Catalogue (0 ∷ []) (0 ∷ [])
+  pub no-extracts : viewPatterns (0 ∷ []) ≡ []
+  -- "like the byte 00": every call that takes a catalogue answers the same to both, whatever is lent
+  pub read-catalogue : (room words : ℕ) → withWorkspace words (catalogueRead [] room) ≡ withWorkspace words (catalogueRead (0 ∷ []) room)
+  pub read-book : (s : List ℕ) (room words : ℕ) → withWorkspace words (bookRead [] s room) ≡ withWorkspace words (bookRead (0 ∷ []) s room)
+  pub write-book : (ws : List ℕ) (room words : ℕ) → withWorkspace words (bookWritten [] ws room) ≡ withWorkspace words (bookWritten (0 ∷ []) ws room)
+  pub make-book : (r : List ℕ) (room words : ℕ) → withWorkspace words (makeBookOutcome [] r room) ≡ withWorkspace words (makeBookOutcome (0 ∷ []) r room)
+  pub quote : (q : List ℕ) (words : ℕ) → withWorkspace words (quoteOutcome q []) ≡ withWorkspace words (quoteOutcome q (0 ∷ []))
+  pub cheapest : (q charges : List ℕ) (words : ℕ) → withWorkspace words (cheapestOutcome q [] charges) ≡ withWorkspace words (cheapestOutcome q (0 ∷ []) charges)
+  pub answer : (choose : Choose) (q b : List ℕ) (room words : ℕ) → withWorkspace words (answerBy choose q [] b room) ≡ withWorkspace words (answerBy choose q (0 ∷ []) b room)
+  pub several : (q : List ℕ) (number : ℕ) (b : List ℕ) (room words : ℕ)
+      → withWorkspace words (severalOutcome q number [] b room) ≡ withWorkspace words (severalOutcome q number (0 ∷ []) b room)
+  pub show : (q : List ℕ) (room room′ words : ℕ) → withWorkspace words (showOutcome q [] room room′) ≡ withWorkspace words (showOutcome q (0 ∷ []) room room′)
+  pub part : (q b : List ℕ) (room room′ words : ℕ) → withWorkspace words (partOutcome q [] b room room′) ≡ withWorkspace words (partOutcome q (0 ∷ []) b room room′)
+  -- "the writer still writes 00": so the content 0 is written. The empty file is not among those that have a content, nothing is written as it, and no words
+  -- are no content
+  pub written : (room : ℕ) → catalogueWritten (0 ∷ []) room ≡ fit room (0 ∷ [])
+  pub has-none : (ws : List ℕ) → CatalogueFile [] ws → ⊥
+  pub never-written : (ws : List ℕ) (room words : ℕ) → withWorkspace words (catalogueWritten ws room) ≡ give [] ([] ∷ []) → ⊥
+  pub no-words : (room : ℕ) → catalogueWritten [] room ≡ refuse 2 2
+  -- "a book for it has zero bytes": that one is accepted and no other, any byte is 9, and that one is made from every record
+  pub book : (b bs : List ℕ) → Book (0 ∷ []) b bs ↔ ((b ≡ []) × (bs ≡ []))
+  pub any-byte : (b : List ℕ) → 0 < length b → length b ≤ bookMost → readBook (0 ∷ []) b ≡ rejected 9 4
+  pub made : (rs : List ℕ) → bookOf (0 ∷ []) rs ≡ []
 
 -- ---- Records that were stored before their links had kinds, or even an order. "A converter sorts the files already stored, read by the old rules: the sorted
 -- record has the same links and the same sheets."

@@ -6,11 +6,11 @@ use lib.ListN.{length, getD, take, replicate}
 use lib.Seq.{sets}
 use lib.Dec.{eqb, ltb}
 use Rattle.packed.specs.Format.{ok, pick, decode}
-use Rattle.packed.specs.Formats.{pattern, catalogue}
+use Rattle.packed.specs.Formats.{pattern}
 use Rattle.packed.specs.Contents.{edgesOf, edgeCounts, edgeWord, wordKind, sortedEdges}
 use Rattle.packed.specs.ByValue.{HoldsPattern, NoPattern, Small}
 use Rattle.packed.specs.Accepting.{NoViews}
-use Rattle.packed.specs.Calls.{Outcome, refuse, accepted, judged, readBook, withinPairs}
+use Rattle.packed.specs.Calls.{Outcome, refuse, accepted, judged, readCatalogue, readBook, withinPairs}
 use Rattle.packed.specs.Refusals.{numberOf, detailOf}
 use Rattle.packed.specs.declared.reply.Reply.{Reply}
 use Rattle.packed.specs.declared.reply.Reply.the-variants as reply-is
@@ -33,7 +33,7 @@ pub record Query (q : Given) : Type 0 where
 -- an accepted catalogue of k views
 pub record Views (c : List ℕ) (k : ℕ) : Type 0 where
   pub content : List ℕ
-  pub is : decode catalogue c ≡ ok content
+  pub is : readCatalogue c ≡ accepted content
   pub number : k ≡ getD content 0 0
 
 -- the numbers of edges of k views of an accepted catalogue, in a table

@@ -8,9 +8,9 @@ use lib.ListN.{length, getD}
 use native.Mathlib.Omega.{arith}
 use Rattle.packed.specs.Bits.{bits}
 use Rattle.packed.specs.Format.{ok, decode}
-use Rattle.packed.specs.Formats.{catalogue, record′, book}
+use Rattle.packed.specs.Formats.{record′, book}
 use Rattle.packed.specs.Contents.{edgesOf, viewsOf, edgeCounts, sheetFields, sheetsIn}
-use Rattle.packed.specs.Calls.{accepted, readBook, pairsOf}
+use Rattle.packed.specs.Calls.{accepted, readCatalogue, readBook, pairsOf}
 use Rattle.packed.specs.Plain.{PlainPattern, PlainSheet, Whole, InTurn}
 use Rattle.packed.proofs.BitsLaws.{bits-append}
 use Rattle.packed.proofs.AcceptedTurns.{no-turns, more-turns}
@@ -97,7 +97,7 @@ map-map : {A B C : Type 0} (g : B → C) (f : A → B) (l : List A) → map g (m
 map-map g f [] = refl
 map-map g f (x ∷ l) = ap (λ t. g (f x) ∷ t) (map-map g f l)
 
-module _ (c r cs rs : List ℕ) (e : decode catalogue c ≡ ok cs) (f : decode record′ r ≡ ok rs) where
+module _ (c r cs rs : List ℕ) (e : readCatalogue c ≡ accepted cs) (f : decode record′ r ≡ ok rs) where
   abbrev sheets : List (List (List ℕ))
   sheets = viewSheets cs (graphOf rs)
 

@@ -9,9 +9,10 @@ use borrow.Author.Count.{below-more}
 use native.Mathlib.Omega.{arith}
 use native.Mathlib.Nat.{add-zero, zero-add}
 use borrow.Rule.Slice.PartMut.{putMid, postOf}
-use Rattle.packed.specs.Format.{pick, ok, decode, encode}
-use Rattle.packed.specs.Formats.{catalogue, sheet as sheetFormat}
+use Rattle.packed.specs.Format.{pick, ok, encode}
+use Rattle.packed.specs.Formats.{sheet as sheetFormat}
 use Rattle.packed.specs.Contents.{viewsOf, pairCount, sheetFields, sheetLength}
+use Rattle.packed.specs.Calls.{accepted, readCatalogue}
 use Rattle.packed.specs.Reading.{Stands}
 use Rattle.packed.specs.LoadedGraph.{Holds}
 use Rattle.packed.specs.Matches.{marked, markedFrom, anyEmpty, emptied, allOrNone, matchesOf, Marked, SheetWritten}
@@ -142,7 +143,7 @@ on-append G us vs = ap bookBytes (map-append (λ v. viewSheet (patternOf v) G) u
 pub record ViewPassed (c s : List ℕ) (n m : ℕ) (w₀ : List ℕ) (k byte a : ℕ) (w : List ℕ) : Type 0 where
   pub small : length c ≤ 65536
   pub fields : List ℕ
-  pub is : decode catalogue c ≡ ok fields
+  pub is : readCatalogue c ≡ accepted fields
   pub past : List (List ℕ)
   pub rest : List (List ℕ)
   pub views : viewsOf fields ≡ past ++ rest
@@ -191,9 +192,6 @@ module _ {c s : List ℕ} {n m : ℕ} {w₀ : List ℕ} {k byte a : ℕ} {w : Li
   abbrev G : Graph
   G = graphIn s n m w₀
 
-  pub turned-stands : Stands c (8 * byte) 0
-  turned-stands = record { small = t .small; inside = omega (arith, t .ahead .inside); few = omega arith }
-
   -- the whole book, in two parts
   whole-book : viewSheets (t .fields) G ≡ sheetsOn G (t .past ++ t .rest)
   unfolding viewSheets
@@ -208,6 +206,9 @@ module _ {c s : List ℕ} {n m : ℕ} {w₀ : List ℕ} {k byte a : ℕ} {w : Li
 
   pub turned-most : a ≤ k
   turned-most = omega (arith, parts)
+
+  pub turned-stands : a < k → Stands c (8 * byte) 0
+  turned-stands some = record { small = t .small; inside = omega (arith, t .ahead .inside (omega (arith, parts))); few = omega arith }
 
   -- no view is left
   pub past-all : k ≤ a → bookPast t ≡ bookIn (t .fields) s n m w₀

@@ -10,9 +10,10 @@ use native.Mathlib.Omega.{arith}
 use native.Mathlib.Nat.{zero-add}
 use Rattle.packed.specs.Bits.{bits, bitsOf}
 use Rattle.packed.specs.Format.{done, whole, got, push, scan, ok, decode}
-use Rattle.packed.specs.Formats.{pattern, patterns, catalogue}
+use Rattle.packed.specs.Formats.{pattern, patterns}
 use Rattle.packed.specs.Contents.{nodesOf, edgesOf, patternSize, patternsIn, viewsOf}
-use Rattle.packed.specs.Plain.{PlainPattern, PlainPatterns, Whole}
+use Rattle.packed.specs.Plain.{PlainPattern, PlainPatterns, Whole, CatalogueFile, EmptyCatalogue}
+use Rattle.packed.specs.Calls.{accepted, readCatalogue}
 use Rattle.packed.specs.ByValue.{HoldsPattern}
 use Rattle.packed.specs.Reading.{from, Reading, Refuses, Content}
 use Rattle.packed.specs.declared.reply.Refusal.{Refusal}
@@ -21,7 +22,7 @@ use Rattle.packed.proofs.BitsLaws.{length-bits, length-bitsOf}
 use Rattle.packed.proofs.RoundTrip.{scan-done, scan-lay, lay-scan}
 use Rattle.packed.proofs.AcceptedLaws.{Accepts, accepts-whole, whole-length}
 use Rattle.packed.proofs.AcceptedGraphs.{accepts-pattern}
-use Rattle.packed.proofs.Accepted.{questions-accepted, catalogue-accepted}
+use Rattle.packed.proofs.Accepted.{questions-accepted, catalogue-some, catalogue-read}
 use Rattle.packed.proofs.AcceptedBounds.{Bounded, plain-bounded, patternsIn-flatten}
 use Rattle.packed.proofs.CallLaws.{front-is}
 use Rattle.matching.specs.Lists.{In}
@@ -95,9 +96,9 @@ pub data Follow : List Bool → List (List ℕ) → Type 0 where
   none-follow : Follow [] []
   next-follows : {bs rest : List Bool} {v : List ℕ} {vs : List (List ℕ)} → Whole PlainPattern v bs → Follow rest vs → Follow (bs ++ rest) (v ∷ vs)
 
--- the same from a byte of s on
+-- the same from a byte on, which s reaches if there is one: an empty catalogue has no byte, and its views are looked for from byte 1 on
 pub record Ahead (s : List ℕ) (byte : ℕ) (vs : List (List ℕ)) : Type 0 where
-  pub inside : byte ≤ length s
+  pub inside : 0 < length vs → byte ≤ length s
   pub follow : Follow (drop (8 * byte) (bits s)) vs
 
 -- the first of them
@@ -144,7 +145,7 @@ scanned s byte {v} own rest left e q h d = ap (scan (whole pattern)) e ∙ plain
 pub found : {s : List ℕ} {byte : ℕ} {v : List ℕ} {vs : List (List ℕ)} → Ahead s byte (v ∷ vs) → Found s byte v vs
 found {s} {byte} {v} {vs} a =
     let f = first (a .follow) in
-    let i = a .inside in
+    let i = a .inside (omega arith) in
     let end : ℕ = 8 * byte + length (f .own) in
     let n : 8 * length s - 8 * byte ≡ length (f .own) + length (f .rest) =
     omega (arith, length-drop (8 * byte) (bits s), length-bits s, ap length (f .splits), length-append (f .own) (f .rest)) in
@@ -169,7 +170,7 @@ advance {s} {v = v} {vs} {r} a view =
       body = f .body;
       plain = f .plain;
       holds = q .0;
-      ahead = record { inside = omega (arith, q .1, f .at .within); follow = subst (λ (k : ℕ). Follow (drop k (bits s)) vs) (sym (q .1)) (f .others) };
+      ahead = record { inside = λ _. omega (arith, q .1, f .at .within); follow = subst (λ (k : ℕ). Follow (drop k (bits s)) vs) (sym (q .1)) (f .others) };
     }
 
 follow-by : (cs : List (List ℕ)) (ls : List (List Bool)) → length cs ≡ length ls → ((i : ℕ) → i < length cs → Whole PlainPattern (getD cs i []) (getD ls i [])) → Follow (flatten ls) cs
@@ -189,7 +190,7 @@ patterns-ahead s byte number inner laid inside here t =
     λ i h. let p = each i h in plain-bounded (getD (t .contents) i []) (p .body) (p .laid) in
     let same : patternsIn number inner ≡ t .contents = ap₂ patternsIn (sym m) (t .content) ∙ patternsIn-flatten (t .contents) bounded in
     record {
-      inside = inside;
+      inside = λ _. inside;
       follow = subst (λ vs. Follow (drop (8 * byte) (bits s)) vs) (sym same)
           (subst (λ l. Follow l (t .contents)) (sym (here ∙ t .layout)) (follow-by (t .contents) (t .laid) (m ∙ sym (t .many-laid)) each));
     }
@@ -198,14 +199,21 @@ patterns-ahead s byte number inner laid inside here t =
 pub questions-ahead : (number : ℕ) (s ws : List ℕ) → decode (patterns number) s ≡ ok ws → Ahead s 0 (patternsIn number ws)
 questions-ahead number s ws e = patterns-ahead s 0 number ws (bits s) (omega arith) refl (questions-accepted number s ws .0 e)
 
--- and the views of an accepted catalogue, behind their number
-pub all-ahead : (s cs : List ℕ) → decode catalogue s ≡ ok cs → Ahead s 1 (viewsOf cs)
+-- and the views of a catalogue, behind their number
+views-ahead : (s cs : List ℕ) → CatalogueFile s cs → Ahead s 1 (viewsOf cs)
 unfolding viewsOf
-all-ahead s cs e =
-    let q = catalogue-accepted s cs .0 e in
+views-ahead s cs q =
     let number : length (bitsOf 5 (q .number) ++ replicate 3 false) ≡ 8 =
     length-append (bitsOf 5 (q .number)) (replicate 3 false) ∙ omega (arith, length-bitsOf 5 (q .number), length-replicate 3 false) in
     let split : bits s ≡ (bitsOf 5 (q .number) ++ replicate 3 false) ++ q .laid = q .layout ∙ simp append-assoc in
     let here : drop (8 * 1) (bits s) ≡ q .laid = ap (drop (8 * 1)) split ∙ drop-at (bitsOf 5 (q .number) ++ replicate 3 false) (q .laid) 8 number in
     rw (q .content)
-    (patterns-ahead s 1 (q .number) (q .inner) (q .laid) (omega (arith, length-bits s, ap length split, length-append (bitsOf 5 (q .number) ++ replicate 3 false) (q .laid), number)) here (q .patterns))
+    (patterns-ahead s 1 (q .number) (q .inner) (q .laid) (omega (arith, catalogue-some s cs q)) here (q .patterns))
+
+-- the empty one has none
+none-ahead : (s cs : List ℕ) → EmptyCatalogue s cs → Ahead s 1 (viewsOf cs)
+unfolding bits viewsOf patternsIn
+none-ahead s cs q = rw (q .0, q .1) (record { inside = λ h. absurd (omega arith); follow = none-follow })
+
+pub all-ahead : (s cs : List ℕ) → readCatalogue s ≡ accepted cs → Ahead s 1 (viewsOf cs)
+all-ahead s cs e = ⊎-elim (none-ahead s cs) (views-ahead s cs) (catalogue-read s cs .0 e .1)

@@ -4,11 +4,9 @@ use mathlib.Core.Path.{_≡_}
 use mathlib.Core.List.{List, []}
 use lib.ListN.{length, getD}
 use lib.Seq.{sets}
-use Rattle.packed.specs.Format.{ok, decode}
-use Rattle.packed.specs.Formats.{catalogue}
 use Rattle.packed.specs.Contents.{viewsOf, pairCount, sheetLength}
 use Rattle.packed.specs.Refusals.{Told}
-use Rattle.packed.specs.Calls.{FulfilsOne}
+use Rattle.packed.specs.Calls.{FulfilsOne, accepted, readCatalogue}
 use Rattle.matching.specs.Simulation.{patternOf, viewSheet}
 use Rattle.matching.specs.Search.{bookBytes, viewSheets, bookFor}
 use Rattle.matching.specs.Loaded.{graphIn, Ready, Edges}
@@ -18,7 +16,7 @@ use Rattle.matching.specs.Matched.{Rises}
 pub record Catalogued (c : List ℕ) (k : ℕ) : Type 0 where
   pub small : length c ≤ 65536
   pub fields : List ℕ
-  pub is : decode catalogue c ≡ ok fields
+  pub is : readCatalogue c ≡ accepted fields
   pub number : k ≡ getD fields 0 0
 
 pub record Bookable (c : List ℕ) (k : ℕ) (s : List ℕ) (n m : ℕ) (w : List ℕ) : Type 0 where
@@ -37,19 +35,19 @@ sheetSize ls = sheetLength (length ls) (pairCount ls)
 -- the sizes of the sheets
 abbrev pub Sizes : List ℕ → List ℕ → ℕ → ℕ → List ℕ → List ℕ → Type 0
 Sizes c s n m w sizes =
-    (cs : List ℕ) → decode catalogue c ≡ ok cs → (j : ℕ) → j < length (viewsOf cs) → getD sizes j 0 ≡ sheetSize (viewSheet (patternOf (getD (viewsOf cs) j [])) (graphIn s n m w))
+    (cs : List ℕ) → readCatalogue c ≡ accepted cs → (j : ℕ) → j < length (viewsOf cs) → getD sizes j 0 ≡ sheetSize (viewSheet (patternOf (getD (viewsOf cs) j [])) (graphIn s n m w))
 
 pub record Sized (c s : List ℕ) (n m : ℕ) (w sizes : List ℕ) (r : ℕ) (w′ : List ℕ) : Type 0 where
   pub edges : Edges w w′
   pub each : Sizes c s n m w sizes
-  pub is : (cs : List ℕ) → decode catalogue c ≡ ok cs → r ≡ length (bookIn cs s n m w)
+  pub is : (cs : List ℕ) → readCatalogue c ≡ accepted cs → r ≡ length (bookIn cs s n m w)
 
 abbrev pub Fits : List ℕ → List ℕ → ℕ → ℕ → List ℕ → List ℕ → Type 0
-Fits c s n m w out = (cs : List ℕ) → decode catalogue c ≡ ok cs → length (bookIn cs s n m w) ≤ length out
+Fits c s n m w out = (cs : List ℕ) → readCatalogue c ≡ accepted cs → length (bookIn cs s n m w) ≤ length out
 
 abbrev pub Filled : List ℕ → List ℕ → ℕ → ℕ → List ℕ → List ℕ → List ℕ → Type 0
-Filled c s n m w out out′ = (cs : List ℕ) → decode catalogue c ≡ ok cs → out′ ≡ sets out 0 (bookIn cs s n m w)
+Filled c s n m w out out′ = (cs : List ℕ) → readCatalogue c ≡ accepted cs → out′ ≡ sets out 0 (bookIn cs s n m w)
 
 -- what making a book answers, once the catalogue was accepted
 abbrev pub BookAnswered : List ℕ → List ℕ → Told → List ℕ → List ℕ → Type 0
-BookAnswered c s r out out′ = (cs : List ℕ) → decode catalogue c ≡ ok cs → FulfilsOne (bookFor cs s (length out)) r out out′
+BookAnswered c s r out out′ = (cs : List ℕ) → readCatalogue c ≡ accepted cs → FulfilsOne (bookFor cs s (length out)) r out out′

@@ -1,26 +1,26 @@
 -- A file is accepted, with its content, exactly when the plain rules hold.
-use Prim.Native.Nat.{ℕ, _+_, _/_, _≤_, _*_}
+use Prim.Native.Nat.{ℕ, _+_, _/_, _≤_, _<_, _*_}
 use mathlib.Core.Path.{_≡_, refl, ap, sym, subst, _∙_}
-use mathlib.Core.List.{List, [], _++_, append-nil}
+use mathlib.Core.List.{List, [], _∷_, _++_, append-nil}
 use mathlib.Core.Bool.{Bool, true, false}
-use mathlib.Core.Logic.{_↔_, Iff·trans}
+use mathlib.Core.Logic.{_⊎_, inl, inr, _↔_, Iff·trans, ⊎-elim}
 use lib.ListN.{length, getD, replicate, length-append, length-replicate}
 use lib.Dec.{ltb}
 use native.Mathlib.Omega.{arith}
 use borrow.Author.Tests.{ltb-false, le-ltb}
-use Rattle.packed.specs.Bits.{bits, gap}
+use Rattle.packed.specs.Bits.{bitsOf, bits, gap}
 use Rattle.packed.specs.Format.{Format, Result, ok, bad, pick, got, ended, lay, whole, bytesOf, decode, encode}
 use Rattle.packed.specs.Formats.{pattern, catalogue, record′, sheet, book, patterns}
 use Rattle.packed.specs.Contents.{edgesOf, edgeCounts}
 use Rattle.packed.specs.Calls.{accepted, rejected, inFile, readFile, readPattern, readQuestions, readCatalogue, readRecord, readSheet, readBook}
 use Rattle.packed.specs.OldRecord.{oldRecord, OldRecordFile}
-use Rattle.packed.specs.Plain.{Laid, PlainSheet, PatternFile, CatalogueFile, RecordFile, SheetFile, BookFile, QuestionsFile}
-use Rattle.packed.proofs.BitsLaws.{gap-small, gap-fills}
+use Rattle.packed.specs.Plain.{Laid, PlainCatalogue, PlainSheet, PatternFile, CatalogueFile, EmptyCatalogue, RecordFile, SheetFile, BookFile, QuestionsFile}
+use Rattle.packed.proofs.BitsLaws.{length-bits, length-bitsOf, gap-small, gap-fills}
 use Rattle.packed.proofs.RoundTrip.{Bytes, inBytes-ok, decode-encode, encode-decode}
 use Rattle.packed.proofs.Files.{bytes-bytesOf, length-bytesOf}
 use Rattle.packed.proofs.AcceptedLaws.{Accepts, accepts-whole, accepts-file, whole-same}
 use Rattle.packed.proofs.AcceptedGraphs.{accepts-pattern, accepts-record, accepts-old}
-use Rattle.packed.proofs.AcceptedTurns.{accepts-patterns, patterns-length, accepts-catalogue, catalogue-length, turns-length}
+use Rattle.packed.proofs.AcceptedTurns.{no-turns, accepts-patterns, patterns-length, accepts-catalogue, catalogue-length, turns-length}
 use Rattle.packed.proofs.AcceptedSheets.{accepts-sheet, accepts-book}
 
 -- ---- bytes of any number
@@ -33,6 +33,16 @@ questions-accepted number s ws = Iff·trans (accepts-file (patterns number) (acc
 
 pub catalogue-accepted : (s ws : List ℕ) → decode catalogue s ≡ ok ws ↔ CatalogueFile s ws
 catalogue-accepted s ws = Iff·trans (accepts-file catalogue accepts-catalogue s ws) (whole-same catalogue-length ws (bits s))
+
+-- it has a byte: that of the number
+pub catalogue-some : (s ws : List ℕ) → CatalogueFile s ws → 0 < length s
+catalogue-some s ws q =
+    omega (arith, length-bits s, ap length (q .layout), length-append (bitsOf 5 (q .number)) (replicate 3 false ++ q .laid), length-bitsOf 5 (q .number))
+
+-- the byte 00 has the content 0
+pub zero-byte : CatalogueFile (0 ∷ []) (0 ∷ [])
+unfolding bits bitsOf
+zero-byte = record { number = 0; inner = []; laid = []; content = refl; layout = refl; most = omega arith; patterns = no-turns _ [] [] .0 (refl, refl) }
 
 pub record-accepted : (s ws : List ℕ) → decode record′ s ≡ ok ws ↔ RecordFile s ws
 record-accepted s ws = accepts-file record′ (accepts-record 0) s ws
@@ -70,8 +80,25 @@ pattern-read s ws = read-accepted 56 1 pattern s ws (pattern-accepted s ws)
 pub questions-read : (number : ℕ) (s ws : List ℕ) → readQuestions number s ≡ accepted ws ↔ ((length s ≤ 56 * number) × QuestionsFile number s ws)
 questions-read number s ws = read-accepted (56 * number) 1 (patterns number) s ws (questions-accepted number s ws)
 
-pub catalogue-read : (s ws : List ℕ) → readCatalogue s ≡ accepted ws ↔ ((length s ≤ 897) × CatalogueFile s ws)
-catalogue-read s ws = read-accepted 897 2 catalogue s ws (catalogue-accepted s ws)
+pub catalogue-read : (s ws : List ℕ) → readCatalogue s ≡ accepted ws ↔ ((length s ≤ 897) × (EmptyCatalogue s ws ⊎ CatalogueFile s ws))
+unfolding readCatalogue
+catalogue-read [] ws = (
+  λ e. (omega arith, inl (refl, let q : 0 ∷ [] ≡ ws = cc in sym q)),
+  λ q. ⊎-elim (λ x. ap accepted (sym (x .1))) (λ x. absurd (let l = catalogue-some [] ws x in omega arith)) (q .1),
+)
+catalogue-read (b ∷ s) ws =
+    let p = read-accepted 897 2 catalogue (b ∷ s) ws (catalogue-accepted (b ∷ s) ws) in (
+      λ e. let q = p .0 e in (q .0, inr (q .1)),
+      λ q. ⊎-elim (λ x. absurd (let l = ap length (x .0) in omega arith)) (λ x. p .1 (q .0, x)) (q .1),
+    )
+
+-- the content of a catalogue that is read keeps the plain rules, that of the empty file too
+pub catalogue-plain : (s ws : List ℕ) → readCatalogue s ≡ accepted ws → (bs : List Bool) × PlainCatalogue ws bs
+catalogue-plain s ws e = ⊎-elim (λ x. (bits (0 ∷ []), rw (x .1) zero-byte)) (λ q. (bits s, q)) (catalogue-read s ws .0 e .1)
+
+-- which is read as the byte 00 is
+pub read-alike : readCatalogue [] ≡ readCatalogue (0 ∷ [])
+read-alike = catalogue-read [] (0 ∷ []) .1 (omega arith, inl (refl, refl)) ∙ sym (catalogue-read (0 ∷ []) (0 ∷ []) .1 (omega arith, inr zero-byte))
 
 pub record-read : (s ws : List ℕ) → readRecord s ≡ accepted ws ↔ ((length s ≤ 44036) × RecordFile s ws)
 record-read s ws = read-accepted 44036 3 record′ s ws (record-accepted s ws)

@@ -8,11 +8,12 @@ use lib.ListN.{length, drop, getD, length-append, length-map, List·getD-map, Li
 use lib.Seq.{take-at, drop-at}
 use native.Mathlib.Omega.{arith}
 use Rattle.packed.specs.Format.{ok, decode}
-use Rattle.packed.specs.Formats.{pattern, catalogue}
+use Rattle.packed.specs.Formats.{pattern}
 use Rattle.packed.specs.Contents.{nodesOf, edgesOf, patternSize, patternsIn, viewsOf, edgeCounts}
 use Rattle.packed.specs.Plain.{PlainPattern}
+use Rattle.packed.specs.Calls.{accepted, readCatalogue}
 use Rattle.packed.proofs.OrderCases.{lt-or-ge}
-use Rattle.packed.proofs.Accepted.{pattern-accepted, catalogue-accepted}
+use Rattle.packed.proofs.Accepted.{pattern-accepted, catalogue-plain}
 
 -- ---- a pattern
 
@@ -70,10 +71,10 @@ pub record ViewsWithin (ws : List ℕ) : Type 0 where
   pub many : length (viewsOf ws) ≡ getD ws 0 0
   pub bounded : (j : ℕ) → j < getD ws 0 0 → Bounded (getD (viewsOf ws) j [])
 
-pub catalogue-views : (s ws : List ℕ) → decode catalogue s ≡ ok ws → ViewsWithin ws
+pub catalogue-views : (s ws : List ℕ) → readCatalogue s ≡ accepted ws → ViewsWithin ws
 unfolding viewsOf
 catalogue-views s ws e =
-    let q = catalogue-accepted s ws .0 e in
+    let q = catalogue-plain s ws e .1 in
     let t = q .patterns in
     let each : (i : ℕ) → i < length (t .contents) → Bounded (getD (t .contents) i []) =
     λ i h. let p = t .each i (let m = t .many in omega arith) in plain-bounded (getD (t .contents) i []) (p .body) (p .laid) in
@@ -85,7 +86,7 @@ catalogue-views s ws e =
       bounded = λ j h. subst (λ (l : List (List ℕ)). Bounded (getD l j [])) (sym same) (each j (let m = t .many in omega arith));
     })
 
-pub catalogue-bounds : (s ws : List ℕ) → decode catalogue s ≡ ok ws
+pub catalogue-bounds : (s ws : List ℕ) → readCatalogue s ≡ accepted ws
     → (getD ws 0 0 ≤ 16) × (length (edgeCounts ws) ≡ getD ws 0 0) × ((j : ℕ) → getD (edgeCounts ws) j 0 ≤ 32)
 unfolding edgeCounts
 catalogue-bounds s ws e =

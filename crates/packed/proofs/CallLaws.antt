@@ -11,13 +11,14 @@ use native.Mathlib.Nat.{sub-zero}
 use borrow.Author.Tests.{lt-ltb, le-ltb, ltb-false}
 use borrow.Rule.Slice.PartMut.{putMid, postOf}
 use Rattle.packed.specs.Format.{Format, Result, ok, bad, pick, decode, encode}
+use Rattle.packed.specs.Formats.{catalogue}
 use Rattle.packed.specs.Contents.{edgeCounts, sheetsIn}
 use Rattle.packed.specs.ByValue.{CountTable, Small}
 use Rattle.packed.specs.Refusals.{Told, told, numberOf, detailOf, replyTold}
 use Rattle.packed.specs.Reading.{Content, Judges}
 use Rattle.packed.specs.Writing.{JudgesFields}
 use Rattle.packed.specs.Walks.{Different}
-use Rattle.packed.specs.Calls.{Outcome, give, refuse, toldOf, fronts, outputsOf, workOf, Settled, withWorkspace, Fulfils, FulfilsOne, Verdict, accepted, rejected, inFile, readFile, writeFile, judged, pairsOf, withinPairsBy, fit, fitFile}
+use Rattle.packed.specs.Calls.{Outcome, give, refuse, toldOf, fronts, outputsOf, workOf, Settled, withWorkspace, Fulfils, FulfilsOne, Verdict, accepted, rejected, inFile, readFile, writeFile, judged, readCatalogue, pairsOf, withinPairsBy, fit, fitFile}
 use Rattle.packed.specs.Accepting.{replyOf, AcceptsFile}
 use Rattle.packed.specs.declared.reply.Refusal.{Refusal}
 use Rattle.packed.specs.declared.reply.Refusal.the-variants.{NoRoom, SmallWorkspace}
@@ -52,6 +53,18 @@ refused-by {file = file} f x q = f .is ∙ ap (inFile file) (q .0) ∙ ap (rejec
 pub read-long : (most file : ℕ) (F : Format) (s : List ℕ) → most < length s → readFile most file F s ≡ rejected 1 file
 unfolding readFile
 read-long most file F s h = rw (lt-ltb most (length s) h)
+
+-- a catalogue that has a byte is read by its fields
+pub catalogue-by-fields : (s : List ℕ) → 0 < length s → readCatalogue s ≡ readFile 897 2 catalogue s
+unfolding readCatalogue
+catalogue-by-fields [] h = absurd (omega arith)
+catalogue-by-fields (b ∷ s) h = refl
+
+-- one that has none is without views
+pub catalogue-empty : (s : List ℕ) → length s ≡ 0 → readCatalogue s ≡ accepted (0 ∷ [])
+unfolding readCatalogue
+catalogue-empty [] h = refl
+catalogue-empty (b ∷ s) h = absurd (omega arith)
 
 -- what a file that was accepted is
 pub read-says : (most file : ℕ) (F : Format) (s ws : List ℕ) → readFile most file F s ≡ accepted ws → (decode F s ≡ ok ws) × (length s ≤ most)

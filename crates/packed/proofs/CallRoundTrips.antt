@@ -1,5 +1,5 @@
 -- Both ways round through the calls: an accepted file's content is written back as the same bytes, and what was written is read back as the same content.
-use Prim.Native.Nat.{ℕ, _≤_}
+use Prim.Native.Nat.{ℕ, _<_, _≤_}
 use mathlib.Core.Path.{_≡_, refl, ap, _∙_}
 use mathlib.Core.List.{List, [], _∷_}
 use mathlib.Core.Bool.{Bool, true, false}
@@ -10,10 +10,11 @@ use borrow.Author.Tests.{ltb-false, le-ltb}
 use Rattle.packed.specs.Format.{Format, Result, ok, bad, pick, decode, encode}
 use Rattle.packed.specs.Formats.{pattern, catalogue, record′, sheet, book}
 use Rattle.packed.specs.Contents.{edgesOf, edgeCounts}
-use Rattle.packed.specs.Calls.{Outcome, give, refuse, withWorkspace, rejected, inFile, readFile, writeFile, judged, pairsOf, withinPairsBy, fit, fitFile, patternRead, catalogueRead, recordRead, sheetRead, bookRead, patternWritten, catalogueWritten, recordWritten, sheetWritten, bookWritten}
+use Rattle.packed.specs.Calls.{Outcome, give, refuse, withWorkspace, Verdict, accepted, rejected, inFile, readFile, writeFile, judged, readPattern, readCatalogue, pairsOf, withinPairsBy, fit, fitFile, patternRead, catalogueRead, recordRead, sheetRead, bookRead, patternWritten, catalogueWritten, recordWritten, sheetWritten, bookWritten}
 use Rattle.packed.proofs.RoundTrip.{Bytes, decode-encode, encode-decode}
+use Rattle.packed.proofs.Accepted.{catalogue-accepted, catalogue-some}
 use Rattle.packed.proofs.Most.{pattern-bytes, catalogue-bytes, record-bytes}
-use Rattle.packed.proofs.CallLaws.{read-finds, write-finds, accepted-by, judged-accepted, overFile, overFile-no}
+use Rattle.packed.proofs.CallLaws.{read-finds, write-finds, accepted-by, catalogue-by-fields, judged-accepted, overFile, overFile-no}
 
 -- ---- what a call that gave its output went through
 
@@ -87,11 +88,11 @@ module _ (most file : ℕ) (F : Format) (s ws : List ℕ) (k k′ : List ℕ →
       judged-accepted k (accepted-by (read-finds most file F s (q .1)) (encode-decode F ws s (r .1 ∙ ap ok (q .0)))) ∙ q .2
 
 -- the call on another output, beside a file that is accepted
-beside : (most file : ℕ) (F : Format) (p : List ℕ) (k k′ : List ℕ → Outcome) (o o′ : List ℕ) → judged (readFile most file F p) k ≡ give [] (o ∷ [])
-    → ((ps : List ℕ) → k ps ≡ give [] (o ∷ []) → k′ ps ≡ give [] (o′ ∷ [])) → judged (readFile most file F p) k′ ≡ give [] (o′ ∷ [])
-beside most file F p k k′ o o′ e g =
-    let r = read-gave most file F p k o e in
-    judged-accepted k′ (accepted-by (read-finds most file F p (r .1)) (r .2)) ∙ g (r .0) (r .3)
+beside : (v : Verdict) (k k′ : List ℕ → Outcome) (o o′ : List ℕ) → judged v k ≡ give [] (o ∷ [])
+    → ((ps : List ℕ) → k ps ≡ give [] (o ∷ []) → k′ ps ≡ give [] (o′ ∷ [])) → judged v k′ ≡ give [] (o′ ∷ [])
+unfolding judged
+beside (accepted ps) k k′ o o′ e g = g ps e
+beside (rejected n d) k k′ o o′ e g = absurd (let z : _≡_ {A = ℕ} 0 1 = cc in omega arith)
 
 -- the call, with the workspace
 at-withWorkspace : (words : ℕ) (a b : Outcome) (o o′ : List ℕ) → withWorkspace words a ≡ give [] (o ∷ []) → (a ≡ give [] (o ∷ []) → b ≡ give [] (o′ ∷ [])) → withWorkspace words b ≡ give [] (o′ ∷ [])
@@ -121,6 +122,13 @@ module _ (most file : ℕ) (F : Format) (s ws : List ℕ) (room room′ words : 
       (λ d. file-again most file F s ws (fit room′) (fit room) d
       (λ o q w. let g = fit-gave room o s q in (g, bound ws s (w ∙ ap ok g), fit-given room′ ws h)))
 
+-- no catalogue is written as the empty file
+pub written-some : (s ws : List ℕ) (room words : ℕ) → withWorkspace words (catalogueWritten ws room) ≡ give [] (s ∷ []) → 0 < length s
+unfolding catalogueWritten
+written-some s ws room words e =
+    let r = write-gave 2 catalogue ws (fit room) s (withWorkspace-given words (judged (writeFile 2 catalogue ws) (fit room)) s e .0) in
+    catalogue-some s ws (catalogue-accepted s ws .0 (encode-decode catalogue ws s (r .1 ∙ ap ok (fit-gave room (r .0) s (r .2)))))
+
 module _ (s ws : List ℕ) (room room′ words : ℕ) where
   pub pattern-back : Bytes s → withWorkspace words (patternRead s room) ≡ give [] (ws ∷ []) → length s ≤ room′ → withWorkspace words (patternWritten ws room′) ≡ give [] (s ∷ [])
   unfolding patternRead patternWritten
@@ -130,13 +138,15 @@ module _ (s ws : List ℕ) (room room′ words : ℕ) where
   unfolding patternRead patternWritten
   pattern-again = plain-again 56 1 pattern s ws room room′ words pattern-bytes
 
-  pub catalogue-back : Bytes s → withWorkspace words (catalogueRead s room) ≡ give [] (ws ∷ []) → length s ≤ room′ → withWorkspace words (catalogueWritten ws room′) ≡ give [] (s ∷ [])
+  -- all but the empty file
+  pub catalogue-back : Bytes s → 0 < length s → withWorkspace words (catalogueRead s room) ≡ give [] (ws ∷ []) → length s ≤ room′
+      → withWorkspace words (catalogueWritten ws room′) ≡ give [] (s ∷ [])
   unfolding catalogueRead catalogueWritten
-  catalogue-back = plain-back 897 2 catalogue s ws room room′ words
+  catalogue-back y h e = plain-back 897 2 catalogue s ws room room′ words y (rw (catalogue-by-fields s h) at e)
 
   pub catalogue-again : withWorkspace words (catalogueWritten ws room) ≡ give [] (s ∷ []) → length ws ≤ room′ → withWorkspace words (catalogueRead s room′) ≡ give [] (ws ∷ [])
   unfolding catalogueRead catalogueWritten
-  catalogue-again = plain-again 897 2 catalogue s ws room room′ words catalogue-bytes
+  catalogue-again e h = rw (catalogue-by-fields s (written-some s ws room words e)) (plain-again 897 2 catalogue s ws room room′ words catalogue-bytes e h)
 
   pub record-back : Bytes s → withWorkspace words (recordRead s room) ≡ give [] (ws ∷ []) → length s ≤ room′ → withWorkspace words (recordWritten ws room′) ≡ give [] (s ∷ [])
   unfolding recordRead recordWritten
@@ -148,31 +158,31 @@ module _ (s ws : List ℕ) (room room′ words : ℕ) where
 
 -- ---- sheets beside a pattern, books beside a catalogue
 
--- the file p is accepted as ps; beside it a file of the format F ps; then perhaps a test of the content, which a test passed once passes again
-module _ (most file : ℕ) (P : Format) (F : List ℕ → Format) (test : List ℕ → List ℕ → Outcome → Outcome)
+-- a file is accepted as ps; beside it a file of the format F ps; then perhaps a test of the content, which a test passed once passes again
+module _ (v : Verdict) (F : List ℕ → Format) (test : List ℕ → List ℕ → Outcome → Outcome)
     (passes : (ps ws : List ℕ) (a : Outcome) (o : List ℕ) → test ps ws a ≡ give [] (o ∷ []) → (a ≡ give [] (o ∷ [])) × ((b : Outcome) → test ps ws b ≡ b))
-    (p s ws : List ℕ) (words : ℕ) where
+    (s ws : List ℕ) (words : ℕ) where
   abbrev reading : ℕ → List ℕ → Outcome
   reading room ps = judged (readFile 65536 4 (F ps) s) (λ o. test ps o (fit room o))
 
   abbrev writing : ℕ → List ℕ → Outcome
   writing room ps = judged (writeFile 4 (F ps) ws) (λ o. test ps ws (fitFile room o))
 
-  paired-back : (room room′ : ℕ) → Bytes s → withWorkspace words (judged (readFile most file P p) (reading room)) ≡ give [] (ws ∷ []) → length s ≤ room′
-      → withWorkspace words (judged (readFile most file P p) (writing room′)) ≡ give [] (s ∷ [])
+  paired-back : (room room′ : ℕ) → Bytes s → withWorkspace words (judged v (reading room)) ≡ give [] (ws ∷ []) → length s ≤ room′
+      → withWorkspace words (judged v (writing room′)) ≡ give [] (s ∷ [])
   paired-back room room′ y e h =
-      at-withWorkspace words (judged (readFile most file P p) (reading room)) (judged (readFile most file P p) (writing room′)) ws s e
-      (λ d. beside most file P p (reading room) (writing room′) ws s d
+      at-withWorkspace words (judged v (reading room)) (judged v (writing room′)) ws s e
+      (λ d. beside v (reading room) (writing room′) ws s d
       (λ ps b. file-back 65536 4 (F ps) s ws (λ o. test ps o (fit room o)) (λ o. test ps ws (fitFile room′ o)) y b
       (λ o q l. let u = passes ps o (fit room o) ws q in
       let g : o ≡ ws = fit-gave room o ws (u .0) in
       (g, (rw g at (u .1)) (fitFile room′ s) ∙ fitFile-given room′ s h l))))
 
-  paired-again : (room room′ : ℕ) → withWorkspace words (judged (readFile most file P p) (writing room)) ≡ give [] (s ∷ []) → length ws ≤ room′
-      → withWorkspace words (judged (readFile most file P p) (reading room′)) ≡ give [] (ws ∷ [])
+  paired-again : (room room′ : ℕ) → withWorkspace words (judged v (writing room)) ≡ give [] (s ∷ []) → length ws ≤ room′
+      → withWorkspace words (judged v (reading room′)) ≡ give [] (ws ∷ [])
   paired-again room room′ e h =
-      at-withWorkspace words (judged (readFile most file P p) (writing room)) (judged (readFile most file P p) (reading room′)) s ws e
-      (λ d. beside most file P p (writing room) (reading room′) s ws d
+      at-withWorkspace words (judged v (writing room)) (judged v (reading room′)) s ws e
+      (λ d. beside v (writing room) (reading room′) s ws d
       (λ ps b. file-again 65536 4 (F ps) s ws (λ o. test ps o (fit room′ o)) (λ o. test ps ws (fitFile room o)) b
       (λ o q w. let u = passes ps ws (fitFile room o) s q in
       let g = fitFile-gave room o s (u .0) in
@@ -181,16 +191,16 @@ module _ (most file : ℕ) (P : Format) (F : List ℕ → Format) (test : List �
 module _ (p s ws : List ℕ) (room room′ words : ℕ) where
   pub sheet-back : Bytes s → withWorkspace words (sheetRead p s room) ≡ give [] (ws ∷ []) → length s ≤ room′ → withWorkspace words (sheetWritten p ws room′) ≡ give [] (s ∷ [])
   unfolding sheetRead sheetWritten
-  sheet-back = paired-back 56 1 pattern (λ ps. sheet (edgesOf ps)) (λ ps o a. a) (λ ps o a q e. (e, λ b. refl)) p s ws words room room′
+  sheet-back = paired-back (readPattern p) (λ ps. sheet (edgesOf ps)) (λ ps o a. a) (λ ps o a q e. (e, λ b. refl)) s ws words room room′
 
   pub sheet-again : withWorkspace words (sheetWritten p ws room) ≡ give [] (s ∷ []) → length ws ≤ room′ → withWorkspace words (sheetRead p s room′) ≡ give [] (ws ∷ [])
   unfolding sheetRead sheetWritten
-  sheet-again = paired-again 56 1 pattern (λ ps. sheet (edgesOf ps)) (λ ps o a. a) (λ ps o a q e. (e, λ b. refl)) p s ws words room room′
+  sheet-again = paired-again (readPattern p) (λ ps. sheet (edgesOf ps)) (λ ps o a. a) (λ ps o a q e. (e, λ b. refl)) s ws words room room′
 
   pub book-back : Bytes s → withWorkspace words (bookRead p s room) ≡ give [] (ws ∷ []) → length s ≤ room′ → withWorkspace words (bookWritten p ws room′) ≡ give [] (s ∷ [])
   unfolding bookRead bookWritten
-  book-back = paired-back 897 2 catalogue (λ cs. book (edgeCounts cs)) (λ cs. withinPairsBy (edgeCounts cs)) (λ cs. within-pairs-given (edgeCounts cs)) p s ws words room room′
+  book-back = paired-back (readCatalogue p) (λ cs. book (edgeCounts cs)) (λ cs. withinPairsBy (edgeCounts cs)) (λ cs. within-pairs-given (edgeCounts cs)) s ws words room room′
 
   pub book-again : withWorkspace words (bookWritten p ws room) ≡ give [] (s ∷ []) → length ws ≤ room′ → withWorkspace words (bookRead p s room′) ≡ give [] (ws ∷ [])
   unfolding bookRead bookWritten
-  book-again = paired-again 897 2 catalogue (λ cs. book (edgeCounts cs)) (λ cs. withinPairsBy (edgeCounts cs)) (λ cs. within-pairs-given (edgeCounts cs)) p s ws words room room′
+  book-again = paired-again (readCatalogue p) (λ cs. book (edgeCounts cs)) (λ cs. withinPairsBy (edgeCounts cs)) (λ cs. within-pairs-given (edgeCounts cs)) s ws words room room′

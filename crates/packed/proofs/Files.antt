@@ -21,7 +21,7 @@ use Rattle.packed.proofs.ReadingLaws.{starts, same-at, left-is, calls, 
 use Rattle.packed.proofs.WritingLaws.{begins, same-to, left-to, parts, parts-rejected, fills}
 
 -- what is left at the end
-ended-more : {A B : Type 0} (xs : List A) (t : List B) → 0 < length t → ended (got xs t) ≡ bad 9
+pub ended-more : {A B : Type 0} (xs : List A) (t : List B) → 0 < length t → ended (got xs t) ≡ bad 9
 ended-more xs [] h = absurd (omega arith)
 ended-more xs (y ∷ t) h = refl
 

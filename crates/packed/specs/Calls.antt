@@ -102,8 +102,10 @@ pub record QuestionFiles (number : ℕ) (s ws : List ℕ) : Type 0 where
   pub bytes : s ≡ flatten files
   pub content : ws ≡ flatten contents
 
-abbrev pub readCatalogue : List ℕ → Verdict
-readCatalogue s = readFile catalogueMost 2 catalogue s
+-- "New clients have an empty file. It now means a catalogue without extracts, like the byte 00": by this every call accepts a catalogue
+unfoldable pub readCatalogue : List ℕ → Verdict
+readCatalogue [] = accepted (0 ∷ [])
+readCatalogue (b ∷ s) = readFile catalogueMost 2 catalogue (b ∷ s)
 
 abbrev pub readRecord : List ℕ → Verdict
 readRecord s = readFile recordMost 3 record′ s

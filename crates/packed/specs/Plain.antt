@@ -137,6 +137,10 @@ pub record PlainCatalogue (ws : List ℕ) (bs : List Bool) : Type 0 where
 abbrev pub CatalogueFile : List ℕ → List ℕ → Type 0
 CatalogueFile s ws = PlainCatalogue ws (bits s)
 
+-- a file of zero bytes is read as a catalogue without patterns; no content is written as one
+abbrev pub EmptyCatalogue : List ℕ → List ℕ → Type 0
+EmptyCatalogue s ws = (s ≡ []) × (ws ≡ 0 ∷ [])
+
 -- ---- a record: 0 to 4,096 nodes, each with 32 bits of labels, and 0 to 8,192 edges, of which Edges holds, with wide bits for a kind
 pub record PlainGraph (wide : ℕ) (Edges : ℕ → ℕ → List ℕ → Type 0) (ws : List ℕ) (bs : List Bool) : Type 0 where
   pub nodes : ℕ

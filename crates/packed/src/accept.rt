@@ -64,23 +64,27 @@ pub fn accept_pattern(s: &[u8], work: &mut [u32]) -> PatternFile
     }
 }
 
-fn refused_catalogue(x: Refusal) -> CatalogueFile
-    ensures { λ r. ⌜ (r .verdict ≡ Reply.Refused x) × NoViews (r .views) (r .edges) ⌝ }
+fn without_views(verdict: Reply) -> CatalogueFile
+    ensures { λ r. ⌜ (r .verdict ≡ verdict) × NoViews (r .views) (r .edges) ⌝ }
 {
     CatalogueFile {
-        verdict: Reply::Refused(x),
+        verdict,
         views: 0,
         edges: catalogue::no_counts(),
     }
 }
 
-// A catalogue: its content stands at the front of the workspace.
+// A catalogue: its content stands at the front of the workspace. A file of zero bytes is one without views, as the byte 00 is.
 pub fn accept_catalogue(s: &[u8], work: &mut [u32]) -> CatalogueFile
     requires { ⌜ length (now work) ≡ 16384 ⌝ }
     ensures { λ r. ⌜ AcceptsWith (λ ws. HoldsViews ws (r .views) (r .edges)) (NoViews (r .views) (r .edges)) (readCatalogue (now (s .entry))) (r .verdict) (now (work .exit)) ⌝ }
 {
+    if s.len() == 0 {
+        work[0] = 0;
+        return without_views(Reply::Done(1));
+    }
     if limits::CATALOGUE_MOST < s.len() {
-        return refused_catalogue(Refusal::TooLong(2));
+        return without_views(Reply::Refused(Refusal::TooLong(2)));
     }
     let p = catalogue::judge_catalogue(s, work);
     match p {
@@ -92,7 +96,7 @@ pub fn accept_catalogue(s: &[u8], work: &mut [u32]) -> CatalogueFile
                 edges: catalogue::edge_counts(content),
             }
         }
-        Part::Refused(x) => refused_catalogue(x),
+        Part::Refused(x) => without_views(Reply::Refused(x)),
     }
 }
 

@@ -2,7 +2,7 @@
 
 use crate::answering::UNCOVERED;
 use crate::files::*;
-use crate::quoting::{covers, quote};
+use crate::quoting::{covers, quote, Quote};
 
 /// The number of the refusal where there isn't one charge for each extract.
 pub const CHARGES: u32 = 15;
@@ -24,20 +24,26 @@ fn sum(set: &[usize], charges: &[u32]) -> u64 {
     set.iter().map(|&a| u64::from(charges[a])).sum()
 }
 
-/// 14, the question, the catalogue, then 15 and 11. Of the sets that cover, the one with the least sum; of those the ones
-/// with the fewest extracts; of those the one that comes first when its numbers are read upward.
-pub fn cheapest(question: &[u8], catalogue: &[u8], charges: &[u32], work_words: usize) -> Result<Cheapest, Refusal> {
-    let quote = quote(question, catalogue, work_words)?;
-    let extracts = judge_catalogue(catalogue)?.len();
+/// Of the sets of usable extracts that cover, the one with the least sum; of those the ones with the fewest extracts; of those the
+/// one that comes first when its numbers are read upward. 15, for which all extracts count, then 11.
+pub fn cheapest_of(quote: Quote, extracts: usize, usable: &[usize], charges: &[u32]) -> Result<Cheapest, Refusal> {
     if charges.len() != extracts {
         return refused(CHARGES, charges.len());
     }
     if let Some(lowest) = quote.lowest_unmatched {
         return refused(UNCOVERED, lowest);
     }
-    let covering = sets(extracts).filter(|set| covers(&quote.mapping, set));
+    let of_usable = sets(extracts).filter(|set| set.iter().all(|a| usable.contains(a)));
+    let covering = of_usable.filter(|set| covers(&quote.mapping, set));
     let set = covering.min_by_key(|set| (sum(set, charges), set.len(), set.clone())).unwrap();
     Ok(Cheapest { sum: sum(&set, charges), set, chosen: quote.chosen })
+}
+
+/// 14, the question, the catalogue, then 15 and 11.
+pub fn cheapest(question: &[u8], catalogue: &[u8], charges: &[u32], work_words: usize) -> Result<Cheapest, Refusal> {
+    let quote = quote(question, catalogue, work_words)?;
+    let extracts = judge_catalogue(catalogue)?.len();
+    cheapest_of(quote, extracts, &(0..extracts).collect::<Vec<usize>>(), charges)
 }
 
 /// Whether another set that covers the question has the cheapest one's sum and number of extracts, so that its numbers decide.
@@ -122,6 +128,8 @@ mod tests {
             (&D[..], &SLOW[..], 1, WORK, UNCOVERED, 1),
             (&D[..], &NONE[..], 17, WORK, CHARGES, 17),
             (&D[..], &NONE[..], 0, WORK, UNCOVERED, 0),
+            (&D[..], &[], 1, WORK, CHARGES, 1),
+            (&D[..], &[], 0, WORK, UNCOVERED, 0),
         ] {
             assert_eq!(cheapest(question, catalogue, &[0; 17][..charges], work), refused(number, detail));
         }

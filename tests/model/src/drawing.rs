@@ -158,11 +158,15 @@ fn draw_extract(rule: &mut Rule, question: &Pattern, spared: u32, kinds: Kinds) 
     graph_fields(&items, &links)
 }
 
+/// One without extracts has every second time no bytes.
 fn draw_catalogue(rule: &mut Rule, question: &Pattern, full: bool, kinds: Kinds) -> Vec<u8> {
     let links = question.links.len() as u32;
     let spared = if rule.draw(2) == 0 { links } else { rule.draw(links) };
     let most = rule.draw(17);
     let number = if full { 16 } else { rule.draw(1 + most) };
+    if number == 0 && rule.draw(2) == 0 {
+        return Vec::new();
+    }
     let mut fields = vec![number];
     for _ in 0..number {
         fields.extend(draw_extract(rule, question, spared, kinds));

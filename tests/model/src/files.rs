@@ -384,8 +384,14 @@ pub fn judge_patterns(bytes: &[u8], number: usize) -> Result<Vec<Pattern>, Refus
     Ok(read(bytes, PATTERN_BYTES * number, PATTERN, |walk| (0..number).map(|_| walk_pattern(walk)).collect())?.0)
 }
 
+/// A catalogue of zero bytes is one without extracts, like the byte 00.
+fn read_extracts<'a>(bytes: &[u8]) -> Result<(Catalogue, Walk<'a>), Refusal> {
+    let bytes = if bytes.is_empty() { &[0] } else { bytes };
+    read(bytes, CATALOGUE_BYTES, CATALOGUE, walk_catalogue)
+}
+
 pub fn judge_catalogue(bytes: &[u8]) -> Result<Catalogue, Refusal> {
-    Ok(read(bytes, CATALOGUE_BYTES, CATALOGUE, walk_catalogue)?.0)
+    Ok(read_extracts(bytes)?.0)
 }
 
 // What stands around the files of a call.
@@ -441,7 +447,7 @@ pub fn read_pattern(bytes: &[u8], room_words: usize, work_words: usize) -> Resul
 
 pub fn read_catalogue(bytes: &[u8], room_words: usize, work_words: usize) -> Result<Vec<u32>, Refusal> {
     judge_desk(work_words)?;
-    let (_, walk) = read(bytes, CATALOGUE_BYTES, CATALOGUE, walk_catalogue)?;
+    let (_, walk) = read_extracts(bytes)?;
     give(walk.words(), room_words)
 }
 

@@ -226,7 +226,9 @@ mod tests {
             sheets.extend(search(&pattern(&fields), &k6(), ROOM, WORK).unwrap());
         }
         assert_eq!(make_book(&C, &k6(), ROOM, WORK), Ok(sheets));
-        assert_eq!(make_book(&[0], &k6(), 0, WORK), Ok(vec![]));
+        for no_extracts in [&[0][..], &[]] {
+            assert_eq!(make_book(no_extracts, &k6(), 0, WORK), Ok(vec![]));
+        }
     }
 
     #[test]
@@ -238,7 +240,7 @@ mod tests {
         assert_eq!(search(&SLOW, &k6(), 9, WORK), refused(NO_FIT, 10));
         assert_eq!(search(&SLOW, &k6(), 10, WORK).map(|sheet| sheet.len()), Ok(10));
         assert_eq!(make_book(&[], &[], 0, WORK - 1), refused(DESK, 0));
-        assert_eq!(make_book(&[], &[], 0, WORK), refused(SHORT, CATALOGUE));
+        assert_eq!(make_book(&C[..16], &[], 0, WORK), refused(SHORT, CATALOGUE));
         assert_eq!(make_book(&C, &[], 0, WORK), refused(SHORT, RECORD));
         let length = make_book(&C, &k6(), ROOM, WORK).unwrap().len();
         assert_eq!(make_book(&C, &k6(), length - 1, WORK), refused(NO_FIT, length));

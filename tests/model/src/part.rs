@@ -130,6 +130,7 @@ pub mod tests {
     #[test]
     fn no_link_is_matched() {
         assert_eq!(part(&D, &NONE, &[], 0, 0, WORK), refused(UNCOVERED, 0));
+        assert_eq!(part(&D, &[], &[], 0, 0, WORK), refused(UNCOVERED, 0));
         assert_eq!(part(&D, &SLOW_TO_FAST, &[0], 0, 0, WORK), refused(UNCOVERED, 0));
     }
 

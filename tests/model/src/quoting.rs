@@ -9,11 +9,13 @@ pub const COVERED: u32 = 13;
 /// Lent to a reader whose content stays inside.
 const ENOUGH: usize = usize::MAX;
 
+/// For each question link the extract links that match it, as extract and link, ascending.
+pub type Mapping = Vec<Vec<(usize, usize)>>;
+
 #[derive(Clone, Debug, PartialEq, Eq)]
 pub struct Quote {
     pub covered: bool,
-    /// For each question link the extract links that match it, as extract and link, ascending.
-    pub mapping: Vec<Vec<(usize, usize)>>,
+    pub mapping: Mapping,
     pub chosen: Vec<usize>,
     pub lowest_unmatched: Option<usize>,
 }
@@ -24,7 +26,7 @@ fn as_record(question: &Pattern) -> Record {
 }
 
 /// 14, the question, then the catalogue.
-fn judge(question: &[u8], catalogue: &[u8], work_words: usize) -> Result<(Pattern, Catalogue), Refusal> {
+pub fn judge(question: &[u8], catalogue: &[u8], work_words: usize) -> Result<(Pattern, Catalogue), Refusal> {
     read_pattern(question, ENOUGH, work_words)?;
     read_catalogue(catalogue, ENOUGH, work_words)?;
     Ok((judge_pattern(question)?, judge_catalogue(catalogue)?))
@@ -32,7 +34,7 @@ fn judge(question: &[u8], catalogue: &[u8], work_words: usize) -> Result<(Patter
 
 /// For each question link the extract links of its kind whose list, on the question read as a record, contains it. A list
 /// has pairs, which say nothing of a kind: that of the extract link is theirs.
-fn mapping(question: &Pattern, catalogue: &Catalogue) -> Vec<Vec<(usize, usize)>> {
+pub fn mapping(question: &Pattern, catalogue: &Catalogue) -> Mapping {
     let record = as_record(question);
     let mut mapping = vec![Vec::new(); question.links.len()];
     for (a, extract) in catalogue.iter().enumerate() {
@@ -83,13 +85,17 @@ fn choose(mapping: &[Vec<(usize, usize)>], extracts: usize) -> Vec<usize> {
     kept
 }
 
-pub fn quote(question: &[u8], catalogue: &[u8], work_words: usize) -> Result<Quote, Refusal> {
-    let (question, catalogue) = judge(question, catalogue, work_words)?;
-    let mapping = mapping(&question, &catalogue);
+/// The quote of a mapping by so many extracts.
+pub fn quoted(mapping: Mapping, extracts: usize) -> Quote {
     let lowest_unmatched = mapping.iter().position(|matches| matches.is_empty());
     let covered = lowest_unmatched.is_none();
-    let chosen = if covered { choose(&mapping, catalogue.len()) } else { Vec::new() };
-    Ok(Quote { covered, mapping, chosen, lowest_unmatched })
+    let chosen = if covered { choose(&mapping, extracts) } else { Vec::new() };
+    Quote { covered, mapping, chosen, lowest_unmatched }
+}
+
+pub fn quote(question: &[u8], catalogue: &[u8], work_words: usize) -> Result<Quote, Refusal> {
+    let (question, catalogue) = judge(question, catalogue, work_words)?;
+    Ok(quoted(mapping(&question, &catalogue), catalogue.len()))
 }
 
 /// A record's file, its links ascending: 12 if it doesn't fit.
@@ -100,7 +106,23 @@ fn write(record: Record, room: usize, work_words: usize) -> Result<Vec<u8>, Refu
 }
 
 /// The question read as a record, and the same without its lowest unmatched link, which is the lowest by its number in the
-/// question: one link of one kind. After the files 13, then 12 for the first of the two that doesn't fit.
+/// question: one link of one kind. 13, then 12 for the first of the two that doesn't fit.
+pub fn shown(
+    question: &Pattern,
+    quote: &Quote,
+    room_1: usize,
+    room_2: usize,
+    work_words: usize,
+) -> Result<(Vec<u8>, Vec<u8>), Refusal> {
+    let Some(lowest) = quote.lowest_unmatched else {
+        return refused(COVERED, 0);
+    };
+    let whole = as_record(question);
+    let mut without = whole.clone();
+    without.links.remove(lowest);
+    Ok((write(whole, room_1, work_words)?, write(without, room_2, work_words)?))
+}
+
 pub fn show(
     question: &[u8],
     catalogue: &[u8],
@@ -108,13 +130,8 @@ pub fn show(
     room_2: usize,
     work_words: usize,
 ) -> Result<(Vec<u8>, Vec<u8>), Refusal> {
-    let Some(lowest) = quote(question, catalogue, work_words)?.lowest_unmatched else {
-        return refused(COVERED, 0);
-    };
-    let whole = as_record(&judge_pattern(question)?);
-    let mut without = whole.clone();
-    without.links.remove(lowest);
-    Ok((write(whole, room_1, work_words)?, write(without, room_2, work_words)?))
+    let quote = quote(question, catalogue, work_words)?;
+    shown(&judge_pattern(question)?, &quote, room_1, room_2, work_words)
 }
 
 #[cfg(test)]
@@ -130,7 +147,7 @@ pub mod tests {
     /// No extracts.
     pub const NONE: [u8; 1] = [0];
 
-    fn quoted(catalogue: &[u8]) -> Quote {
+    fn of_d(catalogue: &[u8]) -> Quote {
         quote(&D, catalogue, WORK).unwrap()
     }
 
@@ -148,14 +165,14 @@ pub mod tests {
     fn k2_covered() {
         let mapping = vec![vec![(0, 0), (1, 0)], vec![(2, 0)], vec![(1, 1)], vec![(2, 1)]];
         let quote = Quote { covered: true, mapping, chosen: vec![1, 2], lowest_unmatched: None };
-        assert_eq!(quoted(&C), quote);
+        assert_eq!(of_d(&C), quote);
     }
 
     #[test]
     fn k3_uncovered() {
         let mapping = vec![vec![(0, 0)], vec![], vec![(0, 1)], vec![]];
         let quote = Quote { covered: false, mapping, chosen: vec![], lowest_unmatched: Some(1) };
-        assert_eq!(quoted(&SLOW), quote);
+        assert_eq!(of_d(&SLOW), quote);
         let (first, second) = show(&D, &SLOW, ENOUGH, ENOUGH, WORK).unwrap();
         let fields = |links: &[u32]| {
             let mut fields = vec![4, links.len() as u32 / 3, 1, 2, 4, 8];
@@ -178,13 +195,17 @@ pub mod tests {
 
     #[test]
     fn k4_no_extracts() {
-        assert_eq!(quoted(&NONE).lowest_unmatched, Some(0));
-        assert!(!quoted(&NONE).covered);
+        for none in [&NONE[..], &[]] {
+            assert_eq!(of_d(none).lowest_unmatched, Some(0));
+            assert!(!of_d(none).covered);
+            assert_eq!(of_d(none).mapping, vec![vec![]; 4]);
+        }
+        assert_eq!(show(&D, &[], ENOUGH, ENOUGH, WORK), show(&D, &NONE, ENOUGH, ENOUGH, WORK));
     }
 
     #[test]
     fn k5_matches_no_link() {
-        let quote = quoted(&slow_to_fast());
+        let quote = of_d(&slow_to_fast());
         assert_eq!(quote.mapping, vec![vec![]; 4]);
         assert_eq!(quote.lowest_unmatched, Some(0));
     }
@@ -193,7 +214,7 @@ pub mod tests {
     fn an_extract_that_fits_in_part_is_not_credited() {
         // Section to slow run to fast run: the first link alone would match.
         let catalogue = write_catalogue(&[1, 3, 2, 0, 1, 2, 0, 1, 0, 1, 2, 0], ENOUGH, WORK).unwrap();
-        assert_eq!(quoted(&catalogue).mapping, vec![vec![]; 4]);
+        assert_eq!(of_d(&catalogue).mapping, vec![vec![]; 4]);
     }
 
     #[test]

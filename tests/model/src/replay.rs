@@ -417,12 +417,15 @@ impl Script {
         self.last = outcome;
     }
 
-    /// A reader's call on a damaged file: what it accepts is written back, which has to give the same bytes.
+    /// A reader's call on a damaged file: what it accepts is written back, which has to give the same bytes, or those of a
+    /// catalogue without extracts for an empty one.
     fn make_and_write_back(&mut self, call: usize) {
         self.make(call);
         if is_reader(call) && self.last.number == 0 {
             self.make(writer(call));
-            assert_eq!(self.last.output, Output::Bytes(self.part(part_of(call)).to_vec()));
+            let file = self.part(part_of(call));
+            let file = if call == READ_CATALOGUE && file.is_empty() { &[0] } else { file };
+            assert_eq!(self.last.output, Output::Bytes(file.to_vec()));
         }
     }
 

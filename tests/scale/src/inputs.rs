@@ -75,10 +75,6 @@ impl Subject {
         file(draw, of_pattern(&self.question), damaged_one_in, PATTERN_BYTES)
     }
 
-    fn catalogue(&self, draw: &mut Draw, damaged_one_in: usize) -> Vec<u8> {
-        file(draw, of_catalogue(&self.catalogue), damaged_one_in, CATALOGUE_BYTES)
-    }
-
     /// Extracts once more, up to eight: of sets with one or the other copy each covers if one does.
     fn repeat(&mut self) {
         let more = 8usize.saturating_sub(self.catalogue.len());
@@ -190,6 +186,15 @@ impl Test {
         }
     }
 
+    /// A catalogue's file. One without extracts has every second time no bytes.
+    fn catalogue(&mut self, draw: &mut Draw, subject: &Subject, damaged_one_in: usize) -> Vec<u8> {
+        if subject.catalogue.is_empty() && draw.one_in(2) {
+            self.notes.tally.empty += 1;
+            return Vec::new();
+        }
+        file(draw, of_catalogue(&subject.catalogue), damaged_one_in, CATALOGUE_BYTES)
+    }
+
     fn lone_file(&mut self, draw: &mut Draw) -> Result<(), Difference> {
         let subject = draw_subject(draw, false);
         let lent = Lent::draw(draw);
@@ -199,7 +204,7 @@ impl Test {
                 reply!(self.words, draw, fitted(lent), ReadPattern, files::read_pattern(bytes))?;
             }
             1 => {
-                let bytes = subject.catalogue(draw, 2);
+                let bytes = self.catalogue(draw, &subject, 2);
                 reply!(self.words, draw, fitted(lent), ReadCatalogue, files::read_catalogue(bytes))?;
             }
             _ => {
@@ -284,7 +289,7 @@ impl Test {
             let bytes = file(draw, layout, 2, BOOK_BYTES);
             reply!(self.words, draw, fitted(lent), ReadSheet, files::read_sheet(pattern, bytes))?;
         } else {
-            let catalogue = subject.catalogue(draw, 16);
+            let catalogue = self.catalogue(draw, &subject, 16);
             let book = draw_book(draw, subject.size, &subject.catalogue);
             let layout = of_book(draw, &book, 4);
             let bytes = file(draw, layout, 2, BOOK_BYTES);
@@ -303,7 +308,7 @@ impl Test {
             let fields = content(draw, layout, 2);
             reply!(self.bytes, draw, fitted(lent), WriteSheet, files::write_sheet(pattern, fields))?;
         } else {
-            let catalogue = subject.catalogue(draw, 16);
+            let catalogue = self.catalogue(draw, &subject, 16);
             let book = draw_book(draw, subject.size, &subject.catalogue);
             let layout = of_book(draw, &book, 4);
             let fields = content(draw, layout, 2);
@@ -349,7 +354,7 @@ impl Test {
     fn make_book(&mut self, draw: &mut Draw) -> Result<(), Difference> {
         let subject = draw_subject(draw, false);
         let lent = Lent::draw(draw);
-        let catalogue = subject.catalogue(draw, 16);
+        let catalogue = self.catalogue(draw, &subject, 16);
         let record = subject.record(draw, 16, &subject.catalogue);
         reply!(self.bytes, draw, fitted(lent), MakeBook, matching::make_book(catalogue, record))?;
         Ok(())
@@ -360,7 +365,7 @@ impl Test {
         let subject = draw_subject(draw, covered);
         let lent = Lent::draw(draw);
         let question = subject.question(draw, 16);
-        let catalogue = subject.catalogue(draw, 16);
+        let catalogue = self.catalogue(draw, &subject, 16);
         self.bytes.quote(&mut self.notes, draw, lent, &question, &catalogue)
     }
 
@@ -370,7 +375,7 @@ impl Test {
         let subject = draw_subject(draw, covered);
         let lent = Lent::draw(draw);
         let question = subject.question(draw, 16);
-        let catalogue = subject.catalogue(draw, 16);
+        let catalogue = self.catalogue(draw, &subject, 16);
         let Ok((first, second)) = self.bytes.show(&mut self.notes, draw, lent, &question, &catalogue)? else {
             return Ok(());
         };
@@ -395,7 +400,7 @@ impl Test {
         }
         let lent = Lent::draw(draw);
         let question = subject.question(draw, 16);
-        let catalogue = subject.catalogue(draw, 16);
+        let catalogue = self.catalogue(draw, &subject, 16);
         let charges = draw_charges(draw, subject.catalogue.len());
         self.bytes.cheapest(&mut self.notes, draw, lent, &question, &catalogue, &charges)
     }
@@ -406,7 +411,7 @@ impl Test {
         let subject = draw_subject(draw, covered);
         let lent = Lent::draw(draw);
         let question = subject.question(draw, 16);
-        let catalogue = subject.catalogue(draw, 16);
+        let catalogue = self.catalogue(draw, &subject, 16);
         let sheets = draw_book(draw, subject.size, &subject.catalogue);
         let layout = of_book(draw, &sheets, 16);
         let book = file(draw, layout, 8, BOOK_BYTES);
@@ -420,7 +425,7 @@ impl Test {
         let subject = draw_subject(draw, covered);
         let lent = Lent::draw(draw);
         let question = subject.question(draw, 16);
-        let catalogue = subject.catalogue(draw, 16);
+        let catalogue = self.catalogue(draw, &subject, 16);
         let set = draw_set(draw, &question, &catalogue);
         let sheets = draw_book(draw, subject.size, &subject.catalogue);
         let layout = of_book(draw, &sheets, 16);
@@ -501,7 +506,7 @@ impl Test {
         let covered = !draw.one_in(4);
         let subject = draw_subject(draw, covered);
         let questions = draw_questions(draw, &subject);
-        let catalogue = subject.catalogue(draw, 16);
+        let catalogue = self.catalogue(draw, &subject, 16);
         let book = if draw.one_in(2) {
             let record = of_record(&draw_record(draw, &subject.kinds, subject.size, &questions)).bytes();
             let catalogue = of_catalogue(&subject.catalogue).bytes();
@@ -547,7 +552,7 @@ impl Test {
         let subject = draw_matched_in_part(draw);
         let lent = Lent::draw(draw);
         let question = subject.question(draw, 16);
-        let catalogue = subject.catalogue(draw, 16);
+        let catalogue = self.catalogue(draw, &subject, 16);
         let sheets = draw_book(draw, subject.size, &subject.catalogue);
         let layout = of_book(draw, &sheets, 16);
         let book = file(draw, layout, 8, BOOK_BYTES);

@@ -82,6 +82,8 @@ pub struct Tally {
     pub questions: u64,
     pub questions_with_pairs: u64,
     pub shared: u64,
+    /// Calls with the empty file in the place of a catalogue without extracts.
+    pub empty: u64,
     /// Old files that were sorted, and those of them whose links were not in order.
     pub sorted: u64,
     pub disordered: u64,
@@ -111,7 +113,7 @@ impl fmt::Display for Tally {
         let Tally { answered, with_pairs, beside, shown, one_kind, from_sets, indexed, apart, .. } = self;
         let Tally { cheapest, not_chosen, tied, sorted, disordered, .. } = self;
         let Tally { parts, parts_with_pairs, wider, whole, choices, smaller, .. } = self;
-        let Tally { several, questions, questions_with_pairs, shared, .. } = self;
+        let Tally { several, questions, questions_with_pairs, shared, empty, .. } = self;
         writeln!(
             f,
             "{answered} covered questions answered as the record is searched, {with_pairs} of them with pairs, {beside} of \
@@ -135,6 +137,7 @@ impl fmt::Display for Tally {
             "{several} calls with several questions, {questions} of them answered as by themselves, {questions_with_pairs} with \
              pairs; in {shared} calls two needed the same sheet"
         )?;
+        writeln!(f, "{empty} calls on an empty catalogue, each as on one without extracts")?;
         writeln!(f, "{apart} answers from books of no record that are not those of the chosen set")?;
         writeln!(f, "{cheapest} cheapest sets, {not_chosen} of them not the chosen one, {tied} tied with another up to the numbers")?;
         writeln!(

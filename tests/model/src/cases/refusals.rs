@@ -1,5 +1,5 @@
 //! Every call on files of which each has one fault, for each refusal one, and on files that are cut at each byte or have
-//! each bit turned.
+//! each bit turned; and every call that takes a catalogue on one without extracts.
 
 use super::*;
 use crate::files::*;
@@ -40,7 +40,7 @@ const TWO: Faulty = &[
 ];
 const CATALOGUES: Faulty = &[
     (LONG, &[0; CATALOGUE_BYTES + 1]),
-    (SHORT, &[]),
+    (SHORT, &[0x08]),
     (COUNT, &[0x88]),
     (STRAY, &[0x08, 0x08, 0x20, 0x01, 0x00]),
     (SHORT, &[0x08, 0x08, 0x20, 0x00]),
@@ -227,6 +227,31 @@ fn lay_content(script: &mut Script, call: usize) {
     script.content(&[0; 3][..if call == WRITE_SHEET { 1 } else { 3 }]);
 }
 
+/// Every call that takes a catalogue, on one without extracts: the byte 00 and then no byte, which has to come to the same;
+/// beside books of no byte and of one, and content or charges of no field and of one.
+fn without_extracts(script: &mut Script) {
+    for (call, parts) in calls() {
+        if !parts.contains(&CATALOGUE_PART) {
+            continue;
+        }
+        small(call).lay_all(script);
+        for more in [0, 1] {
+            script.bytes(BOOK_PART, &[0][..more]);
+            for catalogue in [&[0][..], &[]] {
+                script.bytes(CATALOGUE_PART, catalogue);
+                script.content(&[0][..more]);
+                script.round(call);
+                match catalogue {
+                    [] => script.same(),
+                    _ => script.hold(),
+                }
+            }
+        }
+    }
+    script.name("every call on a catalogue of the byte 00, and of no byte\n");
+    script.group();
+}
+
 pub fn write(script: &mut Script) {
     script.set(SET, 0xffff);
     script.set(QUESTIONS, 2);
@@ -251,6 +276,7 @@ pub fn write(script: &mut Script) {
     }
     script.name("every call on files with one fault\n");
     script.group();
+    without_extracts(script);
     for (call, parts) in calls() {
         if call != SORT_RECORD {
             of_kinds(call).lay_all(script);

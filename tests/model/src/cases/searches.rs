@@ -116,6 +116,9 @@ fn case(script: &mut Script, rule: &mut Rule, n: u32) -> usize {
     let extracts = draw_extracts(rule, kinds);
     let mut catalogue = vec![(extracts.len() << 3) as u8];
     catalogue.extend(extracts.concat());
+    if extracts.is_empty() && rule.draw(2) == 0 {
+        catalogue.clear();
+    }
     script.bytes(CATALOGUE_PART, &catalogue);
     lay_index(script);
     script.place(CATALOGUE_PART, PLACES[BOOK_PART], PLACES[BOOK_PART]);

@@ -58,7 +58,7 @@ fn lay_beside(script: &mut Script, kind: Kind, beside: &[u8]) {
 
 // Files and contents that are written out, one for each rule.
 
-/// A file is read, and written back.
+/// A file is read, and written back as the same bytes; but an empty catalogue as one byte.
 fn read_line(script: &mut Script, line: &str) {
     let (kind, name, beside, file) = fields(line);
     lay_beside(script, kind, &beside);
@@ -68,7 +68,11 @@ fn read_line(script: &mut Script, line: &str) {
     script.outcome();
     if script.is_accepted() {
         script.once(kind.write());
-        script.matches(kind.part());
+        if kind.read == READ_CATALOGUE && script.part(CATALOGUE_PART).is_empty() {
+            script.outcome();
+        } else {
+            script.matches(kind.part());
+        }
     }
 }
 

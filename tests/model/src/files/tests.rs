@@ -73,7 +73,7 @@ fn a_field_is_read_then_judged() {
     assert_eq!(read_pattern(&[0x88], ROOM, WORK), no(COUNT, PATTERN));
     assert_eq!(read_pattern(&[0x08], ROOM, WORK), no(SHORT, PATTERN));
     assert_eq!(read_pattern(&[], ROOM, WORK), no(SHORT, PATTERN));
-    assert_eq!(read_catalogue(&[], ROOM, WORK), no(SHORT, CATALOGUE));
+    assert_eq!(read_catalogue(&[0x08], ROOM, WORK), no(SHORT, CATALOGUE));
     assert_eq!(read_record(&[], ROOM, WORK), no(SHORT, RECORD));
     assert_eq!(read_sheet(&ONE, &[], ROOM, WORK), no(SHORT, BOOK));
     // A stray from whose to is cut off: with three items two bits are left for it.
@@ -208,6 +208,22 @@ fn a_catalogue() {
     assert_eq!(write_catalogue(&[17], ROOM, WORK), no(COUNT, CATALOGUE));
     assert_eq!(write_catalogue(&[1], ROOM, WORK), no(SHORT, CATALOGUE));
     assert_eq!(write_catalogue(&[0, 0], ROOM, WORK), no(TAIL, CATALOGUE));
+}
+
+#[test]
+fn a_catalogue_of_zero_bytes() {
+    for no_extracts in [&[][..], &[0]] {
+        assert_eq!(read_catalogue(no_extracts, 1, WORK), Ok(vec![0]));
+        assert_eq!(read_catalogue(no_extracts, 0, WORK), no(NO_FIT, 1));
+        assert_eq!(read_catalogue(no_extracts, 1, WORK - 1), no(DESK, 0));
+        assert_eq!(read_book(no_extracts, &[], 0, WORK), Ok(vec![]));
+        assert_eq!(write_book(no_extracts, &[], 0, WORK), Ok(vec![]));
+        assert_eq!(read_book(no_extracts, &[0], ROOM, WORK), no(TAIL, BOOK));
+        assert_eq!(write_book(no_extracts, &[0], ROOM, WORK), no(TAIL, BOOK));
+    }
+    // What is written of its content is the byte 00, and content of no fields is none of a catalogue.
+    assert_eq!(write_catalogue(&[0], 1, WORK), Ok(vec![0]));
+    assert_eq!(write_catalogue(&[], ROOM, WORK), no(SHORT, CATALOGUE));
 }
 
 #[test]
@@ -378,10 +394,6 @@ fn sheets_as_they_were() {
 
 #[test]
 fn a_book() {
-    assert_eq!(read_book(&[0], &[], 0, WORK), Ok(vec![]));
-    assert_eq!(write_book(&[0], &[], 0, WORK), Ok(vec![]));
-    assert_eq!(read_book(&[0], &[0], ROOM, WORK), no(TAIL, BOOK));
-    assert_eq!(write_book(&[0], &[0], ROOM, WORK), no(TAIL, BOOK));
     let fields = [1, 1, 0, 1, 1, 1, 0, 1, 1, 1, 2, 0];
     let book = write_book(&C, &fields, ROOM, WORK).unwrap();
     assert_eq!(book.len(), 5 + 10 + 1);

@@ -3,7 +3,7 @@ use mathlib.Core.Path.{sym, subst, _∙_}
 use Rattle.containment.specs.Steps.{JudgedTo}
 use native.Mathlib.Omega.{arith}
 use Rattle.packed.proofs.CallLaws.{judged-accepted}
-use Rattle.containment.proofs.AnswerLaws.{judged-rejected, views-read, views-by, counts-by}
+use Rattle.containment.proofs.AnswerLaws.{judged-rejected, views-small, views-by, counts-by}
 use borrow.Author.Needs.{needs}
 use Rattle.containment.proofs.judging.judge_views.Statement.{statement}
 use Rattle.containment.proofs.judging.judge_views.Tie as tie
@@ -33,7 +33,7 @@ map-views-requires : tie.Need-map-views-requires
 map-views-requires c κs =
     let a = c .before .before .before .before .before .before .before .before .before .before .args in
     let q = rw (c .before .enum-told .given .1) at (c .before .before .before .before .before .before .accept-catalogue .ensures) in
-    (c .before .before .before .before .before .before .before .before .before .before .pre .0, views-by (a .catalogue .now) q, omega (arith, views-read (a .catalogue .now) q .1), c .before .before .before .before .before .before .accept-catalogue .kept .1 .0 ∙ c .before .before .before .before .before .before .before .before .before .before .pre .1)
+    (c .before .before .before .before .before .before .before .before .before .before .pre .0, views-by (a .catalogue .now) q, omega (arith, views-small (a .catalogue .now) q), c .before .before .before .before .before .before .accept-catalogue .kept .1 .0 ∙ c .before .before .before .before .before .before .before .before .before .before .pre .1)
 
 same-length-2 : tie.Need-same-length-2
 same-length-2 c = search needs

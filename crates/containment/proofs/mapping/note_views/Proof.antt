@@ -7,7 +7,7 @@ use Rattle.matching.proofs.MatchedLaws.{edges-twice}
 use Rattle.matching.proofs.PatternLaws.{fair-by, proper-by}
 use Rattle.matching.proofs.RecordLaws.{ready-by, rises-by, ready-again, rises-again}
 use Rattle.containment.proofs.QueryLaws.{fair}
-use Rattle.containment.proofs.NotingLaws.{Noted, noted-start, noted-end, noted-next, noted-long, noted-clear, noted-more, within-by, views-few, number-some, number-few, nodes-few, query-present}
+use Rattle.containment.proofs.NotingLaws.{Noted, noted-start, noted-end, noted-inside, noted-next, noted-long, noted-clear, noted-more, within-by, views-few, number-some, number-few, nodes-few, query-present}
 use borrow.Author.Needs.{needs}
 use Rattle.matching.specs.Starting.{NodeRoom}
 use lib.ListN.{length}
@@ -39,7 +39,7 @@ loop-holds c = (omega arith, record { long = refl; same = λ k l. refl }, noted-
 
 view-at-requires : tie.Need-view-at-requires Inv-loop μ-loop
 view-at-requires c κs =
-    let i = c .before .loop .inv .2 .ahead (c .before .before .before .before .before .before .before .before .before .pre .1) .inside in
+    let i = noted-inside (c .before .loop .inv .2) (omega arith) (c .before .before .before .before .before .before .before .before .before .pre .1) in
     record { small = c .before .before .before .before .before .before .before .before .before .pre .3; inside = omega arith; few = omega arith }
 
 slice-aggregate-match-edges : tie.Need-slice-aggregate-match-edges Inv-loop μ-loop

@@ -5,7 +5,7 @@ use lib.ListN.{length}
 use native.Mathlib.Omega.{arith}
 use Rattle.packed.proofs.CallLaws.{refusal-answered}
 use Rattle.matching.proofs.RowLaws.{blank-long}
-use Rattle.containment.proofs.AnswerLaws.{views-read, views-by, counts-by}
+use Rattle.containment.proofs.AnswerLaws.{views-small, views-by, counts-by}
 use Rattle.containment.proofs.SeveralLaws.{some-few, asked-by, miscounted, questions-refused, catalogue-refused, several-on}
 use borrow.Author.Needs.{needs}
 use Rattle.containment.proofs.several.answer_several.Statement.{statement}
@@ -59,7 +59,7 @@ map-queries-requires c κs =
     let a = c .before .before .before .before .before .before .before .before .before .before .before .before .before .before .before .before .before .before .before .before .before .before .args in
     let q = rw (c .before .before .before .before .before .before .before .before .before .before .enum-told .given .1) at (c .before .before .before .before .before .before .before .before .before .before .before .before .before .before .accept-questions .ensures) in
     let h = rw (c .before .before .before .enum-told2 .given .1) at (c .before .before .before .before .before .before .before .before .accept-catalogue .ensures) in
-    (asked-by (a .questions .now) (a .number) q (some-few (a .number) (c .before .before .before .before .before .before .before .before .before .before .before .before .before .before .before .before .if1 .left) .1), views-by (a .catalogue .now) h, omega (arith, views-read (a .catalogue .now) h .1), blank-long 4096 (c .before .before .no-tables .ensures), c .before .before .before .before .before .before .before .before .accept-catalogue .kept .1 .0 ∙ c .before .before .before .before .before .before .before .before .before .before .before .before .before .before .accept-questions .kept .1 .1 .0 ∙ c .before .before .before .before .before .before .before .before .before .before .before .before .before .before .before .before .before .before .before .before .before .before .pre)
+    (asked-by (a .questions .now) (a .number) q (some-few (a .number) (c .before .before .before .before .before .before .before .before .before .before .before .before .before .before .before .before .if1 .left) .1), views-by (a .catalogue .now) h, omega (arith, views-small (a .catalogue .now) h), blank-long 4096 (c .before .before .no-tables .ensures), c .before .before .before .before .before .before .before .before .accept-catalogue .kept .1 .0 ∙ c .before .before .before .before .before .before .before .before .before .before .before .before .before .before .accept-questions .kept .1 .1 .0 ∙ c .before .before .before .before .before .before .before .before .before .before .before .before .before .before .before .before .before .before .before .before .before .before .pre)
 
 answer-book-requires : tie.Need-answer-book-requires
 answer-book-requires c κs =

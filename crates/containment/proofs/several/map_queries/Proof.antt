@@ -6,7 +6,7 @@ use native.Mathlib.Omega.{arith}
 use Rattle.containment.specs.Steps.{Query, Views}
 use Rattle.containment.specs.SeveralSteps.{Asked, askedAt, Mapped}
 use Rattle.containment.proofs.AnswerLaws.{query-few, views-few}
-use Rattle.containment.proofs.SeveralLaws.{AskedFrom, asked-start, asked-next, asked-query, asked-more, mapped-start, mapped-more, asked-found}
+use Rattle.containment.proofs.SeveralLaws.{AskedFrom, asked-start, asked-inside, asked-next, asked-query, asked-more, mapped-start, mapped-more, asked-found}
 use borrow.Author.Needs.{needs}
 use Rattle.containment.proofs.several.map_queries.Statement.{statement}
 use Rattle.containment.proofs.several.map_queries.Tie as tie
@@ -35,7 +35,7 @@ loop-holds c = (search needs, refl, asked-start, λ a v. mapped-start (askedAt a
 
 view-at-requires : tie.Need-view-at-requires Inv-loop μ-loop
 view-at-requires c κs =
-    let i = c .before .loop .inv .2 .ahead (c .before .before .before .before .before .before .pre .0) .inside in
+    let i = asked-inside (c .before .loop .inv .2) (c .loop-test .taken) (c .before .before .before .before .before .before .pre .0) in
     record { small = c .before .before .before .before .before .before .pre .0 .short; inside = omega arith; few = omega arith }
 
 map-views-requires : tie.Need-map-views-requires Inv-loop μ-loop

@@ -27,7 +27,7 @@ view-at-requires c κs =
     let pre = c .before .before .before .before .before .before .pre in
     let loop = c .before .loop in
     let m = loop .inv pre in
-    counted-stands pre (m .counted)
+    counted-stands pre (m .counted) (omega (arith, c .loop-test))
 
 cast-edges : tie.Need-cast-edges Inv-loop μ-loop
 cast-edges c =

@@ -22,7 +22,7 @@ view-at-requires c κs =
     let pre = c .before .before .before .before .before .before .pre in
     let loop = c .before .loop in
     let z = loop .inv (pre .0) (pre .1) (pre .2) in
-    counted-stands (pre .1) (z .counted)
+    counted-stands (pre .1) (z .counted) (omega (arith, c .loop-test))
 
 table-at-requires : tie.Need-table-at-requires Inv-loop μ-loop
 table-at-requires c κs =

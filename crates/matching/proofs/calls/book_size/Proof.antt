@@ -21,7 +21,7 @@ loop-holds c =
     (keeping-start (pre .0) (pre .1), pre .2, refl, refl, refl)
 
 view-at-requires : tie.Need-view-at-requires Inv-loop μ-loop
-view-at-requires c κs = turned-stands (c .before .loop .inv .0 .sizing .turn)
+view-at-requires c κs = turned-stands (c .before .loop .inv .0 .sizing .turn) (omega (arith, c .loop-test))
 
 match-edges-requires : tie.Need-match-edges-requires Inv-loop μ-loop
 match-edges-requires c κs =

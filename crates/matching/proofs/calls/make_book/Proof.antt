@@ -2,8 +2,8 @@
 use mathlib.Core.Path.{refl, _∙_}
 use native.Mathlib.Omega.{arith}
 use lib.ListN.{length}
-use Rattle.packed.specs.Formats.{catalogue}
-use Rattle.packed.proofs.CallLaws.{read-says, body-refused, body-goes-on}
+use Rattle.packed.proofs.Accepted.{catalogue-read}
+use Rattle.packed.proofs.CallLaws.{body-refused, body-goes-on}
 use Rattle.matching.specs.Search.{bookFor, makeBookOutcome}
 use borrow.Author.Needs.{needs}
 use Rattle.matching.proofs.calls.make_book.Statement.{statement}
@@ -37,8 +37,8 @@ make-book-of-requires c κs =
     let accept-catalogue = c .before .before .before .before .before .before .accept-catalogue in
     let enum-told = c .before .before .enum-told in
     let q = rw (enum-told .given .1) at (accept-catalogue .ensures) in
-    let d = read-says 897 2 catalogue (args .catalogue .now) (q .fields) (q .is) in
-    (accept-catalogue .kept .1 .0 ∙ pre, record { small = omega (arith, d .1); fields = q .fields; is = d .0; number = q .holds .number })
+    let d = catalogue-read (args .catalogue .now) (q .fields) .0 (q .is) in
+    (accept-catalogue .kept .1 .0 ∙ pre, record { small = omega (arith, d .0); fields = q .fields; is = q .is; number = q .holds .number })
 
 same-length-2 : tie.Need-same-length-2
 same-length-2 c = search needs
@@ -55,7 +55,7 @@ returns-2 c =
     let make-book-of = c .before .before .before .before .make-book-of in
     let a = args in
     let q = rw (enum-told .given .1) at (accept-catalogue .ensures) in
-    body-goes-on (λ cs. bookFor cs (a .«record» .now) (length (a .out .now))) (q .is) (make-book-of .ensures (q .fields) (read-says 897 2 catalogue (a .catalogue .now) (q .fields) (q .is) .0))
+    body-goes-on (λ cs. bookFor cs (a .«record» .now) (length (a .out .now))) (q .is) (make-book-of .ensures (q .fields) (q .is))
 
 pub make-book-spec : {M : Type 1} → statement M
 make-book-spec =

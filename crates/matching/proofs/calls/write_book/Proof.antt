@@ -22,7 +22,7 @@ loop-holds c =
     (filling-start (pre .0) (pre .2), pre .3, refl, refl, refl)
 
 view-at-requires : tie.Need-view-at-requires Inv-loop μ-loop
-view-at-requires c κs = turned-stands (c .before .loop .inv .0 .sizing .turn)
+view-at-requires c κs = turned-stands (c .before .loop .inv .0 .sizing .turn) (omega (arith, c .loop-test))
 
 mul-match-again : tie.Need-mul-match-again Inv-loop μ-loop
 mul-match-again c =
