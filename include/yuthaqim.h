@@ -1,7 +1,7 @@
 /*
  * Yuthaqim from C: files of patterns, catalogues, records, sheets and books; searching a record, by an index beside it
  * too, quoting a question, finding the cheapest extracts for it, answering it, several at once or the part of it that can
- * be had from a book, and showing why it is uncovered.
+ * be had from a book, showing why it is uncovered, and all that quotes for a day on which not all extracts are in force.
  *
  * Every function of this header is proved to meet its contract for every input: see crates/yuthaqim/src/lib.rt.
  *
@@ -68,7 +68,8 @@ extern "C" {
 #define YUTHAQIM_QUESTIONS_MOST 8
 
 /* The refusals. Where several would fall, YUTHAQIM_DESK comes first, then 17, then the faults of the files in the order
- * of a function's parameters, each file front to back, 16 right after the record, then 10, 15, 11 or 13, and 12. */
+ * of a function's parameters, each file front to back, 16 right after the record, 18 right after the catalogue, then 10, 15,
+ * 11 or 13, and 12. */
 enum {
     YUTHAQIM_LONG = 1,       /* long: a file is over its most bytes */
     YUTHAQIM_SHORT = 2,      /* short: its bits, or a writer's words, end before a field does */
@@ -90,13 +91,16 @@ enum {
     YUTHAQIM_DESK = 14,      /* desk: fewer than YUTHAQIM_WORK_WORDS words were lent to work in */
     YUTHAQIM_CHARGES = 15,   /* charges: there isn't one charge for each extract of the catalogue */
     YUTHAQIM_INDEX = 16,     /* index: the lent index isn't the record's own */
-    YUTHAQIM_QUESTIONS = 17  /* questions: none is sent, or more than YUTHAQIM_QUESTIONS_MOST */
+    YUTHAQIM_QUESTIONS = 17, /* questions: none is sent, or more than YUTHAQIM_QUESTIONS_MOST */
+    YUTHAQIM_TERMS = 18      /* terms: there isn't one entry for each extract of the catalogue, or an entry's from-day isn't
+                              * below its to-day */
 };
 
 /* The detail of a refusal: of 1 to 10 one of these, the file at fault; of 11 the lowest unmatched link; of 12 the bytes
  * that the first output without room needs, or the words where content is the output, or the entries where an index is,
  * or the bytes of all answers where several questions are answered; of 13 and 14 zero; of 15 the number of charges; of 16
- * the number of entries if that is wrong, else the first position, from 0, that differs; of 17 the number that was sent. */
+ * the number of entries if that is wrong, else the first position, from 0, that differs; of 17 the number that was sent;
+ * of 18 the number of entries if that is wrong, else the first position, from 0, that is. */
 enum {
     YUTHAQIM_IN_PATTERN = 1, /* the question, or several, or another lone pattern */
     YUTHAQIM_IN_CATALOGUE = 2,
@@ -153,6 +157,27 @@ struct yuthaqim_cheapest {
     uint64_t sum;    /* what the charges of the set's extracts sum to */
     uint16_t set;    /* the cheapest set */
     uint16_t chosen; /* the set that a quote chooses, which may cost more */
+};
+
+/* The days of an extract: the first on which it is in force, and the first after that on which it isn't. */
+struct yuthaqim_term {
+    uint16_t from;
+    uint16_t to;
+};
+
+/* A list of terms in plain numbers, as yuthaqim_spread_terms makes it for the calls for a day. */
+struct yuthaqim_terms {
+    size_t number;     /* how many entries the list has */
+    uint16_t from[16]; /* the days of its first sixteen, and zeros beyond them */
+    uint16_t to[16];
+};
+
+/* A first day. What has no meaning is zero. */
+struct yuthaqim_first_day {
+    size_t number; /* 0, or the refusal's number */
+    size_t detail;
+    uint16_t found; /* 1 if there is such a day, else 0 */
+    uint16_t day;   /* the day, if there is one */
 };
 
 /* Reading: from a file to its content. */
@@ -283,6 +308,43 @@ struct yuthaqim_showing yuthaqim_show_uncovered(const uint8_t *question, size_t 
                                                 const uint8_t *catalogue, size_t catalogue_length, uint8_t *first,
                                                 size_t first_length, uint8_t *second, size_t second_length,
                                                 uint32_t *work, size_t work_length);
+
+/* For a day. The catalogue comes with a list of terms, an entry for each extract in catalogue order, handed over as
+ * yuthaqim_spread_terms(terms, terms_length): an extract is in force from its from-day on, up to its to-day, which doesn't
+ * count, so none is on day 65,535. The calls below answer as those without a day do, but use only the extracts in force: masks
+ * of the others are zero, and the chosen and the cheapest set, the part and the lowest unmatched link are by those in force.
+ * 15 counts all extracts. To answer a question on a day, hand what yuthaqim_quote_on chooses to yuthaqim_answer_from. */
+
+/* A list of terms, of any length, as the calls for a day take it. It is lent no words to work in and refuses nothing: a list of
+ * a wrong length, or with a wrong entry, is refused by those calls. */
+struct yuthaqim_terms yuthaqim_spread_terms(const struct yuthaqim_term *terms, size_t terms_length);
+
+/* Uncovered says that the extracts in force don't suffice. */
+struct yuthaqim_quote yuthaqim_quote_on(const uint8_t *question, size_t question_length, const uint8_t *catalogue,
+                                        size_t catalogue_length, struct yuthaqim_terms terms, uint16_t day,
+                                        uint32_t *work, size_t work_length);
+
+struct yuthaqim_cheapest yuthaqim_cheapest_on(const uint8_t *question, size_t question_length, const uint8_t *catalogue,
+                                              size_t catalogue_length, struct yuthaqim_terms terms, uint16_t day,
+                                              const uint32_t *charges, size_t charges_length, uint32_t *work,
+                                              size_t work_length);
+
+struct yuthaqim_part yuthaqim_part_on(const uint8_t *question, size_t question_length, const uint8_t *catalogue,
+                                      size_t catalogue_length, struct yuthaqim_terms terms, uint16_t day,
+                                      const uint8_t *book, size_t book_length, uint8_t *part, size_t part_length,
+                                      uint8_t *answer, size_t answer_length, uint32_t *work, size_t work_length);
+
+/* Every extract in force lists the same on both records, whatever the others list; the question doesn't. */
+struct yuthaqim_showing yuthaqim_show_on(const uint8_t *question, size_t question_length, const uint8_t *catalogue,
+                                         size_t catalogue_length, struct yuthaqim_terms terms, uint16_t day,
+                                         uint8_t *first, size_t first_length, uint8_t *second, size_t second_length,
+                                         uint32_t *work, size_t work_length);
+
+/* Finds the first day, not before the given one, on which the question is covered, or that there is none up to 65,535, which
+ * is no refusal. It has no output. */
+struct yuthaqim_first_day yuthaqim_first_day(const uint8_t *question, size_t question_length, const uint8_t *catalogue,
+                                             size_t catalogue_length, struct yuthaqim_terms terms, uint16_t day,
+                                             uint32_t *work, size_t work_length);
 
 #ifdef __cplusplus
 }

@@ -20,11 +20,13 @@ pub enum Call {
     OneOfSeveral,
     Several,
     Quote,
+    QuoteOn,
+    FirstDay,
     Cheapest,
 }
 
 /// Those that are measured on the workloads. The cheapest set has workloads of its own.
-pub const CALLS: [Call; 14] = [
+pub const CALLS: [Call; 16] = [
     Call::ReadRecord,
     Call::MakeIndex,
     Call::CheckIndex,
@@ -39,6 +41,8 @@ pub const CALLS: [Call; 14] = [
     Call::OneOfSeveral,
     Call::Several,
     Call::Quote,
+    Call::QuoteOn,
+    Call::FirstDay,
 ];
 
 impl Call {
@@ -58,6 +62,8 @@ impl Call {
             Call::OneOfSeveral => "several: one question, beside answer",
             Call::Several => "several: eight questions, beside eight answers",
             Call::Quote => "quote",
+            Call::QuoteOn => "quote for a day, beside quote",
+            Call::FirstDay => "first day, beside quote",
             Call::Cheapest => "cheapest set",
         }
     }
@@ -75,6 +81,9 @@ pub struct Files {
     pub catalogue: Vec<u8>,
     pub book: Vec<u8>,
     pub charges: Vec<u32>,
+    /// A term for each extract, all different, and a day on which all are in force.
+    pub terms: Vec<yuthaqim::Term>,
+    pub day: u16,
 }
 
 /// What the library is lent beside files. It clears its own work words at the end of each call; the outputs keep what the
@@ -98,6 +107,7 @@ pub enum Outcome {
     Entries(Vec<u16>),
     Checked(usize),
     Quote(Box<baseline::Quote>),
+    Day(Option<u16>),
     Cheapest(yuthaqim::Cheapest),
     Refused(usize, usize),
 }
@@ -122,11 +132,21 @@ impl Desk {
             Call::MakeBook => yuthaqim::make_book(catalogue, record, bytes, work),
             Call::ReadBook => yuthaqim::read_book(catalogue, book, words, work),
             Call::Answer | Call::AnswerBySort => yuthaqim::answer(question, catalogue, book, bytes, work),
-            Call::Quote | Call::Cheapest => unreachable!("it has no output"),
+            Call::Quote | Call::QuoteOn | Call::FirstDay | Call::Cheapest => unreachable!("it has no output"),
             Call::Part | Call::PartOfCovered | Call::OneOfSeveral | Call::Several => {
                 unreachable!("it gives two values")
             }
         }
+    }
+
+    /// For the last day on which a term begins, on which all are in force.
+    fn quote_on(&mut self, files: &Files) -> yuthaqim::Quoted {
+        yuthaqim::raw::quote_on(&files.question, &files.catalogue, &files.terms, files.day, &mut self.work)
+    }
+
+    /// From the first of all days on.
+    fn first_day(&mut self, files: &Files) -> yuthaqim::Dated {
+        yuthaqim::raw::first_day(&files.question, &files.catalogue, &files.terms, 0, &mut self.work)
     }
 
     fn cheapest(&mut self, files: &Files) -> yuthaqim::Priced {
@@ -157,6 +177,8 @@ impl Desk {
     pub fn run(&mut self, call: Call, files: &Files) {
         match call {
             Call::Quote => drop(black_box(yuthaqim::raw::quote(&files.question, &files.catalogue, &mut self.work))),
+            Call::QuoteOn => drop(black_box(self.quote_on(files))),
+            Call::FirstDay => drop(black_box(self.first_day(files))),
             Call::Cheapest => drop(black_box(self.cheapest(files))),
             Call::Part | Call::PartOfCovered => drop(black_box(self.part(files))),
             Call::OneOfSeveral | Call::Several => drop(black_box(self.several(call, files))),
@@ -167,10 +189,9 @@ impl Desk {
     /// A call of the library, with what it gives.
     pub fn outcome(&mut self, call: Call, files: &Files) -> Outcome {
         let outcome = match call {
-            Call::Quote => yuthaqim::quote(&files.question, &files.catalogue, &mut self.work).map(|quote| {
-                let yuthaqim::Quote { covered, links, chosen, lowest_unmatched, mapping } = quote;
-                Outcome::Quote(baseline::Quote { covered, links, chosen, lowest_unmatched, mapping }.into())
-            }),
+            Call::Quote => yuthaqim::quote(&files.question, &files.catalogue, &mut self.work).map(quoted),
+            Call::QuoteOn => self.quote_on(files).result().map(quoted),
+            Call::FirstDay => self.first_day(files).result().map(Outcome::Day),
             Call::Cheapest => self.cheapest(files).result().map(Outcome::Cheapest),
             Call::Part | Call::PartOfCovered => self
                 .part(files)
@@ -201,6 +222,11 @@ impl Desk {
     }
 }
 
+fn quoted(quote: yuthaqim::Quote) -> Outcome {
+    let yuthaqim::Quote { covered, links, chosen, lowest_unmatched, mapping } = quote;
+    Outcome::Quote(baseline::Quote { covered, links, chosen, lowest_unmatched, mapping }.into())
+}
+
 /// Questions answered one by one by the baseline, and how many extracts are chosen for at least one of them.
 fn baseline_several(questions: &[Vec<u8>], catalogue: &[u8], book: &[u8]) -> Result<Outcome, baseline::Refusal> {
     let (mut answers, mut chosen) = (Vec::new(), 0);
@@ -213,7 +239,7 @@ fn baseline_several(questions: &[Vec<u8>], catalogue: &[u8], book: &[u8]) -> Res
 
 /// The same call by the baseline, which searches without an index.
 pub fn baseline_outcome(call: Call, files: &Files) -> Outcome {
-    let Files { record, index, question, questions, catalogue, book, charges, .. } = files;
+    let Files { record, index, question, questions, catalogue, book, charges, terms, .. } = files;
     let outcome = match call {
         Call::ReadRecord => baseline::read_record(record, BOOK_WORDS).map(Outcome::Words),
         Call::MakeIndex => baseline::make_index(record, INDEX_ENTRIES).map(Outcome::Entries),
@@ -227,7 +253,8 @@ pub fn baseline_outcome(call: Call, files: &Files) -> Outcome {
             .map(|(part, answer)| Outcome::Both(part, answer)),
         Call::OneOfSeveral => baseline_several(&questions[..1], catalogue, book),
         Call::Several => baseline_several(questions, catalogue, book),
-        Call::Quote => baseline::quote(question, catalogue).map(|quote| Outcome::Quote(quote.into())),
+        Call::Quote | Call::QuoteOn => baseline::quote(question, catalogue).map(|quote| Outcome::Quote(quote.into())),
+        Call::FirstDay => baseline::first_day(question, catalogue, terms, 0).map(Outcome::Day),
         Call::Cheapest => baseline::cheapest(question, catalogue, charges).map(Outcome::Cheapest),
     };
     outcome.unwrap_or_else(|(number, detail)| Outcome::Refused(number, detail))

@@ -77,6 +77,12 @@ fn uncovered(workload: &Workload, files: &Files, desk: &mut Desk) -> Option<File
     Some(files)
 }
 
+/// Different terms for so many extracts, those further up beginning earlier, and the first day on which all are in force.
+fn terms(extracts: usize) -> (Vec<yuthaqim::Term>, u16) {
+    let term = |a: usize| yuthaqim::Term { from: 10 * (extracts - a) as u16, to: 65_535 - a as u16 };
+    ((0..extracts).map(term).collect(), 10 * extracts as u16)
+}
+
 /// A call on a workload. A quote reads no record: its size is that of the catalogue.
 fn call_case<'a>(
     workload: &Workload,
@@ -87,10 +93,11 @@ fn call_case<'a>(
 ) -> Option<Case<'a>> {
     let mut files = files.clone();
     let mut size = format!("{} items, {} links", report::number(workload.items), report::number(workload.links));
-    if call == Call::Quote {
+    if [Call::Quote, Call::QuoteOn, Call::FirstDay].contains(&call) {
         let extracts = workload.extracts().div_ceil(part);
-        let catalogue = workload.first_extracts(extracts);
-        files = Rc::new(Files { catalogue, question: workload.question.clone(), ..Files::default() });
+        let (catalogue, question) = (workload.first_extracts(extracts), workload.question.clone());
+        let (terms, day) = terms(extracts);
+        files = Rc::new(Files { catalogue, question, terms, day, ..Files::default() });
         size = format!("{extracts} extracts");
     }
     if call == Call::Answer {
@@ -130,10 +137,11 @@ fn case_of<'a>(
         let product = || timed(number, || desk.borrow_mut().run(call, &files));
         let first = product_first.then(product);
         let baseline = match call {
-            // Beside the library's own search without an index, and its own answers.
+            // Beside the library's own search without an index, its own answers, and its own quote.
             Call::SearchIndexed => timed(number, || desk.borrow_mut().run(Call::Search, &files)),
             Call::PartOfCovered | Call::OneOfSeveral => timed(number, || desk.borrow_mut().run(Call::Answer, &files)),
             Call::Several => timed(number, || desk.borrow_mut().run_answers(&files)),
+            Call::QuoteOn | Call::FirstDay => timed(number, || desk.borrow_mut().run(Call::Quote, &files)),
             _ => timed(number, || drop(black_box(baseline_outcome(call, &files)))),
         };
         Turn { product: first.unwrap_or_else(product), other: Time::default(), baseline }

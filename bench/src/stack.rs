@@ -74,6 +74,7 @@ fn depths(files: &Files) -> Vec<(&'static str, usize)> {
     let sheet_words = content(&|out, work| read_sheet(question, &sheet, out, work));
     let book_words = content(&|out, work| read_book(catalogue, book, out, work));
     let charges = vec![1; catalogue_words[0] as usize];
+    let terms = vec![Term { from: 10, to: 20 }; charges.len()];
     let old = old_record(&record_words);
     let mut words = vec![0; BOOK_WORDS];
     let mut bytes = vec![0; BOOK_BYTES];
@@ -109,10 +110,15 @@ fn depths(files: &Files) -> Vec<(&'static str, usize)> {
         "make a book": make_book(catalogue, record, &mut bytes, &mut work);
         "quote": raw::quote(question, catalogue, &mut work);
         "cheapest set": raw::cheapest(question, catalogue, &charges, &mut work);
+        "quote for a day": raw::quote_on(question, catalogue, &terms, 10, &mut work);
+        "cheapest set for a day": raw::cheapest_on(question, catalogue, &terms, 10, &charges, &mut work);
+        "first day": raw::first_day(question, catalogue, &terms, 0, &mut work);
         "answer": answer(question, catalogue, book, &mut bytes, &mut work);
         "answer from a set": answer_from(question, catalogue, u16::MAX, book, &mut bytes, &mut work);
         "answer several": answer_several(paper, number, catalogue, book, &mut many, &mut work);
         "part": part(question, catalogue, book, &mut more, &mut bytes, &mut work);
+        "part for a day": part_on(question, catalogue, &terms, 10, book, &mut more, &mut bytes, &mut work);
+        "show for a day": show_on(question, catalogue, &terms, 20, &mut bytes, &mut more, &mut work);
         "show": show_uncovered(question, catalogue, &mut bytes, &mut more, &mut work);
         "show": show_uncovered(question, NO_VIEWS, &mut bytes, &mut more, &mut work);
     }

@@ -754,6 +754,108 @@ static void no_catalogue(void) {
     expect("show_uncovered: D with no extracts", s.number, s.first, s.number == 0 && s.first == 33 && s.second == 30);
 }
 
+/* D with C on a day, by these terms. */
+static struct yuthaqim_quote quote_on(const struct yuthaqim_term *terms, size_t n, uint16_t day) {
+    mark();
+    return yuthaqim_quote_on(D, sizeof D, C, sizeof C, yuthaqim_spread_terms(terms, n), day, work, LENGTH(work));
+}
+
+static void expect_no_quote(const char *what, struct yuthaqim_quote q, size_t number, size_t detail) {
+    expect(what, q.number, q.detail,
+           q.number == number && q.detail == detail && q.covered == 0 && q.edges == 0 && q.chosen == 0 && q.lowest == 0 &&
+               masks(&q) == 0);
+}
+
+static void expect_first_day(const char *what, const struct yuthaqim_term *terms, uint16_t day, uint16_t found,
+                             uint16_t first) {
+    struct yuthaqim_first_day f;
+    mark();
+    f = yuthaqim_first_day(D, sizeof D, C, sizeof C, yuthaqim_spread_terms(terms, 3), day, work, LENGTH(work));
+    expect(what, f.number, f.day,
+           f.number == 0 && f.detail == 0 && f.found == found && f.day == first && is_cleared());
+}
+
+static void days(void) {
+    static const struct yuthaqim_term season[] = {{10, 20}, {10, 15}, {12, 20}, {0, 1}};
+    static const struct yuthaqim_term turned[] = {{10, 20}, {15, 10}, {12, 20}}, same[] = {{10, 20}, {10, 10}, {20, 12}};
+    static const struct yuthaqim_term apart[] = {{1, 2}, {30, 40}, {20, 35}};
+    static const struct yuthaqim_term late[] = {{1, 2}, {0, 65535}, {65534, 65535}};
+    static const uint32_t charges[] = {100, 200, 150};
+    /* Section with a slow run and a fast one, which has a reading: what extracts 0 and 2 answer of D, and its sheet on K9. */
+    static const uint8_t three[] = {0x20, 0x60, 0x08, 0x86, 0x02, 0x00, 0x81, 0x18};
+    static const uint8_t three_sheet[] = {0x80, 0x02, 0x00, 0x00, 0x02, 0x00, 0x08, 0x00,
+                                          0x00, 0x08, 0x00, 0x20, 0x02, 0x00, 0x40};
+    static uint8_t book[YUTHAQIM_BOOK_BYTES];
+    size_t length = yuthaqim_make_book(C, sizeof C, K9, sizeof K9, book, sizeof book, work, LENGTH(work)).value;
+    struct yuthaqim_terms t = yuthaqim_spread_terms(season, 3);
+    struct yuthaqim_quote q;
+    struct yuthaqim_showing s;
+
+    expect("spread_terms: three entries", 0, t.number,
+           t.number == 3 && t.from[0] == 10 && t.to[0] == 20 && t.from[1] == 10 && t.to[1] == 15 && t.from[2] == 12 &&
+               t.to[2] == 20 && t.from[3] == 0 && t.to[3] == 0 && t.from[15] == 0 && t.to[15] == 0);
+    q = quote_on(season, 3, 9);
+    expect("quote_on: day 9, nothing is in force", q.number, q.lowest,
+           q.number == 0 && q.covered == 0 && q.edges == 4 && q.lowest == 0 && masks(&q) == 0 && is_cleared());
+    q = quote_on(season, 3, 10);
+    expect("quote_on: day 10, extract 2 is not", q.number, q.lowest,
+           q.number == 0 && q.covered == 0 && q.chosen == 0 && q.lowest == 1 && maps(&q, 0, 0, 1) && maps(&q, 0, 1, 1) &&
+               maps(&q, 2, 1, 2) && masks(&q) == 3);
+    q = quote_on(season, 3, 12);
+    expect("quote_on: day 12, all are", q.number, q.chosen,
+           q.number == 0 && q.covered == 1 && q.chosen == (1 << 1 | 1 << 2) && masks(&q) == 5);
+    q = quote_on(season, 3, 15);
+    expect("quote_on: day 15, extract 1 is no more", q.number, q.lowest, q.number == 0 && q.covered == 0 && q.lowest == 2);
+    q = quote_on(season, 3, 65535);
+    expect("quote_on: the last day", q.number, q.lowest, q.number == 0 && q.covered == 0 && q.lowest == 0);
+    expect_no_quote("quote_on: two entries", quote_on(season, 2, 12), YUTHAQIM_TERMS, 2);
+    expect_no_quote("quote_on: four entries", quote_on(season, 4, 12), YUTHAQIM_TERMS, 4);
+    expect_no_quote("quote_on: no entry", quote_on(season, 0, 12), YUTHAQIM_TERMS, 0);
+    expect_no_quote("quote_on: entry 1 is turned", quote_on(turned, 3, 12), YUTHAQIM_TERMS, 1);
+    expect_no_quote("quote_on: entry 1 is of no day", quote_on(same, 3, 12), YUTHAQIM_TERMS, 1);
+    expect_first_day("first_day: from 0", season, 0, 1, 12);
+    expect_first_day("first_day: from 14", season, 14, 1, 14);
+    expect_first_day("first_day: from 15", season, 15, 0, 0);
+    expect_first_day("first_day: terms apart", apart, 0, 1, 30);
+    expect_first_day("first_day: the last but one", late, 0, 1, 65534);
+    expect_first_day("first_day: from the last", late, 65535, 0, 0);
+    mark();
+    expect_cheapest("cheapest_on: day 12",
+                    yuthaqim_cheapest_on(D, sizeof D, C, sizeof C, t, 12, charges, 3, work, LENGTH(work)), 350,
+                    1 << 1 | 1 << 2, 1 << 1 | 1 << 2);
+    expect_no_cheapest("cheapest_on: day 10",
+                       yuthaqim_cheapest_on(D, sizeof D, C, sizeof C, t, 10, charges, 3, work, LENGTH(work)),
+                       YUTHAQIM_UNCOVERED, 1);
+    expect_no_cheapest("cheapest_on: two charges",
+                       yuthaqim_cheapest_on(D, sizeof D, C, sizeof C, t, 12, charges, 2, work, LENGTH(work)),
+                       YUTHAQIM_CHARGES, 2);
+    mark();
+    expect_part("part_on: day 10",
+                yuthaqim_part_on(D, sizeof D, C, sizeof C, t, 10, book, length, more, sizeof more, bytes, sizeof bytes, work,
+                                 LENGTH(work)),
+                SLOW, sizeof SLOW, K6_SHEET, sizeof K6_SHEET);
+    mark();
+    expect_part("part_on: day 15",
+                yuthaqim_part_on(D, sizeof D, C, sizeof C, t, 15, book, length, more, sizeof more, bytes, sizeof bytes, work,
+                                 LENGTH(work)),
+                three, sizeof three, three_sheet, sizeof three_sheet);
+    mark();
+    expect_no_part("part_on: day 9",
+                   yuthaqim_part_on(D, sizeof D, C, sizeof C, t, 9, book, length, more, sizeof more, bytes, sizeof bytes,
+                                    work, LENGTH(work)),
+                   YUTHAQIM_UNCOVERED, 0);
+    mark();
+    s = yuthaqim_show_on(D, sizeof D, C, sizeof C, t, 10, bytes, 33, more, 30, work, LENGTH(work));
+    expect("show_on: day 10", s.number, s.first, s.number == 0 && s.first == 33 && s.second == 30 && is_cleared());
+    memset(work, 0xa5, sizeof work);
+    expect_words("show_on: the second lacks link 1",
+                 yuthaqim_read_record(more, 30, words, LENGTH(words), work, LENGTH(work)), FEWER_FIELDS,
+                 LENGTH(FEWER_FIELDS));
+    mark();
+    s = yuthaqim_show_on(D, sizeof D, C, sizeof C, t, 12, bytes, 33, more, 30, work, LENGTH(work));
+    expect_refusal("show_on: day 12 is covered", s.number, s.detail, YUTHAQIM_COVERED, 0);
+}
+
 static void refusals(void) {
     struct yuthaqim_reply r;
 
@@ -793,6 +895,7 @@ int main(void) {
     sums();
     showing();
     no_catalogue();
+    days();
     refusals();
     printf("%d wrong\n", failures);
     return failures != 0;

@@ -14,7 +14,7 @@ pub use answering::{answer, answer_by_sorting, part};
 pub use bits::Writer;
 pub use files::{different_pairs, parse_book, parse_catalogue, read_book, read_record};
 pub use matching::{check_index, make_book, make_index, search};
-pub use quoting::{cheapest, quote, Quote};
+pub use quoting::{cheapest, first_day, quote, Quote};
 
 /// A refusal's number and detail.
 pub type Refusal = (usize, usize);

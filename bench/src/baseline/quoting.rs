@@ -96,3 +96,17 @@ pub fn cheapest(question: &[u8], catalogue: &[u8], charges: &[u32]) -> Result<yu
     }
     Ok(yuthaqim::Cheapest { set, sum: best.0, chosen: quote.chosen as u16 })
 }
+
+/// The first day from the given one on, on which the extracts in force match every link: each day is tried.
+pub fn first_day(
+    question: &[u8],
+    catalogue: &[u8],
+    terms: &[yuthaqim::Term],
+    day: u16,
+) -> Result<Option<u16>, Refusal> {
+    let quote = quote(question, catalogue)?;
+    let all = Links::MAX >> (32 - quote.links);
+    let matched: Vec<Links> = (0..terms.len()).map(|a| quote.matched(a)).collect();
+    let on = |day: u16| terms.iter().zip(&matched).filter(move |(term, _)| term.from <= day && day < term.to);
+    Ok((day..=u16::MAX).find(|&day| on(day).fold(0, |links, (_, matched)| links | matched) == all))
+}

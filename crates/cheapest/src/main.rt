@@ -1,38 +1,11 @@
 // Finds the cheapest extracts of the file `catalogue` that cover the file `question`, by the file `charges`, which has a decimal number a line
 // for each extract, all in the folder it is run in. Prints them and what they cost.
-ghost use Prim.Native.Nat.{_<_};
 use containment::costing::Cheapest;
 use folder::files;
 use folder::lent;
 use folder::lines;
 use folder::numbers;
 use packed::reply::Refusal;
-
-// " a" where the set has the extract a.
-fn say_extract(set: u16, a: u16)
-    requires { ⌜ a < 16 ⌝ }
-{
-    if set >> a & 1 == 1 {
-        lines::say(b" ");
-        lines::number(a as usize);
-    }
-}
-
-fn say_extracts(set: u16) {
-    let mut a: u16 = 0;
-    while a < 16 {
-        say_extract(set, a);
-        a += 1;
-    }
-}
-
-fn say_cheapest(set: u16, sum: u64) {
-    lines::say(b"cheapest");
-    say_extracts(set);
-    lines::say(b" cost ");
-    lines::number(sum as usize);
-    lines::say(b"\n");
-}
 
 // Of too many charges no more are lent than show it: all are counted here.
 fn say_refused(x: Refusal, charges: usize) {
@@ -44,7 +17,7 @@ fn say_refused(x: Refusal, charges: usize) {
 
 fn say(c: Cheapest, charges: usize) {
     match c {
-        Cheapest::Of(set, sum, _) => say_cheapest(set, sum),
+        Cheapest::Of(set, sum, _) => lines::cheapest(set, sum),
         Cheapest::Refused(x) => say_refused(x, charges),
     }
 }

@@ -29,7 +29,7 @@ use Rattle.matching.specs.Offered.{viewPatterns}
 use Rattle.matching.proofs.ListLaws.{in-at}
 use Rattle.matching.proofs.PatternLaws.{sound-of}
 use Rattle.matching.proofs.ViewLaws.{all-ahead, in-follow}
-use Rattle.containment.specs.Choice.{coversIn, lowestUnmatched, chosen}
+use Rattle.containment.specs.Choice.{coversIn, columnsIn, lowestUnmatched, chosen}
 use Rattle.containment.specs.Quote.{blank, flat, Quoted, tableOf, valuesFrom, quoteValues, quoteFor, quoteTold}
 use Rattle.containment.specs.Show.{graphFields, fewerFields, recordBytes, fitBoth, showFor}
 use Rattle.containment.specs.Steps.{Query, Views, ViewCounts, quotedAs, JudgedTo, shownFields}
@@ -65,16 +65,16 @@ pub refused-told : (x : Refusal) (t : List ℕ) → t ≡ replicate 512 0
 unfolding quoteTold
 refused-told x t e = rw e
 
-module _ (t : List ℕ) (set m k : ℕ) where
+module _ (t : List ℕ) (set m k : ℕ) {masks : List ℕ} (shown : masks ≡ columnsIn set t) where
   pub covered-told : (c : ℕ) → coversIn t set k m ≡ true → c ≡ chosen t set m k
-      → quoteTold (record { coverage = coverage-is.Covered; mapping = t; edges = m; chosen = c; lowest = 0 }) ≡ told 0 (flat (valuesFrom t set m k))
+      → quoteTold (record { coverage = coverage-is.Covered; mapping = masks; edges = m; chosen = c; lowest = 0 }) ≡ told 0 (flat (valuesFrom t set m k))
   unfolding quoteTold valuesFrom
-  covered-told c h e = rw (h, e)
+  covered-told c h e = rw (h, e, shown)
 
   pub uncovered-told : (e : ℕ) → coversIn t set k m ≡ false → e ≡ lowestUnmatched t set k m
-      → quoteTold (record { coverage = coverage-is.Uncovered; mapping = t; edges = m; chosen = 0; lowest = e }) ≡ told 0 (flat (valuesFrom t set m k))
+      → quoteTold (record { coverage = coverage-is.Uncovered; mapping = masks; edges = m; chosen = 0; lowest = e }) ≡ told 0 (flat (valuesFrom t set m k))
   unfolding quoteTold valuesFrom
-  uncovered-told e h q = rw (h, q, chosen-none t set m k h)
+  uncovered-told e h q = rw (h, q, chosen-none t set m k h, shown)
 
 -- ---- an accepted query and accepted views
 

@@ -2,7 +2,7 @@
 use Prim.Native.Nat.{ℕ, _+_, _*_, _/_, _<_, _≤_}
 use mathlib.Core.Path.{_≡_, refl, sym, ap, subst, _∙_}
 use mathlib.Core.List.{List, [], _∷_, map, flatten}
-use lib.ListN.{length, take}
+use lib.ListN.{length, getD, take}
 use native.Mathlib.Omega.{arith}
 use Rattle.packed.specs.Format.{ok, pick, decode, encode}
 use Rattle.packed.specs.Formats.{book, sheet}
@@ -18,6 +18,7 @@ use Rattle.packed.specs.declared.reply.Reply.the-variants as reply-is
 use Rattle.packed.specs.declared.by_value.Pattern.{Pattern as Given}
 use Rattle.packed.proofs.WalkLaws.{book-pairs}
 use Rattle.packed.proofs.CallLaws.{read-says, judged-accepted, gathered-many, gathered-few, refusal-answered, body-declined}
+use Rattle.matching.specs.Masks.{Has}
 use Rattle.matching.specs.Offered.{viewPatterns}
 use Rattle.matching.specs.Search.{sheetBytes}
 use Rattle.matching.specs.Join.{View, answerSets}
@@ -128,9 +129,10 @@ module _ {q : Given} (t : Query q) {counts : List ℕ} {k : ℕ} (v : ViewCounts
     uncovered-answered h =
         body-declined answers (b .is) out refl (NotContained lowest) (answer-is (b .fields) ∙ b .few _ ∙ rw (lowest-leaves table set k (q .edges) low h, low))
 
-    -- the views of the set with their sheets, which the join is lent
-    pub book-agrees : Agrees q table set s counts k (viewsIn set (viewPatterns (v .views .content)) (sheetsIn (edgeCounts (v .views .content)) (b .fields)))
-    book-agrees = agrees-by t (v .views) counts s (b .fields) (v .are) (read-says 65536 4 (book (edgeCounts content-of)) s (b .fields) (b .is) .0) is set
+    -- the views of the set with their sheets, which the join is lent, by a table that has the columns of these views
+    pub book-agrees : (rows : List ℕ) → ((i a : ℕ) → i < q .edges → a < k → Has set a → getD rows (16 * i + a) 0 ≡ getD (tableOf (quotedAs t v usable)) (16 * i + a) 0)
+        → Agrees q rows set s counts k (viewsIn set (viewPatterns (v .views .content)) (sheetsIn (edgeCounts (v .views .content)) (b .fields)))
+    book-agrees rows rows-are = agrees-by t (v .views) counts s (b .fields) (v .are) (read-says 65536 4 (book (edgeCounts content-of)) s (b .fields) (b .is) .0) rows set rows-are
 
     pub covered-is : q .edges ≤ lowest
         → judged (readBook (v .views .content) s) answers
@@ -140,4 +142,4 @@ module _ {q : Given} (t : Query q) {counts : List ℕ} {k : ℕ} (v : ViewCounts
     pub covered-answered : {x : Told} {out′ : List ℕ} → q .edges ≤ lowest
         → ((vs : List View) → Agrees q table set s counts k vs → FulfilsOne (fitFile (length out) (sheetBytes (answerSets (patternIn q) vs))) x out out′)
         → FulfilsOne (judged (readBook (v .views .content) s) answers) x out out′
-    covered-answered {x} {out′} h f = subst (λ y. FulfilsOne y x out out′) (sym (covered-is h)) (f _ book-agrees)
+    covered-answered {x} {out′} h f = subst (λ y. FulfilsOne y x out out′) (sym (covered-is h)) (f _ (book-agrees table (λ i a _ _ _. ap (λ (r : List ℕ). getD r (16 * i + a) 0) is)))

@@ -136,7 +136,8 @@ module _ (Q : Pattern) (set : ℕ) (Ps : List Pattern) (sheets : List (List (Lis
 
 -- ---- an accepted query, and a book that was accepted for the views of a catalogue
 module _ {q : Given} (t : Query q) {c : List ℕ} {k : ℕ} (v : Views c k) (counts s bs : List ℕ) (same : take k counts ≡ edgeCounts (v .content))
-    (e : decode (book (edgeCounts (v .content))) s ≡ ok bs) {table : List ℕ} (is : table ≡ mapping (patternOf (t .content)) (viewPatterns (v .content))) where
+    (e : decode (book (edgeCounts (v .content))) s ≡ ok bs) (table : List ℕ) (set : ℕ)
+    (is : (i a : ℕ) → i < q .edges → a < k → Has set a → getD table (16 * i + a) 0 ≡ getD (mapping (patternOf (t .content)) (viewPatterns (v .content))) (16 * i + a) 0) where
   abbrev Q : Pattern
   Q = patternOf (t .content)
 
@@ -154,54 +155,53 @@ module _ {q : Given} (t : Query q) {c : List ℕ} {k : ℕ} (v : Views c k) (cou
       ∙ edges-many (p .1)
       ∙ sym (count-is v counts s bs same e a h)
 
-  -- the table says which edges of a view match
-  matches-exactly : (i a f : ℕ) → i < q .edges → a < k → f < getD counts a 0
+  -- the table says which edges of a view in the set match
+  matches-exactly : (i a f : ℕ) → i < q .edges → a < k → Has set a → f < getD counts a 0
       → Has (getD table (16 * i + a) 0) f ↔ Matching (givenEdge q i) (getD Ps a noPattern .edges) (viewSheet (getD Ps a noPattern) (asGraph Q)) f
-  matches-exactly i a f h l j =
+  matches-exactly i a f h l y j =
       let m = mapping-exactly Q Ps (omega (arith, query-number t, t .holds .edges, few-edges t)) i a (omega (arith, query-number t)) (omega (arith, views-many v)) (omega (arith, views-few v)) f (omega (arith, view-edges a l)) in
-      rw (← is, query-edge t i h) at m
+      rw (← is i a h l y, query-edge t i h) at m
 
-  module _ (set : ℕ) where
-    abbrev Listing : ℕ → ℕ → Type 0
-    Listing x i = BookListing s counts k table set (q .edges) x i
+  abbrev Listing : ℕ → ℕ → Type 0
+  Listing x i = BookListing s counts k table set (q .edges) x i
 
-    offered : (i x : ℕ) → i < q .edges → Listing x i → In (pairOf x) (candidates Q (viewsIn set Ps sheets) (givenEdge q i))
-    offered i x h o =
-        let a : ℕ = o .at in
-        let l = o .below in
-        let u = o .holds .1 .under in
-        let f : ℕ = u .at in
-        let j = u .below in
-        let n = standing-most (fieldOr s (sheetAt s 0 (take k counts) a) 1) (getD counts a 0) in
-        let m = matches-exactly i a f h l (omega arith) .0 (u .holds .1) in
-        offered-by Q set Ps sheets (givenEdge q i)
-        (record {
-          view = a;
-          given = omega (arith, views-many v);
-          chosen = o .holds .0;
-          edge = f;
-          below = omega (arith, sheet-long v counts s bs same e a l);
-          kind = m .0;
-          matches = m .1;
-          lists = rw (← list-same v counts s bs same e a f l j) (u .holds .0);
-        })
-        (omega (arith, view-edges a l))
+  offered : (i x : ℕ) → i < q .edges → Listing x i → In (pairOf x) (candidates Q (viewsIn set Ps sheets) (givenEdge q i))
+  offered i x h o =
+      let a : ℕ = o .at in
+      let l = o .below in
+      let u = o .holds .1 .under in
+      let f : ℕ = u .at in
+      let j = u .below in
+      let n = standing-most (fieldOr s (sheetAt s 0 (take k counts) a) 1) (getD counts a 0) in
+      let m = matches-exactly i a f h l (o .holds .0) (omega arith) .0 (u .holds .1) in
+      offered-by Q set Ps sheets (givenEdge q i)
+      (record {
+        view = a;
+        given = omega (arith, views-many v);
+        chosen = o .holds .0;
+        edge = f;
+        below = omega (arith, sheet-long v counts s bs same e a l);
+        kind = m .0;
+        matches = m .1;
+        lists = rw (← list-same v counts s bs same e a f l j) (u .holds .0);
+      })
+      (omega (arith, view-edges a l))
 
-    listing : (i x : ℕ) → i < q .edges → Offered Q set Ps sheets (givenEdge q i) x → Listing x i
-    listing i x h o =
-        let a : ℕ = o .view in
-        let f : ℕ = o .edge in
-        let l : a < k = omega (arith, o .given, views-many v) in
-        let j : f < getD counts a 0 = omega (arith, o .below, sheet-long v counts s bs same e a l) in
-        let b = list-there v counts s bs same e a f x l (o .lists) in
-        let u : SheetListingAt s (sheetAt s 0 (take k counts) a) (getD counts a 0) table a (q .edges) x i =
-        record { edge = h; under = record { at = f; below = b; holds = (rw (list-same v counts s bs same e a f l b) (o .lists), matches-exactly i a f h l j .1 (o .kind, o .matches)) } } in
-        record { at = a; below = l; holds = (o .chosen, u) }
+  listing : (i x : ℕ) → i < q .edges → Offered Q set Ps sheets (givenEdge q i) x → Listing x i
+  listing i x h o =
+      let a : ℕ = o .view in
+      let f : ℕ = o .edge in
+      let l : a < k = omega (arith, o .given, views-many v) in
+      let j : f < getD counts a 0 = omega (arith, o .below, sheet-long v counts s bs same e a l) in
+      let b = list-there v counts s bs same e a f x l (o .lists) in
+      let u : SheetListingAt s (sheetAt s 0 (take k counts) a) (getD counts a 0) table a (q .edges) x i =
+      record { edge = h; under = record { at = f; below = b; holds = (rw (list-same v counts s bs same e a f l b) (o .lists), matches-exactly i a f h l (o .chosen) j .1 (o .kind, o .matches)) } } in
+      record { at = a; below = l; holds = (o .chosen, u) }
 
-    pub agrees-by : Agrees q table set s counts k (viewsIn set (viewPatterns (v .content)) (sheetsIn (edgeCounts (v .content)) bs))
-    agrees-by =
-        let p = pattern-same (plain t) (t .holds) in
-        record {
-          to = λ i x h o. rw p (offered i x h o);
-          from = λ i f h j. let r = offered-say Q set Ps sheets (givenEdge q i) (rw p at j) in (r .0, r .1, listing i (r .0) h (r .2));
-        }
+  pub agrees-by : Agrees q table set s counts k (viewsIn set (viewPatterns (v .content)) (sheetsIn (edgeCounts (v .content)) bs))
+  agrees-by =
+      let p = pattern-same (plain t) (t .holds) in
+      record {
+        to = λ i x h o. rw p (offered i x h o);
+        from = λ i f h j. let r = offered-say Q set Ps sheets (givenEdge q i) (rw p at j) in (r .0, r .1, listing i (r .0) h (r .2));
+      }

@@ -1,19 +1,18 @@
--- The cheapest set: the recursion over undecided views finds the set that covers and that no other that covers is better than; there is one such
--- set at most.
+-- The cheapest set: the recursion over undecided views finds the set that covers and that no other that covers is better than.
 use mathlib.Core.Path.{_≡_, refl, ap, sym, subst, _∙_}
-use mathlib.Core.Bool.{Bool, true, false, _&&_, _||_, or-true}
+use mathlib.Core.Bool.{Bool, true, false, or-true}
 use mathlib.Core.List.{List}
 use mathlib.Core.Logic.{_⊎_, inl, inr, ⊎-elim}
 use Prim.Native.Nat.{ℕ, zero, suc, _+_, _-_, _/_, _%_, _^_, _<_, _≤_}
 use native.Mathlib.Nat.{pow-suc, div-one}
 use native.Mathlib.Omega.{arith}
 use lib.Pow.{pow-pos}
-use lib.Dec.{ltb, eqb}
+use lib.Dec.{ltb}
 use borrow.Author.Tests.{ltb-true, lt-ltb, eqb-true, eq-eqb}
 use Rattle.packed.specs.Format.{pick}
 use Rattle.packed.proofs.OrderCases.{lt-or-ge, eq-or-ne, trichotomy, or-cases, and-both}
 use Rattle.matching.specs.Simulation.{bit}
-use Rattle.containment.specs.Choice.{coversIn, everyView, chosen}
+use Rattle.containment.specs.Choice.{coversIn, chosen}
 use Rattle.containment.specs.Cheapest.{weigh, cost, size, turned, Sooner, Less, lesser, Better, better, misses, ahead, foremost, cheapest, IsCheapest}
 use Rattle.containment.proofs.SetBits.{test-cases, never, bit-say, bit-by, bit-half}
 use Rattle.containment.proofs.ChoiceLaws.{pick-cases, chosen-small, chosen-covers}
@@ -295,18 +294,6 @@ module _ (t : List ℕ) (m : ℕ) (charges : List ℕ) (k : ℕ) (few : k ≤ 16
       never-better other d b (inl (inr p)) = back other (cheapest t m charges k) b (p .1)
       never-better other d b (inr e) = let b′ = subst (λ x. Before charges k few other x) e b in back other other b′ b′
 
-  -- one set at most is so
-  pub cheapest-one : (a b : ℕ) → IsCheapest t m charges k a → IsCheapest t m charges k b → a ≡ b
-  cheapest-one a b x y =
-      ⊎-elim (λ p. absurd (y .least a (x .small) (x .covers) p)) (λ r. ⊎-elim (λ p. absurd (x .least b (y .small) (y .covers) p)) (λ e. e) r)
-      (better-total charges k few a b (x .small) (y .small))
-
-  -- for a query that is covered it is the cheapest
-  pub cheapest-covered : coversIn t everyView k m ≡ true → IsCheapest t m charges k (cheapest t m charges k)
-  cheapest-covered h = cheapest-is (chosen t everyView m k) (chosen-small t everyView m k) (chosen-covers t everyView m k h)
-
-module _ (t : List ℕ) (m : ℕ) (charges : List ℕ) (k : ℕ) where
-  -- no set that covers costs less
-  pub cheapest-cost : (a b : ℕ) → IsCheapest t m charges k a → b < 2 ^ k → coversIn t b k m ≡ true → cost charges a k ≤ cost charges b k
-  cheapest-cost a b x l c =
-      ⊎-elim (λ (p : cost charges b k < cost charges a k). absurd (x .least b l c (inl p))) (λ p. p) (lt-or-ge (cost charges b k) (cost charges a k))
+  -- for a query that a set covers it is the cheapest
+  pub cheapest-covered : (set : ℕ) → coversIn t set k m ≡ true → IsCheapest t m charges k (cheapest t m charges k)
+  cheapest-covered set h = cheapest-is (chosen t set m k) (chosen-small t set m k) (chosen-covers t set m k h)

@@ -128,7 +128,7 @@ module _ (t : List ℕ) where
         taken-step (λ (x : ℕ). x < 2 ^ suc a) a (λ h. omega arith) (λ h. omega arith)
 
     -- all are of the set
-    taken-within : (a b : ℕ) → bit (taken t set m a) b ≡ true → bit set b ≡ true
+    pub taken-within : (a b : ℕ) → bit (taken t set m a) b ≡ true → bit set b ≡ true
     unfolding taken
     taken-within zero b h = never (sym h ∙ bit-zero b)
     taken-within (suc a) b h =
@@ -221,7 +221,7 @@ module _ (t : List ℕ) where
         kept-step (λ (x : ℕ). bit x b ≡ true → bit (kept t m k set a) b ≡ true) a
         (λ d h. less-say (kept t m k set a) a (and-both _ _ d .0) b h .0) (λ _ h. h)
 
-    kept-later : (a c b : ℕ) → a ≤ c → bit (kept t m k set c) b ≡ true → bit (kept t m k set a) b ≡ true
+    pub kept-later : (a c b : ℕ) → a ≤ c → bit (kept t m k set c) b ≡ true → bit (kept t m k set a) b ≡ true
     kept-later a zero b l h = let q : zero ≡ a = omega arith in rw q at h
     kept-later a (suc c) b l h =
         ⊎-elim (λ (p : a < suc c). kept-later a c b (omega arith) (kept-part c b h))

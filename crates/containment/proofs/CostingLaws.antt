@@ -11,7 +11,7 @@ use Rattle.packed.specs.Refusals.{Told, told}
 use Rattle.packed.specs.Calls.{toldOf, fronts, outputsOf, Fulfils}
 use Rattle.packed.specs.declared.by_value.Pattern.{Pattern as Given}
 use Rattle.packed.proofs.CallLaws.{refusal-answered}
-use Rattle.containment.specs.Choice.{coversIn, lowestUnmatched, chosen}
+use Rattle.containment.specs.Choice.{coversIn, columnsIn, lowestUnmatched, chosen}
 use Rattle.containment.specs.Quote.{tableOf}
 use Rattle.containment.specs.Cheapest.{cheapest, cheapestFrom, cheapestFor}
 use Rattle.containment.specs.Steps.{Query, ViewCounts, quotedAs}
@@ -22,7 +22,7 @@ use Rattle.containment.proofs.CheapestLaws.{cheapest-small}
 use Rattle.containment.proofs.AnswerLaws.{views-many}
 
 module _ (t : List ℕ) (usable m : ℕ) (charges : List ℕ) (k : ℕ) where
-  pub found-told : (x : Tried) (c : ℕ) → coversIn t usable k m ≡ true → Tries t m charges k (cheapest t m charges k) x → c ≡ chosen t usable m k
+  pub found-told : (x : Tried) (c : ℕ) → coversIn t usable k m ≡ true → Tries (columnsIn usable t) m charges k (cheapest (columnsIn usable t) m charges k) x → c ≡ chosen t usable m k
       → told 0 (x .set ∷ x .sum ∷ c ∷ []) ≡ toldOf [] (cheapestFrom t usable m charges k)
   unfolding cheapestFrom toldOf
   found-told x c h e q = rw (h, e .is, e .costs, q)
@@ -32,8 +32,8 @@ module _ (t : List ℕ) (usable m : ℕ) (charges : List ℕ) (k : ℕ) where
   lacking-told n h q = rw (h, q)
 
   -- the sets fit 16 bits
-  pub found-small : (x : Tried) → k ≤ 16 → Tries t m charges k (cheapest t m charges k) x → x .set < 65536
-  found-small x l e = let s = cheapest-small t m charges k l in let p = pow-mono {j = 16} l in omega (arith, e .is)
+  pub found-small : (x : Tried) → k ≤ 16 → Tries (columnsIn usable t) m charges k (cheapest (columnsIn usable t) m charges k) x → x .set < 65536
+  found-small x l e = let s = cheapest-small (columnsIn usable t) m charges k l in let p = pow-mono {j = 16} l in omega (arith, e .is)
 
   pub chosen-fits : k ≤ 16 → chosen t usable m k < 65536
   chosen-fits l = let s = chosen-small t usable m k in let p = pow-mono {j = 16} l in omega arith

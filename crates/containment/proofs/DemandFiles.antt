@@ -79,7 +79,7 @@ unfolding fitBoth
 says-fit-both room room′ a b = says-either (ltb room (length a)) (says-late 12 _ (omega arith)) (says-either (ltb room′ (length b)) (says-late 12 _ (omega arith)) (says-give _ _))
 
 -- an output before those of an outcome refuses nothing more
-first-refused : (o : List ℕ) (a : Outcome) {n d : ℕ} → withFirst o a ≡ refuse n d → a ≡ refuse n d
+pub first-refused : (o : List ℕ) (a : Outcome) {n d : ℕ} → withFirst o a ≡ refuse n d → a ≡ refuse n d
 unfolding withFirst
 first-refused o (give vs outs) e = absurd (not-refused e)
 first-refused o (refuse m c) e = e

@@ -19,7 +19,7 @@ use Rattle.packed.proofs.CallRoundTrips.{fit-given, fitFile-given}
 use Rattle.packed.proofs.RoundTrip.{Bytes}
 use Rattle.packed.proofs.Accepted.{pattern-accepted, catalogue-accepted, record-accepted, sheet-accepted, book-accepted, written-accepted}
 use Rattle.matching.specs.Lists.{In}
-use Rattle.matching.specs.Simulation.{Edge, Pattern, patternOf, asGraph, viewSheet}
+use Rattle.matching.specs.Simulation.{Edge, Pattern, bit, patternOf, asGraph, viewSheet}
 use Rattle.matching.specs.Join.{matchedBy, matched}
 use Rattle.matching.specs.Search.{sheetBytes}
 use Rattle.matching.proofs.ListLaws.{not-in-none}
@@ -27,12 +27,12 @@ use Rattle.matching.proofs.MatchSetLaws.{view-length}
 use Rattle.matching.proofs.JoinLaws.{some-match-say, some-match-by}
 use Rattle.matching.specs.Offered.{viewPatterns}
 use Rattle.containment.specs.Choice.{everyView}
-use Rattle.containment.specs.Quote.{mapping, quotedBy, usedBy}
+use Rattle.containment.specs.Quote.{mapping, quotedIn, quotedBy, usedBy}
 use Rattle.containment.specs.Answer.{answerBytes, Choose, answerIn, answerFor, answerBy}
-use Rattle.containment.specs.Show.{recordBytes, fitBoth, showFor, showOutcome}
-use Rattle.containment.specs.Demands.{Question, Catalogue, Record, Sheet, FewPairs, ManyPairs, Book, extractOf, linkOf, Covers, Leaves, Covered, Uncovered, lackingIn, chosenOf, answerOf, firstOf, secondOf, Full, Over, OverFile, OverEither, FittedBeside, Fitted, Reads, Writes, Matched, MatchedIn, LowestUnmatched}
-use Rattle.containment.proofs.SetBits.{test-cases, never}
-use Rattle.containment.proofs.ChoiceLaws.{MatchedBy, matched-say as matched-in-table, matched-by as matched-by-table, covers-exactly, chosen-covers, used-covered, used-uncovered, lowest-is, lowest-below}
+use Rattle.containment.specs.Show.{recordBytes, fitBoth, showFor}
+use Rattle.containment.specs.Demands.{Question, Catalogue, Record, Sheet, FewPairs, ManyPairs, Book, extractOf, linkOf, Covers, Leaves, Covered, Uncovered, lackingIn, chosenOf, answerOf, firstOf, Full, Over, OverFile, OverEither, FittedBeside, Fitted, Reads, Writes, Matched, MatchedIn, LowestUnmatched, chosenIn, secondIn}
+use Rattle.containment.proofs.SetBits.{test-cases, never, bit-lt}
+use Rattle.containment.proofs.ChoiceLaws.{MatchedBy, matched-say as matched-in-table, matched-by as matched-by-table, covers-exactly, chosen-covers, used-covered, used-uncovered, lowest-is, lowest-below, chosen-small, chosen-within}
 use Rattle.containment.proofs.QuoteLaws.{test-is, matched-exactly, ListedEdge, matched-say, matched-by, listed-whole}
 use Rattle.containment.proofs.CoveredBytes.{question-bounds, few-views, coveredIn, coveredBy, answer-covered, answer-uncovered}
 
@@ -85,7 +85,7 @@ enough-for words a n e =
 no-full : {n d : ℕ} → Full (refuse n d) → ⊥
 no-full f = not-refused (sym (f .is))
 
-full-same : {a b : Outcome} → a ≡ b → Full a → Full b
+pub full-same : {a b : Outcome} → a ≡ b → Full a → Full b
 full-same e f = rw e at f
 
 pub full-words : (words : ℕ) (a : Outcome) → Full (withWorkspace words a) → Full a
@@ -425,6 +425,39 @@ module _ (qs cs : List ℕ) where
   pub used-leaves : Leaves (usedBy (quotedBy qs cs)) qs cs → Uncovered qs cs
   used-leaves n = ⊎-elim (λ h. never (sym (used-covers h) ∙ n)) (λ n′. n′) (test-cases (coveredBy qs cs))
 
+-- the chosen set has none but extracts that may be used
+pub choice-among : (set : ℕ) (qs cs : List ℕ) (a : ℕ) → bit (chosenIn set qs cs) a ≡ true → (a < length (viewPatterns cs)) × T (bit set a)
+choice-among set qs cs a h =
+    let t = mapping (patternOf qs) (viewPatterns cs) in
+    let k = length (viewPatterns cs) in
+    (bit-lt (chosenIn set qs cs) a k h (chosen-small t set (edgesOf qs) k), test-is _ .0 (chosen-within t set (edgesOf qs) k a h))
+
+-- a showing, by the views in a set
+module _ (set : ℕ) (qs cs : List ℕ) (room room′ : ℕ) where
+  pub shows-both : Leaves set qs cs → showFor room room′ (quotedIn set qs cs) ≡ fitBoth room room′ (recordBytes (firstOf qs)) (recordBytes (secondIn set qs cs))
+  unfolding showFor
+  shows-both n = rw n
+
+  shows-none : Covers set qs cs → showFor room room′ (quotedIn set qs cs) ≡ refuse 13 0
+  unfolding showFor
+  shows-none h = rw h
+
+  -- it is given of a query that they leave uncovered alone
+  pub shows-full : Full (showFor room room′ (quotedIn set qs cs)) → Leaves set qs cs
+  shows-full f = ⊎-elim (λ h. absurd (no-full (full-same (shows-none h) f))) (λ n. n) (test-cases (coveredIn set qs cs))
+
+  -- 13 falls exactly to a query that they cover
+  pub shows-exactly : (a : Outcome) → a ≡ showFor room room′ (quotedIn set qs cs) → (words e : ℕ) → (withWorkspace words a ≡ refuse 13 e) ↔ ((16384 ≤ words) × Covers set qs cs × (e ≡ 0))
+  shows-exactly a is words e = (
+    λ x.
+        let w = enough-for words a (λ z. let y = number-same z in omega arith) x in
+        ⊎-elim
+        (λ h. (w .0, h, sym (detail-same (sym (is ∙ shows-none h) ∙ w .1))))
+        (λ n. absurd (⊎-elim (λ y. omega arith) (λ y. omega arith) (no-other (fitted-both a words room room′ _ _ (is ∙ shows-both n)) x)))
+        (test-cases (coveredIn set qs cs)),
+    λ x. enough-words words _ (x .0) ∙ is ∙ shows-none (x .1) ∙ ap (refuse 13) (sym (x .2)),
+  )
+
 module _ (q c qs cs : List ℕ) (p : Question q qs) (d : Catalogue c cs) where
   -- the table says of a set which edges its views match
   module _ (set : ℕ) where
@@ -464,30 +497,6 @@ module _ (q c qs cs : List ℕ) (p : Question q qs) (d : Catalogue c cs) where
           unmatched = λ m. never (sym (matched-by-table (table qs cs) set _ k (matched-plain _ l .1 m)) ∙ f .here l);
           lower = λ e h. matched-plain e (omega arith) .0 (matched-in-table (table qs cs) set e k (f .lower e h));
         }
-
-  pub shown-both : Uncovered qs cs → (room room′ : ℕ) → showOutcome q c room room′ ≡ fitBoth room room′ (recordBytes (firstOf qs)) (recordBytes (secondOf qs cs))
-  unfolding showOutcome showFor judged
-  shown-both n room room′ = rw (p, d, n)
-
-  shown-none : Covered qs cs → (room room′ : ℕ) → showOutcome q c room room′ ≡ refuse 13 0
-  unfolding showOutcome showFor judged
-  shown-none h room room′ = rw (p, d, h)
-
-  -- 13 falls exactly to a covered query
-  pub shown-exactly : (room room′ words e : ℕ) → (withWorkspace words (showOutcome q c room room′) ≡ refuse 13 e) ↔ ((16384 ≤ words) × Covered qs cs × (e ≡ 0))
-  shown-exactly room room′ words e = (
-    λ x.
-        let w = enough-for words (showOutcome q c room room′) (λ z. let y = number-same z in omega arith) x in
-        ⊎-elim
-        (λ h. (w .0, h, sym (detail-same (sym (shown-none h room room′) ∙ w .1))))
-        (λ n. absurd (⊎-elim (λ y. omega arith) (λ y. omega arith) (no-other (fitted-both (showOutcome q c room room′) words room room′ _ _ (shown-both n room room′)) x)))
-        (test-cases (coveredBy qs cs)),
-    λ x. enough-words words _ (x .0) ∙ shown-none (x .1) room room′ ∙ ap (refuse 13) (sym (x .2)),
-  )
-
-  -- a showing is given of an uncovered query alone
-  pub full-shown : (room room′ : ℕ) → Full (showOutcome q c room room′) → Uncovered qs cs
-  full-shown room room′ f = ⊎-elim (λ h. absurd (no-full (full-same (shown-none h room room′) f))) (λ n. n) (test-cases (coveredBy qs cs))
 
   -- ---- accepted books, by a set of views
   module _ (b bs : List ℕ) (k : Book cs b bs) (choose : Choose) (room : ℕ) where

@@ -1,40 +1,43 @@
 -- The third demand, and what else holds of answers.
 use Prim.Native.Nat.{ℕ, _<_, _≤_}
-use mathlib.Core.Path.{_≡_, refl, sym, ap, ap₂, _∙_}
+use mathlib.Core.Path.{_≡_, refl, sym, ap, _∙_}
 use mathlib.Core.Logic.{_↔_, ⊎-elim}
 use mathlib.Core.List.{List, [], _∷_, map}
 use lib.ListN.{length, getD}
 use lib.Dec.{T}
 use native.Mathlib.Omega.{arith}
 use Rattle.packed.specs.Contents.{edgeCounts, viewsOf, sheetFields, sheetsIn}
-use Rattle.packed.specs.Calls.{Outcome, give, refuse, withWorkspace, Verdict, accepted, rejected, judged, readPattern, readSheet, readBook, fitFile}
-use Rattle.matching.specs.Lists.{In, here, there}
+use Rattle.packed.specs.Calls.{give, refuse, withWorkspace, judged, readPattern, readSheet, readBook, fitFile}
+use Rattle.matching.specs.Lists.{In, each}
 use Rattle.matching.specs.Simulation.{Pattern, Graph, bit, patternOf, graphOf, asGraph, matchSets, viewSheet}
 use Rattle.matching.specs.Join.{without, answerSets}
 use Rattle.matching.specs.Search.{sheetBytes, viewSheets}
+use Rattle.matching.proofs.ListLaws.{each-same}
 use Rattle.matching.proofs.BookBytes.{bookFields}
 use Rattle.matching.proofs.SortedGraphs.{alike-views, alike-without}
 use Rattle.matching.proofs.Uncovered.{uncovered-views}
 use Rattle.matching.specs.Offered.{viewPatterns}
 use Rattle.containment.specs.Choice.{everyView}
-use Rattle.containment.specs.Quote.{quotedBy, usedBy}
+use Rattle.containment.specs.Quote.{quotedBy, viewsInSet, usedBy}
 use Rattle.containment.specs.Answer.{answerBytes, Choose, answerFor, answerBy, answerFrom, answerOutcome}
 use Rattle.containment.specs.Show.{recordBytes}
-use Rattle.containment.specs.Demands.{Question, Catalogue, Record, Sheet, Book, Covers, Uncovered, answerOf, lackingIn, lacking, linkOf, firstOf, secondOf, Matched, LowestUnmatched, Showing, Demand3, Answering}
+use Rattle.containment.specs.Demands.{Question, Catalogue, Record, Sheet, Book, Covers, Leaves, Uncovered, answerOf, lackingIn, lacking, extractOf, linkOf, firstOf, secondIn, listsIn, usableWhen, showWhen, Matched, LowestUnmatched, Showing, Demand3, Answering}
 use Rattle.containment.proofs.SetBits.{test-cases}
-use Rattle.containment.proofs.ShowLaws.{lowest-of, shows, shows-book}
-use Rattle.containment.proofs.CoveredBytes.{views-same, question-is, question-bounds, made-sheets, made-book, answer-alike, coveredIn, answer-search, answer-back, given-file}
-use Rattle.containment.proofs.DemandRules.{not-refused, judged-same, matched-whole, shown-both, shown-exactly, used-chosen, used-all, used-covers, used-leaves, lowest-plain, refused-by, given-by, refused-exactly}
+use Rattle.containment.proofs.ShowLaws.{lowest-of, lowest-in, shows-in, shows-book}
+use Rattle.containment.proofs.CoveredBytes.{views-same, question-is, question-bounds, made-sheets, made-book, answer-alike, coveredIn, answer-search, answer-back, given-file, few-views}
+use Rattle.containment.proofs.DemandRules.{not-refused, judged-same, matched-whole, used-chosen, used-all, used-covers, used-leaves, lowest-plain, refused-by, given-by, refused-exactly, shows-both, shows-exactly}
+use Rattle.containment.proofs.QuoteLaws.{test-is, chosen-in, chosen-every}
+use Rattle.containment.proofs.WhenLaws.{show-goes-on}
 use Rattle.containment.proofs.DemandSheets.{answer-size}
 use Rattle.containment.proofs.DemandIndex.{way-same}
 use Rattle.containment.proofs.DemandJoin.{answer-joins}
 
 module _ (q c qs cs : List ℕ) (p : Question q qs) (d : Catalogue c cs) where
-  -- ---- an uncovered query
-  shown-by : Uncovered qs cs → Showing qs cs
+  -- ---- a query that the views in a set leave uncovered
+  shown-by : (set : ℕ) → Leaves set qs cs → Showing set qs cs
   unfolding asGraph
-  shown-by n =
-      let s = shows q c qs cs (question-is q qs p) d n in
+  shown-by set n =
+      let s = shows-in q c qs cs (question-is q qs p) d set n in
       record {
         first-accepted = s .first-read;
         second-accepted = s .second-read;
@@ -43,8 +46,8 @@ module _ (q c qs cs : List ℕ) (p : Question q qs) (d : Catalogue c cs) where
         lacks = s .lacks;
         in-first = s .in-first;
         not-in-second = s .not-second;
-        equal = s .same;
-        equal-books = shows-book q c qs cs (question-is q qs p) d n;
+        equal = λ a l t. s .same (extractOf cs a) (chosen-in set (viewPatterns cs) a l (test-is _ .1 t));
+        equal-books = λ all. shows-book q c qs cs (question-is q qs p) d set n (λ a l. test-is _ .1 (all a l));
         differ = s .differs;
       }
 
@@ -61,14 +64,14 @@ module _ (q c qs cs : List ℕ) (p : Question q qs) (d : Catalogue c cs) where
       }
 
   -- the two shown records have the same lists
-  same-lists : Uncovered qs cs → (P : Pattern) → In P (viewPatterns cs) → viewSheet P (graphOf (firstOf qs)) ≡ viewSheet P (graphOf (secondOf qs cs))
-  same-lists n P i =
-      let s = shows q c qs cs (question-is q qs p) d n in
-      let e = linkOf qs (lacking qs cs) in
+  same-lists : (set : ℕ) → Leaves set qs cs → (P : Pattern) → In P (viewsInSet set (viewPatterns cs)) → viewSheet P (graphOf (firstOf qs)) ≡ viewSheet P (graphOf (secondIn set qs cs))
+  same-lists set n P i =
+      let s = shows-in q c qs cs (question-is q qs p) d set n in
+      let e = linkOf qs (lackingIn set qs cs) in
       let G = graphOf (firstOf qs) in
       let H = asGraph (patternOf qs) in
       alike-views P G H (s .means)
-      ∙ uncovered-views (patternOf qs) (viewPatterns cs) e (lowest-of q c qs cs (question-is q qs p) d n .unmatched) P i
+      ∙ uncovered-views (patternOf qs) (viewsInSet set (viewPatterns cs)) e (lowest-in q c qs cs (question-is q qs p) d set n .unmatched) P i
       ∙ sym (ap (viewSheet P) (s .lacks) ∙ alike-views P (without e G) (without e H) (alike-without e G H (s .means)))
 
   -- ---- accepted books
@@ -93,11 +96,15 @@ module _ (q c qs cs : List ℕ) (p : Question q qs) (d : Catalogue c cs) where
           λ z. x .1 (z .0, rw (used-all qs cs (z .1)) (z .1), z .2 ∙ sym (all (z .1))),
         )
 
--- the sheets of views whose lists are the same in two graphs
-same-sheets : (G H : Graph) (vs : List (List ℕ)) → ((P : Pattern) → In P (map patternOf vs) → viewSheet P G ≡ viewSheet P H)
-    → map (λ v. viewSheet (patternOf v) G) vs ≡ map (λ v. viewSheet (patternOf v) H) vs
-same-sheets G H [] h = refl
-same-sheets G H (v ∷ vs) h = ap₂ (λ (x : List (List ℕ)) (l : List (List (List ℕ))). x ∷ l) (h (patternOf v) (here refl)) (same-sheets G H vs (λ P i. h P (there i)))
+-- the lists of all extracts
+lists-of : (G : Graph) (vs : List (List ℕ)) → each (λ P. viewSheet P G) (map patternOf vs) ≡ map (λ v. viewSheet (patternOf v) G) vs
+unfolding each
+lists-of G [] = refl
+lists-of G (v ∷ vs) = ap (λ (l : List (List (List ℕ))). viewSheet (patternOf v) G ∷ l) (lists-of G vs)
+
+all-lists : (c cs : List ℕ) → Catalogue c cs → (G : Graph) → listsIn everyView cs G ≡ viewSheets cs G
+unfolding viewSheets
+all-lists c cs d G = ap (each (λ P. viewSheet P G)) (chosen-every (viewPatterns cs) (few-views c cs d)) ∙ lists-of G (viewsOf cs)
 
 -- an answer by a set is the same from sheets that agree on those of the set
 pub same-lists-in : (set : ℕ) (qs cs bs bs′ : List ℕ)
@@ -126,15 +133,14 @@ ignored : (c cs : List ℕ) → Catalogue c cs → (set set′ : ℕ) → ((a : 
 unfolding answerBy answerFor judged
 ignored c cs d set set′ f q b room = rw d (judged-same (readPattern q) (λ qs _. judged-same (readBook cs b) (λ bs _. answer-alike set set′ qs cs bs room f)))
 
-no-function : (q c qs cs : List ℕ) → Question q qs → Catalogue c cs → Uncovered qs cs → (F : List (List (List ℕ)) → List ℕ)
-    → ((r rs : List ℕ) → Record r rs → F (viewSheets cs (graphOf rs)) ≡ sheetBytes (matchSets (patternOf qs) (graphOf rs))) → ⊥
-unfolding viewSheets
-no-function q c qs cs p d n F h =
-    let s = shown-by q c qs cs p d n in
+pub no-function : (q c qs cs : List ℕ) → Question q qs → Catalogue c cs → (set : ℕ) → Leaves set qs cs → (F : List (List (List ℕ)) → List ℕ)
+    → ((r rs : List ℕ) → Record r rs → F (listsIn set cs (graphOf rs)) ≡ sheetBytes (matchSets (patternOf qs) (graphOf rs))) → ⊥
+no-function q c qs cs p d set n F h =
+    let s = shown-by q c qs cs p d set n in
     s .differ
     (sym (h (recordBytes (firstOf qs)) (firstOf qs) (s .first-accepted))
-    ∙ ap F (same-sheets (graphOf (firstOf qs)) (graphOf (secondOf qs cs)) (viewsOf cs) (same-lists q c qs cs p d n))
-    ∙ h (recordBytes (secondOf qs cs)) (secondOf qs cs) (s .second-accepted))
+    ∙ ap F (each-same (λ P. viewSheet P (graphOf (firstOf qs))) (λ P. viewSheet P (graphOf (secondIn set qs cs))) (viewsInSet set (viewPatterns cs)) (same-lists q c qs cs p d set n))
+    ∙ h (recordBytes (secondIn set qs cs)) (secondIn set qs cs) (s .second-accepted))
 
 pub demand-3 : Demand3
 demand-3 = record {
@@ -144,10 +150,10 @@ demand-3 = record {
   covered = λ way q c r qs cs rs p d f h l room words.
       ap (withWorkspace words) (answer-search q c qs cs p d r rs f usedBy (used-covers qs cs h) l room ∙ sym (way-same way q r rs f room));
   fits = λ c r cs rs d f l. (bookFields (viewSheets cs (graphOf rs)), made-book c r cs rs d f l, made-sheets c r cs rs d f);
-  shows = λ q c qs cs p d n room room′ words. ap (withWorkspace words) (shown-both q c qs cs p d n room room′);
-  uncovered = λ q c qs cs p d n. shown-by q c qs cs p d n;
+  shows = λ w q c qs cs p d y n room room′ words. ap (withWorkspace words) (show-goes-on w q c qs cs p d y room room′ ∙ shows-both (usableWhen w cs) qs cs room room′ n);
+  uncovered = λ q c qs cs p d set n. shown-by q c qs cs p d set n;
   lowest = λ q c qs cs p d n. lowest-whole q c qs cs p d n;
-  shows-covered = λ q c qs cs p d room room′ words e. shown-exactly q c qs cs p d room room′ words e;
+  shows-covered = λ w q c qs cs p d y room room′ words e. shows-exactly (usableWhen w cs) qs cs room room′ (showWhen w q c room room′) (show-goes-on w q c qs cs p d y room room′) words e;
   refused = λ q c b qs cs bs p d k room words e. refused-whole q c qs cs p d b bs k room words e;
 }
 
@@ -160,5 +166,6 @@ answers = record {
   ignores = ignored;
   back = λ choose q c b qs cs bs out p d k room e. read-back q c qs cs p d b bs k choose out room e;
   answer-length = answer-size;
-  no-other-way = no-function;
+  no-other-way-in = no-function;
+  no-other-way = λ q c qs cs p d n F h. no-function q c qs cs p d everyView n F (λ r rs f. ap F (all-lists c cs d (graphOf rs)) ∙ h r rs f);
 }

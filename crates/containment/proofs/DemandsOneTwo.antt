@@ -1,9 +1,9 @@
 -- Demands 1 and 2 hold.
-use Prim.Native.Nat.{ℕ, zero, suc, _+_, _*_, _<_, _≤_}
-use mathlib.Core.Path.{_≡_, refl, sym, ap, _∙_}
+use Prim.Native.Nat.{ℕ, zero, suc, _+_, _*_, _<_, _≤_, _%_}
+use mathlib.Core.Path.{_≡_, refl, sym, ap, _∙_, subst}
 use mathlib.Core.Bool.{Bool, true, false, _||_}
 use mathlib.Core.Logic.{⊎-elim, _↔_, inl, inr}
-use mathlib.Core.List.{List, [], _∷_, _++_, flatten}
+use mathlib.Core.List.{List, [], _∷_, flatten}
 use lib.ListN.{length, getD}
 use lib.Dec.{T, eqb, ltb}
 use borrow.Author.Tests.{lt-ltb, le-ltb}
@@ -18,7 +18,7 @@ use Rattle.packed.proofs.SheetLaws.{fields-none, fields-some}
 use Rattle.packed.proofs.Accepted.{pattern-read, catalogue-read, record-read, sheet-read, book-read}
 use Rattle.packed.proofs.CallRoundTrips.{pattern-back, pattern-again, catalogue-back, catalogue-again, record-back, record-again, sheet-back, sheet-again, book-back, book-again}
 use Rattle.matching.specs.Lists.{In, some, upTo}
-use Rattle.matching.specs.Simulation.{Pair, Edge, noEdge, Pattern, bit, patternOf, graphOf, asGraph, matchSets, viewSheet, Graph}
+use Rattle.matching.specs.Simulation.{Pair, Edge, noEdge, Pattern, bit, patternOf, graphOf, asGraph, matchSets, viewSheet}
 use Rattle.matching.specs.Join.{matched}
 use Rattle.matching.specs.Search.{searchOutcome, makeBookOutcome}
 use Rattle.matching.specs.Index.{makeIndexOutcome, checkIndexOutcome, searchIndexedOutcome}
@@ -33,23 +33,28 @@ use Rattle.matching.proofs.AllOrNone.{sets-even}
 use Rattle.matching.proofs.RecordLaws.{graph-narrow}
 use Rattle.matching.specs.Offered.{viewPatterns, Offered, offeredBy}
 use Rattle.containment.specs.Choice.{everyView, coversIn}
-use Rattle.containment.specs.Quote.{Quoted, quotedBy, usableViews, covering, usedBy, QuoteValues, flat, one, mapping, valuesFrom, quoteValues, quoteFor, quoteOutcome}
+use Rattle.containment.specs.Quote.{Quoted, quotedBy, usableViews, covering, usedBy, QuoteValues, flat, one, mapping, valuesFrom, quoteValues, quoteFor}
 use Rattle.containment.specs.Answer.{Choose, answerIn, answerFor, answerBy}
-use Rattle.containment.specs.Cheapest.{cheapestFrom, cheapestFor, cheapestOutcome}
-use Rattle.containment.specs.Show.{showFor, showOutcome}
-use Rattle.containment.specs.Part.{withFirst, fitPart, partFor, partOutcome}
+use Rattle.containment.specs.Cheapest.{cheapestFrom, cheapestFor}
+use Rattle.containment.specs.Show.{showFor}
+use Rattle.containment.specs.Part.{withFirst, fitPart, partFor, partQuoted}
 use Rattle.containment.specs.Several.{questionAt, counted, allCovered, sheetsNeeded, answerAt, anyLong, fitSeveral, severalIn, severalOutcome}
 use Rattle.containment.specs.Listing.{lineOf, lineOutcome}
-use Rattle.containment.specs.Demands.{Full, Settles, writePattern, writeCatalogue, writeRecord, Worked, Demand1, Question, Catalogue, Record, ownOf, FewPairs, Book, extractOf, linkOf, Covered, lacking, chosenOf, Matching, Matched, Demand2}
-use Rattle.containment.proofs.Numbered.{numbered, pattern-faults, patterns-faults, catalogue-faults, record-faults, old-faults, sheet-faults, book-faults, gives, refuses, either, workspace-settles, within-pairs-settles, own-settles, fit-settles, fitFile-settles, fitBoth-settles, read-settles, write-settles, write-short, read-few, catalogue-few}
-use Rattle.containment.proofs.SetBits.{never}
+use Rattle.containment.specs.Demands.{Full, Settles, writePattern, writeCatalogue, writeRecord, Worked, Demand1, Question, Catalogue, Record, ownOf, FewPairs, Book, extractOf, linkOf, Covered, Matching, Matched, Demand2, first, thenNone, lackingIn, chosenIn, masksIn, When, always, on, usableWhen, Timely, quoteWhen}
+use Rattle.containment.proofs.Numbered.{numbered, pattern-faults, patterns-faults, catalogue-faults, record-faults, old-faults, sheet-faults, book-faults, gives, refuses, either, workspace-settles, within-pairs-settles, own-settles, fit-settles, fitFile-settles, fitBoth-settles, read-settles, write-settles, write-short}
+use Rattle.containment.proofs.SetBits.{never, test-cases, bit-zero, bit-every}
+use Rattle.containment.specs.Terms.{judgeTerms, onDay, firstDayFor, firstDay}
+use Rattle.containment.specs.declared.terms.Terms.{Terms}
 use Rattle.containment.proofs.ChoiceLaws.{chosen-none, chosen-covers, chosen-needed}
-use Rattle.containment.proofs.CoveredBytes.{coveredBy, question-bounds, few-views, record-is}
+use Rattle.containment.proofs.CoveredBytes.{coveredIn, question-bounds, few-views, record-is}
+use Rattle.containment.proofs.ColumnLaws.{column-in, column-out}
+use Rattle.containment.proofs.AnswerLaws.{judged-rejected}
 use Rattle.containment.proofs.QuoteLaws.{test-is, mapping-exactly, quote-says-covered}
-use Rattle.containment.proofs.DemandRules.{number-same, not-refused, refused-judged, goes-on, bytes-by, few-words, enough-words, enough-for, full-words, full-judged, full-twice, full-within-pairs, fitted, fitted-file, fitted-both, pattern-reads, catalogue-reads, record-reads, sheet-reads, book-reads, pattern-writes, catalogue-writes, record-writes, sheet-writes, book-writes, many-pairs-read, many-pairs-written, many-pairs-answer, listed-matched, matched-listed, covers-plain, shown-both, full-shown, given-by, full-answered}
-use Rattle.containment.proofs.DemandFiles.{hands-up, says-judged, says-quoted, says-give, says-fit, says-fit-file, says-within-pairs, says-own, says-quote, says-cheapest, says-answer, says-show}
-use Rattle.containment.proofs.Parts.{says-after, many-pairs-part}
+use Rattle.containment.proofs.DemandRules.{number-same, not-refused, goes-on, bytes-by, few-words, enough-words, enough-for, full-words, full-judged, full-twice, full-within-pairs, fitted, fitted-file, fitted-both, pattern-reads, catalogue-reads, record-reads, sheet-reads, book-reads, pattern-writes, catalogue-writes, record-writes, sheet-writes, book-writes, many-pairs-read, many-pairs-written, many-pairs-answer, listed-matched, matched-listed, covers-plain, given-by, full-answered, full-same, choice-among, shows-both, shows-full}
+use Rattle.containment.proofs.DemandFiles.{hands-up, says-judged, says-quoted, says-give, says-fit, says-fit-file, says-within-pairs, says-own, says-quote, says-cheapest, says-answer, says-show, Says}
+use Rattle.containment.proofs.Parts.{many-pairs-part}
 use Rattle.containment.proofs.Severals.{several-hands-up, several-reads-none, many-pairs-several}
+use Rattle.containment.proofs.WhenLaws.{right-or-wrong, right-judged, wrong-judged, byWhen, goes-on-when, quote-by, cheapest-by, part-by, show-by, show-goes-on, full-when, says-when, says-part, refused-when}
 use Rattle.containment.proofs.DemandIndex.{index-made, check-exactly, check-yes, search-exactly, check-whole, search-whole, way-same, way-searched}
 use Rattle.containment.proofs.DemandSheets.{pair-fields, searched-back, searched-length, book-made, views-sound}
 
@@ -86,6 +91,15 @@ fit-part-settles room o h =
     (λ r. inr (record { number = r .number; detail = r .detail; is = ap (withFirst o) (r .is); least = r .least; most = r .most }))
     h)
 
+part-settles : (b : List ℕ) (room room′ : ℕ) (x : Quoted) → Settles (partFor b room room′ x)
+unfolding partFor answerFor
+part-settles b room room′ x =
+    read-settles 65536 4 (book-faults (edgeCounts (x .offer .content))) b (λ bs.
+    within-pairs-settles (edgeCounts (x .offer .content)) bs
+    (either (some (matched (patternOf (x .content)) (usableViews x)) (patternOf (x .content) .edges))
+    (fit-part-settles room _ (read-settles 65536 4 (book-faults (edgeCounts (x .offer .content))) b (λ bs. answer-settles (usedBy (partQuoted x)) (partQuoted x) bs room′)))
+    (refuses _ (numbered 11 refl refl))))
+
 -- several queries
 covered-settles : (x : ℕ → Quoted) (n : ℕ) {a : Outcome} → Settles a → Settles (allCovered x n a)
 unfolding allCovered
@@ -110,6 +124,17 @@ show-settles : (room room′ : ℕ) (x : Quoted) → Settles (showFor room room�
 unfolding showFor
 show-settles room room′ x = either (covering x (x .usable)) (refuses 0 (numbered 13 refl refl)) (fitBoth-settles room room′ _ _)
 
+-- terms are judged between
+terms-settles : (t : Terms) (k : ℕ) {a : Outcome} → Settles a → Settles (judged (judgeTerms t k) (λ _. a))
+terms-settles t k {a} h =
+    ⊎-elim (λ r. subst Settles (sym (goes-on _ (right-judged t k r))) h)
+    (λ x. subst Settles (sym (judged-rejected _ (wrong-judged t k (x .0) (x .1)))) (refuses (x .0) (numbered 18 refl refl)))
+    (right-or-wrong t k)
+
+when-settles : (w : When) (q c : List ℕ) (k : Quoted → Outcome) → ((x : Quoted) → Settles (k x)) → Settles (byWhen w q c k)
+when-settles always q c k h = pattern-first q (λ qs. catalogue-first c (λ cs. h (quotedBy qs cs)))
+when-settles (on t day) q c k h = pattern-first q (λ qs. catalogue-first c (λ cs. terms-settles t (length (viewPatterns cs)) (h (onDay t day (quotedBy qs cs)))))
+
 full-answer : (set : ℕ) (x : Quoted) (bs : List ℕ) (room : ℕ) → Full (answerIn set x bs room) → FewPairs (x .offer .content) bs
 unfolding answerIn
 full-answer set x bs room f = full-within-pairs (edgeCounts (x .offer .content)) bs _ f
@@ -122,13 +147,11 @@ worked work work′ e = record {
   as-came = λ h. e ∙ rw (lt-ltb (length work) 16384 h);
 }
 
--- a quote refuses what a file is refused with, and nothing else
-quote-few : (q c : List ℕ) {n d : ℕ} → quoteOutcome q c ≡ refuse n d → n ≤ 9
-unfolding quoteOutcome quoteFor
-quote-few q c e =
-    ⊎-elim (read-few 56 1 pattern-faults q)
-    (λ x. ⊎-elim (catalogue-few c) (λ y. absurd (not-refused (y .2))) (refused-judged (readCatalogue c) _ (x .2)))
-    (refused-judged (readPattern q) _ e)
+-- a quote refuses what a file or terms are refused with, and nothing else
+quote-few : (w : When) (q c : List ℕ) {d : ℕ} → quoteWhen w q c ≡ refuse 11 d → ⊥
+unfolding quoteFor
+quote-few w q c e =
+    ⊎-elim (λ l. omega arith) (λ x. ⊎-elim (λ z. omega arith) (λ y. not-refused (y .1)) x) (refused-when w q c quoteFor (sym (quote-by q c w) ∙ e))
 
 -- a book is accepted if none of 1 to 9 falls to it, and 10 doesn't
 book-exactly : (cs s ws : List ℕ) → Book cs s ws ↔ ((length s ≤ 65536) × BookFile (edgeCounts cs) s ws × FewPairs cs ws)
@@ -138,7 +161,7 @@ book-exactly cs s ws = (
 )
 
 pub demand-1 : Demand1
-unfolding recordSorted fronts patternRead catalogueRead recordRead sheetRead bookRead patternWritten catalogueWritten recordWritten sheetWritten bookWritten searchOutcome makeBookOutcome makeIndexOutcome checkIndexOutcome searchIndexedOutcome quoteFor quoteOutcome cheapestOutcome answerFor answerBy showOutcome partFor partOutcome counted severalOutcome lineOutcome toldOf outputsOf
+unfolding recordSorted fronts patternRead catalogueRead recordRead sheetRead bookRead patternWritten catalogueWritten recordWritten sheetWritten bookWritten searchOutcome makeBookOutcome makeIndexOutcome checkIndexOutcome searchIndexedOutcome quoteFor firstDay firstDayFor answerFor answerBy counted severalOutcome lineOutcome toldOf outputsOf
 demand-1 = record {
   read-pattern = λ s room words. workspace-settles words (pattern-first s (fit-settles room));
   read-catalogue = λ s room words. workspace-settles words (catalogue-first s (fit-settles room));
@@ -160,15 +183,12 @@ demand-1 = record {
   check-index = λ r index words. workspace-settles words (record-first r (λ rs. own-settles (ownOf rs) index (gives _ [])));
   search-indexed = λ p r index room words. workspace-settles words (pattern-first p (λ ps. record-first r (λ rs. own-settles (ownOf rs) index (fitFile-settles room _))));
   make-book = λ c r room words. workspace-settles words (catalogue-first c (λ cs. record-first r (λ rs. fitFile-settles room _)));
-  quote = λ q c words. workspace-settles words (pattern-first q (λ qs. catalogue-first c (λ cs. gives _ [])));
-  cheapest = λ q c charges words. workspace-settles words (pattern-first q (λ qs. catalogue-first c (λ cs. cheapest-settles charges (quotedBy qs cs))));
+  quote = λ w q c words. workspace-settles words (subst Settles (sym (quote-by q c w)) (when-settles w q c quoteFor (λ x. gives _ [])));
+  cheapest = λ w q c charges words. workspace-settles words (subst Settles (sym (cheapest-by q c w charges)) (when-settles w q c (cheapestFor charges) (cheapest-settles charges)));
+  first-day = λ q c t day words. workspace-settles words (when-settles (on t day) q c (firstDayFor t day) (λ x. gives _ []));
   answer = λ choose q c b room words. workspace-settles words (answered-settles choose q c b room);
-  show = λ q c room room′ words. workspace-settles words (pattern-first q (λ qs. catalogue-first c (λ cs. show-settles room room′ (quotedBy qs cs))));
-  part = λ q c b room room′ words.
-      workspace-settles words
-      (pattern-first q (λ qs. catalogue-first c (λ cs. read-settles 65536 4 (book-faults (edgeCounts cs)) b (λ bs.
-      within-pairs-settles (edgeCounts cs) bs
-      (either (some (matched (patternOf qs) (usableViews (quotedBy qs cs))) (patternOf qs .edges)) (fit-part-settles room _ (answered-settles usedBy _ c b room′)) (refuses _ (numbered 11 refl refl)))))));
+  show = λ w q c room room′ words. workspace-settles words (subst Settles (sym (show-by q c w room room′)) (when-settles w q c (showFor room room′) (show-settles room room′)));
+  part = λ w q c b room room′ words. workspace-settles words (subst Settles (sym (part-by q c w b room room′)) (when-settles w q c (partFor b room room′) (part-settles b room room′)));
   several = λ q number c b room words.
       workspace-settles words
       (either (eqb number 0 || ltb 8 number) (refuses _ (numbered 17 refl refl))
@@ -190,19 +210,18 @@ demand-1 = record {
   check-index-files = λ r index. hands-up (says-judged (readRecord r) (λ rs _. says-own (ownOf rs) index (says-give _ _)));
   search-indexed-files = λ p r index room. hands-up (says-judged (readPattern p) (λ ps _. says-judged (readRecord r) (λ rs _. says-own (ownOf rs) index (says-fit-file room _))));
   make-book-files = λ c r room. hands-up (says-judged (readCatalogue c) (λ cs _. says-judged (readRecord r) (λ rs _. says-fit-file room _)));
-  quote-files = λ q c. hands-up (says-quoted q c quoteFor (λ qs cs. says-quote (quotedBy qs cs)));
-  cheapest-files = λ q c charges. hands-up (says-quoted q c (cheapestFor charges) (λ qs cs. says-cheapest charges (quotedBy qs cs)));
+  quote-files = λ w q c. hands-up (subst (Says _) (sym (quote-by q c w)) (says-when w q c thenNone quoteFor says-quote));
+  cheapest-files = λ w q c charges. hands-up (subst (Says _) (sym (cheapest-by q c w charges)) (says-when w q c thenNone (cheapestFor charges) (says-cheapest charges)));
+  first-day-files = λ q c t day. hands-up (says-when (on t day) q c thenNone (firstDayFor t day) (λ x. says-give _ _));
   answer-files = λ choose q c b room.
       hands-up (says-quoted q c (answerFor choose b room) (λ qs cs. says-judged (readBook cs b) (λ bs _. says-answer (choose (quotedBy qs cs)) (quotedBy qs cs) bs room)));
-  show-files = λ q c room room′. hands-up (says-quoted q c (showFor room room′) (λ qs cs. says-show room room′ (quotedBy qs cs)));
-  part-files = λ q c b room room′.
-      hands-up
-      (says-judged (readPattern q) (λ qs p. says-judged (readCatalogue c) (λ cs d. says-judged (readBook cs b) (λ bs k. says-within-pairs (edgeCounts cs) bs (says-after q c qs cs p d b bs k room room′)))));
+  show-files = λ w q c room room′. hands-up (subst (Says _) (sym (show-by q c w room room′)) (says-when w q c thenNone (showFor room room′) (says-show room room′)));
+  part-files = λ w q c b room room′. hands-up (subst (Says _) (sym (part-by q c w b room room′)) (says-when w q c (λ cs. first (readBook cs b) thenNone) (partFor b room room′) (says-part b room room′)));
   several-files = several-hands-up;
   several-unread = several-reads-none;
   never-long = λ ws d. (write-short 1 pattern-faults ws d, write-short 2 catalogue-faults ws d, write-short 3 record-faults ws d);
   never-long-beside = λ cs ws d. (write-short 4 (sheet-faults (edgesOf cs)) ws d, write-short 4 (book-faults (edgeCounts cs)) ws d);
-  quote-never = λ q c words d e. let l = quote-few q c (enough-for words _ (λ z. let y = number-same z in omega arith) e .1) in omega arith;
+  quote-never = λ w q c words d e. quote-few w q c (enough-for words _ (λ z. let y = number-same z in omega arith) e .1);
   small-workspace = λ a words. few-words words a;
   enough = λ a words. enough-words words a;
   accepts-pattern = pattern-read;
@@ -223,7 +242,7 @@ demand-1 = record {
   read-many-pairs = many-pairs-read;
   write-many-pairs = many-pairs-written;
   answer-many-pairs = many-pairs-answer;
-  part-many-pairs = λ q c b qs cs bs p d k room room′ words e. many-pairs-part q c qs cs p d b bs k room room′ words e;
+  part-many-pairs = λ w q c b qs cs bs p d y k room room′ words e. many-pairs-part w q c qs cs p d y b bs k room room′ words e;
   several-many-pairs = many-pairs-several;
   search-gives = λ way p r ps rs e f room words. fitted-file _ words room _ (way-searched way p r ps rs e f room);
   search-only = λ p r room words f. let t = full-twice _ _ _ (full-words words _ f) in (t .0, t .1, t .2, t .3);
@@ -236,7 +255,7 @@ demand-1 = record {
   check-only = check-whole;
   check-refuses = λ r rs index f words d. check-exactly r rs f index words d;
   search-refuses = λ p r ps rs index e f room words d. search-exactly r rs f p ps e index room words d;
-  quote-only = λ q c words f. let t = full-twice _ _ _ (full-words words _ f) in (t .0, t .1, t .2, t .3);
+  quote-only = λ w q c words f. let t = full-when w q c quoteFor (full-same (quote-by q c w) (full-words words _ f)) in (t .0, t .1, t .2, t .3, t .4);
   answer-gives = λ choose q c b qs cs bs e f k h room words. fitted-file _ words room _ (given-by q c qs cs e f b bs k choose room h);
   answer-only = λ choose q c b room words f.
       let w = full-words words (answerBy choose q c b room) f in
@@ -244,11 +263,10 @@ demand-1 = record {
       let z = full-judged _ _ (t .4) in
       let k : Book (t .1) b (z .0) = record { read = z .1; few = full-answer _ (quotedBy (t .0) (t .1)) _ room (z .2) } in
       (t .0, t .1, z .0, t .2, t .3, k, full-answered q c (t .0) (t .1) (t .2) (t .3) b (z .0) k choose room w);
-  show-gives = λ q c qs cs e f n room room′ words. fitted-both _ words room room′ _ _ (shown-both q c qs cs e f n room room′);
-  show-only = λ q c room room′ words f.
-      let w = full-words words (showOutcome q c room room′) f in
-      let t = full-twice _ _ _ w in
-      (t .0, t .1, t .2, t .3, full-shown q c (t .0) (t .1) (t .2) (t .3) room room′ w);
+  show-gives = λ w q c qs cs e f y n room room′ words. fitted-both _ words room room′ _ _ (show-goes-on w q c qs cs e f y room room′ ∙ shows-both (usableWhen w cs) qs cs room room′ n);
+  show-only = λ w q c room room′ words f.
+      let t = full-when w q c (showFor room room′) (full-same (show-by q c w room room′) (full-words words _ f)) in
+      (t .0, t .1, t .2, t .3, t .4, shows-full (usableWhen w (t .1)) (t .0) (t .1) room room′ (t .5));
   full = λ blank r outs outs′ work work′ values outputs s. (s .outputs, s .result, worked work work′ (s .workspace));
   front = λ o l. refl;
   both-fronts = λ o o′ l l′. refl;
@@ -271,23 +289,36 @@ quote-exactly q c qs cs eq ec =
     )
 
 -- the masks of a quote
-maps-exactly : (q c qs cs : List ℕ) → Question q qs → Catalogue c cs → (i a f : ℕ) → i < edgesOf qs → a < length (viewPatterns cs) → f < length (extractOf cs a .edges)
-    → T (bit (getD (mapping (patternOf qs) (viewPatterns cs)) (16 * i + a) 0) f)
-    ↔ ((getD (extractOf cs a .edges) f noEdge .kind ≡ linkOf qs i .kind) × In (code (linkOf qs i .from) (linkOf qs i .to)) (getD (viewSheet (extractOf cs a) (asGraph (patternOf qs))) f []))
-maps-exactly q c qs cs eq ec i a f h l k =
+maps-exactly : (set : ℕ) (q c qs cs : List ℕ) → Question q qs → Catalogue c cs → (i a f : ℕ) → i < edgesOf qs → a < length (viewPatterns cs) → f < length (extractOf cs a .edges)
+    → T (bit (getD (masksIn set qs cs) (16 * i + a) 0) f)
+    ↔ (T (bit set a) × (getD (extractOf cs a .edges) f noEdge .kind ≡ linkOf qs i .kind) × In (code (linkOf qs i .from) (linkOf qs i .to)) (getD (viewSheet (extractOf cs a) (asGraph (patternOf qs))) f []))
+maps-exactly set q c qs cs eq ec i a f h l k =
     let b = question-bounds q qs eq in
     let n = few-views c cs ec in
-    mapping-exactly (patternOf qs) (viewPatterns cs) (b .few-edges) i a (omega (arith, b .many)) l (omega arith) f k
+    let t = mapping (patternOf qs) (viewPatterns cs) in
+    let x = mapping-exactly (patternOf qs) (viewPatterns cs) (b .few-edges) i a (omega (arith, b .many)) l (omega arith) f k in
+    let z : (16 * i + a) % 16 ≡ a = omega arith in
+    ⊎-elim
+    (λ y.
+    let e = column-in set t (16 * i + a) (ap (bit set) z ∙ y) in (
+      λ m. let r = x .0 (subst (λ (v : ℕ). T (bit v f)) e m) in (test-is _ .0 y, r .0, r .1),
+      λ m. subst (λ (v : ℕ). T (bit v f)) (sym e) (x .1 (m .1, m .2)),
+    ))
+    (λ y.
+    let e = column-out set t (16 * i + a) (ap (bit set) z ∙ y) in (
+      λ m. never (sym (test-is _ .1 (subst (λ (v : ℕ). T (bit v f)) e m)) ∙ bit-zero f),
+      λ m. never (sym (test-is _ .1 (m .0)) ∙ y),
+    ))
+    (test-cases (bit set a))
 
 -- the values of a quote
-abbrev valuesBy : List ℕ → List ℕ → Bool → ℕ → QuoteValues
-valuesBy qs cs b set =
-    record { covered = one b; mapping = mapping (patternOf qs) (viewPatterns cs); edges = edgesOf qs; chosen = set; lowest = pick b 0 (lacking qs cs) }
+abbrev valuesBy : ℕ → List ℕ → List ℕ → Bool → ℕ → QuoteValues
+valuesBy usable qs cs b set = record { covered = one b; mapping = masksIn usable qs cs; edges = edgesOf qs; chosen = set; lowest = pick b 0 (lackingIn usable qs cs) }
 
-quote-values : (q c qs cs : List ℕ) → Question q qs → Catalogue c cs → (b : Bool) → coveredBy qs cs ≡ b
-    → quoteOutcome q c ≡ give (flat (valuesBy qs cs b (chosenOf qs cs))) []
-unfolding quoteOutcome quoteFor quoteValues valuesFrom
-quote-values q c qs cs eq ec b h = goes-on _ eq ∙ goes-on _ ec ∙ rw h
+quote-values : (w : When) (q c qs cs : List ℕ) → Question q qs → Catalogue c cs → Timely cs w → (b : Bool) → coveredIn (usableWhen w cs) qs cs ≡ b
+    → quoteWhen w q c ≡ give (flat (valuesBy (usableWhen w cs) qs cs b (chosenIn (usableWhen w cs) qs cs))) []
+unfolding quoteFor quoteValues valuesFrom
+quote-values w q c qs cs eq ec y b h = quote-by q c w ∙ goes-on-when w q c qs cs eq ec y quoteFor ∙ rw h
 
 one-same : (a b : Bool) → one a ≡ one b → a ≡ b
 one-same true true e = refl
@@ -296,15 +327,15 @@ one-same false true e = absurd (omega arith)
 one-same false false e = refl
 
 -- which is all that it says of coverage
-quote-says : (q c qs cs : List ℕ) → Question q qs → Catalogue c cs → (b : Bool) (words : ℕ)
-    → ((v : QuoteValues) × (withWorkspace words (quoteOutcome q c) ≡ give (flat v) []) × (v .covered ≡ one b)) ↔ ((16384 ≤ words) × (coveredBy qs cs ≡ b))
+quote-says : (w : When) (q c qs cs : List ℕ) → Question q qs → Catalogue c cs → Timely cs w → (b : Bool) (words : ℕ)
+    → ((v : QuoteValues) × (withWorkspace words (quoteWhen w q c) ≡ give (flat v) []) × (v .covered ≡ one b)) ↔ ((16384 ≤ words) × (coveredIn (usableWhen w cs) qs cs ≡ b))
 unfolding flat
-quote-says q c qs cs eq ec b words = (
+quote-says w q c qs cs eq ec y b words = (
   λ x.
-      let w = enough-for words (quoteOutcome q c) (λ z. not-refused (sym z)) (x .1) in
-      let e = sym (quote-values q c qs cs eq ec (coveredBy qs cs) refl) ∙ w .1 in
-      (w .0, one-same (coveredBy qs cs) b (cc)),
-  λ x. (valuesBy qs cs b (chosenOf qs cs), enough-words words (quoteOutcome q c) (x .0) ∙ quote-values q c qs cs eq ec b (x .1), refl),
+      let g = enough-for words (quoteWhen w q c) (λ z. not-refused (sym z)) (x .1) in
+      let e = sym (quote-values w q c qs cs eq ec y (coveredIn (usableWhen w cs) qs cs) refl) ∙ g .1 in
+      (g .0, one-same (coveredIn (usableWhen w cs) qs cs) b (cc)),
+  λ x. (valuesBy (usableWhen w cs) qs cs b (chosenIn (usableWhen w cs) qs cs), enough-words words (quoteWhen w q c) (x .0) ∙ quote-values w q c qs cs eq ec y b (x .1), refl),
 )
 
 pub demand-2 : Demand2
@@ -336,17 +367,19 @@ demand-2 = record {
   extracts-sound = views-sound;
   quotes = quote-exactly;
   covers = λ q c qs cs eq ec set. covers-plain q c qs cs eq ec set;
-  says-covered = λ q c qs cs eq ec words. quote-says q c qs cs eq ec true words;
-  says-uncovered = λ q c qs cs eq ec words. quote-says q c qs cs eq ec false words;
-  values-covered = λ q c qs cs eq ec h. quote-values q c qs cs eq ec true h;
-  values-uncovered = λ q c qs cs eq ec n.
-      quote-values q c qs cs eq ec false n
-      ∙ ap (λ (set : ℕ). give (flat (valuesBy qs cs false set)) [])
-      (chosen-none (mapping (patternOf qs) (viewPatterns cs)) everyView (edgesOf qs) (length (viewPatterns cs)) n);
+  says-covered = λ w q c qs cs eq ec y words. quote-says w q c qs cs eq ec y true words;
+  says-uncovered = λ w q c qs cs eq ec y words. quote-says w q c qs cs eq ec y false words;
+  values-covered = λ w q c qs cs eq ec y h. quote-values w q c qs cs eq ec y true h;
+  values-uncovered = λ w q c qs cs eq ec y n.
+      quote-values w q c qs cs eq ec y false n
+      ∙ ap (λ (set : ℕ). give (flat (valuesBy (usableWhen w cs) qs cs false set)) [])
+      (chosen-none (mapping (patternOf qs) (viewPatterns cs)) (usableWhen w cs) (edgesOf qs) (length (viewPatterns cs)) n);
   maps = maps-exactly;
-  choice-covers = λ qs cs h. chosen-covers (mapping (patternOf qs) (viewPatterns cs)) everyView (edgesOf qs) (length (viewPatterns cs)) h;
-  choice-needs = λ qs cs a t h.
-      never (sym h ∙ chosen-needed (mapping (patternOf qs) (viewPatterns cs)) everyView (edgesOf qs) (length (viewPatterns cs)) a (test-is _ .1 t));
+  all-usable = λ c cs ec a l. test-is _ .0 (bit-every a (let n = few-views c cs ec in omega arith));
+  choice-within = λ set qs cs a t. choice-among set qs cs a (test-is _ .1 t);
+  choice-covers = λ set qs cs h. chosen-covers (mapping (patternOf qs) (viewPatterns cs)) set (edgesOf qs) (length (viewPatterns cs)) h;
+  choice-needs = λ set qs cs a t h.
+      never (sym h ∙ chosen-needed (mapping (patternOf qs) (viewPatterns cs)) set (edgesOf qs) (length (viewPatterns cs)) a (test-is _ .1 t));
   patterns = record { back = λ s ws room room′ words y. pattern-back s ws room room′ words (bytes-by s y); again = pattern-again };
   catalogues = record { back = λ s ws room room′ words y. catalogue-back s ws room room′ words (bytes-by s (y .0)) (y .1); again = catalogue-again };
   records = record { back = λ s ws room room′ words y. record-back s ws room room′ words (bytes-by s y); again = record-again };

@@ -10,7 +10,7 @@ use Rattle.packed.specs.Format.{then, whole, bad, scan, lay, decode, encode}
 use Rattle.packed.specs.Formats.{catalogue, book}
 use Rattle.packed.specs.Contents.{patternsIn, viewsOf, edgeCounts, sheetsIn, distinct}
 use Rattle.packed.specs.Plain.{Laid, Below, Whole, PlainSheet}
-use Rattle.packed.specs.Calls.{refuse, rejected, inFile, writeFile, judged, readBook, pairsOf, fit, catalogueRead, bookRead, catalogueWritten, bookWritten}
+use Rattle.packed.specs.Calls.{Outcome, refuse, withWorkspace, rejected, inFile, writeFile, judged, readBook, pairsOf, fit, catalogueRead, bookRead, catalogueWritten, bookWritten}
 use Rattle.packed.proofs.BitsLaws.{length-bits}
 use Rattle.packed.proofs.Files.{ended-more}
 use Rattle.packed.proofs.AcceptedTurns.{no-turns}
@@ -18,14 +18,16 @@ use Rattle.packed.proofs.Accepted.{catalogue-accepted, catalogue-some, zero-byt
 use Rattle.packed.proofs.CallLaws.{read-finds, catalogue-empty}
 use Rattle.packed.proofs.CallRoundTrips.{written-some}
 use Rattle.matching.specs.Search.{bookBytes, viewSheets, makeBookOutcome}
-use Rattle.containment.specs.Quote.{quoteOutcome}
-use Rattle.containment.specs.Cheapest.{cheapestOutcome}
+use Rattle.containment.specs.Quote.{Quoted, quoteFor}
+use Rattle.containment.specs.Cheapest.{cheapestFor}
 use Rattle.containment.specs.Answer.{answerBy}
 use Rattle.containment.specs.Several.{severalOutcome}
-use Rattle.containment.specs.Show.{showOutcome}
-use Rattle.containment.specs.Part.{partFor, partOutcome}
-use Rattle.containment.specs.Demands.{Book, EmptyCatalogues}
+use Rattle.containment.specs.Show.{showFor}
+use Rattle.containment.specs.Part.{partFor}
+use Rattle.containment.specs.Terms.{firstDayFor, firstDay}
+use Rattle.containment.specs.Demands.{Book, When, always, on, EmptyCatalogues}
 use Rattle.containment.proofs.DemandRules.{goes-on, written}
+use Rattle.containment.proofs.WhenLaws.{byWhen, quote-by, cheapest-by, part-by, show-by}
 
 -- ---- what is written of its content
 zero-small : Below 256 (0 ∷ [])
@@ -73,8 +75,13 @@ after-none b h = let z : length (bits b) % 8 ≡ 0 = omega (arith, length-bits b
 byte-refused : (b : List ℕ) → 0 < length b → length b ≤ 65536 → readBook (0 ∷ []) b ≡ rejected 9 4
 byte-refused b h l = rw no-counts (read-finds 65536 4 (book []) b l .is ∙ ap (inFile 4) (after-none b h))
 
+-- a call that goes by all views or is for a day
+when-alike : (w : When) (q : List ℕ) (k : Quoted → Outcome) → byWhen w q [] k ≡ byWhen w q (0 ∷ []) k
+when-alike always q k = rw read-alike
+when-alike (on t day) q k = rw read-alike
+
 pub empty-catalogues : EmptyCatalogues
-unfolding viewsOf patternsIn viewSheets bookBytes catalogueRead bookRead bookWritten makeBookOutcome quoteOutcome cheapestOutcome answerBy severalOutcome showOutcome partFor partOutcome
+unfolding viewsOf patternsIn viewSheets bookBytes catalogueRead bookRead bookWritten makeBookOutcome answerBy severalOutcome firstDay
 empty-catalogues = record {
   empty = catalogue-empty [] refl;
   byte-00 = sym read-alike ∙ catalogue-empty [] refl;
@@ -83,12 +90,13 @@ empty-catalogues = record {
   read-book = λ s room words. rw read-alike;
   write-book = λ ws room words. rw read-alike;
   make-book = λ r room words. rw read-alike;
-  quote = λ q words. rw read-alike;
-  cheapest = λ q charges words. rw read-alike;
+  quote = λ w q words. ap (withWorkspace words) (quote-by q [] w ∙ when-alike w q quoteFor ∙ sym (quote-by q (0 ∷ []) w));
+  cheapest = λ w q charges words. ap (withWorkspace words) (cheapest-by q [] w charges ∙ when-alike w q (cheapestFor charges) ∙ sym (cheapest-by q (0 ∷ []) w charges));
+  first-day = λ q t day words. ap (withWorkspace words) (when-alike (on t day) q (firstDayFor t day));
   answer = λ choose q b room words. rw read-alike;
   several = λ q number b room words. rw read-alike;
-  show = λ q room room′ words. rw read-alike;
-  part = λ q b room room′ words. rw read-alike;
+  show = λ w q room room′ words. ap (withWorkspace words) (show-by q [] w room room′ ∙ when-alike w q (showFor room room′) ∙ sym (show-by q (0 ∷ []) w room room′));
+  part = λ w q b room room′ words. ap (withWorkspace words) (part-by q [] w b room room′ ∙ when-alike w q (partFor b room room′) ∙ sym (part-by q (0 ∷ []) w b room room′));
   written = written-00;
   has-none = λ ws q. let l = catalogue-some [] ws q in omega arith;
   never-written = λ ws room words e. let l = written-some [] ws room words e in omega arith;

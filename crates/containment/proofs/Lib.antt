@@ -1,6 +1,7 @@
 -- sets of views and what they cover
 pub mod SetBits
 pub mod ChoiceLaws
+pub mod ColumnLaws
 pub mod CheapestLaws
 pub mod TriesLaws
 pub mod CheapestSets
@@ -30,9 +31,11 @@ pub mod AnswerLaws
 pub mod ShowLaws
 pub mod CostingLaws
 pub mod Numbered
+pub mod TermsLaws
 -- the demands
 pub mod DemandRules
 pub mod DemandFiles
+pub mod WhenLaws
 pub mod DemandSheets
 pub mod DemandIndex
 pub mod DemandJoin
@@ -43,6 +46,7 @@ pub mod EmptyCatalogues
 pub mod Sorting
 pub mod Parts
 pub mod Severals
+pub mod OnDays
 -- the listing
 pub mod ListingLaws
 pub mod Listings

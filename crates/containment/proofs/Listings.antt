@@ -7,20 +7,19 @@ use native.Mathlib.Omega.{arith}
 use borrow.Author.Tests.{lt-ltb, le-ltb}
 use Rattle.packed.specs.Contents.{edgesOf}
 use Rattle.packed.specs.Refusals.{Told, told, numberOf}
-use Rattle.packed.specs.Calls.{give, toldOf, fronts, outputsOf, fit, judged, Settled, FulfilsOne, withWorkspace}
+use Rattle.packed.specs.Calls.{give, toldOf, fronts, outputsOf, fit, Settled, FulfilsOne, withWorkspace}
 use Rattle.matching.specs.Simulation.{patternOf}
 use Rattle.matching.specs.Offered.{viewPatterns}
-use Rattle.containment.specs.Choice.{everyView, coversIn}
-use Rattle.containment.specs.Quote.{quotedBy, QuoteValues, flat, blank, one, mapping, valuesFrom, quoteValues, quoteFor, quoteOutcome, quoteTold}
+use Rattle.containment.specs.Quote.{quotedIn, QuoteValues, flat, blank, one, mapping, valuesFrom, quoteValues, quoteFor, quoteTold}
 use Rattle.containment.specs.Listing.{linesAfter, chosenLine, lineOf, lineOutcome}
-use Rattle.containment.specs.Demands.{Question, Catalogue, Uncovered, UncoveredListing, Listings}
+use Rattle.containment.specs.Demands.{Question, Catalogue, Leaves, masksIn, When, usableWhen, Timely, quoteWhen, UncoveredListing, Listings}
 use Rattle.containment.specs.declared.quote_type.Coverage.{Coverage}
 use Rattle.containment.specs.declared.quote_type.Coverage.the-variants as coverage-is
 use Rattle.containment.specs.declared.quote_type.Quote.{Quote}
 use Rattle.containment.proofs.ChoiceLaws.{chosen-none}
-use Rattle.containment.proofs.CoveredBytes.{question-bounds}
 use Rattle.containment.proofs.ListingLaws.{line-first, line-beyond, line-last, line-link, line-length}
 use Rattle.containment.proofs.Numbered.{refusal-numbered}
+use Rattle.containment.proofs.WhenLaws.{goes-on-when, quote-by}
 
 -- ---- a quote's values stand in what it tells
 
@@ -50,28 +49,28 @@ module _ (v : QuoteValues) (none : v .covered ≡ 0) where
   told-by (coverage-is.Refused x) t m set e h = absurd (let n = refusal-numbered x .least in let z : numberOf x ≡ 0 = cc in omega arith)
 
 -- ---- the listing
-abbrev values : List ℕ → List ℕ → QuoteValues
-values qs cs = quoteValues (quotedBy qs cs)
+module _ (w : When) (q c qs cs : List ℕ) (eq : Question q qs) (ec : Catalogue c cs) (y : Timely cs w) (no : Leaves (usableWhen w cs) qs cs) (r : Quote) where
+  abbrev values : QuoteValues
+  values = quoteValues (quotedIn (usableWhen w cs) qs cs)
 
-module _ (q c qs cs : List ℕ) (eq : Question q qs) (ec : Catalogue c cs) (no : Uncovered qs cs) (r : Quote) where
-  given : quoteOutcome q c ≡ give (flat (values qs cs)) []
-  unfolding quoteOutcome quoteFor judged
-  given = rw (eq, ec)
+  given : quoteWhen w q c ≡ give (flat values) []
+  unfolding quoteFor
+  given = quote-by q c w ∙ goes-on-when w q c qs cs eq ec y quoteFor
 
-  tells : {work work′ : List ℕ} → 16384 ≤ length work → Settled blank (withWorkspace (length work) (quoteOutcome q c)) (quoteTold r) [] [] work work′ → Tells r (values qs cs)
+  tells : {work work′ : List ℕ} → 16384 ≤ length work → Settled blank (withWorkspace (length work) (quoteWhen w q c)) (quoteTold r) [] [] work work′ → Tells r values
   unfolding withWorkspace toldOf quoteValues valuesFrom
   tells {work} l s =
-      let none : values qs cs .covered ≡ 0 = ap one no in
-      let h : quoteTold r ≡ told 0 (flat (values qs cs)) = s .result ∙ rw (le-ltb (length work) 16384 l, given) in
-      told-by (values qs cs) none (r .coverage) (r .mapping) (r .edges) (r .chosen) (r .lowest) h
+      let none : values .covered ≡ 0 = ap one no in
+      let h : quoteTold r ≡ told 0 (flat values) = s .result ∙ rw (le-ltb (length work) 16384 l, given) in
+      told-by values none (r .coverage) (r .mapping) (r .edges) (r .chosen) (r .lowest) h
 
-  listing : Tells r (values qs cs) → UncoveredListing r (mapping (patternOf qs) (viewPatterns cs)) (edgesOf qs)
+  listing : Tells r values → UncoveredListing r (masksIn (usableWhen w cs) qs cs) (edgesOf qs)
   unfolding quoteValues valuesFrom chosenLine
   listing t =
       let t′ = mapping (patternOf qs) (viewPatterns cs) in
       let k = length (viewPatterns cs) in
       let last : linesAfter r ≡ edgesOf qs + 1 = rw (t .coverage) (ap (λ (m : ℕ). m + 1) (t .edges)) in
-      let none : r .chosen ≡ 0 = t .chosen ∙ chosen-none t′ everyView _ k no in
+      let none : r .chosen ≡ 0 = t .chosen ∙ chosen-none t′ (usableWhen w cs) _ k no in
       record {
         first = line-first r 0 refl ∙ rw (t .coverage);
         links = λ e h. let n : e + 1 - 1 ≡ e = omega arith in line-link r (e + 1) (λ z. omega arith) (omega arith) ∙ rw (t .mapping, n);
@@ -97,7 +96,7 @@ module _ (q : Quote) (k : ℕ) (r : Told) (out out′ : List ℕ) (a : FulfilsOn
 
 pub listings : Listings
 listings = record {
-  uncovered = λ q c qs cs work work′ eq ec no r l s. listing q c qs cs eq ec no r (tells q c qs cs eq ec no r l s);
+  uncovered = λ w q c qs cs work work′ eq ec y no r l s. listing w q c qs cs eq ec y no r (tells w q c qs cs eq ec y no r l s);
   refuses = refuses;
   writes = writes;
   longest = line-length;

@@ -283,7 +283,7 @@ module _ (Q : Pattern) where
   unfolding maskAt
   mask-over Ps k h = rw (le-ltb _ _ h)
 
-  mask-beyond : (Ps : List Pattern) (k : ℕ) → length Ps ≤ k % 16 → maskAt Q Ps k ≡ 0
+  pub mask-beyond : (Ps : List Pattern) (k : ℕ) → length Ps ≤ k % 16 → maskAt Q Ps k ≡ 0
   unfolding maskAt
   mask-beyond Ps k h = rw (le-ltb _ _ h, and-no (ltb (k / 16) (length (Q .edges))))
 

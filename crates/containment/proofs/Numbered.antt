@@ -1,4 +1,4 @@
--- Every refusal has a number from 1 to 17: a file's by its format, and the others by the calls that give them.
+-- Every refusal has a number from 1 to 18: a file's by its format, and the others by the calls that give them.
 use Prim.Native.Nat.{ℕ, zero, suc, _+_, _%_, _^_, _≤_}
 use mathlib.Core.Path.{_≡_, refl}
 use mathlib.Core.Logic.{inl, inr}
@@ -14,7 +14,7 @@ use Rattle.packed.specs.OldRecord.{oldRecord}
 use Rattle.packed.specs.Formats.{code, rank, edges, label, joined, pattern, patterns, catalogue, labels, rising, record′, pairs, lists, standing, sheet, book}
 use Rattle.packed.specs.Refusals.{numberOf}
 use Rattle.packed.specs.declared.reply.Refusal.{Refusal}
-use Rattle.packed.specs.declared.reply.Refusal.the-variants.{TooLong, Truncated, OutOfRange, NoSuchNode, DuplicateEdge, NotAscending, IsolatedNode, ZeroCount, Trailing, TooManyPairs, NotContained, NoRoom, Contained, SmallWorkspace, WrongCharges, WrongIndex, WrongQuestions}
+use Rattle.packed.specs.declared.reply.Refusal.the-variants.{TooLong, Truncated, OutOfRange, NoSuchNode, DuplicateEdge, NotAscending, IsolatedNode, ZeroCount, Trailing, TooManyPairs, NotContained, NoRoom, Contained, SmallWorkspace, WrongCharges, WrongIndex, WrongQuestions, WrongTerms}
 use Rattle.packed.specs.Calls.{Outcome, give, refuse, withWorkspace, rejected, inFile, readFile, writeFile, judged, readCatalogue, pairsOf, withinPairsBy, fit, fitFile}
 use Rattle.matching.specs.Index.{alike, ownIndex}
 use Rattle.containment.specs.Show.{fitBoth}
@@ -22,10 +22,10 @@ use Rattle.containment.specs.Demands.{Settles}
 
 pub record Numbered (n : ℕ) : Type 0 where
   pub least : 1 ≤ n
-  pub most : n ≤ 17
+  pub most : n ≤ 18
 
-pub numbered : (n : ℕ) → leb 1 n ≡ true → leb n 17 ≡ true → Numbered n
-numbered n p q = record { least = leb-true 1 n p; most = leb-true n 17 q }
+pub numbered : (n : ℕ) → leb 1 n ≡ true → leb n 18 ≡ true → Numbered n
+numbered n p q = record { least = leb-true 1 n p; most = leb-true n 18 q }
 
 -- a refusal has a number, which 0, success, is not
 pub record Positive (n : ℕ) : Type 0 where
@@ -52,6 +52,7 @@ refusal-numbered SmallWorkspace = positive 14 refl
 refusal-numbered (WrongCharges d) = positive 15 refl
 refusal-numbered (WrongIndex d) = positive 16 refl
 refusal-numbered (WrongQuestions d) = positive 17 refl
+refusal-numbered (WrongTerms d) = positive 18 refl
 
 -- the numbers that fall to what stands in a file, or in content
 pub record FileFault (n : ℕ) : Type 0 where

@@ -1,5 +1,5 @@
 -- The part of a query by value: it is accepted, the rows that were picked are its table, and its answer is that of its bytes.
-use Prim.Native.Nat.{ℕ, _+_, _-_, _*_, _<_, _≤_}
+use Prim.Native.Nat.{ℕ, _+_, _-_, _*_, _%_, _<_, _≤_}
 use mathlib.Core.Path.{_≡_, refl, sym, ap, ap₂, subst, subst₂, _∙_}
 use mathlib.Core.Bool.{Bool, true, false}
 use mathlib.Core.Logic.{⊎-elim}
@@ -16,7 +16,7 @@ use Rattle.packed.specs.Formats.{pattern}
 use Rattle.packed.specs.Contents.{nodesOf, edgesOf, patternSize, edgeCounts, sheetsIn}
 use Rattle.packed.specs.ByValue.{HoldsPattern}
 use Rattle.packed.specs.Refusals.{told, numberOf, replyTold}
-use Rattle.packed.specs.Calls.{Outcome, give, refuse, toldOf, fronts, outputsOf, Fulfils, FulfilsOne, accepted, rejected, Verdict, readPattern, readCatalogue, judged, readBook, withinPairs, fitFile}
+use Rattle.packed.specs.Calls.{Outcome, give, refuse, toldOf, fronts, outputsOf, Fulfils, FulfilsOne, judged, readBook, withinPairs, fitFile}
 use Rattle.packed.specs.declared.reply.Refusal.{Refusal}
 use Rattle.packed.specs.declared.reply.Reply.the-variants as reply-is
 use Rattle.packed.specs.declared.by_value.Pattern.{Pattern as Given}
@@ -31,17 +31,17 @@ use Rattle.matching.specs.Join.{matched, covered, answerSets}
 use Rattle.matching.specs.Joining.{Agrees}
 use Rattle.matching.specs.Search.{sheetBytes}
 use Rattle.matching.specs.Loaded.{patternIn}
-use Rattle.matching.specs.Offered.{viewPatterns, offered}
+use Rattle.matching.specs.Offered.{viewPatterns}
 use Rattle.matching.specs.Part.{partOf, patternFields, patternBytes}
 use Rattle.matching.proofs.ListLaws.{same-test, in-at, some-in, in-some}
 use Rattle.matching.proofs.MaskBits.{none-has, lowest-has, few-lt}
 use Rattle.matching.proofs.MatchLaws.{SoundPattern, sound-say}
 use Rattle.matching.proofs.PatternLaws.{pattern-same}
 use Rattle.matching.proofs.PartLaws.{had-covered}
-use Rattle.matching.proofs.PatternBytes.{WellFormed, PatternFile, formed-of, formed-file, formed-read, formed-means, part-formed}
-use Rattle.containment.specs.Choice.{Passing, matchedIn, coversIn, everyView, chosen, lowestUnmatched, used}
-use Rattle.containment.specs.Quote.{Quoted, mapping, quoted, viewsInSet, usableViews, tableOf, usedBy}
-use Rattle.containment.specs.Answer.{viewsIn, answerIn, answerFor, answerBy}
+use Rattle.matching.proofs.PatternBytes.{WellFormed, PatternFile, formed-of, formed-file, formed-means, part-formed}
+use Rattle.containment.specs.Choice.{Passing, matches, matchedIn, coversIn, columnsIn, chosen, lowestUnmatched, used}
+use Rattle.containment.specs.Quote.{Quoted, mapping, usableViews, tableOf, usedBy}
+use Rattle.containment.specs.Answer.{viewsIn, answerIn, answerFor}
 use Rattle.containment.specs.Both.{bothTold}
 use Rattle.containment.specs.Part.{partFrom, partBytes, partQuoted, withFirst, fitPart, partFor}
 use Rattle.containment.specs.Parting.{Takes, Picked, inRows, Partable}
@@ -49,13 +49,14 @@ use Rattle.containment.specs.Steps.{Query, ViewCounts, quotedAs, Handed,
 use Rattle.containment.specs.declared.query.Fields.{Fields}
 use Rattle.containment.specs.declared.judging.Judged.{Judged}
 use Rattle.containment.specs.declared.both.Both.the-variants as both-is
-use Rattle.containment.proofs.ChoiceLaws.{matched-say, matched-by, used-covered, lowest-whole}
-use Rattle.containment.proofs.QuoteLaws.{test-is, place-of, chosen-every, matched-places, set-covers-exactly}
+use Rattle.containment.proofs.ChoiceLaws.{matched-say, matched-by, chosen-within, used-covered, lowest-whole}
+use Rattle.containment.proofs.ColumnLaws.{column-in, columns-agree, covers-same, chosen-same}
+use Rattle.containment.proofs.QuoteLaws.{test-is, place-of, matched-places, set-covers-exactly}
 use Rattle.containment.proofs.QueryLaws.{plain, query-number, query-edge}
-use Rattle.containment.proofs.AnswerLaws.{judged-rejected, query-few, views-few, views-many, views-sound}
+use Rattle.containment.proofs.AnswerLaws.{query-few, views-few, views-many, views-sound}
 use Rattle.containment.proofs.AnsweringLaws.{used-is, used-lowest, book-agrees, covered-is}
 use Rattle.containment.proofs.Numbered.{refusal-numbered}
-use Rattle.containment.proofs.PartTable.{part-table}
+use Rattle.containment.proofs.PartTable.{usable-sound, part-table}
 
 -- ---- which edges are taken
 module _ {q : Given} (t : Query q) {counts : List ℕ} {k : ℕ} (v : ViewCounts counts k) (usable : ℕ) {table : List ℕ} (is : table ≡ tableOf (quotedAs t v usable)) {taken : ℕ}
@@ -138,14 +139,6 @@ module _ {q : Given} {counts : List ℕ} {k : ℕ} {table : List ℕ} {usable ta
   unfolding partFrom partOf
   means = formed-means part formed (x .query .content) refl
 
-  -- by all views
-  all-usable : usableViews (quotedAs (x .query) (x .views) usable) ≡ views
-  all-usable = ap (λ (n : ℕ). viewsInSet n views) (x .every) ∙ chosen-every views (few-views (x .query) (x .views) usable (x .table-is) (x .matched))
-
-  part-is : part ≡ partOf (matched whole views) whole
-  unfolding partFrom
-  part-is = ap (λ l. partOf (matched whole l) whole) all-usable
-
   each-sound : (P : Pattern) → In P views → SoundPattern P
   each-sound P i = sound-say P (views-sound (x .views .views) P i)
 
@@ -180,96 +173,85 @@ module _ {q : Given} {counts : List ℕ} {k : ℕ} {table : List ℕ} {usable ta
       abbrev pub part-query : Query p
       part-query = record { bytes = patternBytes part; content = patternFields part; is = part-file .read; holds = rw part-words at g }
 
-      module _ {rows : List ℕ} (picked : Picked (inRows taken) table (16 * q .edges) rows) where
-        -- the rows that were picked are its table, by which the views cover it
-        pub part-table-is : rows ≡ tableOf (quotedAs part-query (x .views) usable)
-        part-table-is =
-            part-table whole (formed-of (plain (x .query)) .sound) few-nodes (few-links (x .query) (x .views) usable (x .table-is) (x .matched)) views each-sound taken
-            (λ e l. ap (λ l. matched whole l (getD (whole .edges) e noEdge)) (sym all-usable) ∙ taken-places (x .query) (x .views) usable (x .table-is) (x .matched) e (omega (arith, query-number (x .query))))
-            rows (subst₂ (λ (t : List ℕ) (m : ℕ). Picked (inRows taken) t (16 * m) rows) (x .table-is) (sym (query-number (x .query))) picked)
-            ∙ ap (λ P. mapping P views) (sym (means ∙ part-is))
+      module _ {rows : List ℕ} (picked : Picked (inRows taken) (columnsIn usable table) (16 * q .edges) rows) where
+        abbrev part-of : Quoted
+        part-of = quotedAs part-query (x .views) usable
+
+        -- the rows that were picked are its table, for the views that may be used
+        part-rows-are : rows ≡ columnsIn usable (tableOf (quotedAs part-query (x .views) usable))
+        unfolding partFrom
+        part-rows-are =
+            part-table whole (formed-of (plain (x .query)) .sound) few-nodes (few-links (x .query) (x .views) usable (x .table-is) (x .matched)) views each-sound usable taken
+            (λ e l. taken-places (x .query) (x .views) usable (x .table-is) (x .matched) e (omega (arith, query-number (x .query))))
+            rows (subst₂ (λ (t : List ℕ) (m : ℕ). Picked (inRows taken) (columnsIn usable t) (16 * m) rows) (x .table-is) (sym (query-number (x .query))) picked)
+            ∙ ap (λ P. columnsIn usable (mapping P views)) (sym means)
+
+        few-k : k ≤ 16
+        few-k = views-few (x .views .views)
+
+        agree : (e a : ℕ) → e < p .edges → a < k → bit usable a ≡ true → matches rows e a ≡ matches (tableOf part-of) e a
+        agree e a h l y = ap (λ (t : List ℕ). matches t e a) part-rows-are ∙ columns-agree usable (tableOf part-of) k few-k (p .edges) e a h l y
+
+        -- they cover it
+        table-covers : coversIn (tableOf part-of) usable k (p .edges) ≡ true
+        unfolding partFrom
+        table-covers =
+            let P = patternOf (patternFields part) in
+            let us = usableViews (quotedAs (x .query) (x .views) usable) in
+            let few : length (P .edges) ≤ 32 = omega (arith, query-number part-query, query-few part-query) in
+            let c : T (covered P us) = subst (λ R. T (covered R us)) (sym means)
+            (had-covered whole (formed-of (plain (x .query)) .sound) few-nodes us (usable-sound whole (formed-of (plain (x .query)) .sound) few-nodes (few-links (x .query) (x .views) usable (x .table-is) (x .matched)) views each-sound usable)) in
+            ap₂ (λ (n m : ℕ). coversIn (mapping P views) usable n m) (sym (views-many (x .views .views))) (sym (query-number part-query))
+            ∙ set-covers-exactly P views usable (few-views (x .query) (x .views) usable (x .table-is) (x .matched)) few .1 c
 
         pub part-covers : coversIn rows usable k (p .edges) ≡ true
-        part-covers =
-            let P = patternOf (patternFields part) in
-            let few : length (P .edges) ≤ 32 = omega (arith, query-number part-query, query-few part-query) in
-            let c : T (covered P (usableViews (quotedAs (x .query) (x .views) usable))) =
-            subst₂ (λ R l. T (covered R l)) (sym (means ∙ part-is)) (sym all-usable) (had-covered whole (formed-of (plain (x .query)) .sound) few-nodes views each-sound) in
-            ap (λ (l : List ℕ). coversIn l usable k (p .edges)) part-table-is
-            ∙ ap₂ (λ (n m : ℕ). coversIn (mapping P views) usable n m) (sym (views-many (x .views .views))) (sym (query-number part-query))
-            ∙ set-covers-exactly P views usable (few-views (x .query) (x .views) usable (x .table-is) (x .matched)) few .1 c
+        part-covers = covers-same rows (tableOf part-of) usable k (p .edges) agree usable (λ a h. h) ∙ table-covers
 
         -- its answer, by the views that its own quote chooses
         module _ {set : ℕ} (by : set ≡ chosen rows usable (p .edges) k) (answer : List ℕ) where
-          used-all : set ≡ used rows usable (p .edges) k
-          used-all = by ∙ sym (used-covered rows usable (p .edges) k part-covers)
+          chosen-is : set ≡ chosen (tableOf part-of) usable (p .edges) k
+          chosen-is = by ∙ chosen-same rows (tableOf part-of) usable k (p .edges) agree
 
-          none-left : p .edges ≡ lowestUnmatched rows set k (p .edges)
-          none-left = used-lowest part-query (x .views) usable part-table-is used-all (lowest-whole rows usable k (p .edges) part-covers)
+          used-all : set ≡ used (tableOf part-of) usable (p .edges) k
+          used-all = chosen-is ∙ sym (used-covered (tableOf part-of) usable (p .edges) k table-covers)
+
+          none-left : p .edges ≡ lowestUnmatched (tableOf part-of) set k (p .edges)
+          none-left = used-lowest part-query (x .views) usable refl used-all (lowest-whole (tableOf part-of) usable k (p .edges) table-covers)
+
+          -- they are among the usable ones, whose columns the rows have
+          rows-have : (i a : ℕ) → i < p .edges → a < k → Has set a → getD rows (16 * i + a) 0 ≡ getD (tableOf part-of) (16 * i + a) 0
+          rows-have i a h l c =
+              let y : bit usable a ≡ true = chosen-within (tableOf part-of) usable (p .edges) k a (sym (ap (λ (n : ℕ). bit n a) chosen-is) ∙ test-is (bit set a) .1 c) in
+              let z : (16 * i + a) % 16 ≡ a = omega (arith, few-k) in
+              ap (λ (t : List ℕ). getD t (16 * i + a) 0) part-rows-are ∙ column-in usable (tableOf part-of) (16 * i + a) (ap (bit usable) z ∙ y)
 
           pub part-agrees : Agrees p rows set s counts k (viewsIn set (viewPatterns (x .views .views .content)) (sheetsIn (edgeCounts (x .views .views .content)) (x .book .fields)))
-          part-agrees = book-agrees part-query (x .views) s usable part-table-is set answer (x .book) none-left
+          part-agrees = book-agrees part-query (x .views) s usable refl set answer (x .book) none-left rows rows-have
 
           pub part-answer-is : answerFor usedBy s (length answer) (partQuoted (quotedAs (x .query) (x .views) usable))
               ≡ fitFile (length answer) (sheetBytes (answerSets (patternIn p) (viewsIn set (viewPatterns (x .views .views .content)) (sheetsIn (edgeCounts (x .views .views .content)) (x .book .fields)))))
           unfolding answerFor
           part-answer-is =
-              ap (λ (n : ℕ). judged (readBook (x .views .views .content) s) (λ bs. answerIn n (quotedAs part-query (x .views) usable) bs (length answer))) (sym (used-is part-query (x .views) usable part-table-is used-all))
-              ∙ covered-is part-query (x .views) s usable part-table-is set answer (x .book) none-left (omega arith)
-
--- ---- another question with the same catalogue
-module _ (q c : List ℕ) {r : Judged} (h : Handed (quoted q c) r) where
-  abbrev given : Quoted
-  given = quotedAs (h .query) (h .views) (r .usable)
-
-  never-refused : {A : Type 0} {n d : ℕ} → quoted q c (λ x. give [] []) ≡ refuse n d → A
-  never-refused f = absurd (let e = sym f ∙ h .on (λ x. give [] []) in let z : _≡_ {A = ℕ} 0 1 = cc in omega arith)
-
-  -- the same is handed on beside it
-  pub handed-other : (p ps : List ℕ) → readPattern p ≡ accepted ps → (k : Quoted → Outcome)
-      → quoted p c k ≡ k (record { content = ps; offer = quotedAs (h .query) (h .views) (r .usable) .offer; usable = r .usable })
-  handed-other p ps e k = judged-accepted _ e ∙ sym (goes (readPattern q) refl) ∙ h .on k′
-    where
-      k′ : Quoted → Outcome
-      k′ y = k (record { content = ps; offer = y .offer; usable = y .usable })
-
-      goes : (a : Verdict) → readPattern q ≡ a → quoted q c k′ ≡ offered c (λ o. k (record { content = ps; offer = o; usable = everyView }))
-      goes (accepted qs) f = judged-accepted _ f
-      goes (rejected n d) f = never-refused (judged-rejected _ f)
-
-  -- all views may be used
-  pub handed-every : r .usable ≡ everyView
-  handed-every = usable-is (readPattern q) refl (readCatalogue c) refl
-    where
-      tell : Quoted → Outcome
-      tell y = give (y .usable ∷ []) []
-
-      usable-is : (a : Verdict) → readPattern q ≡ a → (b : Verdict) → readCatalogue c ≡ b → r .usable ≡ everyView
-      usable-is (accepted qs) f (accepted cs) g = let e = sym (h .on tell) ∙ judged-accepted _ f ∙ judged-accepted _ g in cc
-      usable-is (accepted qs) f (rejected n d) g = never-refused (judged-accepted _ f ∙ judged-rejected _ g)
-      usable-is (rejected n d) f b g = never-refused (judged-rejected _ f)
+              ap (λ (n : ℕ). judged (readBook (x .views .views .content) s) (λ bs. answerIn n (quotedAs part-query (x .views) usable) bs (length answer))) (sym (used-is part-query (x .views) usable refl used-all))
+              ∙ covered-is part-query (x .views) s usable refl set answer (x .book) none-left (omega arith)
 
 -- ---- what the call answers, once what the client brings is handed on
-pub part-unloaded : (c s : List ℕ) (room room′ : ℕ) (y : Quoted) {n d : ℕ} → ((a : List ℕ → Outcome) → judged (readBook (y .offer .content) s) (λ bs. withinPairs (y .offer .content) bs (a bs)) ≡ refuse n d)
-    → partFor c s room room′ y ≡ refuse n d
+pub part-unloaded : (s : List ℕ) (room room′ : ℕ) (y : Quoted) {n d : ℕ} → ((a : List ℕ → Outcome) → judged (readBook (y .offer .content) s) (λ bs. withinPairs (y .offer .content) bs (a bs)) ≡ refuse n d)
+    → partFor s room room′ y ≡ refuse n d
 unfolding partFor
-part-unloaded c s room room′ y e = e _
+part-unloaded s room room′ y e = e _
 
-module _ (q c : List ℕ) {r : Judged} (h : Handed (quoted q c) r) {taken : ℕ} (mask : Mask (Passing (λ e. matchedIn (r .table) (r .usable) e (r .views)) (r .query .edges)) taken) (s : List ℕ)
+module _ {f : (Quoted → Outcome) → Outcome} {r : Judged} (h : Handed f r) {taken : ℕ} (mask : Mask (Passing (λ e. matchedIn (r .table) (r .usable) e (r .views)) (r .query .edges)) taken) (s : List ℕ)
     {d : ℕ} {w : List ℕ} (b : Loaded (h .views .views .content) s (r .edges) (r .views) d w) (room room′ : ℕ) where
-  pub part-none : taken ≡ 0 → partFor c s room room′ (quotedAs (h .query) (h .views) (r .usable)) ≡ refuse 11 0
+  pub part-none : taken ≡ 0 → partFor s room room′ (quotedAs (h .query) (h .views) (r .usable)) ≡ refuse 11 0
   unfolding partFor
   part-none z = judged-accepted _ (b .is) ∙ b .few _ ∙ rw (taken-none (h .query) (h .views) (r .usable) (h .table) mask z)
 
   pub part-some : (taken ≡ 0 → ⊥)
-      → partFor c s room room′ (quotedAs (h .query) (h .views) (r .usable))
+      → partFor s room room′ (quotedAs (h .query) (h .views) (r .usable))
       ≡ fitPart room (partBytes (quotedAs (h .query) (h .views) (r .usable))) (answerFor usedBy s room′ (partQuoted (quotedAs (h .query) (h .views) (r .usable))))
-  unfolding partFor answerBy
-  part-some z =
-      let y = quotedAs (h .query) (h .views) (r .usable) in
-      judged-accepted _ (b .is) ∙ b .few _
-      ∙ rw (taken-some (h .query) (h .views) (r .usable) (h .table) mask z)
-      (ap (fitPart room (partBytes y)) (handed-other q c h (partBytes y) (patternFields (partFrom y)) (formed-read (partFrom y) (part-formed-by (h .query) (h .views) (r .usable) (h .table) mask z)) (answerFor usedBy s room′)))
+  unfolding partFor
+  part-some z = judged-accepted _ (b .is) ∙ b .few _ ∙ rw (taken-some (h .query) (h .views) (r .usable) (h .table) mask z)
 
 -- ---- two outputs: the part of n bytes, and its answer
 

@@ -1,7 +1,7 @@
--- The table of the part that the views answer is the query's, at the rows of its matched edges.
+-- The table of the part that the usable views answer is, for these, the query's, at the rows of its matched edges.
 use Prim.Native.Nat.{ℕ, zero, suc, _+_, _*_, _/_, _%_, _<_, _≤_}
 use mathlib.Core.Path.{_≡_, refl, sym, ap, ap₂, subst, _∙_}
-use mathlib.Core.Bool.{Bool}
+use mathlib.Core.Bool.{Bool, true, false}
 use mathlib.Core.Logic.{⊎-elim}
 use mathlib.Core.List.{List, [], _∷_}
 use lib.ListN.{length, getD}
@@ -10,6 +10,7 @@ use lib.Dec.{T}
 use native.Mathlib.Omega.{arith}
 use borrow.Author.Tests.{lt-ltb, le-ltb}
 use Rattle.packed.specs.Bits.{one}
+use Rattle.packed.specs.Format.{pick}
 use Rattle.packed.proofs.OrderCases.{lt-or-ge}
 use Rattle.matching.specs.Lists.{In, here, there, keep, each, upTo}
 use Rattle.matching.specs.Simulation.{Edge, noEdge, Pattern, bit, asGraph, ascending}
@@ -22,8 +23,12 @@ use Rattle.matching.proofs.MatchLaws.{SoundPattern}
 use Rattle.matching.proofs.MatchSetLaws.{view-each}
 use Rattle.matching.proofs.PlaceLaws.{one-of, rank-more, rank-same}
 use Rattle.matching.proofs.PartLaws.{part-number, part-edge, had-is-match}
-use Rattle.containment.specs.Quote.{maskIn, matchMask, noPattern, maskAt, mapping}
+use Rattle.containment.specs.Choice.{columnsIn}
+use Rattle.containment.specs.Quote.{maskIn, matchMask, noPattern, maskAt, mapping, viewsInSet}
 use Rattle.containment.specs.Parting.{Picked, inRows}
+use Rattle.containment.proofs.SetBits.{test-cases}
+use Rattle.containment.proofs.ColumnLaws.{pick-zero, columns-long, columns-at}
+use Rattle.containment.proofs.QuoteLaws.{chosen-say, chosen-in}
 
 -- ---- places in a table with 16 columns
 module _ (s : ℕ → Bool) where
@@ -55,26 +60,34 @@ mask-same e h l m [] q = refl
 mask-same e h l m (g ∷ gs) q = ap₂ (λ (b : Bool) (x : ℕ). one b + 2 * x) (q g (here refl)) (mask-same e h l m gs (λ k i. q k (there i)))
 
 module _ (Q : Pattern) (ok : SoundPattern Q) (few : length (Q .labels) ≤ 4096) (few-edges : length (Q .edges) ≤ 32) (Ps : List Pattern)
-    (each-sound : (P : Pattern) → In P Ps → SoundPattern P) where
+    (each-sound : (P : Pattern) → In P Ps → SoundPattern P) (set : ℕ) where
+  -- the views that may be used
+  abbrev Us : List Pattern
+  Us = viewsInSet set Ps
+
+  pub usable-sound : (P : Pattern) → In P (viewsInSet set Ps) → SoundPattern P
+  usable-sound P i = let o = chosen-say set Ps P i in each-sound P (subst (λ R. In R Ps) (sym (o .holds .1)) (in-at Ps (o .at) noPattern (o .below)))
+
   abbrev part : Pattern
-  part = partOf (matched Q Ps) Q
+  part = partOf (matched Q Us) Q
 
   abbrev edge : ℕ → Edge
   edge v = getD (Q .edges) v noEdge
 
-  had-mask : {P : Pattern} → In P Ps → {e : Edge} → In e (Q .edges) → T (matched Q Ps e) → matchMask part (moved (number (keep (matched Q Ps) (Q .edges))) e) P ≡ matchMask Q e P
+  had-mask : {P : Pattern} → In P Us → {e : Edge} → In e (Q .edges) → T (matched Q Us e) → matchMask part (moved (number (keep (matched Q Us) (Q .edges))) e) P ≡ matchMask Q e P
   unfolding matchMask
   had-mask {P} p {e} i t =
-      let h = moved (number (keep (matched Q Ps) (Q .edges))) e in
+      let h = moved (number (keep (matched Q Us) (Q .edges))) e in
       ap (maskIn h (P .edges)) (view-each P (asGraph part))
-      ∙ mask-same h e (λ g. ascending (rowOf P (asGraph part) g)) (λ g. ascending (rowOf P (asGraph Q) g)) (P .edges) (λ g j. had-is-match Q ok few Ps each-sound p i t j)
+      ∙ mask-same h e (λ g. ascending (rowOf P (asGraph part) g)) (λ g. ascending (rowOf P (asGraph Q) g)) (P .edges) (λ g j. had-is-match Q ok few Us usable-sound p i t j)
       ∙ ap (maskIn e (P .edges)) (sym (view-each P (asGraph Q)))
 
-  -- the mask of the edge i of the part is that of the edge that it came from
-  pub had-row : (i a v : ℕ) → i < length (part .edges) → v < length (Q .edges) → T (matched Q Ps (edge v)) → getD (part .edges) i noEdge ≡ moved (number (keep (matched Q Ps) (Q .edges))) (edge v) → a < 16
-      → maskAt part Ps (16 * i + a) ≡ maskAt Q Ps (16 * v + a)
+  -- the mask of the edge i of the part, for a view that may be used, is that of the edge that it came from
+  pub had-row : (i a v : ℕ) → i < length (partOf (matched Q (viewsInSet set Ps)) Q .edges) → v < length (Q .edges) → T (matched Q (viewsInSet set Ps) (getD (Q .edges) v noEdge))
+      → getD (partOf (matched Q (viewsInSet set Ps)) Q .edges) i noEdge ≡ moved (number (keep (matched Q (viewsInSet set Ps)) (Q .edges))) (getD (Q .edges) v noEdge) → a < 16 → bit set a ≡ true
+      → maskAt (partOf (matched Q (viewsInSet set Ps)) Q) Ps (16 * i + a) ≡ maskAt Q Ps (16 * v + a)
   unfolding maskAt
-  had-row i a v h l t q n =
+  had-row i a v h l t q n s =
       let x : (16 * i + a) / 16 ≡ i = omega arith in
       let x′ : (16 * v + a) / 16 ≡ v = omega arith in
       let y : (16 * i + a) % 16 ≡ a = omega arith in
@@ -83,7 +96,7 @@ module _ (Q : Pattern) (ok : SoundPattern Q) (few : length (Q .labels) ≤ 4096)
       let z′ = lt-ltb v (length (Q .edges)) l in
       rw (x, y, x′, y′, z, z′)
       (⊎-elim
-      (λ (w : a < length Ps). let u = lt-ltb a (length Ps) w in rw u (ap (λ e. matchMask part e (getD Ps a noPattern)) q ∙ had-mask (in-at Ps a noPattern w) (in-at (Q .edges) v noEdge l) t))
+      (λ (w : a < length Ps). let u = lt-ltb a (length Ps) w in rw u (ap (λ e. matchMask part e (getD Ps a noPattern)) q ∙ had-mask (chosen-in set Ps a w s) (in-at (Q .edges) v noEdge l) t))
       (λ (w : length Ps ≤ a). let u = le-ltb a (length Ps) w in rw u)
       (lt-or-ge a (length Ps)))
 
@@ -91,26 +104,33 @@ module _ (Q : Pattern) (ok : SoundPattern Q) (few : length (Q .labels) ≤ 4096)
   unfolding maskAt
   beyond k h = let u = le-ltb (k / 16) (length (part .edges)) h in rw u
 
-  -- the rows of the edges that a mask takes, where it takes the matched ones
-  pub part-table : (taken : ℕ) → ((v : ℕ) → v < length (Q .edges) → matched Q Ps (getD (Q .edges) v noEdge) ≡ bit taken v) → (r : List ℕ)
-      → Picked (inRows taken) (mapping Q Ps) (16 * length (Q .edges)) r → r ≡ mapping (partOf (matched Q Ps) Q) Ps
+  -- the rows of the edges that a mask takes, where it takes the matched ones: of the views that may be used
+  pub part-table : (taken : ℕ) → ((v : ℕ) → v < length (Q .edges) → matched Q (viewsInSet set Ps) (getD (Q .edges) v noEdge) ≡ bit taken v) → (r : List ℕ)
+      → Picked (inRows taken) (columnsIn set (mapping Q Ps)) (16 * length (Q .edges)) r → r ≡ columnsIn set (mapping (partOf (matched Q (viewsInSet set Ps)) Q) Ps)
   unfolding mapping
   part-table taken same r p =
-      ext-getD 0 r (upTo (maskAt part Ps) 512) (p .long ∙ sym (length-upTo (maskAt part Ps) 512))
+      ext-getD 0 r (columnsIn set whole) (p .long ∙ sym (columns-long set whole ∙ length-upTo (maskAt part Ps) 512))
       (λ k l.
       let n : k < 512 = omega (arith, p .long) in
-      ⊎-elim (λ (h : k / 16 < length (part .edges)). taken-row k n h) (λ (h : length (part .edges) ≤ k / 16). p .rest k (omega (arith, rows-rank (bit taken) (length (Q .edges)), number-is)) ∙ sym (beyond k h)) (lt-or-ge (k / 16) (length (part .edges)))
-      ∙ sym (getD-upTo (maskAt part Ps) 512 k 0 n))
+      ⊎-elim (λ (h : k / 16 < length (part .edges)). taken-row k n h)
+      (λ (h : length (part .edges) ≤ k / 16). p .rest k (omega (arith, rows-rank (bit taken) (length (Q .edges)), number-is)) ∙ sym (at-part k n ∙ ap (λ (x : ℕ). pick (bit set (k % 16)) x 0) (beyond k h) ∙ sym (pick-zero (bit set (k % 16)))))
+      (lt-or-ge (k / 16) (length (part .edges))))
     where
-      at-same : (v : ℕ) → v ≤ length (Q .edges) → rank (λ u. matched Q Ps (edge u)) v ≡ rank (bit taken) v
+      whole : List ℕ
+      whole = upTo (maskAt part Ps) 512
+
+      at-part : (k : ℕ) → k < 512 → getD (columnsIn set whole) k 0 ≡ pick (bit set (k % 16)) (maskAt part Ps k) 0
+      at-part k n = columns-at set whole k ∙ ap (λ (x : ℕ). pick (bit set (k % 16)) x 0) (getD-upTo (maskAt part Ps) 512 k 0 n)
+
+      at-same : (v : ℕ) → v ≤ length (Q .edges) → rank (λ u. matched Q Us (edge u)) v ≡ rank (bit taken) v
       at-same v h = rank-same _ _ v (λ u l. same u (omega arith))
 
       number-is : length (part .edges) ≡ rank (bit taken) (length (Q .edges))
-      number-is = part-number Q ok (matched Q Ps) ∙ at-same (length (Q .edges)) (omega arith)
+      number-is = part-number Q ok (matched Q Us) ∙ at-same (length (Q .edges)) (omega arith)
 
-      taken-row : (k : ℕ) → k < 512 → k / 16 < length (part .edges) → getD r k 0 ≡ maskAt part Ps k
+      taken-row : (k : ℕ) → k < 512 → k / 16 < length (part .edges) → getD r k 0 ≡ getD (columnsIn set whole) k 0
       taken-row k n h =
-          let o = part-edge Q ok (matched Q Ps) (k / 16) h in
+          let o = part-edge Q ok (matched Q Us) (k / 16) h in
           let v = o .0 in
           let b : v < length (Q .edges) = o .1 in
           let a : ℕ = k % 16 in
@@ -118,8 +138,14 @@ module _ (Q : Pattern) (ok : SoundPattern Q) (few : length (Q .labels) ≤ 4096)
           let i : rank (bit taken) v ≡ k / 16 = sym (at-same v (omega arith)) ∙ o .3 in
           let x : rank (inRows taken) (16 * v + a) ≡ k = place-rank (bit taken) v a (omega arith) s ∙ omega arith in
           let z : k ≡ 16 * (k / 16) + a = omega arith in
+          let m : (16 * v + a) % 16 ≡ k % 16 = omega arith in
           ap (λ (j : ℕ). getD r j 0) (sym x)
           ∙ p .each (16 * v + a) (omega arith) (subst (λ (j : ℕ). T (bit taken j)) (let d : v ≡ (16 * v + a) / 16 = omega arith in d) s)
-          ∙ getD-upTo (maskAt Q Ps) 512 (16 * v + a) 0 (omega arith)
-          ∙ sym (had-row (k / 16) a v h b (o .2) (o .4) (omega arith))
-          ∙ ap (maskAt part Ps) (sym z)
+          ∙ columns-at set (upTo (maskAt Q Ps) 512) (16 * v + a)
+          ∙ ap (λ (j : ℕ). pick (bit set j) (getD (upTo (maskAt Q Ps) 512) (16 * v + a) 0) 0) m
+          ∙ ap (λ (y : ℕ). pick (bit set (k % 16)) y 0) (getD-upTo (maskAt Q Ps) 512 (16 * v + a) 0 (omega arith))
+          ∙ ⊎-elim
+          (λ y. ap (λ (w : ℕ). pick (bit set (k % 16)) w 0) (sym (had-row (k / 16) a v h b (o .2) (o .4) (omega arith) y) ∙ ap (maskAt part Ps) (sym z)))
+          (λ y. rw y)
+          (test-cases (bit set (k % 16)))
+          ∙ sym (at-part k n)

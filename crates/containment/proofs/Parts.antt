@@ -19,10 +19,10 @@ use Rattle.packed.proofs.CallRoundTrips.{fitFile-given}
 use Rattle.packed.proofs.RoundTrip.{decode-encode}
 use Rattle.packed.proofs.Accepted.{pattern-read}
 use Rattle.matching.specs.Lists.{In, some, keep}
-use Rattle.matching.specs.Simulation.{Edge, noEdge, Pattern, patternOf, graphOf, ascending, matchSets}
-use Rattle.matching.specs.Join.{matched, covered}
+use Rattle.matching.specs.Simulation.{Edge, noEdge, Pattern, bit, patternOf, graphOf, ascending, matchSets}
+use Rattle.matching.specs.Join.{covered}
 use Rattle.matching.specs.Offered.{viewPatterns}
-use Rattle.matching.specs.Search.{sheetBytes, viewSheets, bytesIn}
+use Rattle.matching.specs.Search.{sheetBytes, bytesIn}
 use Rattle.matching.specs.Part.{rank, number, moved, partOf, patternFields, patternBytes, touches}
 use Rattle.matching.proofs.ByEdge.{rowOf}
 use Rattle.matching.proofs.ListLaws.{in-at, some-in, in-some, in-keep}
@@ -33,18 +33,19 @@ use Rattle.matching.proofs.PlaceLaws.{rank-most, rank-rises, rank-apart}
 use Rattle.matching.proofs.PartLaws.{touches-at, part-number, part-edge, part-labels, part-lists-more, covered-inside, had-covered, had-whole}
 use Rattle.matching.proofs.PatternBytes.{WellFormed, formed-of, content-back, formed-read, formed-means, part-formed}
 use Rattle.containment.specs.Choice.{coversIn, everyView}
-use Rattle.containment.specs.Quote.{maskAt, mapping, quotedBy, usableViews, usedBy}
-use Rattle.containment.specs.Answer.{answerIn, answerFor, answerBy, answerOutcome}
-use Rattle.containment.specs.Part.{partFrom, partBytes, withFirst, fitPart, partFor, partOutcome}
-use Rattle.containment.specs.Demands.{Question, Catalogue, Record, Book, ManyPairs, linkOf, Covered, chosenOf, answerOf, sheetOf, Full, Fitted, Matched, choiceOf, choiceFile, matchedLink, partOfQuestion, partFile, partAnswer, LinkFrom, itemNumber, itemKind, SameLink, SomeMatched, NoneMatched, OverPart, no-more, Parts}
+use Rattle.containment.specs.Quote.{maskAt, mapping, quotedIn, viewsInSet, usedBy}
+use Rattle.containment.specs.Answer.{answerBytes, answerIn, answerFor, answerFrom}
+use Rattle.containment.specs.Part.{partFrom, partBytes, partQuoted, withFirst, fitPart, partFor}
+use Rattle.containment.specs.Demands.{Question, Catalogue, Record, Book, ManyPairs, linkOf, Covers, chosenIn, answerOf, sheetOf, listsIn, When, usableWhen, partWhen, Timely, Full, Fitted, Matched, choiceOf, choiceFile, matchedLink, partOfQuestion, partFile, partAnswer, LinkFrom, itemNumber, itemKind, SameLink, SomeMatched, NoneMatched, OverPart, Parts}
 use Rattle.containment.proofs.SetBits.{test-cases, never}
-use Rattle.containment.proofs.QuoteLaws.{test-is, place-of, chosen-every, quote-covered-exactly}
-use Rattle.containment.proofs.PartTable.{had-row}
-use Rattle.containment.proofs.CoveredBytes.{question-is, question-bounds, few-views, coveredBy}
-use Rattle.containment.proofs.DemandRules.{number-same, detail-same, not-refused, goes-on, bytes-by, enough-words, enough-for, full-words, full-judged, full-twice, full-within-pairs, fitted-by, file-tight, many-pairs-exactly, matched-whole, used-chosen, used-covers, given-by}
-use Rattle.containment.proofs.DemandFiles.{Says, says-late, says-answer, says-fit-part}
+use Rattle.containment.proofs.ChoiceLaws.{used-covered, chosen-covers}
+use Rattle.containment.proofs.QuoteLaws.{test-is, place-of, set-covers-exactly}
+use Rattle.containment.proofs.PartTable.{usable-sound, had-row}
+use Rattle.containment.proofs.CoveredBytes.{question-is, question-bounds, few-views, coveredIn}
+use Rattle.containment.proofs.DemandRules.{number-same, detail-same, not-refused, goes-on, bytes-by, enough-words, enough-for, full-same, full-words, full-judged, full-within-pairs, fitted-by, file-tight, many-pairs-exactly, matched-whole, used-chosen, used-covers, given-by}
+use Rattle.containment.proofs.WhenLaws.{goes-on-when, part-by, full-when}
 use Rattle.containment.proofs.DemandSheets.{views-sound}
-use Rattle.containment.proofs.DemandThree.{demand-3, answers as all-answers}
+use Rattle.containment.proofs.DemandThree.{no-function, demand-3}
 
 -- ---- a choice of links
 module _ (q qs : List ℕ) (p : Question q qs) where
@@ -195,64 +196,74 @@ module _ (room : ℕ) (o : List ℕ) where
       (lt-or-ge room (length o))
 
 -- ---- accepted files are handed on
-answer-read : (q c b qs cs bs : List ℕ) → Question q qs → Catalogue c cs → readBook cs b ≡ accepted bs → (room : ℕ)
-    → answerOutcome q c b room ≡ answerIn (usedBy (quotedBy qs cs)) (quotedBy qs cs) bs room
-unfolding answerBy answerFor
-answer-read q c b qs cs bs p d k room = goes-on _ p ∙ goes-on _ d ∙ goes-on _ k
+-- what is answered by a set of views, from an accepted book, once question and catalogue are accepted
+answer-for : (set : ℕ) (qs cs b bs : List ℕ) → Book cs b bs → (room : ℕ) → Covers (usedBy (quotedIn set qs cs)) qs cs
+    → answerFor usedBy b room (quotedIn set qs cs) ≡ fitFile room (sheetBytes (answerOf (usedBy (quotedIn set qs cs)) qs cs bs))
+unfolding answerFor answerIn answerBytes
+answer-for set qs cs b bs k room h = goes-on _ (k .read) ∙ within-pairs-is (edgeCounts cs) bs _ (k .few) ∙ rw h
+
+part-goes-on : (w : When) (q c qs cs : List ℕ) → Question q qs → Catalogue c cs → Timely cs w → (b : List ℕ) (room room′ : ℕ)
+    → partWhen w q c b room room′ ≡ partFor b room room′ (quotedIn (usableWhen w cs) qs cs)
+part-goes-on w q c qs cs p d y b room room′ = part-by q c w b room room′ ∙ goes-on-when w q c qs cs p d y (partFor b room room′)
 
 -- ---- the part
-module _ (q c qs cs : List ℕ) (p : Question q qs) (d : Catalogue c cs) where
+module _ (q c qs cs : List ℕ) (p : Question q qs) (d : Catalogue c cs) (set : ℕ) where
   abbrev Ps : List Pattern
   Ps = viewPatterns cs
 
-  abbrev takes : Edge → Bool
-  takes = matchedLink qs cs
+  -- the views that may be used
+  abbrev Us : List Pattern
+  Us = viewsInSet set Ps
 
-  each-sound : (P : Pattern) → In P Ps → SoundPattern P
-  each-sound P i = sound-say P (views-sound c cs d P i)
+  abbrev takes : Edge → Bool
+  takes = matchedLink set qs cs
+
+  abbrev partly : List ℕ
+  partly = partOfQuestion set qs cs
 
   few-nodes : length (patternOf qs .labels) ≤ 4096
   few-nodes = question-bounds q qs p .few-nodes
 
+  every-sound : (P : Pattern) → In P Ps → SoundPattern P
+  every-sound P i = sound-say P (views-sound c cs d P i)
+
+  each-sound : (P : Pattern) → In P Us → SoundPattern P
+  each-sound = usable-sound (patternOf qs) (formed q qs p .sound) few-nodes (question-bounds q qs p .few-edges) Ps every-sound set
+
   -- what the quote says of an accepted pattern
-  covered-is : (s ws : List ℕ) → Question s ws → Covered ws cs ↔ T (covered (patternOf ws) Ps)
+  covered-is : (s ws : List ℕ) → Question s ws → Covers set ws cs ↔ T (covered (patternOf ws) Us)
   covered-is s ws e =
       let b = question-bounds s ws e in
-      subst (λ (m : ℕ). (coversIn (mapping (patternOf ws) Ps) everyView (length Ps) m ≡ true) ↔ T (covered (patternOf ws) Ps)) (b .many)
-      (quote-covered-exactly (patternOf ws) Ps (few-views c cs d) (b .few-edges))
+      subst (λ (m : ℕ). (coversIn (mapping (patternOf ws) Ps) set (length Ps) m ≡ true) ↔ T (covered (patternOf ws) Us)) (b .many)
+      (set-covers-exactly (patternOf ws) Ps set (few-views c cs d) (b .few-edges))
 
-  -- by all extracts
-  part-same : partFrom (quotedBy qs cs) ≡ partOf takes (patternOf qs)
-  unfolding partFrom
-  part-same = ap (λ l. partOf (matched (patternOf qs) l) (patternOf qs)) (chosen-every Ps (few-views c cs d))
-
-  part-covered : Covered (partOfQuestion qs cs) cs
+  pub part-covered : Covers set (partOfQuestion set qs cs) cs
   part-covered =
       ⊎-elim
-      (λ (h : edgesOf (partOfQuestion qs cs) < 1). nothing (omega arith))
-      (λ (h : 1 ≤ edgesOf (partOfQuestion qs cs)).
+      (λ (h : edgesOf partly < 1). nothing (omega arith))
+      (λ (h : 1 ≤ edgesOf partly).
       let o = choice-from q qs p takes 0 h .1 in
       let m = choice-means q qs p takes _ (o .below) (o .taken) in
-      covered-is _ _ (choice-read q qs p takes _ (o .below) (o .taken)) .1 (subst (λ P. T (covered P Ps)) (sym m) (had-covered (patternOf qs) (formed q qs p .sound) few-nodes Ps each-sound)))
-      (lt-or-ge (edgesOf (partOfQuestion qs cs)) 1)
+      covered-is _ _ (choice-read q qs p takes _ (o .below) (o .taken)) .1 (subst (λ P. T (covered P Us)) (sym m) (had-covered (patternOf qs) (formed q qs p .sound) few-nodes Us each-sound)))
+      (lt-or-ge (edgesOf partly) 1)
     where
-      nothing : edgesOf (partOfQuestion qs cs) ≡ 0 → Covered (partOfQuestion qs cs) cs
-      nothing z = subst (λ (m : ℕ). coversIn (mapping (patternOf (partOfQuestion qs cs)) Ps) everyView (length Ps) m ≡ true) (sym z) (covers-none (mapping (patternOf (partOfQuestion qs cs)) Ps) everyView (length Ps))
+      nothing : edgesOf partly ≡ 0 → Covers set partly cs
+      nothing z = subst (λ (m : ℕ). coversIn (mapping (patternOf partly) Ps) set (length Ps) m ≡ true) (sym z) (covers-none (mapping (patternOf partly) Ps) set (length Ps))
 
-  part-largest : (takes : Edge → Bool) → Covered (choiceOf takes qs) cs → (v : ℕ) → v < edgesOf qs → T (takes (linkOf qs v)) → Matched (patternOf qs) Ps (linkOf qs v)
+  part-largest : (takes : Edge → Bool) → Covers set (choiceOf takes qs) cs → (v : ℕ) → v < edgesOf qs → T (takes (linkOf qs v)) → Matched (patternOf qs) Us (linkOf qs v)
   part-largest t h v l y =
       let c = covered-is _ _ (choice-read q qs p t v l y) .0 h in
-      matched-whole (patternOf qs) Ps (linkOf qs v) .0
-      (covered-inside (patternOf qs) (formed q qs p .sound) t few-nodes Ps each-sound (subst (λ P. T (covered P Ps)) (choice-means q qs p t v l y) c) (linkOf qs v) (in-at (patternOf qs .edges) v noEdge (omega (arith, many q qs p))) y)
+      matched-whole (patternOf qs) Us (linkOf qs v) .0
+      (covered-inside (patternOf qs) (formed q qs p .sound) t few-nodes Us each-sound (subst (λ P. T (covered P Us)) (choice-means q qs p t v l y) c) (linkOf qs v) (in-at (patternOf qs .edges) v noEdge (omega (arith, many q qs p))) y)
 
-  part-no-other : (takes : Edge → Bool) (F : List (List (List ℕ)) → List ℕ) → ((r rs : List ℕ) → Record r rs → F (viewSheets cs (graphOf rs)) ≡ sheetOf (patternOf (choiceOf takes qs)) rs)
-      → (v : ℕ) → v < edgesOf qs → T (takes (linkOf qs v)) → Matched (patternOf qs) Ps (linkOf qs v)
+  part-no-other : (takes : Edge → Bool) (F : List (List (List ℕ)) → List ℕ) → ((r rs : List ℕ) → Record r rs → F (listsIn set cs (graphOf rs)) ≡ sheetOf (patternOf (choiceOf takes qs)) rs)
+      → (v : ℕ) → v < edgesOf qs → T (takes (linkOf qs v)) → Matched (patternOf qs) Us (linkOf qs v)
   part-no-other t F h v l y =
-      ⊎-elim (λ k. part-largest t k v l y) (λ n. absurd (all-answers .no-other-way (choiceFile t qs) c (choiceOf t qs) cs (choice-read q qs p t v l y) d n F h))
-      (test-cases (coveredBy (choiceOf t qs) cs))
+      ⊎-elim (λ k. part-largest t k v l y) (λ n. absurd (no-function (choiceFile t qs) c (choiceOf t qs) cs (choice-read q qs p t v l y) d set n F h))
+      (test-cases (coveredIn set (choiceOf t qs) cs))
 
-  part-masks : (i v a : ℕ) → LinkFrom takes qs i v → a < 16 → getD (mapping (patternOf (partOfQuestion qs cs)) Ps) (16 * i + a) 0 ≡ getD (mapping (patternOf qs) Ps) (16 * v + a) 0
-  part-masks i v a f h =
+  part-masks : (i v a : ℕ) → LinkFrom takes qs i v → a < 16 → T (bit set a) → getD (mapping (patternOf partly) Ps) (16 * i + a) 0 ≡ getD (mapping (patternOf qs) Ps) (16 * v + a) 0
+  part-masks i v a f h y =
       let m = choice-means q qs p takes v (f .below) (f .taken) in
       let l : v < length (patternOf qs .edges) = omega (arith, f .below, many q qs p) in
       let few = question-bounds q qs p .few-edges in
@@ -260,131 +271,133 @@ module _ (q c qs cs : List ℕ) (p : Question q qs) (d : Catalogue c cs) where
       let k : i ≤ v = omega (arith, rank-most (λ u. takes (linkOf qs u)) v, f .place) in
       ap (λ R. getD (mapping R Ps) (16 * i + a) 0) m
       ∙ mapping-at _ Ps (16 * i + a) (omega arith)
-      ∙ had-row (patternOf qs) (formed q qs p .sound) few-nodes few Ps each-sound i a v n l (f .taken) (sym (ap (λ (R : Pattern). getD (R .edges) i noEdge) m) ∙ choice-edge q qs p takes i v f) h
+      ∙ had-row (patternOf qs) (formed q qs p .sound) few-nodes few Ps every-sound set i a v n l (f .taken) (sym (ap (λ (R : Pattern). getD (R .edges) i noEdge) m) ∙ choice-edge q qs p takes i v f) h (test-is _ .1 y)
       ∙ sym (mapping-at (patternOf qs) Ps (16 * v + a) (omega arith))
 
   -- some link is matched, or none is
-  some-is : some (matched (patternOf qs) (usableViews (quotedBy qs cs))) (patternOf qs .edges) ≡ some takes (patternOf qs .edges)
-  some-is = ap (λ l. some (matched (patternOf qs) l) (patternOf qs .edges)) (chosen-every Ps (few-views c cs d))
+  some-by : SomeMatched set qs cs → some takes (patternOf qs .edges) ≡ true
+  some-by s = test-is _ .1 (in-some _ (in-at (patternOf qs .edges) (s .0) noEdge (omega (arith, s .1, many q qs p))) (matched-whole (patternOf qs) Us (linkOf qs (s .0)) .1 (s .2)))
 
-  some-by : SomeMatched qs cs → some takes (patternOf qs .edges) ≡ true
-  some-by s = test-is _ .1 (in-some _ (in-at (patternOf qs .edges) (s .0) noEdge (omega (arith, s .1, many q qs p))) (matched-whole (patternOf qs) Ps (linkOf qs (s .0)) .1 (s .2)))
-
-  some-say : some takes (patternOf qs .edges) ≡ true → SomeMatched qs cs
+  some-say : some takes (patternOf qs .edges) ≡ true → SomeMatched set qs cs
   some-say h =
       let r = some-in _ (patternOf qs .edges) (test-is _ .0 h) in
       let o = place-of noEdge (r .1) in
-      (o .at, omega (arith, o .below, many q qs p), matched-whole (patternOf qs) Ps _ .0 (subst (λ e. T (takes e)) (o .holds) (r .2)))
+      (o .at, omega (arith, o .below, many q qs p), matched-whole (patternOf qs) Us _ .0 (subst (λ e. T (takes e)) (o .holds) (r .2)))
 
-  none-say : some takes (patternOf qs .edges) ≡ false → NoneMatched qs cs
+  none-say : some takes (patternOf qs .edges) ≡ false → NoneMatched set qs cs
   none-say h v l m = never (sym (some-by (v, l, m)) ∙ h)
+
+  either-matched : SomeMatched set qs cs ⊎ NoneMatched set qs cs
+  either-matched = ⊎-elim (λ h. inl (some-say h)) (λ h. inr (none-say h)) (test-cases (some takes (patternOf qs .edges)))
 
   -- what follows the files and 10
   abbrev after : List ℕ → ℕ → ℕ → Outcome
   after b room room′ =
-      pick (some (matched (patternOf qs) (usableViews (quotedBy qs cs))) (patternOf qs .edges))
-      (fitPart room (partBytes (quotedBy qs cs)) (answerOutcome (partBytes (quotedBy qs cs)) c b room′)) (refuse 11 0)
+      pick (some takes (patternOf qs .edges)) (fitPart room (partBytes (quotedIn set qs cs)) (answerFor usedBy b room′ (partQuoted (quotedIn set qs cs)))) (refuse 11 0)
 
-  part-after : (b bs : List ℕ) → readBook cs b ≡ accepted bs → (room room′ : ℕ) → partOutcome q c b room room′ ≡ withinPairsBy (edgeCounts cs) bs (after b room room′)
-  unfolding partOutcome partFor
-  part-after b bs k room room′ = goes-on _ p ∙ goes-on _ d ∙ goes-on _ k
+  part-after : (b bs : List ℕ) → readBook cs b ≡ accepted bs → (room room′ : ℕ) → partFor b room room′ (quotedIn set qs cs) ≡ withinPairsBy (edgeCounts cs) bs (after b room room′)
+  unfolding partFor
+  part-after b bs k room room′ = goes-on _ k
 
-  after-none : NoneMatched qs cs → (b : List ℕ) (room room′ : ℕ) → after b room room′ ≡ refuse 11 0
+  after-none : NoneMatched set qs cs → (b : List ℕ) (room room′ : ℕ) → after b room room′ ≡ refuse 11 0
   after-none n b room room′ =
-      let e = some-is ∙ ⊎-elim (λ h. let s = some-say h in absurd (n (s .0) (s .1) (s .2))) (λ h. h) (test-cases (some takes (patternOf qs .edges))) in
+      let e : some takes (patternOf qs .edges) ≡ false = ⊎-elim (λ h. let s = some-say h in absurd (n (s .0) (s .1) (s .2))) (λ h. h) (test-cases (some takes (patternOf qs .edges))) in
       rw e
 
-  module _ (s : SomeMatched qs cs) where
-    a-taken : T (takes (linkOf qs (s .0)))
-    a-taken = matched-whole (patternOf qs) Ps (linkOf qs (s .0)) .1 (s .2)
+  -- its own quote chooses
+  used-partly : usedBy (quotedIn set partly cs) ≡ chosenIn set partly cs
+  used-partly = used-covered (mapping (patternOf partly) Ps) set (edgesOf partly) (length Ps) part-covered
 
-    pub part-read : Question (partFile qs cs) (partOfQuestion qs cs)
+  chosen-partly : Covers (chosenIn set partly cs) partly cs
+  chosen-partly = chosen-covers (mapping (patternOf partly) Ps) set (edgesOf partly) (length Ps) part-covered
+
+  module _ (s : SomeMatched set qs cs) where
+    a-taken : T (takes (linkOf qs (s .0)))
+    a-taken = matched-whole (patternOf qs) Us (linkOf qs (s .0)) .1 (s .2)
+
+    pub part-read : Question (partFile set qs cs) (partOfQuestion set qs cs)
     part-read = choice-read q qs p takes (s .0) (s .1) a-taken
 
-    after-some : (b : List ℕ) (room room′ : ℕ) → after b room room′ ≡ fitPart room (partFile qs cs) (answerOutcome (partFile qs cs) c b room′)
-    after-some b room room′ =
-        let e = some-is ∙ some-by s in
-        rw e (ap (λ P. fitPart room (patternBytes P) (answerOutcome (patternBytes P) c b room′)) part-same)
+    after-some : (b : List ℕ) (room room′ : ℕ) → after b room room′ ≡ fitPart room (partFile set qs cs) (answerFor usedBy b room′ (quotedIn set partly cs))
+    unfolding partFrom
+    after-some b room room′ = rw (some-by s)
 
-    part-answered : (b bs : List ℕ) → Book cs b bs → (room : ℕ) → answerOutcome (partFile qs cs) c b room ≡ fitFile room (partAnswer qs cs bs)
+    part-answered : (b bs : List ℕ) → Book cs b bs → (room : ℕ) → answerFor usedBy b room (quotedIn set partly cs) ≡ fitFile room (partAnswer set qs cs bs)
     part-answered b bs k room =
-        given-by (partFile qs cs) c (partOfQuestion qs cs) cs part-read d b bs k usedBy room (used-covers (partOfQuestion qs cs) cs part-covered)
-        ∙ ap (λ (set : ℕ). fitFile room (sheetBytes (answerOf set (partOfQuestion qs cs) cs bs))) (used-chosen (partOfQuestion qs cs) cs part-covered)
+        answer-for set partly cs b bs k room (subst (λ (n : ℕ). Covers n partly cs) (sym used-partly) chosen-partly)
+        ∙ ap (λ (n : ℕ). fitFile room (sheetBytes (answerOf n partly cs bs))) used-partly
 
-    part-given : (b bs : List ℕ) → Book cs b bs → (room room′ : ℕ) → partOutcome q c b room room′ ≡ fitPart room (partFile qs cs) (fitFile room′ (partAnswer qs cs bs))
+    part-given : (b bs : List ℕ) → Book cs b bs → (room room′ : ℕ) → partFor b room room′ (quotedIn set qs cs) ≡ fitPart room (partFile set qs cs) (fitFile room′ (partAnswer set qs cs bs))
     part-given b bs k room room′ =
         part-after b bs (k .read) room room′
         ∙ within-pairs-is (edgeCounts cs) bs _ (k .few)
         ∙ after-some b room room′
-        ∙ ap (fitPart room (partFile qs cs)) (part-answered b bs k room′)
+        ∙ ap (fitPart room (partFile set qs cs)) (part-answered b bs k room′)
 
-  part-none : NoneMatched qs cs → (b bs : List ℕ) → Book cs b bs → (room room′ : ℕ) → partOutcome q c b room room′ ≡ refuse 11 0
+  part-none : NoneMatched set qs cs → (b bs : List ℕ) → Book cs b bs → (room room′ : ℕ) → partFor b room room′ (quotedIn set qs cs) ≡ refuse 11 0
   part-none n b bs k room room′ = part-after b bs (k .read) room room′ ∙ within-pairs-is (edgeCounts cs) bs _ (k .few) ∙ after-none n b room room′
 
-  either-matched : SomeMatched qs cs ⊎ NoneMatched qs cs
-  either-matched = ⊎-elim (λ h. inl (some-say h)) (λ h. inr (none-say h)) (test-cases (some takes (patternOf qs .edges)))
-
   -- 11 falls exactly where none is matched
-  none-exactly : (b bs : List ℕ) → Book cs b bs → (room room′ words e : ℕ) → (withWorkspace words (partOutcome q c b room room′) ≡ refuse 11 e) ↔ ((16384 ≤ words) × NoneMatched qs cs × (e ≡ 0))
-  none-exactly b bs k room room′ words e = (
+  none-exactly : (b bs : List ℕ) → Book cs b bs → (room room′ : ℕ) (a : Outcome) → a ≡ partFor b room room′ (quotedIn set qs cs) → (words e : ℕ)
+      → (withWorkspace words a ≡ refuse 11 e) ↔ ((16384 ≤ words) × NoneMatched set qs cs × (e ≡ 0))
+  none-exactly b bs k room room′ a is words e = (
     λ x.
-        let w = enough-for words (partOutcome q c b room room′) (λ z. let y = number-same z in omega arith) x in
+        let w = enough-for words a (λ z. let y = number-same z in omega arith) x in
         ⊎-elim
-        (λ s. absurd (let y = part-refuses room (partFile qs cs) room′ (partAnswer qs cs bs) (sym (part-given s b bs k room room′) ∙ w .1) in omega arith))
-        (λ n. (w .0, n, sym (detail-same (sym (part-none n b bs k room room′) ∙ w .1))))
+        (λ s. absurd (let y = part-refuses room (partFile set qs cs) room′ (partAnswer set qs cs bs) (sym (is ∙ part-given s b bs k room room′) ∙ w .1) in omega arith))
+        (λ n. (w .0, n, sym (detail-same (sym (is ∙ part-none n b bs k room room′) ∙ w .1))))
         either-matched,
-    λ x. enough-words words _ (x .0) ∙ part-none (x .1) b bs k room room′ ∙ ap (refuse 11) (sym (x .2)),
+    λ x. enough-words words _ (x .0) ∙ is ∙ part-none (x .1) b bs k room room′ ∙ ap (refuse 11) (sym (x .2)),
   )
 
   -- and 10 exactly to a crowded book
-  pub many-pairs-part : (b bs : List ℕ) → readBook cs b ≡ accepted bs → (room room′ words e : ℕ)
-      → (withWorkspace words (partOutcome q c b room room′) ≡ refuse 10 e) ↔ ((16384 ≤ words) × ManyPairs cs bs × (e ≡ 4))
-  many-pairs-part b bs k room room′ words e =
-      many-pairs-exactly words (partOutcome q c b room room′) (edgeCounts cs) bs (after b room room′) (part-after b bs k room room′)
+  many-exactly : (b bs : List ℕ) → readBook cs b ≡ accepted bs → (room room′ : ℕ) (a : Outcome) → a ≡ partFor b room room′ (quotedIn set qs cs) → (words e : ℕ)
+      → (withWorkspace words a ≡ refuse 10 e) ↔ ((16384 ≤ words) × ManyPairs cs bs × (e ≡ 4))
+  many-exactly b bs k room room′ a is words e =
+      many-pairs-exactly words a (edgeCounts cs) bs (after b room room′) (is ∙ part-after b bs k room room′)
       (λ h j x.
       ⊎-elim
-      (λ s. let z : Book cs b bs = record { read = k; few = h } in let y = part-refuses room (partFile qs cs) room′ (partAnswer qs cs bs) (sym (after-some s b room room′ ∙ ap (fitPart room (partFile qs cs)) (part-answered s b bs z room′)) ∙ x) in omega arith)
+      (λ s. let z : Book cs b bs = record { read = k; few = h } in let y = part-refuses room (partFile set qs cs) room′ (partAnswer set qs cs bs) (sym (after-some s b room room′ ∙ ap (fitPart room (partFile set qs cs)) (part-answered s b bs z room′)) ∙ x) in omega arith)
       (λ n. let y = number-same (sym (after-none n b room room′) ∙ x) in omega arith)
       either-matched) e
 
-  -- 1 to 9 are those of the files
-  pub says-after : (b bs : List ℕ) → readBook cs b ≡ accepted bs → (room room′ : ℕ) → Says no-more (after b room room′)
-  says-after b bs k room room′ =
-      ⊎-elim
-      (λ s. subst (Says no-more) (sym (after-some s b room room′)) (says-fit-part room (partFile qs cs) (subst (Says no-more) (sym (read-answer (part-read s))) (says-answer _ (quotedBy (partOfQuestion qs cs) cs) bs room′))))
-      (λ n. subst (Says no-more) (sym (after-none n b room room′)) (says-late 11 0 (omega arith)))
-      either-matched
-    where
-      read-answer : Question (partFile qs cs) (partOfQuestion qs cs) → answerOutcome (partFile qs cs) c b room′ ≡ answerIn (usedBy (quotedBy (partOfQuestion qs cs) cs)) (quotedBy (partOfQuestion qs cs) cs) bs room′
-      read-answer e = answer-read (partFile qs cs) c b (partOfQuestion qs cs) cs bs e d k room′
-
-  -- ---- of a covered question
-  module _ (h : Covered qs cs) where
+  -- ---- of a question that the set covers
+  module _ (h : Covers set qs cs) where
     whole-pattern : partOf takes (patternOf qs) ≡ patternOf qs
-    whole-pattern = had-whole (patternOf qs) (formed q qs p .sound) few-nodes Ps each-sound (covered-is q qs p .0 h)
+    whole-pattern = had-whole (patternOf qs) (formed q qs p .sound) few-nodes Us each-sound (covered-is q qs p .0 h)
 
-    whole-content : partOfQuestion qs cs ≡ qs
+    whole-content : partly ≡ qs
     whole-content = ap patternFields whole-pattern ∙ content-back (plain q qs p)
 
-    whole-file : Below 256 q → partFile qs cs ≡ q
+    whole-file : Below 256 q → partFile set qs cs ≡ q
     unfolding patternBytes
     whole-file y = ap (λ ws. bytesIn (encode pattern ws)) whole-content ∙ ap bytesIn (decode-encode pattern q qs (bytes-by q y) (question-is q qs p))
 
-    whole-answered : (b bs : List ℕ) → Book cs b bs → (room : ℕ) → answerOutcome q c b room ≡ fitFile room (partAnswer qs cs bs)
+    whole-answered : (b bs : List ℕ) → Book cs b bs → (room : ℕ) → answerFrom q c (chosenIn set qs cs) b room ≡ fitFile room (partAnswer set qs cs bs)
     whole-answered b bs k room =
-        given-by q c qs cs p d b bs k usedBy room (used-covers qs cs h)
-        ∙ ap (λ (set : ℕ). fitFile room (sheetBytes (answerOf set qs cs bs))) (used-chosen qs cs h)
-        ∙ ap (λ ws. fitFile room (sheetBytes (answerOf (chosenOf ws cs) ws cs bs))) (sym whole-content)
+        given-by q c qs cs p d b bs k (λ _. chosenIn set qs cs) room (chosen-covers (mapping (patternOf qs) Ps) set (edgesOf qs) (length Ps) h)
+        ∙ ap (λ ws. fitFile room (sheetBytes (answerOf (chosenIn set ws cs) ws cs bs))) (sym whole-content)
+
+  -- what is given comes of an accepted book
+  full-for : (b : List ℕ) (room room′ : ℕ) → Full (partFor b room room′ (quotedIn set qs cs)) → (bs : List ℕ) × Book cs b bs × SomeMatched set qs cs
+  unfolding partFor
+  full-for b room room′ f =
+      let z = full-judged _ _ f in
+      let k : Book cs b (z .0) = record { read = z .1; few = full-within-pairs _ _ _ (z .2) } in
+      (z .0, k, ⊎-elim (λ s. s) (λ n. absurd (not-refused (sym (f .is) ∙ part-none n b (z .0) k room room′))) either-matched)
+
+pub many-pairs-part : (w : When) (q c qs cs : List ℕ) → Question q qs → Catalogue c cs → Timely cs w → (b bs : List ℕ) → readBook cs b ≡ accepted bs → (room room′ words e : ℕ)
+    → (withWorkspace words (partWhen w q c b room room′) ≡ refuse 10 e) ↔ ((16384 ≤ words) × ManyPairs cs bs × (e ≡ 4))
+many-pairs-part w q c qs cs p d y b bs k room room′ words e =
+    many-exactly q c qs cs p d (usableWhen w cs) b bs k room room′ (partWhen w q c b room room′) (part-goes-on w q c qs cs p d y b room room′) words e
 
 -- a full result comes of accepted files
-full-part : (q c b : List ℕ) (room room′ : ℕ) → Full (partOutcome q c b room room′)
-    → (qs : List ℕ) × (cs : List ℕ) × (bs : List ℕ) × Question q qs × Catalogue c cs × Book cs b bs × SomeMatched qs cs
-unfolding partOutcome partFor
-full-part q c b room room′ f =
-    let t = full-twice _ _ _ f in
-    let z = full-judged _ _ (t .4) in
-    let k : Book (t .1) b (z .0) = record { read = z .1; few = full-within-pairs _ _ _ (z .2) } in
-    (t .0, t .1, z .0, t .2, t .3, k, ⊎-elim (λ s. s) (λ n. absurd (not-refused (sym (f .is) ∙ part-none q c (t .0) (t .1) (t .2) (t .3) n b (z .0) k room room′))) (either-matched q c (t .0) (t .1) (t .2) (t .3)))
+full-part : (w : When) (q c b : List ℕ) (room room′ : ℕ) → Full (partWhen w q c b room room′)
+    → (qs : List ℕ) × (cs : List ℕ) × (bs : List ℕ) × Question q qs × Catalogue c cs × Timely cs w × Book cs b bs × SomeMatched (usableWhen w cs) qs cs
+full-part w q c b room room′ f =
+    let t = full-when w q c (partFor b room room′) (full-same (part-by q c w b room room′) f) in
+    let z = full-for q c (t .0) (t .1) (t .2) (t .3) (usableWhen w (t .1)) b room room′ (t .5) in
+    (t .0, t .1, z .0, t .2, t .3, t .4, z .1, z .2)
 
 pub parts : Parts
 parts = record {
@@ -393,17 +406,24 @@ parts = record {
   goes-to = λ q qs p takes v l t. choice-to q qs p takes v l t;
   is-link = λ q qs p takes i v f. choice-link q qs p takes i v f;
   upward = numbered-upward;
-  takes-matched = λ qs cs e. matched-whole (patternOf qs) (viewPatterns cs) e;
-  covered = λ q c qs cs p d. part-covered q c qs cs p d;
-  largest = λ q c qs cs p d takes h v l t. part-largest q c qs cs p d takes h v l t;
-  no-other-way = λ q c qs cs p d takes F h v l t. part-no-other q c qs cs p d takes F h v l t;
-  masks = λ q c qs cs p d i v a f h. part-masks q c qs cs p d i v a f h;
-  gives = λ q c b qs cs bs p d k s room room′ words. fitted-part room (partFile qs cs) (partOutcome q c b room room′) words room′ (partAnswer qs cs bs) (part-given q c qs cs p d s b bs k room room′);
-  answers = λ q c b qs cs bs p d k s room. part-answered q c qs cs p d s b bs k room;
-  refused = λ q c b qs cs bs p d k room room′ words e. none-exactly q c qs cs p d b bs k room room′ words e;
-  only = λ q c b room room′ words f. full-part q c b room room′ (full-words words _ f);
-  whole = λ q c qs cs y p d h. whole-file q c qs cs p d h y;
-  whole-answer = λ q c b qs cs bs p d k h room. whole-answered q c qs cs p d h b bs k room;
-  lists-more = λ q c qs cs p d rs i v f x j. choice-lists q qs p (matchedLink qs cs) rs i v f x j;
-  equals = λ way q c r qs cs rs p d f s l room words. demand-3 .covered way (partFile qs cs) c r (partOfQuestion qs cs) cs rs (part-read q c qs cs p d s) d f (part-covered q c qs cs p d) l room words;
+  takes-matched = λ set qs cs e. matched-whole (patternOf qs) (viewsInSet set (viewPatterns cs)) e;
+  covered = λ set q c qs cs p d. part-covered q c qs cs p d set;
+  largest = λ set q c qs cs p d takes h v l t. part-largest q c qs cs p d set takes h v l t;
+  no-other-way = λ set q c qs cs p d takes F h v l t. part-no-other q c qs cs p d set takes F h v l t;
+  masks = λ set q c qs cs p d i v a f h y. part-masks q c qs cs p d set i v a f h y;
+  gives = λ w q c b qs cs bs p d y k s room room′ words.
+      fitted-part room (partFile (usableWhen w cs) qs cs) (partWhen w q c b room room′) words room′ (partAnswer (usableWhen w cs) qs cs bs)
+      (part-goes-on w q c qs cs p d y b room room′ ∙ part-given q c qs cs p d (usableWhen w cs) s b bs k room room′);
+  answers = λ set q c b qs cs bs p d k s room.
+      given-by (partFile set qs cs) c (partOfQuestion set qs cs) cs (part-read q c qs cs p d set s) d b bs k (λ _. chosenIn set (partOfQuestion set qs cs) cs) room (chosen-partly q c qs cs p d set);
+  answers-by-all = λ q c b qs cs bs p d k s room.
+      given-by (partFile everyView qs cs) c (partOfQuestion everyView qs cs) cs (part-read q c qs cs p d everyView s) d b bs k usedBy room (used-covers (partOfQuestion everyView qs cs) cs (part-covered q c qs cs p d everyView))
+      ∙ ap (λ (set : ℕ). fitFile room (sheetBytes (answerOf set (partOfQuestion everyView qs cs) cs bs))) (used-chosen (partOfQuestion everyView qs cs) cs (part-covered q c qs cs p d everyView));
+  refused = λ w q c b qs cs bs p d y k room room′ words e. none-exactly q c qs cs p d (usableWhen w cs) b bs k room room′ (partWhen w q c b room room′) (part-goes-on w q c qs cs p d y b room room′) words e;
+  only = λ w q c b room room′ words f. full-part w q c b room room′ (full-words words _ f);
+  whole = λ set q c qs cs y p d h. whole-file q c qs cs p d set h y;
+  whole-answer = λ set q c b qs cs bs p d k h room. whole-answered q c qs cs p d set h b bs k room;
+  lists-more = λ set q c qs cs p d rs i v f x j. choice-lists q qs p (matchedLink set qs cs) rs i v f x j;
+  equals = λ way set q c r qs cs rs p d f s l room words.
+      demand-3 .covered-by way (partFile set qs cs) c r (partOfQuestion set qs cs) cs rs (part-read q c qs cs p d set s) d f (chosenIn set (partOfQuestion set qs cs) cs) (chosen-partly q c qs cs p d set) l room words;
 }

@@ -67,7 +67,7 @@ chosen-in set (P ∷ Ps) (suc a) l h = later (bit set 0) (chosen-in (set / 2) Ps
     later true i = there i
     later false i = i
 
-chosen-whole : (set : ℕ) (Ps : List Pattern) → ((a : ℕ) → a < length Ps → bit set a ≡ true) → viewsInSet set Ps ≡ Ps
+pub chosen-whole : (set : ℕ) (Ps : List Pattern) → ((a : ℕ) → a < length Ps → bit set a ≡ true) → viewsInSet set Ps ≡ Ps
 unfolding viewsInSet
 chosen-whole set [] h = refl
 chosen-whole set (P ∷ Ps) h =

@@ -194,7 +194,7 @@ module _ {s : List ℕ} {number : ℕ} {tables used book counts : List ℕ} {k d
           (λ j b. h .each j (omega arith) ∙ x .table i j l (omega arith))
 
       pub turn-agrees : {table : List ℕ} → TableFrom i tables table → Agrees (v .pattern) table (getD used i 0) book counts k (views-for i)
-      turn-agrees h = book-agrees query (x .views) book everyView (table-is h) (getD used i 0) [] (x .loaded) refl
+      turn-agrees {table} h = book-agrees query (x .views) book everyView (table-is h) (getD used i 0) [] (x .loaded) refl table (λ e a _ _ _. ap (λ (r : List ℕ). getD r (16 * e + a) 0) (table-is h))
 
       -- its answer is counted, from whatever pairs it is made
       counted-next : {n size : ℕ} {w₂ : List ℕ} → Held n (v .pattern .edges) (answerSets (patternIn (v .pattern)) (views-for i)) w₂ → Edges w₁ w₂ → size ≡ length (answersOf x i)

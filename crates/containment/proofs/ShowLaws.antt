@@ -1,7 +1,7 @@
 -- The two records shown for a query that is not covered: both are accepted, every view has the same sheet on both, and the query has not.
 use Prim.Native.Nat.{ℕ, _<_, _≤_}
 use mathlib.Core.Path.{_≡_, refl, sym, ap, ap₂, subst, _∙_}
-use mathlib.Core.Bool.{Bool, not}
+use mathlib.Core.Bool.{Bool, true, not}
 use mathlib.Core.List.{List, [], _∷_, _++_, map}
 use lib.ListN.{length, getD, length-map}
 use lib.Dec.{T, T-not}
@@ -15,7 +15,7 @@ use Rattle.packed.proofs.Accepted.{pattern-accepted, record-accepted, record-re
 use Rattle.packed.proofs.AcceptedBounds.{catalogue-views}
 use Rattle.packed.proofs.BookSheetLaws.{sheet-injective}
 use Rattle.matching.specs.Lists.{In, here, there}
-use Rattle.matching.specs.Simulation.{Edge, sameEdge, noEdge, Pattern, Graph, patternOf, graphOf, asGraph, matchSets, viewSheet}
+use Rattle.matching.specs.Simulation.{Edge, sameEdge, noEdge, Pattern, Graph, patternOf, graphOf, asGraph, matchSets, viewSheet, bit}
 use Rattle.matching.specs.Join.{matched, without}
 use Rattle.matching.specs.Search.{sheetBytes, bookBytes, viewSheets}
 use Rattle.matching.proofs.ListLaws.{in-at, keep-in}
@@ -33,7 +33,7 @@ use Rattle.containment.specs.Quote.{mapping, viewsInSet}
 use Rattle.containment.specs.Show.{graphFields, fewerFields, recordBytes}
 use Rattle.containment.specs.Demands.{Leaves, lackingIn}
 use Rattle.containment.proofs.QueryGraph.{Made, graph-made, fewer-made, graph-means, fewer-means}
-use Rattle.containment.proofs.QuoteLaws.{chosen-every, LowestEdge, lowest-edge}
+use Rattle.containment.proofs.QuoteLaws.{chosen-every, LowestEdge, lowest-edge, chosen-whole}
 
 -- ---- sheets that differ as lists differ as bytes
 
@@ -131,7 +131,7 @@ module _ (s c qs cs : List ℕ) (p : decode pattern s ≡ ok qs) (d : readCatalo
   few-views = let v = catalogue-views c cs d in omega (arith, length-map (viewsOf cs) patternOf, v .many, v .most)
 
   -- the lowest edge that no view in a set matches
-  lowest-in : (set : ℕ) → Leaves set qs cs → LowestEdge (patternOf qs) (viewsInSet set (viewPatterns cs)) (lackingIn set qs cs)
+  pub lowest-in : (set : ℕ) → Leaves set qs cs → LowestEdge (patternOf qs) (viewsInSet set (viewPatterns cs)) (lackingIn set qs cs)
   lowest-in set n =
       let q = pattern-accepted s qs .0 p .laid in
       let m = edges-many q in
@@ -140,7 +140,7 @@ module _ (s c qs cs : List ℕ) (p : decode pattern s ≡ ok qs) (d : readCatalo
 
   -- where the views in a set don't cover the query, two accepted records on which each of them has the same sheet, byte for byte, and the query
   -- has not
-  shows-in : (set : ℕ) → Leaves set qs cs → Shows qs (viewsInSet set (viewPatterns cs)) (lackingIn set qs cs)
+  pub shows-in : (set : ℕ) → Leaves set qs cs → Shows qs (viewsInSet set (viewPatterns cs)) (lackingIn set qs cs)
   shows-in set n =
       let o = lowest-in set n in
       shows-by (pattern-accepted s qs .0 p .laid) (viewsInSet set (viewPatterns cs)) (lackingIn set qs cs) (o .below) (o .unmatched)
@@ -148,9 +148,6 @@ module _ (s c qs cs : List ℕ) (p : decode pattern s ≡ ok qs) (d : readCatalo
   -- of all views
   pub lowest-of : Leaves everyView qs cs → LowestEdge (patternOf qs) (viewPatterns cs) (lackingIn everyView qs cs)
   lowest-of n = rw (chosen-every (viewPatterns cs) few-views) at (lowest-in everyView n)
-
-  pub shows : Leaves everyView qs cs → Shows qs (viewPatterns cs) (lackingIn everyView qs cs)
-  shows n = rw (chosen-every (viewPatterns cs) few-views) at (shows-in everyView n)
 
 -- ---- how long the sheets and the book are on these records
 
@@ -164,10 +161,10 @@ book-same f g [] h = refl
 book-same f g (v ∷ vs) h = ap₂ (λ (x y : List ℕ). x ++ y) (h v (here refl)) (book-same f g vs (λ w i. h w (there i)))
 
 module _ (s c qs cs : List ℕ) (p : decode pattern s ≡ ok qs) (d : readCatalogue c ≡ accepted cs) where
-  module _ (n : Leaves everyView qs cs) where
-    -- the two records have the same book
-    pub shows-book : bookBytes (viewSheets cs (graphOf (graphFields qs))) ≡ bookBytes (viewSheets cs (graphOf (fewerFields qs (lackingIn everyView qs cs))))
+  module _ (set : ℕ) (n : Leaves set qs cs) (all : (a : ℕ) → a < length (viewPatterns cs) → bit set a ≡ true) where
+    -- the two records have the same book, where all views are in the set
+    pub shows-book : bookBytes (viewSheets cs (graphOf (graphFields qs))) ≡ bookBytes (viewSheets cs (graphOf (fewerFields qs (lackingIn set qs cs))))
     unfolding viewSheets
     shows-book =
-        book-same (λ v. viewSheet (patternOf v) (graphOf (graphFields qs))) (λ v. viewSheet (patternOf v) (graphOf (fewerFields qs (lackingIn everyView qs cs)))) (viewsOf cs)
-        (λ v i. shows s c qs cs p d n .same (patternOf v) (in-map patternOf i))
+        book-same (λ v. viewSheet (patternOf v) (graphOf (graphFields qs))) (λ v. viewSheet (patternOf v) (graphOf (fewerFields qs (lackingIn set qs cs)))) (viewsOf cs)
+        (λ v i. shows-in s c qs cs p d set n .same (patternOf v) (subst (λ l. In (patternOf v) l) (sym (chosen-whole set (viewPatterns cs) all)) (in-map patternOf i)))

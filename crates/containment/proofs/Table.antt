@@ -1,5 +1,5 @@
--- The cases K1 to K10 of the requirements, and cases of several questions in one call and of the empty catalogue, proved in one table with one statement:
--- on bytes and fields, over the functions that the contracts of the calls cite.
+-- The cases K1 to K10 of the requirements, and cases of several questions in one call, of the empty catalogue and of terms, proved in one table with one
+-- statement: on bytes and fields, over the functions that the contracts of the calls cite.
 use Prim.Native.Nat.{ℕ, _+_, _-_, _*_}
 use Prim.Native.Char.{code as codeOf}
 use Prim.Native.String.{String, [] as []ˢ, _∷_ as _∷ˢ_}
@@ -19,12 +19,15 @@ use Rattle.matching.specs.Simulation.{same, has, sameEdge, everyPair as allPair
 use Rattle.matching.specs.Search.{sheetBytes, bookBytes, viewSheets, searchOutcome, makeBookOutcome}
 use Rattle.matching.specs.Join.{pairOf, isMatch, matched, under, candidates, supportedOut, supportedIn, supported, join, complete, keptFor, answerSets}
 use Rattle.matching.specs.Part.{rank}
-use Rattle.containment.specs.Choice.{matches, matchedIn, coversIn, lowestUnmatched, addsTo, taken, kept, chosen, used}
+use Rattle.containment.specs.Choice.{matches, matchedIn, coversIn, lowestUnmatched, addsTo, taken, kept, chosen, used, columnsFrom}
 use Rattle.containment.specs.Quote.{viewsInSet, maskIn, matchMask, maskAt, mapping, valuesFrom, quoteValues, flat, quoteFor, quoteOutcome}
 use Rattle.containment.specs.Answer.{viewsIn, answerBytes, answerIn, answerFor, answerBy, answerOutcome}
 use Rattle.containment.specs.Cheapest.{cheapestFrom, cheapestFor, cheapestOutcome}
 use Rattle.containment.specs.Part.{partFor, partOutcome}
 use Rattle.containment.specs.Several.{questionAt, counted, allCovered, isNeeded, sheetsNeeded, answerAt, anyLong, fitSeveral, severalIn, severalOutcome}
+use Rattle.containment.specs.Terms.{spreadOf, firstTurned, judgeTerms, isInForce, inForce, quoteOn, showOn, sooner, earliest, dayValues, firstDayFor, firstDay}
+use Rattle.containment.specs.declared.terms.Term.{Term}
+use Rattle.containment.specs.declared.terms.Terms.{Terms}
 use Rattle.containment.specs.Show.{asRecord, graphFields, fewerFields, recordBytes, fitBoth, showFor, showOutcome}
 
 -- ---- how a case is written
@@ -185,6 +188,13 @@ second4 = hex "00 20 00 60 00 00 00 20 00 00 00 40 00 00 00 80 00 00 01 00 00 00
 abbrev pub none : List ℕ
 none = []
 
+-- an entry, and terms for C
+abbrev pub term : ℕ → ℕ → Term
+term from to = record { from = from; to = to }
+
+abbrev pub seasons : Terms
+seasons = spreadOf (term 10 20 ∷ term 10 15 ∷ term 12 20 ∷ [])
+
 -- ---- the cases
 
 unfoldable pub table : List Case
@@ -263,8 +273,31 @@ table =
     ∷ call (cheapestOutcome d none (fields "7")) (refuse 15 1)
     -- the second shown record lacks 0 → 1
     ∷ call (showOutcome d none 33 30) (give [] (first ∷ second4 ∷ []))
+    -- D with C for a day: on day 10 extract 2 isn't in force yet, on day 15 extract 1 no more, on day 20 none is
+    ∷ call (quoteOn d c seasons 10) (give (0 ∷ (rowsOf (rowOf 1 1 0 ++ rowOf 0 0 0 ++ rowOf 0 2 0 ++ rowOf 0 0 0) ++ (4 ∷ 0 ∷ 1 ∷ []))) [])
+    ∷ call (quoteOn d c seasons 12) (give (1 ∷ (rowsOf (rowOf 1 1 0 ++ rowOf 0 0 1 ++ rowOf 0 2 0 ++ rowOf 0 0 2) ++ (4 ∷ 6 ∷ 0 ∷ []))) [])
+    ∷ call (quoteOn d c seasons 15) (give (0 ∷ (rowsOf (rowOf 1 0 0 ++ rowOf 0 0 1 ++ rowOf 0 0 0 ++ rowOf 0 0 2) ++ (4 ∷ 0 ∷ 2 ∷ []))) [])
+    ∷ call (quoteOn d c seasons 20) (give (0 ∷ (replicate 512 0 ++ (4 ∷ 0 ∷ 0 ∷ []))) [])
+    ∷ call (showOn d c seasons 10 33 30) (give [] (first ∷ second ∷ []))
+    ∷ call (showOn d c seasons 12 33 30) (refuse 13 0)
+    -- the first day: 1 and the day, or 0 and 0
+    ∷ call (firstDay d c seasons 0) (give (1 ∷ 12 ∷ []) [])
+    ∷ call (firstDay d c seasons 14) (give (1 ∷ 14 ∷ []) [])
+    ∷ call (firstDay d c seasons 15) (give (0 ∷ 0 ∷ []) [])
+    ∷ call (firstDay d c (spreadOf (term 1 2 ∷ term 30 40 ∷ term 20 35 ∷ [])) 0) (give (1 ∷ 30 ∷ []) [])
+    ∷ call (firstDay d c (spreadOf (term 1 2 ∷ term 0 65535 ∷ term 65534 65535 ∷ [])) 0) (give (1 ∷ 65534 ∷ []) [])
+    ∷ call (firstDay d c (spreadOf (term 1 2 ∷ term 0 65535 ∷ term 65534 65535 ∷ [])) 65535) (give (0 ∷ 0 ∷ []) [])
+    -- 18: the number of entries first, then the first that is turned round or empty
+    ∷ call (quoteOn d c (spreadOf (term 10 20 ∷ term 10 15 ∷ [])) 10) (refuse 18 2)
+    ∷ call (quoteOn d c (spreadOf (term 10 20 ∷ term 10 15 ∷ term 12 20 ∷ term 1 2 ∷ [])) 10) (refuse 18 4)
+    ∷ call (quoteOn d c (spreadOf []) 10) (refuse 18 0)
+    ∷ call (quoteOn d c (spreadOf (term 10 20 ∷ term 15 10 ∷ term 12 20 ∷ [])) 10) (refuse 18 1)
+    ∷ call (quoteOn d c (spreadOf (term 10 20 ∷ term 10 10 ∷ term 20 12 ∷ [])) 10) (refuse 18 1)
+    ∷ call (quoteOn d c (spreadOf (term 20 10 ∷ term 10 15 ∷ [])) 10) (refuse 18 2)
+    ∷ call (quoteOn d c4 (spreadOf []) 10) (give (0 ∷ (replicate 512 0 ++ (4 ∷ 0 ∷ 0 ∷ []))) [])
+    ∷ call (quoteOn d c4 (spreadOf (term 10 20 ∷ [])) 10) (refuse 18 1)
     ∷ []
 
 pub cases : Agree table
-unfolding Agree table digit hex next turned numbers bitsOf num numFrom bits zeros gap then times whole within scan lay bytesOf decode encode linked edges isEnd allEnds label joined pattern catalogue pairs labels rising record′ lists standing sheet book patternSize patternsIn viewsOf edgeCounts codesIn listsIn afterLists sheetLists afterSheet sheetsIn ends fieldsOf pairCount sheetFields member insert distinct eachEdge fromRanks sortedEdges oldRecord sortedFields recordSorted withWorkspace readFile writeFile judged readCatalogue pairsOf withinPairsBy fit fitFile patternRead catalogueRead recordRead sheetRead bookRead patternWritten catalogueWritten recordWritten sheetWritten _and_ _or_ _implies_ every some keep gather each below upTo settle greatest same has sameEdge allPairs bit edgesIn patternOf graphOf asGraph fits asksArrivals followsOut followsIn follows sim total row ascending matchSets viewSheet sheetBytes bookBytes viewSheets searchOutcome makeBookOutcome pairOf isMatch matched under candidates supportedOut supportedIn supported join complete keptFor answerSets rank matches matchedIn coversIn lowestUnmatched addsTo taken kept chosen used viewsInSet maskIn matchMask maskAt mapping valuesFrom quoteValues flat quoteFor quoteOutcome asRecord graphFields fewerFields recordBytes fitBoth showFor showOutcome flatten viewsIn answerBytes answerIn answerFor answerBy cheapestFrom cheapestFor cheapestOutcome partFor partOutcome questionAt counted allCovered isNeeded sheetsNeeded answerAt anyLong fitSeveral severalIn severalOutcome
+unfolding Agree table digit hex next turned numbers bitsOf num numFrom bits zeros gap then times whole within scan lay bytesOf decode encode linked edges isEnd allEnds label joined pattern catalogue pairs labels rising record′ lists standing sheet book patternSize patternsIn viewsOf edgeCounts codesIn listsIn afterLists sheetLists afterSheet sheetsIn ends fieldsOf pairCount sheetFields member insert distinct eachEdge fromRanks sortedEdges oldRecord sortedFields recordSorted withWorkspace readFile writeFile judged readCatalogue pairsOf withinPairsBy fit fitFile patternRead catalogueRead recordRead sheetRead bookRead patternWritten catalogueWritten recordWritten sheetWritten _and_ _or_ _implies_ every some keep gather each below upTo settle greatest same has sameEdge allPairs bit edgesIn patternOf graphOf asGraph fits asksArrivals followsOut followsIn follows sim total row ascending matchSets viewSheet sheetBytes bookBytes viewSheets searchOutcome makeBookOutcome pairOf isMatch matched under candidates supportedOut supportedIn supported join complete keptFor answerSets rank matches matchedIn coversIn lowestUnmatched addsTo taken kept chosen used viewsInSet maskIn matchMask maskAt mapping valuesFrom quoteValues flat quoteFor quoteOutcome asRecord graphFields fewerFields recordBytes fitBoth showFor showOutcome flatten viewsIn answerBytes answerIn answerFor answerBy cheapestFrom cheapestFor cheapestOutcome partFor partOutcome questionAt counted allCovered isNeeded sheetsNeeded answerAt anyLong fitSeveral severalIn severalOutcome columnsFrom firstTurned judgeTerms isInForce inForce quoteOn showOn sooner earliest dayValues firstDayFor firstDay
 cases = refl

@@ -95,7 +95,7 @@ module _ (w : ℕ → ℕ) (x a : ℕ) (out : bit x a ≡ false) where
   weigh-below (suc k) h = rw (weigh-below k (omega arith), more-other x a out k (λ e. omega arith)) refl
 
   -- it adds its weight
-  weigh-taken : (k : ℕ) → a < k → weigh w (x + 2 ^ a) k ≡ weigh w x k + w a
+  pub weigh-taken : (k : ℕ) → a < k → weigh w (x + 2 ^ a) k ≡ weigh w x k + w a
   unfolding weigh
   weigh-taken zero h = absurd (omega arith)
   weigh-taken (suc k) h =

@@ -11,7 +11,7 @@ use Rattle.packed.specs.Contents.{edgesOf}
 use Rattle.packed.specs.Calls.{Outcome, give, refuse}
 use Rattle.packed.specs.Refusals.{Told, told, numberOf, detailOf}
 use Rattle.matching.specs.Simulation.{bit}
-use Rattle.containment.specs.Choice.{coversIn, lowestUnmatched, chosen}
+use Rattle.containment.specs.Choice.{coversIn, columnsIn, lowestUnmatched, chosen}
 use Rattle.containment.specs.Quote.{Quoted, quoted, tableOf}
 use Rattle.containment.specs.declared.costing.Cheapest.{Cheapest}
 use Rattle.containment.specs.declared.costing.Cheapest.the-variants as cheapest-is
@@ -87,11 +87,11 @@ cheapest t m charges k = foremost (ahead t m charges k) k 0
 
 -- ---- what the call answers
 
--- from the table of a quote: the cheapest set, its sum, and "the chosen set of the ordinary quote stays beside it"; "an uncovered question gets 11"
+-- from the table of a quote: the cheapest set of those that may be used, its sum, and "the chosen set of the ordinary quote stays beside it"; "an uncovered question gets 11"
 unfoldable pub cheapestFrom : List ℕ → ℕ → ℕ → List ℕ → ℕ → Outcome
 cheapestFrom t usable m charges k =
     pick (coversIn t usable k m)
-    (give (cheapest t m charges k ∷ cost charges (cheapest t m charges k) k ∷ chosen t usable m k ∷ []) [])
+    (give (cheapest (columnsIn usable t) m charges k ∷ cost charges (cheapest (columnsIn usable t) m charges k) k ∷ chosen t usable m k ∷ []) [])
     (refuse 11 (lowestUnmatched t usable k m))
 
 -- "15 when the number of charges differs from the number of extracts, after all papers are read and before 11, detail the number of charges"

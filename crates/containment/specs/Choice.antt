@@ -1,8 +1,8 @@
 -- Coverage and the chosen views, from the table of masks: 16 for each edge of the query, one for each view. A set of views says which of them may
 -- be used.
-use Prim.Native.Nat.{ℕ, zero, suc, _+_, _-_, _*_, _^_, _<_}
+use Prim.Native.Nat.{ℕ, zero, suc, _+_, _-_, _*_, _%_, _^_, _<_}
 use mathlib.Core.Path.{_≡_}
-use mathlib.Core.List.{List}
+use mathlib.Core.List.{List, [], _∷_}
 use mathlib.Core.Bool.{Bool, true, false, not, _&&_, _||_}
 use lib.ListN.{getD}
 use lib.Dec.{eqb, ltb}
@@ -26,6 +26,14 @@ coversIn t set k (suc m) = coversIn t set k m && matchedIn t set m k
 -- all views
 abbrev pub everyView : ℕ
 everyView = 65535
+
+-- the words of a table from place k on, with the columns of the views in the set alone: elsewhere they are zero
+unfoldable pub columnsFrom : ℕ → ℕ → List ℕ → List ℕ
+columnsFrom set k [] = []
+columnsFrom set k (x ∷ t) = pick (bit set (k % 16)) x 0 ∷ columnsFrom set (suc k) t
+
+abbrev pub columnsIn : ℕ → List ℕ → List ℕ
+columnsIn set t = columnsFrom set 0 t
 
 -- whether the view a matches one of the first m edges that no view of the set below a does
 unfoldable pub addsTo : List ℕ → ℕ → ℕ → ℕ → Bool

@@ -5,7 +5,8 @@
 -- An answer is a function of the bytes and fields that are lent, of the length of each output (`room`) and of the workspace (`words`).
 -- Proofs: proofs/DemandsOneTwo.antt and proofs/DemandThree.antt, by proofs/DemandRules.antt, DemandSheets.antt, DemandIndex.antt and DemandJoin.antt; of the
 -- join by steps, proofs/DemandSteps.antt; of the empty catalogue, proofs/EmptyCatalogues.antt; of the part, proofs/Parts.antt; of several
--- questions, proofs/Severals.antt; of the cheapest set, proofs/CheapestSets.antt; of the listing, proofs/Listings.antt.
+-- questions, proofs/Severals.antt; of the cheapest set, proofs/CheapestSets.antt; of calls for a day, proofs/OnDays.antt, by proofs/WhenLaws.antt; of the listing,
+-- proofs/Listings.antt.
 use Prim.Native.Nat.{ℕ, _+_, _-_, _*_, _^_, _<_, _≤_, _/_}
 use mathlib.Core.Path.{_≡_}
 use mathlib.Core.Logic.{_⊎_, _↔_}
@@ -21,7 +22,7 @@ use Rattle.packed.specs.Refusals.{Told, told}
 use Rattle.packed.specs.declared.by_value.Pattern.{Pattern as Given}
 use Rattle.packed.specs.OldRecord.{readOldRecord, OldRecordFile, sortedFields, recordSorted}
 use Rattle.packed.specs.Calls.{Outcome, give, refuse, fronts, Settled, FulfilsOne, withWorkspace, Verdict, accepted, rejected, readPattern, readQuestions, QuestionFiles, readCatalogue, readRecord, readSheet, readBook, writeFile, writeSheet, writeBook, pairsOf, fit, fitFile, patternRead, catalogueRead, recordRead, sheetRead, bookRead, patternWritten, catalogueWritten, recordWritten, sheetWritten, bookWritten}
-use Rattle.matching.specs.Lists.{In, some, keep}
+use Rattle.matching.specs.Lists.{In, some, keep, each}
 use Rattle.matching.specs.Simulation.{Pair, Edge, between, noEdge, oneWay, Pattern, ruled, Graph, patternOf, graphOf, givenEdge, patternIn, asGraph, bit, fits, IsSim, MatchingBy, sim, sound, matchSets, viewSheet, asPair}
 use Rattle.matching.specs.Join.{without, Offer, answerSets, matched}
 use Rattle.matching.specs.Components.{reaches, Nodes, leavingOf, stateAt, Shut, OneStep, StepsTo, pairAt, IsHeld, Holds, Ran}
@@ -29,15 +30,18 @@ use Rattle.matching.specs.Part.{rank, number, partOf, patternFields, patternByt
 use Rattle.matching.specs.Offered.{viewPatterns}
 use Rattle.matching.specs.Search.{sheetBytes, bookBytes, viewSheets, searchOutcome, makeBookOutcome}
 use Rattle.matching.specs.Index.{indexOf, makeIndexOutcome, checkIndexOutcome, searchIndexedOutcome}
-use Rattle.containment.specs.Choice.{everyView, coversIn, lowestUnmatched, chosen}
-use Rattle.containment.specs.Quote.{noPattern, mapping, quotedBy, usedBy, QuoteValues, flat, blank, quoteOutcome, quoteTold}
+use Rattle.containment.specs.Choice.{everyView, coversIn, columnsIn, lowestUnmatched, chosen}
+use Rattle.containment.specs.Quote.{noPattern, mapping, quotedBy, viewsInSet, usedBy, QuoteValues, flat, blank, quoteOutcome, quoteTold}
 use Rattle.containment.specs.Answer.{viewsIn, Choose, answerBy, answerFrom, answerOutcome}
-use Rattle.containment.specs.Cheapest.{cost, IsCheapest, cheapestOutcome}
+use Rattle.containment.specs.Cheapest.{cost, Better, cheapestOutcome}
 use Rattle.containment.specs.Show.{graphFields, fewerFields, recordBytes, fitBoth, showOutcome}
 use Rattle.containment.specs.Part.{partOutcome}
 use Rattle.containment.specs.Several.{severalOutcome}
+use Rattle.containment.specs.Terms.{noTerm, spreadOf, fromDay, toDay, judgeTerms, inForce, quoteOn, cheapestOn, partOn, showOn, firstDay}
 use Rattle.containment.specs.Listing.{bytes, linkLine, lineOf, lineOutcome}
 use Rattle.containment.specs.declared.quote_type.Quote.{Quote}
+use Rattle.containment.specs.declared.terms.Term.{Term}
+use Rattle.containment.specs.declared.terms.Terms.{Terms}
 
 -- ---- Words of the requirements
 
@@ -97,9 +101,16 @@ Uncovered qs cs = Leaves everyView qs cs
 abbrev pub lacking : List ℕ → List ℕ → ℕ
 lacking qs cs = lackingIn everyView qs cs
 
--- the set that a quote chooses
+-- the set that a quote chooses, from the extracts in a set; from all of them
+abbrev pub chosenIn : ℕ → List ℕ → List ℕ → ℕ
+chosenIn set qs cs = chosen (mapping (patternOf qs) (viewPatterns cs)) set (edgesOf qs) (length (viewPatterns cs))
+
 abbrev pub chosenOf : List ℕ → List ℕ → ℕ
-chosenOf qs cs = chosen (mapping (patternOf qs) (viewPatterns cs)) everyView (edgesOf qs) (length (viewPatterns cs))
+chosenOf qs cs = chosenIn everyView qs cs
+
+-- the masks of a quote: those of the extracts in a set; the others' are zero
+abbrev pub masksIn : ℕ → List ℕ → List ℕ → List ℕ
+masksIn set qs cs = columnsIn set (mapping (patternOf qs) (viewPatterns cs))
 
 -- a pattern's sheet from a record
 abbrev pub sheetOf : Pattern → List ℕ → List ℕ
@@ -130,15 +141,79 @@ abbrev pub answerOf : ℕ → List ℕ → List ℕ → List ℕ → List (List 
 answerOf set qs cs bs = answerSets (patternOf qs) (viewsIn set (viewPatterns cs) (sheetsIn (edgeCounts cs) bs))
 
 -- the same by the set that the question's quote chooses, in bytes
-abbrev pub ownAnswer : List ℕ → List ℕ → List ℕ → List ℕ
-ownAnswer cs bs qs = sheetBytes (answerOf (chosenOf qs cs) qs cs bs)
+abbrev pub ownAnswerIn : ℕ → List ℕ → List ℕ → List ℕ → List ℕ
+ownAnswerIn set cs bs qs = sheetBytes (answerOf (chosenIn set qs cs) qs cs bs)
 
--- the content of "the two shown records": the question read as a record, and the same without its lowest unmatched link
+abbrev pub ownAnswer : List ℕ → List ℕ → List ℕ → List ℕ
+ownAnswer cs bs qs = ownAnswerIn everyView cs bs qs
+
+-- the content of "the two shown records": the question read as a record, and the same without its lowest link that no extract of a set matches
 abbrev pub firstOf : List ℕ → List ℕ
 firstOf qs = graphFields qs
 
-abbrev pub secondOf : List ℕ → List ℕ → List ℕ
-secondOf qs cs = fewerFields qs (lacking qs cs)
+abbrev pub secondIn : ℕ → List ℕ → List ℕ → List ℕ
+secondIn set qs cs = fewerFields qs (lackingIn set qs cs)
+
+-- the lists of the extracts in a set
+abbrev pub listsIn : ℕ → List ℕ → Graph → List (List (List ℕ))
+listsIn set cs G = each (λ P. viewSheet P G) (viewsInSet set (viewPatterns cs))
+
+-- ---- Terms. "Beside the catalogue comes a list of entries, each a from-day and a to-day, one per extract, as 16-bit day numbers"; a call is handed the list in
+-- plain numbers (specs/Terms.antt).
+
+-- "the from-day counts, the to-day doesn't": the extract a is in force on a day
+abbrev pub InForce : Terms → ℕ → ℕ → Type 0
+InForce t day a = (fromDay t a ≤ day) × (day < toDay t a)
+
+-- the extracts in force on a day, as a set
+abbrev pub forceOf : Terms → ℕ → List ℕ → ℕ
+forceOf t day cs = inForce t day (length (viewPatterns cs))
+
+-- a list for k extracts: "one per extract", each with its from-day below its to-day
+pub record RightTerms (t : Terms) (k : ℕ) : Type 0 where
+  pub number : t .number ≡ k
+  pub ordered : (a : ℕ) → a < k → fromDay t a < toDay t a
+
+-- 18: "when the list's length is wrong or an entry's from-day isn't below its to-day", "detail the number of entries, judged first, or the first bad
+-- position, from 0"
+pub record FirstBad (t : Terms) (k d : ℕ) : Type 0 where
+  pub number : t .number ≡ k
+  pub below : d < k
+  pub bad : fromDay t d < toDay t d → ⊥
+  pub before : (a : ℕ) → a < d → fromDay t a < toDay t a
+
+abbrev pub WrongTerms : Terms → ℕ → ℕ → Type 0
+WrongTerms t k d = ((t .number ≡ k → ⊥) × (d ≡ t .number)) ⊎ FirstBad t k d
+
+-- a call goes by all extracts, or it is for a day and "uses only extracts in force": the extracts that it may use, and that no term is wrong
+pub data When : Type 0 where
+  always : When
+  on : Terms → ℕ → When
+
+abbrev pub usableWhen : When → List ℕ → ℕ
+usableWhen always cs = everyView
+usableWhen (on t day) cs = forceOf t day cs
+
+pub data Timely (cs : List ℕ) : When → Type 0 where
+  any-time : Timely cs always
+  right : {t : Terms} {day : ℕ} → RightTerms t (length (viewPatterns cs)) → Timely cs (on t day)
+
+-- the calls that there are both ways, by all extracts and for a day
+abbrev pub quoteWhen : When → List ℕ → List ℕ → Outcome
+quoteWhen always q c = quoteOutcome q c
+quoteWhen (on t day) q c = quoteOn q c t day
+
+abbrev pub cheapestWhen : When → List ℕ → List ℕ → List ℕ → Outcome
+cheapestWhen always q c charges = cheapestOutcome q c charges
+cheapestWhen (on t day) q c charges = cheapestOn q c t day charges
+
+abbrev pub partWhen : When → List ℕ → List ℕ → List ℕ → ℕ → ℕ → Outcome
+partWhen always q c b room room′ = partOutcome q c b room room′
+partWhen (on t day) q c b room room′ = partOn q c t day b room room′
+
+abbrev pub showWhen : When → List ℕ → List ℕ → ℕ → ℕ → Outcome
+showWhen always q c room room′ = showOutcome q c room room′
+showWhen (on t day) q c room room′ = showOn q c t day room room′
 
 -- ---- Demand 1. "Every call gives a full result or a numbered refusal under a fixed rule, for all bytes and buffers of every length. A refusal
 -- leaves the output untouched."
@@ -149,13 +224,13 @@ pub record Full (a : Outcome) : Type 0 where
   pub outputs : List (List ℕ)
   pub is : a ≡ give values outputs
 
--- a refusal with a number from 1 to 17
+-- a refusal with a number from 1 to 18
 pub record Refused (a : Outcome) : Type 0 where
   pub number : ℕ
   pub detail : ℕ
   pub is : a ≡ refuse number detail
   pub least : 1 ≤ number
-  pub most : number ≤ 17
+  pub most : number ≤ 18
 
 abbrev pub Settles : Outcome → Type 0
 Settles a = Full a ⊎ Refused a
@@ -191,6 +266,11 @@ thenNone ws = no-more
 
 abbrev pub quotedFiles : List ℕ → List ℕ → (List ℕ → Files) → Files
 quotedFiles q c next = first (readPattern q) (λ qs. first (readCatalogue c) next)
+
+-- the same for a day: the terms are judged with them, "right after the catalogue is read", and before what follows
+abbrev pub filesWhen : When → List ℕ → List ℕ → (List ℕ → Files) → Files
+filesWhen always q c next = quotedFiles q c next
+filesWhen (on t day) q c next = quotedFiles q c (λ cs. first (judgeTerms t (length (viewPatterns cs))) (λ _. next cs))
 
 -- the files of the call that answers several questions: "its first fault decides the refusal, .., then catalogue, book"
 abbrev pub severalFiles : ℕ → List ℕ → List ℕ → List ℕ → Files
@@ -273,13 +353,15 @@ pub record Demand1 : Type 0 where
   pub check-index : (r index : List ℕ) (words : ℕ) → Settles (withWorkspace words (checkIndexOutcome r index))
   pub search-indexed : (p r index : List ℕ) (room words : ℕ) → Settles (withWorkspace words (searchIndexedOutcome p r index room))
   pub make-book : (c r : List ℕ) (room words : ℕ) → Settles (withWorkspace words (makeBookOutcome c r room))
-  pub quote : (q c : List ℕ) (words : ℕ) → Settles (withWorkspace words (quoteOutcome q c))
+  -- a call that there is for a day too is meant both ways
+  pub quote : (w : When) (q c : List ℕ) (words : ℕ) → Settles (withWorkspace words (quoteWhen w q c))
   -- both calls that answer: `answerFrom` and `answerOutcome` are `answerBy` with the set that the client names and with the one that is used else
   pub answer : (choose : Choose) (q c b : List ℕ) (room words : ℕ) → Settles (withWorkspace words (answerBy choose q c b room))
-  pub show : (q c : List ℕ) (room room′ words : ℕ) → Settles (withWorkspace words (showOutcome q c room room′))
-  pub part : (q c b : List ℕ) (room room′ words : ℕ) → Settles (withWorkspace words (partOutcome q c b room room′))
+  pub show : (w : When) (q c : List ℕ) (room room′ words : ℕ) → Settles (withWorkspace words (showWhen w q c room room′))
+  pub part : (w : When) (q c b : List ℕ) (room room′ words : ℕ) → Settles (withWorkspace words (partWhen w q c b room room′))
   pub several : (q : List ℕ) (number : ℕ) (c b : List ℕ) (room words : ℕ) → Settles (withWorkspace words (severalOutcome q number c b room))
-  pub cheapest : (q c charges : List ℕ) (words : ℕ) → Settles (withWorkspace words (cheapestOutcome q c charges))
+  pub cheapest : (w : When) (q c charges : List ℕ) (words : ℕ) → Settles (withWorkspace words (cheapestWhen w q c charges))
+  pub first-day : (q c : List ℕ) (t : Terms) (day words : ℕ) → Settles (withWorkspace words (firstDay q c t day))
   pub line : (q : Quote) (k room : ℕ) → Settles (lineOutcome q k room)
   -- "within a paper: 1, then front to back": what falls to each file is in packed/specs/Formats.antt; here, that it is handed up
   pub read-pattern-files : (s : List ℕ) (room : ℕ) → HandsUp (first (readPattern s) thenNone) (patternRead s room)
@@ -297,11 +379,13 @@ pub record Demand1 : Type 0 where
   pub check-index-files : (r index : List ℕ) → HandsUp (first (readRecord r) thenNone) (checkIndexOutcome r index)
   pub search-indexed-files : (p r index : List ℕ) (room : ℕ) → HandsUp (first (readPattern p) (λ ps. first (readRecord r) thenNone)) (searchIndexedOutcome p r index room)
   pub make-book-files : (c r : List ℕ) (room : ℕ) → HandsUp (first (readCatalogue c) (λ cs. first (readRecord r) thenNone)) (makeBookOutcome c r room)
-  pub quote-files : (q c : List ℕ) → HandsUp (quotedFiles q c thenNone) (quoteOutcome q c)
-  pub cheapest-files : (q c charges : List ℕ) → HandsUp (quotedFiles q c thenNone) (cheapestOutcome q c charges)
+  pub quote-files : (w : When) (q c : List ℕ) → HandsUp (filesWhen w q c thenNone) (quoteWhen w q c)
+  pub cheapest-files : (w : When) (q c charges : List ℕ) → HandsUp (filesWhen w q c thenNone) (cheapestWhen w q c charges)
+  pub first-day-files : (q c : List ℕ) (t : Terms) (day : ℕ) → HandsUp (filesWhen (on t day) q c thenNone) (firstDay q c t day)
   pub answer-files : (choose : Choose) (q c b : List ℕ) (room : ℕ) → HandsUp (quotedFiles q c (λ cs. first (readBook cs b) thenNone)) (answerBy choose q c b room)
-  pub show-files : (q c : List ℕ) (room room′ : ℕ) → HandsUp (quotedFiles q c thenNone) (showOutcome q c room room′)
-  pub part-files : (q c b : List ℕ) (room room′ : ℕ) → HandsUp (quotedFiles q c (λ cs. first (readBook cs b) thenNone)) (partOutcome q c b room room′)
+  pub show-files : (w : When) (q c : List ℕ) (room room′ : ℕ) → HandsUp (filesWhen w q c thenNone) (showWhen w q c room room′)
+  -- for a day the book is judged once the terms are right: where 18 falls to these nothing is said of it
+  pub part-files : (w : When) (q c b : List ℕ) (room room′ : ℕ) → HandsUp (filesWhen w q c (λ cs. first (readBook cs b) thenNone)) (partWhen w q c b room room′)
   -- 17 stands before the files: where the number is wrong none is judged
   pub several-files : (q : List ℕ) (number : ℕ) (c b : List ℕ) (room : ℕ) → RightNumber number → HandsUp (severalFiles number q c b) (severalOutcome q number c b room)
   pub several-unread : (q : List ℕ) (number : ℕ) (c b : List ℕ) (room : ℕ) → WrongNumber number → HandsUp no-more (severalOutcome q number c b room)
@@ -309,7 +393,7 @@ pub record Demand1 : Type 0 where
   pub never-long : (ws : List ℕ) (d : ℕ) → (writePattern ws ≡ rejected 1 d → ⊥) × (writeCatalogue ws ≡ rejected 1 d → ⊥) × (writeRecord ws ≡ rejected 1 d → ⊥)
   pub never-long-beside : (cs ws : List ℕ) (d : ℕ) → (writeSheet cs ws ≡ rejected 1 d → ⊥) × (writeBook cs ws ≡ rejected 1 d → ⊥)
   -- "a quote never gives 11: uncovered is one of its results"
-  pub quote-never : (q c : List ℕ) (words d : ℕ) → withWorkspace words (quoteOutcome q c) ≡ refuse 11 d → ⊥
+  pub quote-never : (w : When) (q c : List ℕ) (words d : ℕ) → withWorkspace words (quoteWhen w q c) ≡ refuse 11 d → ⊥
   -- "under a fixed rule": 14, "fewer than 16,384 work words were lent", stands before all else
   pub small-workspace : (a : Outcome) (words : ℕ) → words < workspace → withWorkspace words a ≡ refuse 14 0
   pub enough : (a : Outcome) (words : ℕ) → workspace ≤ words → withWorkspace words a ≡ a
@@ -339,8 +423,8 @@ pub record Demand1 : Type 0 where
       → (withWorkspace words (bookWritten c ws room) ≡ refuse 10 d) ↔ ((workspace ≤ words) × ManyPairs cs ws × (d ≡ 4))
   pub answer-many-pairs : (choose : Choose) (q c b qs cs bs : List ℕ) → Question q qs → Catalogue c cs → readBook cs b ≡ accepted bs → (room words d : ℕ)
       → (withWorkspace words (answerBy choose q c b room) ≡ refuse 10 d) ↔ ((workspace ≤ words) × ManyPairs cs bs × (d ≡ 4))
-  pub part-many-pairs : (q c b qs cs bs : List ℕ) → Question q qs → Catalogue c cs → readBook cs b ≡ accepted bs → (room room′ words d : ℕ)
-      → (withWorkspace words (partOutcome q c b room room′) ≡ refuse 10 d) ↔ ((workspace ≤ words) × ManyPairs cs bs × (d ≡ 4))
+  pub part-many-pairs : (w : When) (q c b qs cs bs : List ℕ) → Question q qs → Catalogue c cs → Timely cs w → readBook cs b ≡ accepted bs → (room room′ words d : ℕ)
+      → (withWorkspace words (partWhen w q c b room room′) ≡ refuse 10 d) ↔ ((workspace ≤ words) × ManyPairs cs bs × (d ≡ 4))
   pub several-many-pairs : (number : ℕ) (q c b ws cs bs : List ℕ) → RightNumber number → Questions number q ws → Catalogue c cs → readBook cs b ≡ accepted bs → (room words d : ℕ)
       → (withWorkspace words (severalOutcome q number c b room) ≡ refuse 10 d) ↔ ((workspace ≤ words) × ManyPairs cs bs × (d ≡ 4))
   -- a search gives the sheet of accepted files, making a book the book, and neither anything of others, nor with another index than the record's own
@@ -366,18 +450,18 @@ pub record Demand1 : Type 0 where
   pub search-refuses : (p r ps rs index : List ℕ) → Question p ps → Record r rs → (room words d : ℕ)
       → (withWorkspace words (searchIndexedOutcome p r index room) ≡ refuse 16 d) ↔ ((workspace ≤ words) × NotOwn (ownOf rs) index d)
   -- a quote is given of accepted files alone (what it says is in demand 2); it has no output to fit
-  pub quote-only : (q c : List ℕ) (words : ℕ) → Full (withWorkspace words (quoteOutcome q c)) → (qs : List ℕ) × (cs : List ℕ) × Question q qs × Catalogue c cs
+  pub quote-only : (w : When) (q c : List ℕ) (words : ℕ) → Full (withWorkspace words (quoteWhen w q c)) → (qs : List ℕ) × (cs : List ℕ) × Question q qs × Catalogue c cs × Timely cs w
   -- answering gives the answer from the book by a set that covers the question, showing the two records of an uncovered one
   pub answer-gives : (choose : Choose) (q c b qs cs bs : List ℕ) → Question q qs → Catalogue c cs → Book cs b bs → Covers (choose (quotedBy qs cs)) qs cs → (room words : ℕ)
       → Fitted words (OverFile room (sheetBytes (answerOf (choose (quotedBy qs cs)) qs cs bs))) (sheetBytes (answerOf (choose (quotedBy qs cs)) qs cs bs) ∷ [])
       (withWorkspace words (answerBy choose q c b room))
   pub answer-only : (choose : Choose) (q c b : List ℕ) (room words : ℕ) → Full (withWorkspace words (answerBy choose q c b room))
       → (qs : List ℕ) × (cs : List ℕ) × (bs : List ℕ) × Question q qs × Catalogue c cs × Book cs b bs × Covers (choose (quotedBy qs cs)) qs cs
-  pub show-gives : (q c qs cs : List ℕ) → Question q qs → Catalogue c cs → Uncovered qs cs → (room room′ words : ℕ)
-      → Fitted words (OverEither room room′ (recordBytes (firstOf qs)) (recordBytes (secondOf qs cs))) (recordBytes (firstOf qs) ∷ recordBytes (secondOf qs cs) ∷ [])
-      (withWorkspace words (showOutcome q c room room′))
-  pub show-only : (q c : List ℕ) (room room′ words : ℕ) → Full (withWorkspace words (showOutcome q c room room′))
-      → (qs : List ℕ) × (cs : List ℕ) × Question q qs × Catalogue c cs × Uncovered qs cs
+  pub show-gives : (w : When) (q c qs cs : List ℕ) → Question q qs → Catalogue c cs → Timely cs w → Leaves (usableWhen w cs) qs cs → (room room′ words : ℕ)
+      → Fitted words (OverEither room room′ (recordBytes (firstOf qs)) (recordBytes (secondIn (usableWhen w cs) qs cs))) (recordBytes (firstOf qs) ∷ recordBytes (secondIn (usableWhen w cs) qs cs) ∷ [])
+      (withWorkspace words (showWhen w q c room room′))
+  pub show-only : (w : When) (q c : List ℕ) (room room′ words : ℕ) → Full (withWorkspace words (showWhen w q c room room′))
+      → (qs : List ℕ) × (cs : List ℕ) × Question q qs × Catalogue c cs × Timely cs w × Leaves (usableWhen w cs) qs cs
   -- a full result tells 0, the length of each output and the values; it stands at the front of each output, and the rest is as it was
   pub full : (blank : List ℕ) (r : Told) (outs outs′ : List (List ℕ)) (work work′ values : List ℕ) (outputs : List (List ℕ))
       → Settled blank (give values outputs) r outs outs′ work work′ → (outs′ ≡ fronts outputs outs) × (r ≡ told 0 (map length outputs ++ values)) × Worked work work′
@@ -474,23 +558,27 @@ pub record Demand2 : Type 1 where
   pub quotes : (q c qs cs : List ℕ) → Question q qs → Catalogue c cs → Covered qs cs ↔ ((e : Edge) → In e (patternOf qs .edges) → Matched (patternOf qs) (viewPatterns cs) e)
   pub covers : (q c qs cs : List ℕ) → Question q qs → Catalogue c cs → (set : ℕ)
       → Covers set qs cs ↔ ((i : ℕ) → i < edgesOf qs → MatchedIn (patternOf qs) (viewPatterns cs) set (linkOf qs i))
-  -- which is the first value that the call gives, where enough words are lent: 1, or 0 for an uncovered question
-  pub says-covered : (q c qs cs : List ℕ) → Question q qs → Catalogue c cs → (words : ℕ)
-      → ((v : QuoteValues) × (withWorkspace words (quoteOutcome q c) ≡ give (flat v) []) × (v .covered ≡ 1)) ↔ ((workspace ≤ words) × Covered qs cs)
-  pub says-uncovered : (q c qs cs : List ℕ) → Question q qs → Catalogue c cs → (words : ℕ)
-      → ((v : QuoteValues) × (withWorkspace words (quoteOutcome q c) ≡ give (flat v) []) × (v .covered ≡ 0)) ↔ ((workspace ≤ words) × Uncovered qs cs)
+  -- which, of the extracts that may be used, is the first value that the call gives, where enough words are lent: 1, or 0 for an uncovered question
+  pub says-covered : (w : When) (q c qs cs : List ℕ) → Question q qs → Catalogue c cs → Timely cs w → (words : ℕ)
+      → ((v : QuoteValues) × (withWorkspace words (quoteWhen w q c) ≡ give (flat v) []) × (v .covered ≡ 1)) ↔ ((workspace ≤ words) × Covers (usableWhen w cs) qs cs)
+  pub says-uncovered : (w : When) (q c qs cs : List ℕ) → Question q qs → Catalogue c cs → Timely cs w → (words : ℕ)
+      → ((v : QuoteValues) × (withWorkspace words (quoteWhen w q c) ≡ give (flat v) []) × (v .covered ≡ 0)) ↔ ((workspace ≤ words) × Leaves (usableWhen w cs) qs cs)
   -- the other values: the masks of what matches each link, the number of links, the chosen set, the lowest unmatched link; what has no meaning is 0
-  pub values-covered : (q c qs cs : List ℕ) → Question q qs → Catalogue c cs → Covered qs cs
-      → quoteOutcome q c ≡ give (flat (record { covered = 1; mapping = mapping (patternOf qs) (viewPatterns cs); edges = edgesOf qs; chosen = chosenOf qs cs; lowest = 0 })) []
-  pub values-uncovered : (q c qs cs : List ℕ) → Question q qs → Catalogue c cs → Uncovered qs cs
-      → quoteOutcome q c ≡ give (flat (record { covered = 0; mapping = mapping (patternOf qs) (viewPatterns cs); edges = edgesOf qs; chosen = 0; lowest = lacking qs cs })) []
-  -- "for each question link, the extract links that match it": bit f in the mask of link i and extract a says that link f of a has the kind of i and lists i
-  pub maps : (q c qs cs : List ℕ) → Question q qs → Catalogue c cs → (i a f : ℕ) → i < edgesOf qs → a < length (viewPatterns cs) → f < length (extractOf cs a .edges)
-      → T (bit (getD (mapping (patternOf qs) (viewPatterns cs)) (16 * i + a) 0) f)
-      ↔ ((getD (extractOf cs a .edges) f noEdge .kind ≡ linkOf qs i .kind) × In (code (linkOf qs i .from) (linkOf qs i .to)) (getD (viewSheet (extractOf cs a) (asGraph (patternOf qs))) f []))
-  -- the chosen set covers the question, and "drop an extract if those still kept cover the question without it" has left none to drop
-  pub choice-covers : (qs cs : List ℕ) → Covered qs cs → Covers (chosenOf qs cs) qs cs
-  pub choice-needs : (qs cs : List ℕ) (a : ℕ) → T (bit (chosenOf qs cs) a) → Covers (chosenOf qs cs - 2 ^ a) qs cs → ⊥
+  pub values-covered : (w : When) (q c qs cs : List ℕ) → Question q qs → Catalogue c cs → Timely cs w → Covers (usableWhen w cs) qs cs
+      → quoteWhen w q c ≡ give (flat (record { covered = 1; mapping = masksIn (usableWhen w cs) qs cs; edges = edgesOf qs; chosen = chosenIn (usableWhen w cs) qs cs; lowest = 0 })) []
+  pub values-uncovered : (w : When) (q c qs cs : List ℕ) → Question q qs → Catalogue c cs → Timely cs w → Leaves (usableWhen w cs) qs cs
+      → quoteWhen w q c ≡ give (flat (record { covered = 0; mapping = masksIn (usableWhen w cs) qs cs; edges = edgesOf qs; chosen = 0; lowest = lackingIn (usableWhen w cs) qs cs })) []
+  -- "for each question link, the extract links that match it": bit f in the mask of link i and extract a says that a may be used, and that link f of a has the
+  -- kind of i and lists i
+  pub maps : (set : ℕ) (q c qs cs : List ℕ) → Question q qs → Catalogue c cs → (i a f : ℕ) → i < edgesOf qs → a < length (viewPatterns cs) → f < length (extractOf cs a .edges)
+      → T (bit (getD (masksIn set qs cs) (16 * i + a) 0) f)
+      ↔ (T (bit set a) × (getD (extractOf cs a .edges) f noEdge .kind ≡ linkOf qs i .kind) × In (code (linkOf qs i .from) (linkOf qs i .to)) (getD (viewSheet (extractOf cs a) (asGraph (patternOf qs))) f []))
+  -- by all extracts each may be used
+  pub all-usable : (c cs : List ℕ) → Catalogue c cs → (a : ℕ) → a < length (viewPatterns cs) → T (bit everyView a)
+  -- the chosen set has none but these, covers the question, and "drop an extract if those still kept cover the question without it" has left none to drop
+  pub choice-within : (set : ℕ) (qs cs : List ℕ) (a : ℕ) → T (bit (chosenIn set qs cs) a) → (a < length (viewPatterns cs)) × T (bit set a)
+  pub choice-covers : (set : ℕ) (qs cs : List ℕ) → Covers set qs cs → Covers (chosenIn set qs cs) qs cs
+  pub choice-needs : (set : ℕ) (qs cs : List ℕ) (a : ℕ) → T (bit (chosenIn set qs cs) a) → Covers (chosenIn set qs cs - 2 ^ a) qs cs → ⊥
   -- "files read are written back as the same bytes; files written are read back as the same content"
   pub patterns : RoundTrip AnyFile patternRead patternWritten
   pub catalogues : RoundTrip NotEmpty catalogueRead catalogueWritten
@@ -510,13 +598,14 @@ pub record EmptyCatalogues : Type 0 where
   pub read-book : (s : List ℕ) (room words : ℕ) → withWorkspace words (bookRead [] s room) ≡ withWorkspace words (bookRead (0 ∷ []) s room)
   pub write-book : (ws : List ℕ) (room words : ℕ) → withWorkspace words (bookWritten [] ws room) ≡ withWorkspace words (bookWritten (0 ∷ []) ws room)
   pub make-book : (r : List ℕ) (room words : ℕ) → withWorkspace words (makeBookOutcome [] r room) ≡ withWorkspace words (makeBookOutcome (0 ∷ []) r room)
-  pub quote : (q : List ℕ) (words : ℕ) → withWorkspace words (quoteOutcome q []) ≡ withWorkspace words (quoteOutcome q (0 ∷ []))
-  pub cheapest : (q charges : List ℕ) (words : ℕ) → withWorkspace words (cheapestOutcome q [] charges) ≡ withWorkspace words (cheapestOutcome q (0 ∷ []) charges)
+  pub quote : (w : When) (q : List ℕ) (words : ℕ) → withWorkspace words (quoteWhen w q []) ≡ withWorkspace words (quoteWhen w q (0 ∷ []))
+  pub cheapest : (w : When) (q charges : List ℕ) (words : ℕ) → withWorkspace words (cheapestWhen w q [] charges) ≡ withWorkspace words (cheapestWhen w q (0 ∷ []) charges)
+  pub first-day : (q : List ℕ) (t : Terms) (day words : ℕ) → withWorkspace words (firstDay q [] t day) ≡ withWorkspace words (firstDay q (0 ∷ []) t day)
   pub answer : (choose : Choose) (q b : List ℕ) (room words : ℕ) → withWorkspace words (answerBy choose q [] b room) ≡ withWorkspace words (answerBy choose q (0 ∷ []) b room)
   pub several : (q : List ℕ) (number : ℕ) (b : List ℕ) (room words : ℕ)
       → withWorkspace words (severalOutcome q number [] b room) ≡ withWorkspace words (severalOutcome q number (0 ∷ []) b room)
-  pub show : (q : List ℕ) (room room′ words : ℕ) → withWorkspace words (showOutcome q [] room room′) ≡ withWorkspace words (showOutcome q (0 ∷ []) room room′)
-  pub part : (q b : List ℕ) (room room′ words : ℕ) → withWorkspace words (partOutcome q [] b room room′) ≡ withWorkspace words (partOutcome q (0 ∷ []) b room room′)
+  pub show : (w : When) (q : List ℕ) (room room′ words : ℕ) → withWorkspace words (showWhen w q [] room room′) ≡ withWorkspace words (showWhen w q (0 ∷ []) room room′)
+  pub part : (w : When) (q b : List ℕ) (room room′ words : ℕ) → withWorkspace words (partWhen w q [] b room room′) ≡ withWorkspace words (partWhen w q (0 ∷ []) b room room′)
   -- "the writer still writes 00": so the content 0 is written. The empty file is not among those that have a content, nothing is written as it, and no words
   -- are no content
   pub written : (room : ℕ) → catalogueWritten (0 ∷ []) room ≡ fit room (0 ∷ [])
@@ -582,23 +671,23 @@ pub record LowestUnmatched (qs : List ℕ) (IsMatched : Edge → Type 0) (i : �
   pub unmatched : IsMatched (linkOf qs i) → ⊥
   pub lower : (e : ℕ) → e < i → IsMatched (linkOf qs e)
 
--- what is shown of an uncovered question
-pub record Showing (qs cs : List ℕ) : Type 0 where
+-- what is shown of a question that the extracts in a set leave uncovered
+pub record Showing (set : ℕ) (qs cs : List ℕ) : Type 0 where
   -- "the two shown records are accepted"
   pub first-accepted : Record (recordBytes (firstOf qs)) (firstOf qs)
-  pub second-accepted : Record (recordBytes (secondOf qs cs)) (secondOf qs cs)
+  pub second-accepted : Record (recordBytes (secondIn set qs cs)) (secondIn set qs cs)
   -- the first is the question read as a record: the same items, and the same links, ascending
   pub items : graphOf (firstOf qs) .labels ≡ asGraph (patternOf qs) .labels
   pub links : (f : Edge) → In f (graphOf (firstOf qs) .edges) ↔ In f (patternOf qs .edges)
   -- "the second lacks just one link of the first"
-  pub lacks : graphOf (secondOf qs cs) ≡ without (linkOf qs (lacking qs cs)) (graphOf (firstOf qs))
-  pub in-first : In (linkOf qs (lacking qs cs)) (graphOf (firstOf qs) .edges)
-  pub not-in-second : In (linkOf qs (lacking qs cs)) (graphOf (secondOf qs cs) .edges) → ⊥
-  -- "every extract's lists are byte for byte equal on both", and so are the books
-  pub equal : (P : Pattern) → In P (viewPatterns cs) → extractSheetOf P (firstOf qs) ≡ extractSheetOf P (secondOf qs cs)
-  pub equal-books : bookOf cs (firstOf qs) ≡ bookOf cs (secondOf qs cs)
+  pub lacks : graphOf (secondIn set qs cs) ≡ without (linkOf qs (lackingIn set qs cs)) (graphOf (firstOf qs))
+  pub in-first : In (linkOf qs (lackingIn set qs cs)) (graphOf (firstOf qs) .edges)
+  pub not-in-second : In (linkOf qs (lackingIn set qs cs)) (graphOf (secondIn set qs cs) .edges) → ⊥
+  -- "every extract's lists are byte for byte equal on both", of those in the set; so are the books, where all are in it
+  pub equal : (a : ℕ) → a < length (viewPatterns cs) → T (bit set a) → extractSheetOf (extractOf cs a) (firstOf qs) ≡ extractSheetOf (extractOf cs a) (secondIn set qs cs)
+  pub equal-books : ((a : ℕ) → a < length (viewPatterns cs) → T (bit set a)) → bookOf cs (firstOf qs) ≡ bookOf cs (secondIn set qs cs)
   -- "the question's sheets differ"
-  pub differ : sheetOf (patternOf qs) (firstOf qs) ≡ sheetOf (patternOf qs) (secondOf qs cs) → ⊥
+  pub differ : sheetOf (patternOf qs) (firstOf qs) ≡ sheetOf (patternOf qs) (secondIn set qs cs) → ⊥
 
 pub record Demand3 : Type 0 where
   -- "for every accepted question and catalogue and every accepted record: if covered" by the extracts in a set, whichever, "and the extract
@@ -618,14 +707,14 @@ pub record Demand3 : Type 0 where
   pub fits : (c r cs rs : List ℕ) → Catalogue c cs → Record r rs → length (bookOf cs rs) ≤ bookMost
       → (bs : List ℕ) × Book cs (bookOf cs rs) bs × (sheetsIn (edgeCounts cs) bs ≡ viewSheets cs (graphOf rs))
   -- "if uncovered": showing gives these two records, or 12, or 14
-  pub shows : (q c qs cs : List ℕ) → Question q qs → Catalogue c cs → Uncovered qs cs → (room room′ words : ℕ)
-      → withWorkspace words (showOutcome q c room room′) ≡ withWorkspace words (fitBoth room room′ (recordBytes (firstOf qs)) (recordBytes (secondOf qs cs)))
-  pub uncovered : (q c qs cs : List ℕ) → Question q qs → Catalogue c cs → Uncovered qs cs → Showing qs cs
+  pub shows : (w : When) (q c qs cs : List ℕ) → Question q qs → Catalogue c cs → Timely cs w → Leaves (usableWhen w cs) qs cs → (room room′ words : ℕ)
+      → withWorkspace words (showWhen w q c room room′) ≡ withWorkspace words (fitBoth room room′ (recordBytes (firstOf qs)) (recordBytes (secondIn (usableWhen w cs) qs cs)))
+  pub uncovered : (q c qs cs : List ℕ) → Question q qs → Catalogue c cs → (set : ℕ) → Leaves set qs cs → Showing set qs cs
   -- "its lowest unmatched link", which the second record lacks
   pub lowest : (q c qs cs : List ℕ) → Question q qs → Catalogue c cs → Uncovered qs cs → LowestUnmatched qs (Matched (patternOf qs) (viewPatterns cs)) (lacking qs cs)
   -- 13, "a showing was wanted for a covered question", exactly then
-  pub shows-covered : (q c qs cs : List ℕ) → Question q qs → Catalogue c cs → (room room′ words d : ℕ)
-      → (withWorkspace words (showOutcome q c room room′) ≡ refuse 13 d) ↔ ((workspace ≤ words) × Covered qs cs × (d ≡ 0))
+  pub shows-covered : (w : When) (q c qs cs : List ℕ) → Question q qs → Catalogue c cs → Timely cs w → (room room′ words d : ℕ)
+      → (withWorkspace words (showWhen w q c room room′) ≡ refuse 13 d) ↔ ((workspace ≤ words) × Covers (usableWhen w cs) qs cs × (d ≡ 0))
   -- 11, "an answer was wanted and the question isn't covered", exactly then, with "the lowest unmatched link": where the client names no set
   pub refused : (q c b qs cs bs : List ℕ) → Question q qs → Catalogue c cs → Book cs b bs → (room words d : ℕ)
       → (withWorkspace words (answerOutcome q c b room) ≡ refuse 11 d) ↔ ((workspace ≤ words) × Uncovered qs cs × (d ≡ lacking qs cs))
@@ -681,7 +770,10 @@ pub record Answering : Type 1 where
       → answerBy choose q c b room ≡ give [] (out ∷ []) → Sheet qs out (sheetFields (answerOf (choose (quotedBy qs cs)) qs cs bs))
   pub answer-length : (q qs cs b bs : List ℕ) → Question q qs → Book cs b bs → (set : ℕ)
       → length (sheetBytes (answerOf set qs cs bs)) ≡ sheetLength (edgesOf qs) (pairCount (answerOf set qs cs bs))
-  -- for an uncovered question no function whatsoever of the extracts' lists gives the question's sheet on every record
+  -- for a question that the extracts in a set leave uncovered no function whatsoever of their lists gives the question's sheet on every record; for an
+  -- uncovered one no function of all extracts' lists does
+  pub no-other-way-in : (q c qs cs : List ℕ) → Question q qs → Catalogue c cs → (set : ℕ) → Leaves set qs cs → (F : List (List (List ℕ)) → List ℕ)
+      → ((r rs : List ℕ) → Record r rs → F (listsIn set cs (graphOf rs)) ≡ sheetOf (patternOf qs) rs) → ⊥
   pub no-other-way : (q c qs cs : List ℕ) → Question q qs → Catalogue c cs → Uncovered qs cs → (F : List (List (List ℕ)) → List ℕ)
       → ((r rs : List ℕ) → Record r rs → F (viewSheets cs (graphOf rs)) ≡ sheetOf (patternOf qs) rs) → ⊥
 
@@ -752,19 +844,19 @@ choiceOf takes qs = patternFields (partOf takes (patternOf qs))
 abbrev pub choiceFile : (Edge → Bool) → List ℕ → List ℕ
 choiceFile takes qs = patternBytes (partOf takes (patternOf qs))
 
--- the part: the links that some extract matches
-abbrev pub matchedLink : List ℕ → List ℕ → Edge → Bool
-matchedLink qs cs = matched (patternOf qs) (viewPatterns cs)
+-- the part: the links that some extract in a set matches, which is that of the extracts that may be used
+abbrev pub matchedLink : ℕ → List ℕ → List ℕ → Edge → Bool
+matchedLink set qs cs = matched (patternOf qs) (viewsInSet set (viewPatterns cs))
 
-abbrev pub partOfQuestion : List ℕ → List ℕ → List ℕ
-partOfQuestion qs cs = choiceOf (matchedLink qs cs) qs
+abbrev pub partOfQuestion : ℕ → List ℕ → List ℕ → List ℕ
+partOfQuestion set qs cs = choiceOf (matchedLink set qs cs) qs
 
-abbrev pub partFile : List ℕ → List ℕ → List ℕ
-partFile qs cs = choiceFile (matchedLink qs cs) qs
+abbrev pub partFile : ℕ → List ℕ → List ℕ → List ℕ
+partFile set qs cs = choiceFile (matchedLink set qs cs) qs
 
 -- its answer, "from the book by the part's own quote"
-abbrev pub partAnswer : List ℕ → List ℕ → List ℕ → List ℕ
-partAnswer qs cs bs = ownAnswer cs bs (partOfQuestion qs cs)
+abbrev pub partAnswer : ℕ → List ℕ → List ℕ → List ℕ → List ℕ
+partAnswer set qs cs bs = ownAnswerIn set cs bs (partOfQuestion set qs cs)
 
 -- link i of a choice is link v of the question, which is taken: as many of those before it are
 pub record LinkFrom (takes : Edge → Bool) (qs : List ℕ) (i v : ℕ) : Type 0 where
@@ -787,12 +879,12 @@ pub record SameLink (takes : Edge → Bool) (qs : List ℕ) (e f : Edge) : Type 
   pub from-kind : itemKind (choiceOf takes qs) (e .from) ≡ itemKind qs (f .from)
   pub to-kind : itemKind (choiceOf takes qs) (e .to) ≡ itemKind qs (f .to)
 
--- some link of the question is matched by an extract, or none is
-abbrev pub SomeMatched : List ℕ → List ℕ → Type 0
-SomeMatched qs cs = (v : ℕ) × (v < edgesOf qs) × Matched (patternOf qs) (viewPatterns cs) (linkOf qs v)
+-- some link of the question is matched by an extract in a set, or none is
+abbrev pub SomeMatched : ℕ → List ℕ → List ℕ → Type 0
+SomeMatched set qs cs = (v : ℕ) × (v < edgesOf qs) × Matched (patternOf qs) (viewsInSet set (viewPatterns cs)) (linkOf qs v)
 
-abbrev pub NoneMatched : List ℕ → List ℕ → Type 0
-NoneMatched qs cs = (v : ℕ) → v < edgesOf qs → Matched (patternOf qs) (viewPatterns cs) (linkOf qs v) → ⊥
+abbrev pub NoneMatched : ℕ → List ℕ → List ℕ → Type 0
+NoneMatched set qs cs = (v : ℕ) → v < edgesOf qs → Matched (patternOf qs) (viewsInSet set (viewPatterns cs)) (linkOf qs v) → ⊥
 
 -- 12, "the bytes needed, of the first output that doesn't fit": the answer alone is also at most 65,536 bytes long
 abbrev pub OverPart : ℕ → ℕ → List ℕ → List ℕ → ℕ → Type 0
@@ -808,40 +900,44 @@ pub record Parts : Type 0 where
   pub upward : (takes : Edge → Bool) (qs : List ℕ) (e : Edge) → In e (patternOf qs .edges) → T (takes e) → (u w : ℕ) → (e .from ≡ u) ⊎ (e .to ≡ u) → u < w
       → itemNumber takes qs u < itemNumber takes qs w
   -- the links of the part are the matched ones: the test says exactly that
-  pub takes-matched : (qs cs : List ℕ) (e : Edge) → T (matchedLink qs cs e) ↔ Matched (patternOf qs) (viewPatterns cs) e
+  pub takes-matched : (set : ℕ) (qs cs : List ℕ) (e : Edge) → T (matchedLink set qs cs e) ↔ Matched (patternOf qs) (viewsInSet set (viewPatterns cs)) e
   -- it is covered, and "the largest, meaning that every answerable choice of the question's links lies inside it": every choice that is covered, and
   -- every choice whose sheet any function whatsoever of the extracts' lists gives on every record
-  pub covered : (q c qs cs : List ℕ) → Question q qs → Catalogue c cs → Covered (partOfQuestion qs cs) cs
-  pub largest : (q c qs cs : List ℕ) → Question q qs → Catalogue c cs → (takes : Edge → Bool) → Covered (choiceOf takes qs) cs
-      → (v : ℕ) → v < edgesOf qs → T (takes (linkOf qs v)) → Matched (patternOf qs) (viewPatterns cs) (linkOf qs v)
-  pub no-other-way : (q c qs cs : List ℕ) → Question q qs → Catalogue c cs → (takes : Edge → Bool) → (F : List (List (List ℕ)) → List ℕ)
-      → ((r rs : List ℕ) → Record r rs → F (viewSheets cs (graphOf rs)) ≡ sheetOf (patternOf (choiceOf takes qs)) rs)
-      → (v : ℕ) → v < edgesOf qs → T (takes (linkOf qs v)) → Matched (patternOf qs) (viewPatterns cs) (linkOf qs v)
-  -- its masks are the question's, of the links that they came from
-  pub masks : (q c qs cs : List ℕ) → Question q qs → Catalogue c cs → (i v a : ℕ) → LinkFrom (matchedLink qs cs) qs i v → a < 16
-      → getD (mapping (patternOf (partOfQuestion qs cs)) (viewPatterns cs)) (16 * i + a) 0 ≡ getD (mapping (patternOf qs) (viewPatterns cs)) (16 * v + a) 0
-  -- the call gives the part and its answer, or 12, or 14, where some link is matched; its answer is the one that the part gets by itself
-  pub gives : (q c b qs cs bs : List ℕ) → Question q qs → Catalogue c cs → Book cs b bs → SomeMatched qs cs → (room room′ words : ℕ)
-      → Fitted words (OverPart room room′ (partFile qs cs) (partAnswer qs cs bs)) (partFile qs cs ∷ partAnswer qs cs bs ∷ []) (withWorkspace words (partOutcome q c b room room′))
-  pub answers : (q c b qs cs bs : List ℕ) → Question q qs → Catalogue c cs → Book cs b bs → SomeMatched qs cs → (room : ℕ)
-      → answerOutcome (partFile qs cs) c b room ≡ fitFile room (partAnswer qs cs bs)
+  pub covered : (set : ℕ) (q c qs cs : List ℕ) → Question q qs → Catalogue c cs → Covers set (partOfQuestion set qs cs) cs
+  pub largest : (set : ℕ) (q c qs cs : List ℕ) → Question q qs → Catalogue c cs → (takes : Edge → Bool) → Covers set (choiceOf takes qs) cs
+      → (v : ℕ) → v < edgesOf qs → T (takes (linkOf qs v)) → Matched (patternOf qs) (viewsInSet set (viewPatterns cs)) (linkOf qs v)
+  pub no-other-way : (set : ℕ) (q c qs cs : List ℕ) → Question q qs → Catalogue c cs → (takes : Edge → Bool) → (F : List (List (List ℕ)) → List ℕ)
+      → ((r rs : List ℕ) → Record r rs → F (listsIn set cs (graphOf rs)) ≡ sheetOf (patternOf (choiceOf takes qs)) rs)
+      → (v : ℕ) → v < edgesOf qs → T (takes (linkOf qs v)) → Matched (patternOf qs) (viewsInSet set (viewPatterns cs)) (linkOf qs v)
+  -- its masks, of extracts in the set, are the question's, of the links that they came from
+  pub masks : (set : ℕ) (q c qs cs : List ℕ) → Question q qs → Catalogue c cs → (i v a : ℕ) → LinkFrom (matchedLink set qs cs) qs i v → a < 16 → T (bit set a)
+      → getD (mapping (patternOf (partOfQuestion set qs cs)) (viewPatterns cs)) (16 * i + a) 0 ≡ getD (mapping (patternOf qs) (viewPatterns cs)) (16 * v + a) 0
+  -- the call gives the part and its answer, or 12, or 14, where some link is matched; its answer is the one that the part gets by itself, by the set that its
+  -- own quote chooses, and, by all extracts, where the client names no set
+  pub gives : (w : When) (q c b qs cs bs : List ℕ) → Question q qs → Catalogue c cs → Timely cs w → Book cs b bs → SomeMatched (usableWhen w cs) qs cs → (room room′ words : ℕ)
+      → Fitted words (OverPart room room′ (partFile (usableWhen w cs) qs cs) (partAnswer (usableWhen w cs) qs cs bs)) (partFile (usableWhen w cs) qs cs ∷ partAnswer (usableWhen w cs) qs cs bs ∷ [])
+      (withWorkspace words (partWhen w q c b room room′))
+  pub answers : (set : ℕ) (q c b qs cs bs : List ℕ) → Question q qs → Catalogue c cs → Book cs b bs → SomeMatched set qs cs → (room : ℕ)
+      → answerFrom (partFile set qs cs) c (chosenIn set (partOfQuestion set qs cs) cs) b room ≡ fitFile room (partAnswer set qs cs bs)
+  pub answers-by-all : (q c b qs cs bs : List ℕ) → Question q qs → Catalogue c cs → Book cs b bs → SomeMatched everyView qs cs → (room : ℕ)
+      → answerOutcome (partFile everyView qs cs) c b room ≡ fitFile room (partAnswer everyView qs cs bs)
   -- "in this call 11 is given only when no link is matched", and then always
-  pub refused : (q c b qs cs bs : List ℕ) → Question q qs → Catalogue c cs → Book cs b bs → (room room′ words d : ℕ)
-      → (withWorkspace words (partOutcome q c b room room′) ≡ refuse 11 d) ↔ ((workspace ≤ words) × NoneMatched qs cs × (d ≡ 0))
+  pub refused : (w : When) (q c b qs cs bs : List ℕ) → Question q qs → Catalogue c cs → Timely cs w → Book cs b bs → (room room′ words d : ℕ)
+      → (withWorkspace words (partWhen w q c b room room′) ≡ refuse 11 d) ↔ ((workspace ≤ words) × NoneMatched (usableWhen w cs) qs cs × (d ≡ 0))
   -- nothing is given of other files
-  pub only : (q c b : List ℕ) (room room′ words : ℕ) → Full (withWorkspace words (partOutcome q c b room room′))
-      → (qs : List ℕ) × (cs : List ℕ) × (bs : List ℕ) × Question q qs × Catalogue c cs × Book cs b bs × SomeMatched qs cs
+  pub only : (w : When) (q c b : List ℕ) (room room′ words : ℕ) → Full (withWorkspace words (partWhen w q c b room room′))
+      → (qs : List ℕ) × (cs : List ℕ) × (bs : List ℕ) × Question q qs × Catalogue c cs × Timely cs w × Book cs b bs × SomeMatched (usableWhen w cs) qs cs
   -- "for a covered question the part is the whole", byte for byte, and its answer that of the question
-  pub whole : (q c qs cs : List ℕ) → Below 256 q → Question q qs → Catalogue c cs → Covered qs cs → partFile qs cs ≡ q
-  pub whole-answer : (q c b qs cs bs : List ℕ) → Question q qs → Catalogue c cs → Book cs b bs → Covered qs cs → (room : ℕ)
-      → answerOutcome q c b room ≡ fitFile room (partAnswer qs cs bs)
+  pub whole : (set : ℕ) (q c qs cs : List ℕ) → Below 256 q → Question q qs → Catalogue c cs → Covers set qs cs → partFile set qs cs ≡ q
+  pub whole-answer : (set : ℕ) (q c b qs cs bs : List ℕ) → Question q qs → Catalogue c cs → Book cs b bs → Covers set qs cs → (room : ℕ)
+      → answerFrom q c (chosenIn set qs cs) b room ≡ fitFile room (partAnswer set qs cs bs)
   -- "where the full question has matches in the record that the book was made from, each of the part's links lists at least those": where it has
   -- none there is nothing to list
-  pub lists-more : (q c qs cs : List ℕ) → Question q qs → Catalogue c cs → (rs : List ℕ) (i v : ℕ) → LinkFrom (matchedLink qs cs) qs i v
-      → (x : ℕ) → In x (getD (matchSets (patternOf qs) (graphOf rs)) v []) → In x (getD (matchSets (patternOf (partOfQuestion qs cs)) (graphOf rs)) i [])
+  pub lists-more : (set : ℕ) (q c qs cs : List ℕ) → Question q qs → Catalogue c cs → (rs : List ℕ) (i v : ℕ) → LinkFrom (matchedLink set qs cs) qs i v
+      → (x : ℕ) → In x (getD (matchSets (patternOf qs) (graphOf rs)) v []) → In x (getD (matchSets (patternOf (partOfQuestion set qs cs)) (graphOf rs)) i [])
   -- demand 3 of it: its answer from the book of a record is what searching the record for it gives, in either way
-  pub equals : (way : Way) (q c r qs cs rs : List ℕ) → Question q qs → Catalogue c cs → Record r rs → SomeMatched qs cs → length (bookOf cs rs) ≤ bookMost → (room words : ℕ)
-      → withWorkspace words (answerOutcome (partFile qs cs) c (bookOf cs rs) room) ≡ withWorkspace words (searchBy way (partFile qs cs) r rs room)
+  pub equals : (way : Way) (set : ℕ) (q c r qs cs rs : List ℕ) → Question q qs → Catalogue c cs → Record r rs → SomeMatched set qs cs → length (bookOf cs rs) ≤ bookMost → (room words : ℕ)
+      → withWorkspace words (answerFrom (partFile set qs cs) c (chosenIn set (partOfQuestion set qs cs) cs) (bookOf cs rs) room) ≡ withWorkspace words (searchBy way (partFile set qs cs) r rs room)
 
 -- ---- what holds of several questions in one call. Their contents stand in a list: a paper of them is taken apart by `QuestionFiles`
 -- (packed/specs/Calls.antt), which has the file and the content of each, in order.
@@ -920,31 +1016,119 @@ Charged charges cs = length charges ≡ length (viewPatterns cs)
 abbrev pub costOf : List ℕ → List ℕ → ℕ → ℕ
 costOf charges cs set = cost charges set (length (viewPatterns cs))
 
--- "the covering set whose charges sum to the least", with the ties: it covers, and no set that covers is better (specs/Cheapest.antt)
-abbrev pub CheapestOf : List ℕ → List ℕ → List ℕ → ℕ → Type 0
-CheapestOf qs cs charges set = IsCheapest (mapping (patternOf qs) (viewPatterns cs)) (edgesOf qs) charges (length (viewPatterns cs)) set
+-- a set of extracts that may be used
+abbrev pub Among : ℕ → List ℕ → ℕ → Type 0
+Among usable cs set = (a : ℕ) → T (bit set a) → (a < length (viewPatterns cs)) × T (bit usable a)
+
+-- "the covering set whose charges sum to the least", with the ties (specs/Cheapest.antt): it covers, and no set of extracts that may be used covers and is
+-- better
+pub record CheapestIn (usable : ℕ) (qs cs charges : List ℕ) (set : ℕ) : Type 0 where
+  pub among : Among usable cs set
+  pub covers : Covers set qs cs
+  pub least : (other : ℕ) → Among usable cs other → Covers other qs cs → Better charges (length (viewPatterns cs)) other set → ⊥
 
 pub record Cheapests : Type 0 where
   -- for a covered question the call gives that set, its sum, and beside them "the chosen set of the ordinary quote"
-  pub gives : (q c qs cs charges : List ℕ) → Question q qs → Catalogue c cs → Charged charges cs → Covered qs cs → (words : ℕ) → workspace ≤ words
-      → (set : ℕ) × CheapestOf qs cs charges set × (withWorkspace words (cheapestOutcome q c charges) ≡ give (set ∷ costOf charges cs set ∷ chosenOf qs cs ∷ []) [])
+  pub gives : (w : When) (q c qs cs charges : List ℕ) → Question q qs → Catalogue c cs → Timely cs w → Charged charges cs → Covers (usableWhen w cs) qs cs → (words : ℕ) → workspace ≤ words
+      → (set : ℕ) × CheapestIn (usableWhen w cs) qs cs charges set
+      × (withWorkspace words (cheapestWhen w q c charges) ≡ give (set ∷ costOf charges cs set ∷ chosenIn (usableWhen w cs) qs cs ∷ []) [])
   -- one set at most is so
-  pub one : (c qs cs charges : List ℕ) → Catalogue c cs → (a b : ℕ) → CheapestOf qs cs charges a → CheapestOf qs cs charges b → a ≡ b
+  pub one : (c qs cs charges : List ℕ) → Catalogue c cs → (usable a b : ℕ) → CheapestIn usable qs cs charges a → CheapestIn usable qs cs charges b → a ≡ b
   -- "no covering set may cost less than the one returned", the chosen set among them
-  pub least : (qs cs charges : List ℕ) (set other : ℕ) → CheapestOf qs cs charges set → other < 2 ^ length (viewPatterns cs) → Covers other qs cs
+  pub least : (usable : ℕ) (qs cs charges : List ℕ) (set other : ℕ) → CheapestIn usable qs cs charges set → Among usable cs other → Covers other qs cs
       → costOf charges cs set ≤ costOf charges cs other
-  pub chosen : (qs cs charges : List ℕ) (set : ℕ) → CheapestOf qs cs charges set → Covered qs cs → costOf charges cs set ≤ costOf charges cs (chosenOf qs cs)
-  -- 15, "when the number of charges differs from the number of extracts", exactly then
-  pub wrong-charges : (q c qs cs charges : List ℕ) → Question q qs → Catalogue c cs → (words d : ℕ)
-      → (withWorkspace words (cheapestOutcome q c charges) ≡ refuse 15 d) ↔ ((workspace ≤ words) × (Charged charges cs → ⊥) × (d ≡ length charges))
+  pub chosen : (usable : ℕ) (qs cs charges : List ℕ) (set : ℕ) → CheapestIn usable qs cs charges set → Covers usable qs cs → costOf charges cs set ≤ costOf charges cs (chosenIn usable qs cs)
+  -- 15, "when the number of charges differs from the number of extracts", of all, exactly then
+  pub wrong-charges : (w : When) (q c qs cs charges : List ℕ) → Question q qs → Catalogue c cs → Timely cs w → (words d : ℕ)
+      → (withWorkspace words (cheapestWhen w q c charges) ≡ refuse 15 d) ↔ ((workspace ≤ words) × (Charged charges cs → ⊥) × (d ≡ length charges))
   -- 11, for an uncovered question, exactly then
-  pub refused : (q c qs cs charges : List ℕ) → Question q qs → Catalogue c cs → (words d : ℕ)
-      → (withWorkspace words (cheapestOutcome q c charges) ≡ refuse 11 d) ↔ ((workspace ≤ words) × Charged charges cs × Uncovered qs cs × (d ≡ lacking qs cs))
+  pub refused : (w : When) (q c qs cs charges : List ℕ) → Question q qs → Catalogue c cs → Timely cs w → (words d : ℕ)
+      → (withWorkspace words (cheapestWhen w q c charges) ≡ refuse 11 d) ↔ ((workspace ≤ words) × Charged charges cs × Leaves (usableWhen w cs) qs cs × (d ≡ lackingIn (usableWhen w cs) qs cs))
   -- demand 3 by that set: "for sheets truly made from one record, all covering sets are to give the same bytes", the cheapest included
-  pub answers : (way : Way) (q c r qs cs rs charges : List ℕ) → Question q qs → Catalogue c cs → Record r rs → (set : ℕ) → CheapestOf qs cs charges set → length (bookOf cs rs) ≤ bookMost
-      → (room words : ℕ) → withWorkspace words (answerFrom q c set (bookOf cs rs) room) ≡ withWorkspace words (searchBy way q r rs room)
+  pub answers : (way : Way) (usable : ℕ) (q c r qs cs rs charges : List ℕ) → Question q qs → Catalogue c cs → Record r rs → (set : ℕ) → CheapestIn usable qs cs charges set
+      → length (bookOf cs rs) ≤ bookMost → (room words : ℕ) → withWorkspace words (answerFrom q c set (bookOf cs rs) room) ≡ withWorkspace words (searchBy way q r rs room)
   -- nothing is given of other files
-  pub only : (q c charges : List ℕ) (words : ℕ) → Full (withWorkspace words (cheapestOutcome q c charges)) → (qs : List ℕ) × (cs : List ℕ) × Question q qs × Catalogue c cs
+  pub only : (w : When) (q c charges : List ℕ) (words : ℕ) → Full (withWorkspace words (cheapestWhen w q c charges)) → (qs : List ℕ) × (cs : List ℕ) × Question q qs × Catalogue c cs × Timely cs w
+
+-- ---- what holds of calls for a day alone. "A quote for a day uses only extracts in force, and `uncovered` then says that those in force don't suffice, with
+-- T-01 and T-08 read likewise": what holds both ways stands above, of quotes in demand 2, of showings in demand 3 and `no-other-way-in`, of the part and of the
+-- cheapest set.
+
+-- the numbers that a list of terms is handed on as: its length, and the days of its first sixteen entries
+pub record Copied (l : List Term) (t : Terms) : Type 0 where
+  pub number : t .number ≡ length l
+  pub from : (i : ℕ) → i < length l → i < 16 → fromDay t i ≡ getD l i noTerm .from
+  pub to : (i : ℕ) → i < length l → i < 16 → toDay t i ≡ getD l i noTerm .to
+
+-- 18 is given exactly where the terms are wrong
+abbrev pub Refuses18 : Terms → List ℕ → Outcome → Type 0
+Refuses18 t cs a = (words d : ℕ) → (withWorkspace words a ≡ refuse 18 d) ↔ ((workspace ≤ words) × WrongTerms t (length (viewPatterns cs)) d)
+
+-- the link e of the question is matched by a link of an extract in force
+pub record MatchedOn (t : Terms) (day : ℕ) (qs cs : List ℕ) (e : Edge) : Type 0 where
+  pub extract : ℕ
+  pub given : extract < length (viewPatterns cs)
+  pub in-force : InForce t day extract
+  pub link : ℕ
+  pub kind : getD (extractOf cs extract .edges) link noEdge .kind ≡ e .kind
+  pub lists : In (code (e .from) (e .to)) (getD (viewSheet (extractOf cs extract) (asGraph (patternOf qs))) link [])
+
+-- all extracts are in force
+abbrev pub AllInForce : Terms → ℕ → List ℕ → Type 0
+AllInForce t day cs = (a : ℕ) → a < length (viewPatterns cs) → InForce t day a
+
+-- "the first day not before a given day on which the question is covered, or none if there is no such day up to 65,535"
+pub record FirstCovered (t : Terms) (day : ℕ) (qs cs : List ℕ) (d : ℕ) : Type 0 where
+  pub not-before : day ≤ d
+  pub is-day : d ≤ 65535
+  pub covered : Covers (forceOf t d cs) qs cs
+  pub none-before : (e : ℕ) → day ≤ e → e < d → Leaves (forceOf t e cs) qs cs
+
+abbrev pub NeverCovered : Terms → ℕ → List ℕ → List ℕ → Type 0
+NeverCovered t day qs cs = (e : ℕ) → day ≤ e → e ≤ 65535 → Leaves (forceOf t e cs) qs cs
+
+pub record OnDays : Type 0 where
+  -- what a client's list is handed on as
+  pub spreads : (l : List Term) → Copied l (spreadOf l)
+  -- "it refuses with 18 .. right after the catalogue is read", each call in these cases and no other; terms are right or wrong
+  pub quote-terms : (q c qs cs : List ℕ) → Question q qs → Catalogue c cs → (t : Terms) (day : ℕ) → Refuses18 t cs (quoteOn q c t day)
+  pub cheapest-terms : (q c qs cs charges : List ℕ) → Question q qs → Catalogue c cs → (t : Terms) (day : ℕ) → Refuses18 t cs (cheapestOn q c t day charges)
+  pub part-terms : (q c b qs cs : List ℕ) → Question q qs → Catalogue c cs → (t : Terms) (day room room′ : ℕ) → Refuses18 t cs (partOn q c t day b room room′)
+  pub show-terms : (q c qs cs : List ℕ) → Question q qs → Catalogue c cs → (t : Terms) (day room room′ : ℕ) → Refuses18 t cs (showOn q c t day room room′)
+  pub first-day-terms : (q c qs cs : List ℕ) → Question q qs → Catalogue c cs → (t : Terms) (day : ℕ) → Refuses18 t cs (firstDay q c t day)
+  pub right-or-wrong : (t : Terms) (k : ℕ) → RightTerms t k ⊎ ((d : ℕ) × WrongTerms t k d)
+  pub not-both : (t : Terms) (k d : ℕ) → RightTerms t k → WrongTerms t k d → ⊥
+  -- the set of the extracts in force has these and no others
+  pub in-force : (t : Terms) (day : ℕ) (cs : List ℕ) (a : ℕ) → T (bit (forceOf t day cs) a) ↔ ((a < length (viewPatterns cs)) × InForce t day a)
+  -- "a quote for a day uses only extracts in force": it says covered exactly if each link is matched by a link of one of these
+  pub covers : (q c qs cs : List ℕ) → Question q qs → Catalogue c cs → (t : Terms) (day : ℕ)
+      → Covers (forceOf t day cs) qs cs ↔ ((i : ℕ) → i < edgesOf qs → MatchedOn t day qs cs (linkOf qs i))
+  -- its masks: of an extract in force those without a day, of the others zero
+  pub masks-in : (qs cs : List ℕ) (t : Terms) (day i a : ℕ) → a < length (viewPatterns cs) → a < 16 → InForce t day a
+      → getD (masksIn (forceOf t day cs) qs cs) (16 * i + a) 0 ≡ getD (masksIn everyView qs cs) (16 * i + a) 0
+  pub masks-out : (qs cs : List ℕ) (t : Terms) (day i a : ℕ) → a < 16 → (InForce t day a → ⊥) → getD (masksIn (forceOf t day cs) qs cs) (16 * i + a) 0 ≡ 0
+  -- the chosen set is of those in force, and answering by it "equals searching the record"
+  pub choice-in-force : (qs cs : List ℕ) (t : Terms) (day a : ℕ) → T (bit (chosenIn (forceOf t day cs) qs cs) a) → InForce t day a
+  pub answers : (way : Way) (q c r qs cs rs : List ℕ) → Question q qs → Catalogue c cs → Record r rs → (t : Terms) (day : ℕ) → Covers (forceOf t day cs) qs cs → length (bookOf cs rs) ≤ bookMost
+      → (room words : ℕ) → withWorkspace words (answerFrom q c (chosenIn (forceOf t day cs) qs cs) (bookOf cs rs) room) ≡ withWorkspace words (searchBy way q r rs room)
+  -- so is the cheapest; a set of those in force is one that may be used
+  pub cheapest-in-force : (qs cs charges : List ℕ) (t : Terms) (day set : ℕ) → CheapestIn (forceOf t day cs) qs cs charges set → (a : ℕ) → T (bit set a) → InForce t day a
+  pub any-in-force : (cs : List ℕ) (t : Terms) (day set : ℕ) → ((a : ℕ) → T (bit set a) → (a < length (viewPatterns cs)) × InForce t day a) → Among (forceOf t day cs) cs set
+  -- a showing: "its two records have equal lists for every extract in force, whatever the others list"
+  pub equal-lists : (q c qs cs : List ℕ) → Question q qs → Catalogue c cs → (t : Terms) (day : ℕ) → Leaves (forceOf t day cs) qs cs → (a : ℕ) → a < length (viewPatterns cs) → InForce t day a
+      → extractSheetOf (extractOf cs a) (firstOf qs) ≡ extractSheetOf (extractOf cs a) (secondIn (forceOf t day cs) qs cs)
+  -- "also wanted: the first day": 1 and the day, or 0 and 0 for none, neither a refusal; nothing is given of other files
+  pub first-day : (q c qs cs : List ℕ) → Question q qs → Catalogue c cs → (t : Terms) (day : ℕ) → RightTerms t (length (viewPatterns cs))
+      → ((d : ℕ) × FirstCovered t day qs cs d × (firstDay q c t day ≡ give (1 ∷ d ∷ []) [])) ⊎ (NeverCovered t day qs cs × (firstDay q c t day ≡ give (0 ∷ 0 ∷ []) []))
+  pub first-day-only : (q c : List ℕ) (t : Terms) (day words : ℕ) → Full (withWorkspace words (firstDay q c t day)) → (qs : List ℕ) × (cs : List ℕ) × Question q qs × Catalogue c cs × Timely cs (on t day)
+  -- on a day on which all extracts are in force each call answers what it answers without a day
+  pub quote-as-always : (q c cs : List ℕ) → Catalogue c cs → (t : Terms) (day : ℕ) → RightTerms t (length (viewPatterns cs)) → AllInForce t day cs → quoteOn q c t day ≡ quoteOutcome q c
+  pub cheapest-as-always : (q c cs charges : List ℕ) → Catalogue c cs → (t : Terms) (day : ℕ) → RightTerms t (length (viewPatterns cs)) → AllInForce t day cs
+      → cheapestOn q c t day charges ≡ cheapestOutcome q c charges
+  pub part-as-always : (q c b cs : List ℕ) → Catalogue c cs → (t : Terms) (day room room′ : ℕ) → RightTerms t (length (viewPatterns cs)) → AllInForce t day cs
+      → partOn q c t day b room room′ ≡ partOutcome q c b room room′
+  pub show-as-always : (q c cs : List ℕ) → Catalogue c cs → (t : Terms) (day room room′ : ℕ) → RightTerms t (length (viewPatterns cs)) → AllInForce t day cs
+      → showOn q c t day room room′ ≡ showOutcome q c room room′
 
 -- ---- what holds of the listing of a quote
 
@@ -959,9 +1143,9 @@ pub record UncoveredListing (r : Quote) (t : List ℕ) (m : ℕ) : Type 0 where
 
 pub record Listings : Type 0 where
   -- "an uncovered quote": any that the call gives for an uncovered question
-  pub uncovered : (q c qs cs work work′ : List ℕ) → Question q qs → Catalogue c cs → Uncovered qs cs → (r : Quote) → workspace ≤ length work
-      → Settled blank (withWorkspace (length work) (quoteOutcome q c)) (quoteTold r) [] [] work work′
-      → UncoveredListing r (mapping (patternOf qs) (viewPatterns cs)) (edgesOf qs)
+  pub uncovered : (w : When) (q c qs cs work work′ : List ℕ) → Question q qs → Catalogue c cs → Timely cs w → Leaves (usableWhen w cs) qs cs → (r : Quote) → workspace ≤ length work
+      → Settled blank (withWorkspace (length work) (quoteWhen w q c)) (quoteTold r) [] [] work work′
+      → UncoveredListing r (masksIn (usableWhen w cs) qs cs) (edgesOf qs)
   -- "an output needs more bytes than were lent": 12 with the length of the line, and the buffer is untouched; else the whole line
   pub refuses : (q : Quote) (k : ℕ) (r : Told) (out out′ : List ℕ) → FulfilsOne (lineOutcome q k (length out)) r out out′ → length out < length (lineOf q k)
       → (r ≡ told 12 (length (lineOf q k) ∷ [])) × (out′ ≡ out)

@@ -6,6 +6,7 @@ pub mod Part
 pub mod Both
 pub mod Several
 pub mod Cheapest
+pub mod Terms
 pub mod Listing
 pub mod Demands
 -- inner

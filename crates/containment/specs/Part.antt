@@ -9,8 +9,8 @@ use Rattle.matching.specs.Lists.{some}
 use Rattle.matching.specs.Simulation.{Pattern, patternOf}
 use Rattle.matching.specs.Join.{matched}
 use Rattle.matching.specs.Part.{partOf, patternFields, patternBytes}
-use Rattle.containment.specs.Quote.{Quoted, quoted, usableViews}
-use Rattle.containment.specs.Answer.{answerOutcome}
+use Rattle.containment.specs.Quote.{Quoted, quoted, usableViews, usedBy}
+use Rattle.containment.specs.Answer.{answerFor}
 
 -- "its matched links, with their items renumbered upward": the edges that a usable view matches; and the same in bytes
 unfoldable pub partFrom : Quoted → Pattern
@@ -32,15 +32,15 @@ withFirst p (refuse n d) = refuse n d
 unfoldable pub fitPart : ℕ → List ℕ → Outcome → Outcome
 fitPart room p answer = pick (ltb room (length p)) (refuse 12 (length p)) (withFirst p answer)
 
--- the book is judged after the question and the catalogue: 10, and 11 where no edge is matched
-unfoldable pub partFor : List ℕ → List ℕ → ℕ → ℕ → Quoted → Outcome
-partFor c b room room′ x =
+-- the book is judged after the question and the catalogue: 10, and 11 where no edge is matched; the part is answered "from the book by the part's own quote"
+unfoldable pub partFor : List ℕ → ℕ → ℕ → Quoted → Outcome
+partFor b room room′ x =
     judged (readBook (x .offer .content) b) (λ bs.
     withinPairs (x .offer .content) bs
     (pick (some (matched (patternOf (x .content)) (usableViews x)) (patternOf (x .content) .edges))
-    (fitPart room (partBytes x) (answerOutcome (partBytes x) c b room′))
+    (fitPart room (partBytes x) (answerFor usedBy b room′ (partQuoted x)))
     (refuse 11 0)))
 
 -- the part of the question q that the views of the catalogue c answer, and its answer from the book b
 unfoldable pub partOutcome : List ℕ → List ℕ → List ℕ → ℕ → ℕ → Outcome
-partOutcome q c b room room′ = quoted q c (partFor c b room room′)
+partOutcome q c b room room′ = quoted q c (partFor b room room′)

@@ -12,7 +12,7 @@ use Rattle.matching.specs.Simulation.{Edge, bit}
 use Rattle.matching.specs.Masks.{Has, Mask, OneOf}
 use Rattle.matching.specs.Loaded.{givenEdge}
 use Rattle.matching.specs.Part.{rank, atPlaces, moved, edgeFields}
-use Rattle.containment.specs.Choice.{everyView, Passing, matchedIn}
+use Rattle.containment.specs.Choice.{Passing, matchedIn}
 use Rattle.containment.specs.Quote.{tableOf}
 use Rattle.containment.specs.Steps.{Query, ViewCounts, quotedAs, Loaded, HoldsFields}
 use Rattle.containment.specs.declared.query.Fields.{Fields}
@@ -43,12 +43,11 @@ pub record Picked (p : ℕ → Bool) (t : List ℕ) (n : ℕ) (r : List ℕ) : T
 abbrev pub inRows : ℕ → ℕ → Bool
 inRows taken k = bit taken (k / 16)
 
--- the part may be made and answered: the edges that some view matches are taken, all views may be used, and the pairs of a book stand in the workspace
+-- the part may be made and answered: the edges that some usable view matches are taken, and the pairs of a book stand in the workspace
 pub record Partable (q : Given) (counts : List ℕ) (k : ℕ) (table : List ℕ) (usable taken : ℕ) (s : List ℕ) (d : ℕ) (w : List ℕ) : Type 0 where
   pub query : Query q
   pub views : ViewCounts counts k
   pub table-is : table ≡ tableOf (quotedAs query views usable)
-  pub every : usable ≡ everyView
   pub matched : Mask (Passing (λ e. matchedIn table usable e k) (q .edges)) taken
   pub some : taken ≡ 0 → ⊥
   pub book : Loaded (views .views .content) s counts k d w

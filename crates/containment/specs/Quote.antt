@@ -13,7 +13,7 @@ use Rattle.matching.specs.Simulation.{Edge, noEdge, oneWay, Pattern, bit, patte
 use Rattle.matching.specs.Lists.{upTo}
 use Rattle.matching.specs.Join.{isMatch}
 use Rattle.matching.specs.Offered.{Offered, offeredBy, offered}
-use Rattle.containment.specs.Choice.{everyView, coversIn, lowestUnmatched, chosen, used}
+use Rattle.containment.specs.Choice.{everyView, coversIn, columnsIn, lowestUnmatched, chosen, used}
 use Rattle.containment.specs.declared.quote_type.Coverage.{Coverage}
 use Rattle.containment.specs.declared.quote_type.Coverage.the-variants as coverage-is
 use Rattle.containment.specs.declared.quote_type.Quote.{Quote}
@@ -50,9 +50,12 @@ pub record Quoted : Type 0 where
   -- which of the views may be used, as a set
   pub usable : ℕ
 
--- the contents of a question and of a catalogue, all of whose views may be used
+-- the contents of a question and of a catalogue, whose views in a set may be used; and where all may
+abbrev pub quotedIn : ℕ → List ℕ → List ℕ → Quoted
+quotedIn set qs cs = record { content = qs; offer = offeredBy cs; usable = set }
+
 abbrev pub quotedBy : List ℕ → List ℕ → Quoted
-quotedBy qs cs = record { content = qs; offer = offeredBy cs; usable = everyView }
+quotedBy qs cs = quotedIn everyView qs cs
 
 -- the question is judged, then the catalogue, and both are handed on: every call that quotes judges them here
 abbrev pub quoted : List ℕ → List ℕ → (Quoted → Outcome) → Outcome
@@ -87,7 +90,7 @@ usedBy x = used (tableOf x) (x .usable) (edgesOf (x .content)) (length (x .offer
 pub record QuoteValues : Type 0 where
   -- "covered if every link is matched by at least one": 1 if so, 0 if not
   pub covered : ℕ
-  -- "for each question link, the extract links that match it": the table above
+  -- "for each question link, the extract links that match it": the table above, where a view that may not be used has no masks
   pub mapping : List ℕ
   -- how many links the question has
   pub edges : ℕ
@@ -101,7 +104,7 @@ unfoldable pub valuesFrom : List ℕ → ℕ → ℕ → ℕ → QuoteValues
 valuesFrom t set m k =
     record {
       covered = one (coversIn t set k m);
-      mapping = t;
+      mapping = columnsIn set t;
       edges = m;
       chosen = chosen t set m k;
       lowest = pick (coversIn t set k m) 0 (lowestUnmatched t set k m);

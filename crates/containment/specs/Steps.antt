@@ -66,6 +66,10 @@ abbrev pub JudgedTo : ((Quoted → Outcome) → Outcome) → Judged → Reply �
 JudgedTo f r (reply-is.Done n) = Handed f r
 JudgedTo f r (reply-is.Refused x) = ((k : Quoted → Outcome) → f k ≡ refuse (numberOf x) (detailOf x)) × NoQuery r
 
+-- it was judged, in whatever way
+abbrev pub AnyJudged : Judged → Type 0
+AnyJudged r = (f : (Quoted → Outcome) → Outcome) × JudgedTo f r (r .verdict)
+
 -- ---- a book
 
 -- the book s of a catalogue with the content cs was accepted and is not crowded; its d different pairs stand in the workspace

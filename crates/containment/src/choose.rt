@@ -2,8 +2,10 @@
 ghost use mathlib.Core.Path.{_≡_};
 ghost use Prim.Native.Nat.{_^_, _<_, _≤_};
 ghost use mathlib.Core.Bool.{true};
+ghost use lib.ListN.{length};
 ghost use Rattle.matching.specs.Simulation.{bit};
-ghost use Rattle.containment.specs.Choice.{matchedIn, coversIn, lowestUnmatched, addsTo, taken, kept, chosen, used};
+ghost use Rattle.containment.specs.Choice.{matchedIn, coversIn, columnsIn, lowestUnmatched, addsTo, taken, kept, chosen, used};
+use crate::mapping;
 
 // The set of all views.
 pub const EVERY_VIEW: u32 = 65535;
@@ -23,6 +25,22 @@ pub fn only(a: usize) -> u32
     ensures { λ r. ⌜ r ≡ 2 ^ a ⌝ }
 {
     1 << a
+}
+
+// The table with the columns of the views in the set alone.
+pub fn columns_in(table: &[u32; 512], set: u32) -> [u32; 512]
+    requires { ⌜ length (now table) ≡ 512 ⌝ }
+    ensures { λ r. ⌜ r ≡ columnsIn set (now (table .entry)) ⌝ }
+{
+    let mut columns = mapping::no_mapping();
+    let mut k: usize = 0;
+    while k < 512 {
+        if is_in(set, k % 16) {
+            columns[k] = table[k];
+        }
+        k += 1;
+    }
+    columns
 }
 
 // Whether one of the first k views that are in the set matches the edge e.

@@ -3,12 +3,17 @@ ghost use mathlib.Core.Path.{_≡_};
 ghost use mathlib.Core.List.{[]};
 ghost use Prim.Native.Nat.{ℕ, _+_, _-_, _^_, _≤_, _<_};
 ghost use lib.ListN.{length, getD};
-ghost use Rattle.packed.specs.Calls.{Fulfils, toldOf};
+ghost use Rattle.packed.specs.Calls.{Outcome, Fulfils, toldOf};
 ghost use Rattle.matching.specs.Masks.{Mask};
-ghost use Rattle.containment.specs.Cheapest.{cheapestFrom, cheapestOutcome, cheapestTold};
+ghost use Rattle.containment.specs.Quote.{Quoted};
+ghost use Rattle.containment.specs.Cheapest.{cheapestFrom, cheapestFor, cheapestOutcome, cheapestTold};
+ghost use Rattle.containment.specs.Steps.{JudgedTo, AnyJudged};
+ghost use Rattle.containment.specs.Terms.{cheapestOn};
 ghost use Rattle.containment.specs.Tries.{EdgeMatchedBy, TriedRoom, taking, isFirst, foremostTried, settled};
 use crate::choose;
 use crate::judging;
+use crate::judging::Judged;
+use crate::terms::Terms;
 use packed::reply::Refusal;
 use packed::reply::Reply;
 
@@ -120,16 +125,17 @@ fn settle(masks: &[u32; 16], charges: &[u32], all: u32, u: usize, taken: Tried) 
     first_of(with, without, all)
 }
 
-// The cheapest set from the table of a quote, by the charges of k views; beside it the set that a quote by the usable views chooses.
+// The cheapest set of usable views from the table of a quote, by the charges of k views; beside it the set that a quote by these chooses.
 fn cheapest_of(mapping: &[u32; 512], usable: u32, charges: &[u32], k: usize, m: usize) -> Cheapest
-    requires { ⌜ (k ≤ 16) × (m ≤ 32) × (length (now charges) ≡ k) ⌝ }
+    requires { ⌜ (k ≤ 16) × (m ≤ 32) × (length (now charges) ≡ k) × (length (now mapping) ≡ 512) ⌝ }
     ensures { λ r. ⌜ cheapestTold r ≡ toldOf [] (cheapestFrom (now (mapping .entry)) usable m (now (charges .entry)) k) ⌝ }
 {
     let e = choose::lowest_unmatched(mapping, usable, k, m);
     if e < m {
         return Cheapest::Refused(Refusal::NotContained(e as u32));
     }
-    let masks = masks_of(mapping, k, m);
+    let columns = choose::columns_in(mapping, usable);
+    let masks = masks_of(&columns, k, m);
     let none = Tried {
         set: 0,
         sum: 0,
@@ -142,16 +148,11 @@ fn cheapest_of(mapping: &[u32; 512], usable: u32, charges: &[u32], k: usize, m: 
     Cheapest::Of(x.set as u16, x.sum, chosen as u16)
 }
 
-pub(crate) fn find_cheapest(
-    question: &[u8],
-    catalogue: &[u8],
-    charges: &[u32],
-    work: &mut [u32],
-) -> Cheapest
-    requires { ⌜ length (now work) ≡ 16384 ⌝ }
-    ensures { λ r. ⌜ Fulfils [] (cheapestOutcome (now (question .entry)) (now (catalogue .entry)) (now (charges .entry))) (cheapestTold r) [] [] ⌝ }
+// The same, once what the client brings is judged.
+fn cheapest_judged(f: Judged, charges: &[u32]) -> Cheapest
+    requires { ⌜ AnyJudged f ⌝ }
+    ensures { λ r. ⌜ ((g : (Quoted → Outcome) → Outcome) → JudgedTo g f (f .verdict) → Fulfils [] (g (cheapestFor (now (charges .entry)))) (cheapestTold r) [] []) ⌝ }
 {
-    let f = judging::judge(question, catalogue, work);
     let verdict = f.verdict;
     if let Reply::Refused(x) = verdict {
         return Cheapest::Refused(x);
@@ -164,4 +165,33 @@ pub(crate) fn find_cheapest(
     let table = f.table;
     let q = f.query;
     cheapest_of(&table, f.usable, charges, k, q.edges)
+}
+
+pub(crate) fn find_cheapest(
+    question: &[u8],
+    catalogue: &[u8],
+    charges: &[u32],
+    work: &mut [u32],
+) -> Cheapest
+    requires { ⌜ length (now work) ≡ 16384 ⌝ }
+    ensures { λ r. ⌜ Fulfils [] (cheapestOutcome (now (question .entry)) (now (catalogue .entry)) (now (charges .entry))) (cheapestTold r) [] [] ⌝ }
+{
+    let f = judging::judge(question, catalogue, work);
+    cheapest_judged(f, charges)
+}
+
+// For a day, of the views in force.
+pub(crate) fn find_cheapest_on(
+    question: &[u8],
+    catalogue: &[u8],
+    terms: Terms,
+    day: u16,
+    charges: &[u32],
+    work: &mut [u32],
+) -> Cheapest
+    requires { ⌜ length (now work) ≡ 16384 ⌝ }
+    ensures { λ r. ⌜ Fulfils [] (cheapestOn (now (question .entry)) (now (catalogue .entry)) terms day (now (charges .entry))) (cheapestTold r) [] [] ⌝ }
+{
+    let f = judging::judge_on(question, catalogue, terms, day, work);
+    cheapest_judged(f, charges)
 }

@@ -1,11 +1,17 @@
-// What a client brings is judged here, in one order for every call that quotes: the question, then the catalogue. Then the quote's table is made.
+// What a client brings is judged here, in one order for every call that quotes: the question, then the catalogue, then the terms, where a call is for a
+// day. The quote's table is made between.
 ghost use mathlib.Core.Path.{_≡_};
+ghost use Prim.Native.Nat.{_≤_};
 ghost use lib.ListN.{length};
+ghost use Rattle.packed.specs.Calls.{Outcome};
 ghost use Rattle.matching.specs.Offered.{offered};
 ghost use Rattle.containment.specs.Quote.{Quoted, quoted};
-ghost use Rattle.containment.specs.Steps.{Query, NoQuery, JudgedTo};
+ghost use Rattle.containment.specs.Steps.{Query, NoQuery, Handed, JudgedTo};
+ghost use Rattle.containment.specs.Terms.{withTerms, quotedOn};
 use crate::choose;
 use crate::mapping;
+use crate::terms;
+use crate::terms::Terms;
 use packed::accept;
 use packed::accept::CatalogueFile;
 use packed::by_value;
@@ -71,4 +77,44 @@ pub fn judge(question: &[u8], catalogue: &[u8], work: &mut [u32]) -> Judged
         return refused(x);
     }
     judge_views(f.pattern, catalogue, work)
+}
+
+// The terms, once the question and the catalogue are accepted: for the day, the views in force may be used.
+fn judge_terms(f: Judged, t: Terms, day: u16) -> Judged
+    requires { ⌜ f .views ≤ 16 ⌝ }
+    ensures { λ r. ⌜ ((g : (Quoted → Outcome) → Outcome) → Handed g f → JudgedTo (λ k. g (withTerms t day k)) r (r .verdict)) ⌝ }
+{
+    let k = f.views;
+    let number = t.number;
+    if number != k {
+        return refused(Refusal::WrongTerms(number));
+    }
+    let turned = terms::first_turned(t, k);
+    if turned < k {
+        return refused(Refusal::WrongTerms(turned));
+    }
+    let query = f.query;
+    let edges = f.edges;
+    let table = f.table;
+    Judged {
+        verdict: Reply::Done(0),
+        query,
+        views: k,
+        edges,
+        usable: terms::in_force(t, day, k),
+        table,
+    }
+}
+
+// The same for a day.
+pub fn judge_on(question: &[u8], catalogue: &[u8], t: Terms, day: u16, work: &mut [u32]) -> Judged
+    requires { ⌜ length (now work) ≡ 16384 ⌝ }
+    ensures { λ r. ⌜ JudgedTo (quotedOn (now (question .entry)) (now (catalogue .entry)) t day) r (r .verdict) ⌝ }
+{
+    let f = judge(question, catalogue, work);
+    let verdict = f.verdict;
+    if let Reply::Refused(x) = verdict {
+        return refused(x);
+    }
+    judge_terms(f, t, day)
 }

@@ -3,6 +3,7 @@ mod answering;
 pub mod both;
 mod choose;
 pub mod costing;
+pub mod days;
 mod judging;
 mod mapping;
 mod parting;
@@ -11,7 +12,9 @@ pub mod quote_type;
 mod quoting;
 pub mod several;
 mod showing;
+pub mod terms;
 
+ghost use mathlib.Core.Path.{_≡_};
 ghost use mathlib.Core.List.{[], _∷_};
 ghost use lib.ListN.{length};
 ghost use Rattle.packed.specs.Calls.{OneOutput, Settled, withWorkspace};
@@ -23,14 +26,18 @@ ghost use Rattle.containment.specs.Part.{partOutcome};
 ghost use Rattle.containment.specs.Quote.{quoteOutcome, quoteTold, blank};
 ghost use Rattle.containment.specs.Several.{severalOutcome, severalTold};
 ghost use Rattle.containment.specs.Show.{showOutcome};
+ghost use Rattle.containment.specs.Terms.{spreadOf, quoteOn, cheapestOn, partOn, showOn, firstDay, firstDayTold};
 use both::Both;
 use costing::Cheapest;
+use days::FirstDay;
 use packed::limits;
 use packed::reply::Refusal;
 use packed::reply::Reply;
 use packed::workspace;
 use quote_type::Quote;
 use several::Several;
+use terms::Term;
+use terms::Terms;
 
 // How much of the workspace is zero after every call.
 const CLEARED: usize = limits::WORKSPACE;
@@ -185,6 +192,154 @@ pub fn answer_several(
         catalogue,
         book,
         out,
+        &mut work[0..limits::WORKSPACE],
+    );
+    workspace::clear(work, CLEARED);
+    r
+}
+
+// A list of terms in plain numbers, as the calls for a day take it. It is the one function here over a list of structs, is lent no words to work in and
+// refuses nothing: a list of a wrong length is refused by the calls.
+pub fn spread(terms: &[Term]) -> Terms
+    ensures { λ r. ⌜ r ≡ spreadOf (now (terms .entry)) ⌝ }
+{
+    let n = terms.len();
+    let m = terms::capped(n);
+    let mut t = terms::no_terms(n);
+    let mut i: usize = 0;
+    while i < m {
+        t = terms::with_term(t, i, terms[i]);
+        i += 1;
+    }
+    t
+}
+
+// Quotes a question for a day, by the extracts in force on it.
+pub fn quote_on(
+    question: &[u8],
+    catalogue: &[u8],
+    terms: Terms,
+    day: u16,
+    work: &mut [u32],
+) -> Quote
+    ensures { λ r. ⌜ Settled blank (withWorkspace (length (now (work .entry))) (quoteOn (now (question .entry)) (now (catalogue .entry)) terms day)) (quoteTold r) [] [] (now (work .entry)) (now (work .exit)) ⌝ }
+{
+    if work.len() < limits::WORKSPACE {
+        return quoting::refused(Refusal::SmallWorkspace);
+    }
+    let r = quoting::quote_on(
+        question,
+        catalogue,
+        terms,
+        day,
+        &mut work[0..limits::WORKSPACE],
+    );
+    workspace::clear(work, CLEARED);
+    r
+}
+
+// The cheapest set of extracts in force on a day that covers a question, by the charges of all extracts.
+pub fn cheapest_on(
+    question: &[u8],
+    catalogue: &[u8],
+    terms: Terms,
+    day: u16,
+    charges: &[u32],
+    work: &mut [u32],
+) -> Cheapest
+    ensures { λ r. ⌜ Settled [] (withWorkspace (length (now (work .entry))) (cheapestOn (now (question .entry)) (now (catalogue .entry)) terms day (now (charges .entry)))) (cheapestTold r) [] [] (now (work .entry)) (now (work .exit)) ⌝ }
+{
+    if work.len() < limits::WORKSPACE {
+        return Cheapest::Refused(Refusal::SmallWorkspace);
+    }
+    let r = costing::find_cheapest_on(
+        question,
+        catalogue,
+        terms,
+        day,
+        charges,
+        &mut work[0..limits::WORKSPACE],
+    );
+    workspace::clear(work, CLEARED);
+    r
+}
+
+// The part of a question that the extracts in force on a day do answer, and its answer from a book by these.
+pub fn part_on(
+    question: &[u8],
+    catalogue: &[u8],
+    terms: Terms,
+    day: u16,
+    book: &[u8],
+    part: &mut [u8],
+    answer: &mut [u8],
+    work: &mut [u32],
+) -> Both
+    ensures { λ r. ⌜ Settled [] (withWorkspace (length (now (work .entry))) (partOn (now (question .entry)) (now (catalogue .entry)) terms day (now (book .entry)) (length (now (part .entry))) (length (now (answer .entry))))) (bothTold r) (now (part .entry) ∷ now (answer .entry) ∷ []) (now (part .exit) ∷ now (answer .exit) ∷ []) (now (work .entry)) (now (work .exit)) ⌝ }
+{
+    if work.len() < limits::WORKSPACE {
+        return Both::Refused(Refusal::SmallWorkspace);
+    }
+    let r = parting::part_on(
+        question,
+        catalogue,
+        terms,
+        day,
+        book,
+        part,
+        answer,
+        &mut work[0..limits::WORKSPACE],
+    );
+    workspace::clear(work, CLEARED);
+    r
+}
+
+// Shows why a question is not covered on a day: the second record lacks the lowest link that no extract in force matches.
+pub fn show_on(
+    question: &[u8],
+    catalogue: &[u8],
+    terms: Terms,
+    day: u16,
+    first: &mut [u8],
+    second: &mut [u8],
+    work: &mut [u32],
+) -> Both
+    ensures { λ r. ⌜ Settled [] (withWorkspace (length (now (work .entry))) (showOn (now (question .entry)) (now (catalogue .entry)) terms day (length (now (first .entry))) (length (now (second .entry))))) (bothTold r) (now (first .entry) ∷ now (second .entry) ∷ []) (now (first .exit) ∷ now (second .exit) ∷ []) (now (work .entry)) (now (work .exit)) ⌝ }
+{
+    if work.len() < limits::WORKSPACE {
+        return Both::Refused(Refusal::SmallWorkspace);
+    }
+    let r = showing::show_on(
+        question,
+        catalogue,
+        terms,
+        day,
+        first,
+        second,
+        &mut work[0..limits::WORKSPACE],
+    );
+    workspace::clear(work, CLEARED);
+    r
+}
+
+// The first day, not before the given one, on which a question is covered.
+pub fn first_day(
+    question: &[u8],
+    catalogue: &[u8],
+    terms: Terms,
+    day: u16,
+    work: &mut [u32],
+) -> FirstDay
+    ensures { λ r. ⌜ Settled [] (withWorkspace (length (now (work .entry))) (firstDay (now (question .entry)) (now (catalogue .entry)) terms day)) (firstDayTold r) [] [] (now (work .entry)) (now (work .exit)) ⌝ }
+{
+    if work.len() < limits::WORKSPACE {
+        return FirstDay::Refused(Refusal::SmallWorkspace);
+    }
+    let r = days::find_first_day(
+        question,
+        catalogue,
+        terms,
+        day,
         &mut work[0..limits::WORKSPACE],
     );
     workspace::clear(work, CLEARED);

@@ -7,25 +7,28 @@ ghost use lib.ListN.{length, take};
 ghost use lib.Seq.{sets};
 ghost use Rattle.packed.specs.Format.{ok, encode};
 ghost use Rattle.packed.specs.Formats.{pattern};
-ghost use Rattle.packed.specs.Calls.{Fulfils};
+ghost use Rattle.packed.specs.Calls.{Outcome, Fulfils};
 ghost use Rattle.matching.specs.Simulation.{Edge, bit};
 ghost use Rattle.matching.specs.Masks.{Mask};
 ghost use Rattle.matching.specs.Loaded.{Fair, patternIn};
 ghost use Rattle.matching.specs.Part.{rank, atPlaces, partOf, patternFields};
 ghost use Rattle.containment.specs.Choice.{Passing, matchedIn};
-ghost use Rattle.containment.specs.Quote.{usedBy};
+ghost use Rattle.containment.specs.Quote.{Quoted, usedBy};
 ghost use Rattle.containment.specs.Answer.{answerFor};
 ghost use Rattle.containment.specs.Both.{bothTold};
-ghost use Rattle.containment.specs.Part.{partBytes, partQuoted, fitPart, partOutcome};
-ghost use Rattle.containment.specs.Steps.{quotedAs, HoldsFields};
+ghost use Rattle.containment.specs.Part.{partBytes, partQuoted, fitPart, partFor, partOutcome};
+ghost use Rattle.containment.specs.Steps.{quotedAs, HoldsFields, JudgedTo, AnyJudged};
+ghost use Rattle.containment.specs.Terms.{partOn};
 ghost use Rattle.containment.specs.Parting.{EndTaken, takenFields, Adds, Takes, Picked, inRows, Partable};
 use crate::answering;
 use crate::both::Both;
 use crate::choose;
 use crate::judging;
+use crate::judging::Judged;
 use crate::mapping;
 use crate::query;
 use crate::query::Fields;
+use crate::terms::Terms;
 use packed::by_value;
 use packed::by_value::Pattern;
 use packed::pattern;
@@ -217,7 +220,8 @@ fn part_pairs(
         return Both::Refused(Refusal::NoRoom(size));
     }
     let p = by_value::pattern_of(&words[0..n]);
-    let rows = part_rows(table, taken, q.edges);
+    let columns = choose::columns_in(table, usable);
+    let rows = part_rows(&columns, taken, q.edges);
     let set = choose::choose(&rows, usable, k, p.edges);
     let r = answering::answer_pairs(p, &rows, set, book, counts, k, d, answer, work);
     match r {
@@ -229,18 +233,11 @@ fn part_pairs(
     }
 }
 
-pub fn part(
-    question: &[u8],
-    catalogue: &[u8],
-    book: &[u8],
-    part: &mut [u8],
-    answer: &mut [u8],
-    work: &mut [u32],
-) -> Both
-    requires { ⌜ length (now work) ≡ 16384 ⌝ }
-    ensures { λ r. ⌜ Fulfils [] (partOutcome (now (question .entry)) (now (catalogue .entry)) (now (book .entry)) (length (now (part .entry))) (length (now (answer .entry)))) (bothTold r) (now (part .entry) ∷ now (answer .entry) ∷ []) (now (part .exit) ∷ now (answer .exit) ∷ []) ⌝ }
+// The part, once what the client brings beside the book is judged.
+fn part_judged(f: Judged, book: &[u8], part: &mut [u8], answer: &mut [u8], work: &mut [u32]) -> Both
+    requires { ⌜ AnyJudged f × (length (now work) ≡ 16384) ⌝ }
+    ensures { λ r. ⌜ ((g : (Quoted → Outcome) → Outcome) → JudgedTo g f (f .verdict) → Fulfils [] (g (partFor (now (book .entry)) (length (now (part .entry))) (length (now (answer .entry))))) (bothTold r) (now (part .entry) ∷ now (answer .entry) ∷ []) (now (part .exit) ∷ now (answer .exit) ∷ [])) ⌝ }
 {
-    let f = judging::judge(question, catalogue, work);
     let verdict = f.verdict;
     if let Reply::Refused(x) = verdict {
         return Both::Refused(x);
@@ -274,4 +271,37 @@ pub fn part(
         answer,
         work,
     )
+}
+
+pub fn part(
+    question: &[u8],
+    catalogue: &[u8],
+    book: &[u8],
+    part: &mut [u8],
+    answer: &mut [u8],
+    work: &mut [u32],
+) -> Both
+    requires { ⌜ length (now work) ≡ 16384 ⌝ }
+    ensures { λ r. ⌜ Fulfils [] (partOutcome (now (question .entry)) (now (catalogue .entry)) (now (book .entry)) (length (now (part .entry))) (length (now (answer .entry)))) (bothTold r) (now (part .entry) ∷ now (answer .entry) ∷ []) (now (part .exit) ∷ now (answer .exit) ∷ []) ⌝ }
+{
+    let f = judging::judge(question, catalogue, work);
+    part_judged(f, book, part, answer, work)
+}
+
+// For a day, by the views in force.
+pub fn part_on(
+    question: &[u8],
+    catalogue: &[u8],
+    terms: Terms,
+    day: u16,
+    book: &[u8],
+    part: &mut [u8],
+    answer: &mut [u8],
+    work: &mut [u32],
+) -> Both
+    requires { ⌜ length (now work) ≡ 16384 ⌝ }
+    ensures { λ r. ⌜ Fulfils [] (partOn (now (question .entry)) (now (catalogue .entry)) terms day (now (book .entry)) (length (now (part .entry))) (length (now (answer .entry)))) (bothTold r) (now (part .entry) ∷ now (answer .entry) ∷ []) (now (part .exit) ∷ now (answer .exit) ∷ []) ⌝ }
+{
+    let f = judging::judge_on(question, catalogue, terms, day, work);
+    part_judged(f, book, part, answer, work)
 }

@@ -2,14 +2,18 @@
 ghost use mathlib.Core.Path.{_≡_};
 ghost use mathlib.Core.List.{[], _∷_};
 ghost use lib.ListN.{length};
-ghost use Rattle.packed.specs.Calls.{Fulfils};
-ghost use Rattle.containment.specs.Show.{recordBytes, fitBoth, showOutcome};
+ghost use Rattle.packed.specs.Calls.{Outcome, Fulfils};
+ghost use Rattle.containment.specs.Quote.{Quoted};
+ghost use Rattle.containment.specs.Show.{recordBytes, fitBoth, showFor, showOutcome};
 ghost use Rattle.containment.specs.Both.{bothTold};
-ghost use Rattle.containment.specs.Steps.{Query, shownFields};
+ghost use Rattle.containment.specs.Steps.{Query, shownFields, JudgedTo, AnyJudged};
+ghost use Rattle.containment.specs.Terms.{showOn};
 use crate::both::Both;
 use crate::choose;
 use crate::judging;
+use crate::judging::Judged;
 use crate::query;
+use crate::terms::Terms;
 use packed::by_value::Pattern;
 use packed::reply::Refusal;
 use packed::reply::Reply;
@@ -32,17 +36,11 @@ fn show_both(q: Pattern, e: usize, first: &mut [u8], second: &mut [u8], work: &m
     Both::Done(a, b)
 }
 
-pub fn show(
-    question: &[u8],
-    catalogue: &[u8],
-    first: &mut [u8],
-    second: &mut [u8],
-    work: &mut [u32],
-) -> Both
-    requires { ⌜ length (now work) ≡ 16384 ⌝ }
-    ensures { λ r. ⌜ Fulfils [] (showOutcome (now (question .entry)) (now (catalogue .entry)) (length (now (first .entry))) (length (now (second .entry)))) (bothTold r) (now (first .entry) ∷ now (second .entry) ∷ []) (now (first .exit) ∷ now (second .exit) ∷ []) ⌝ }
+// The same, once what the client brings is judged, or why there is nothing to show.
+fn show_judged(f: Judged, first: &mut [u8], second: &mut [u8], work: &mut [u32]) -> Both
+    requires { ⌜ AnyJudged f × (length (now work) ≡ 16384) ⌝ }
+    ensures { λ r. ⌜ ((g : (Quoted → Outcome) → Outcome) → JudgedTo g f (f .verdict) → Fulfils [] (g (showFor (length (now (first .entry))) (length (now (second .entry))))) (bothTold r) (now (first .entry) ∷ now (second .entry) ∷ []) (now (first .exit) ∷ now (second .exit) ∷ [])) ⌝ }
 {
-    let f = judging::judge(question, catalogue, work);
     let verdict = f.verdict;
     if let Reply::Refused(x) = verdict {
         return Both::Refused(x);
@@ -54,4 +52,35 @@ pub fn show(
         return show_both(q, e, first, second, work);
     }
     Both::Refused(Refusal::Contained)
+}
+
+pub fn show(
+    question: &[u8],
+    catalogue: &[u8],
+    first: &mut [u8],
+    second: &mut [u8],
+    work: &mut [u32],
+) -> Both
+    requires { ⌜ length (now work) ≡ 16384 ⌝ }
+    ensures { λ r. ⌜ Fulfils [] (showOutcome (now (question .entry)) (now (catalogue .entry)) (length (now (first .entry))) (length (now (second .entry)))) (bothTold r) (now (first .entry) ∷ now (second .entry) ∷ []) (now (first .exit) ∷ now (second .exit) ∷ []) ⌝ }
+{
+    let f = judging::judge(question, catalogue, work);
+    show_judged(f, first, second, work)
+}
+
+// For a day, of the views in force.
+pub fn show_on(
+    question: &[u8],
+    catalogue: &[u8],
+    terms: Terms,
+    day: u16,
+    first: &mut [u8],
+    second: &mut [u8],
+    work: &mut [u32],
+) -> Both
+    requires { ⌜ length (now work) ≡ 16384 ⌝ }
+    ensures { λ r. ⌜ Fulfils [] (showOn (now (question .entry)) (now (catalogue .entry)) terms day (length (now (first .entry))) (length (now (second .entry)))) (bothTold r) (now (first .entry) ∷ now (second .entry) ∷ []) (now (first .exit) ∷ now (second .exit) ∷ []) ⌝ }
+{
+    let f = judging::judge_on(question, catalogue, terms, day, work);
+    show_judged(f, first, second, work)
 }

@@ -3,6 +3,7 @@
 // No contract can say what the system reads or writes. Those here say what happens to lent memory, and what the bytes mean that were read: texts of
 // numbers, and an index as a file. All else that decides what a file holds is done by the crates below, on slices.
 pub mod both;
+pub mod days;
 pub mod entries;
 pub mod files;
 pub mod lent;

@@ -1,4 +1,5 @@
 // What programs print.
+ghost use Prim.Native.Nat.{_<_};
 use libc::STDERR_FILENO;
 use libc::STDOUT_FILENO;
 use packed::reply;
@@ -42,5 +43,32 @@ pub fn refused(x: Refusal) {
     number(reply::number_of(x));
     say(b" ");
     number(reply::detail_of(x));
+    say(b"\n");
+}
+
+// " a" where the set has the extract a.
+fn say_extract(set: u16, a: u16)
+    requires { ⌜ a < 16 ⌝ }
+{
+    if set >> a & 1 == 1 {
+        say(b" ");
+        number(a as usize);
+    }
+}
+
+fn say_extracts(set: u16) {
+    let mut a: u16 = 0;
+    while a < 16 {
+        say_extract(set, a);
+        a += 1;
+    }
+}
+
+// The line of a cheapest set.
+pub fn cheapest(set: u16, sum: u64) {
+    say(b"cheapest");
+    say_extracts(set);
+    say(b" cost ");
+    number(sum as usize);
     say(b"\n");
 }

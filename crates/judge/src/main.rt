@@ -3,6 +3,8 @@
 // an `index` beside the record, a `set`, and a record `old`, stored before links had kinds. One that is not there gets no line.
 ghost use mathlib.Core.Path.{_≡_};
 ghost use lib.ListN.{length};
+use folder::days;
+use folder::days::Days;
 use folder::entries;
 use folder::files;
 use folder::lent;
@@ -158,6 +160,48 @@ fn judge_charges(catalogue: &[u8]) {
     say(b"charges", charged(reply, content[0], text.count));
 }
 
+// Beside an accepted catalogue there is a line for each of its extracts, whose from-day is below its to-day.
+fn dated(reply: Reply, extracts: u32, d: Days) -> Reply {
+    let Reply::Done(_) = reply else {
+        return reply;
+    };
+    if extracts as usize != d.count {
+        return Reply::Refused(Refusal::WrongTerms(d.count));
+    }
+    let turned = days::first_turned(d, d.count);
+    if turned < d.count {
+        return Reply::Refused(Refusal::WrongTerms(turned));
+    }
+    reply
+}
+
+fn judge_terms(catalogue: &[u8]) {
+    if !files::is_there(b"terms") {
+        return;
+    }
+    let d = days::read_days(b"terms");
+    if !d.good {
+        lines::failed_at(b"terms", d.count);
+        return;
+    }
+    let mut content = lent::content_words();
+    let mut work = lent::work_words();
+    let reply = packed::read_catalogue(catalogue, &mut content, &mut work);
+    say(b"terms", dated(reply, content[0], d));
+}
+
+fn judge_day() {
+    if !files::is_there(b"day") {
+        return;
+    }
+    let day = numbers::read_number(b"day");
+    if day.good & (day.value <= 65535) {
+        lines::say(b"day accepted\n");
+    } else {
+        lines::failed(b"day");
+    }
+}
+
 fn judge_set() {
     if !files::is_there(b"set") {
         return;
@@ -194,6 +238,8 @@ fn judge(question: &[u8], catalogue: &[u8]) {
     judge_record(b"second");
     judge_index();
     judge_charges(catalogue);
+    judge_terms(catalogue);
+    judge_day();
     judge_set();
     judge_old();
 }

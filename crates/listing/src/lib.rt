@@ -1,2 +1,3 @@
-// The listing of a quote, as the quoting program prints it, line by line.
+// The listing of a quote, as the programs that quote print it, line by line.
 pub mod lines;
+pub mod print;

@@ -2,7 +2,7 @@
 use Prim.Native.Nat.{ℕ}
 use mathlib.Core.List.{List, [], _∷_}
 use Rattle.packed.specs.declared.reply.Refusal.{Refusal}
-use Rattle.packed.specs.declared.reply.Refusal.the-variants.{TooLong, Truncated, OutOfRange, NoSuchNode, DuplicateEdge, NotAscending, IsolatedNode, ZeroCount, Trailing, TooManyPairs, NotContained, NoRoom, Contained, SmallWorkspace, WrongCharges, WrongIndex, WrongQuestions}
+use Rattle.packed.specs.declared.reply.Refusal.the-variants.{TooLong, Truncated, OutOfRange, NoSuchNode, DuplicateEdge, NotAscending, IsolatedNode, ZeroCount, Trailing, TooManyPairs, NotContained, NoRoom, Contained, SmallWorkspace, WrongCharges, WrongIndex, WrongQuestions, WrongTerms}
 use Rattle.packed.specs.declared.reply.Reply.{Reply}
 use Rattle.packed.specs.declared.reply.Reply.the-variants as reply-is
 
@@ -24,9 +24,10 @@ numberOf SmallWorkspace = 14
 numberOf (WrongCharges d) = 15
 numberOf (WrongIndex d) = 16
 numberOf (WrongQuestions d) = 17
+numberOf (WrongTerms d) = 18
 
 -- 1 to 10: the file's number; 11: the lowest unmatched edge; 12: the size needed; 13 and 14: zero; 15: how many charges were lent; 16: how many
--- entries were lent, or the first that differs; 17: how many questions were sent
+-- entries were lent, or the first that differs; 17: how many questions were sent; 18: how many terms were lent, or the first that ends before it begins
 abbrev pub detailOf : Refusal → ℕ
 detailOf (TooLong d) = d
 detailOf (Truncated d) = d
@@ -45,6 +46,7 @@ detailOf SmallWorkspace = 0
 detailOf (WrongCharges d) = d
 detailOf (WrongIndex d) = d
 detailOf (WrongQuestions d) = d
+detailOf (WrongTerms d) = d
 
 -- what an answer tells: a number, 0 for success, and values
 pub data Told : Type 0 where

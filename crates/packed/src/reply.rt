@@ -38,6 +38,8 @@ pub enum Refusal {
     WrongIndex(usize),
     // 17, questions: how many questions were sent, where that is none or more than eight
     WrongQuestions(usize),
+    // 18, terms: how many entries the list of terms has, where that is not the number of views; else the first entry whose from-day isn't below its to-day
+    WrongTerms(usize),
 }
 
 // What a call with one output answers: how much of it was written, or the refusal.
@@ -98,6 +100,7 @@ pub fn number_of(x: Refusal) -> usize
         Refusal::WrongCharges(_) => 15,
         Refusal::WrongIndex(_) => 16,
         Refusal::WrongQuestions(_) => 17,
+        Refusal::WrongTerms(_) => 18,
     }
 }
 
@@ -123,5 +126,6 @@ pub fn detail_of(x: Refusal) -> usize
         Refusal::WrongCharges(d) => d,
         Refusal::WrongIndex(d) => d,
         Refusal::WrongQuestions(d) => d,
+        Refusal::WrongTerms(d) => d,
     }
 }

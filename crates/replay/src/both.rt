@@ -1,4 +1,5 @@
-// The calls with two outputs, which are marked and looked at here. They go to the output one after the other.
+// The calls with two outputs, which are marked and looked at here. They go to the output one after the other. Terms and a day are for those that are
+// made for one.
 ghost use mathlib.Core.Path.{_≡_};
 ghost use lib.ListN.{length};
 use crate::calls;
@@ -8,6 +9,7 @@ use crate::marks;
 use crate::outcome;
 use crate::outcome::Outcome;
 use crate::slices;
+use containment::terms::Terms;
 
 // More than a record may have, and more than a sheet may; no more of an output is lent.
 fn first_bytes() -> [u8; 44100]
@@ -53,6 +55,8 @@ fn make(
     k: usize,
     question: &[u8],
     catalogue: &[u8],
+    terms: Terms,
+    day: u16,
     book: &[u8],
     first: &mut [u8],
     second: &mut [u8],
@@ -62,6 +66,23 @@ fn make(
     if k == calls::PART {
         let p = yuthaqim::yuthaqim_part(question, catalogue, book, first, second, work);
         return wrote(p.number, p.detail, p.first, p.second, first, second);
+    }
+    if k == calls::PART_ON {
+        let p = yuthaqim::yuthaqim_part_on(
+            question,
+            catalogue,
+            terms,
+            day,
+            book,
+            first,
+            second,
+            work,
+        );
+        return wrote(p.number, p.detail, p.first, p.second, first, second);
+    }
+    if k == calls::SHOW_ON {
+        let s = yuthaqim::yuthaqim_show_on(question, catalogue, terms, day, first, second, work);
+        return wrote(s.number, s.detail, s.first, s.second, first, second);
     }
     let s = yuthaqim::yuthaqim_show_uncovered(question, catalogue, first, second, work);
     wrote(s.number, s.detail, s.first, s.second, first, second)
@@ -77,6 +98,8 @@ fn call_in(
     k: usize,
     question: &[u8],
     catalogue: &[u8],
+    terms: Terms,
+    day: u16,
     book: &[u8],
     registers: &[u64],
     first: &mut [u8],
@@ -90,6 +113,8 @@ fn call_in(
         k,
         question,
         catalogue,
+        terms,
+        day,
         book,
         &mut first[0..n],
         &mut second[0..m],
@@ -103,6 +128,8 @@ pub fn call(
     k: usize,
     question: &[u8],
     catalogue: &[u8],
+    terms: Terms,
+    day: u16,
     book: &[u8],
     registers: &[u64],
     out: &mut [u8],
@@ -114,6 +141,8 @@ pub fn call(
         k,
         question,
         catalogue,
+        terms,
+        day,
         book,
         registers,
         &mut first,

@@ -11,6 +11,8 @@ use crate::outcome;
 use crate::outcome::Outcome;
 use crate::slices;
 use crate::states;
+use crate::terms;
+use containment::terms::Terms;
 
 // The readers, then a writer for each.
 const READ_PATTERN: usize = 0;
@@ -52,6 +54,17 @@ const SEARCH_INDEXED: usize = 20;
 pub const PART: usize = 21;
 
 const ANSWER_SEVERAL: usize = 22;
+
+// The calls for a day.
+const QUOTE_ON: usize = 23;
+
+const CHEAPEST_ON: usize = 24;
+
+pub const PART_ON: usize = 25;
+
+pub const SHOW_ON: usize = 26;
+
+const FIRST_DAY: usize = 27;
 
 // The states of a join after each of its steps, which no client sees.
 const STEPS: usize = 62;
@@ -152,17 +165,44 @@ fn quote(question: &[u8], catalogue: &[u8], work: &mut [u32]) -> Outcome {
     )
 }
 
+fn quote_on(question: &[u8], catalogue: &[u8], t: Terms, day: u16, work: &mut [u32]) -> Outcome {
+    let q = yuthaqim::yuthaqim_quote_on(question, catalogue, t, day, work);
+    let mapping = q.mapping;
+    let d = digest::over_words(digest::START, &mapping, 512);
+    quoted(
+        q.number,
+        q.detail,
+        q.edges,
+        q.covered,
+        q.chosen,
+        q.lowest,
+        d,
+    )
+}
+
+fn priced(number: usize, detail: usize, sum: u64, set: u16, chosen: u16) -> Outcome {
+    let value = if number == 0 { sum as usize } else { detail };
+    let d = digest::step(digest::step(digest::START, set as u64), sum);
+    let e = digest::step(d, chosen as u64);
+    outcome::values(outcome::PRICE, number, value, set as usize, e)
+}
+
 // The content is the charges.
 fn cheapest(question: &[u8], catalogue: &[u8], charges: &[u32], work: &mut [u32]) -> Outcome {
     let c = yuthaqim::yuthaqim_cheapest(question, catalogue, charges, work);
-    let value = if c.number == 0 {
-        c.sum as usize
-    } else {
-        c.detail
-    };
-    let d = digest::step(digest::step(digest::START, c.set as u64), c.sum);
-    let e = digest::step(d, c.chosen as u64);
-    outcome::values(outcome::PRICE, c.number, value, c.set as usize, e)
+    priced(c.number, c.detail, c.sum, c.set, c.chosen)
+}
+
+fn cheapest_on(
+    question: &[u8],
+    catalogue: &[u8],
+    t: Terms,
+    day: u16,
+    charges: &[u32],
+    work: &mut [u32],
+) -> Outcome {
+    let c = yuthaqim::yuthaqim_cheapest_on(question, catalogue, t, day, charges, work);
+    priced(c.number, c.detail, c.sum, c.set, c.chosen)
 }
 
 // Several questions stand in the place of one.
@@ -209,6 +249,31 @@ fn make(
     outcome::bytes(r.number, r.value, out)
 }
 
+// A call for a day.
+fn on_day(
+    k: usize,
+    registers: &[u64],
+    question: &[u8],
+    catalogue: &[u8],
+    book: &[u8],
+    t: Terms,
+    charges: &[u32],
+    out: &mut [u8],
+    work: &mut [u32],
+) -> Outcome {
+    let day = (cells::number(registers, cells::DAY) % 0x1_0000) as u16;
+    if k == QUOTE_ON {
+        return quote_on(question, catalogue, t, day, work);
+    }
+    if k == CHEAPEST_ON {
+        return cheapest_on(question, catalogue, t, day, charges, work);
+    }
+    if k == FIRST_DAY {
+        return terms::first_day(question, catalogue, t, day, work);
+    }
+    both::call(k, question, catalogue, t, day, book, registers, out, work)
+}
+
 // A call on the parts.
 fn on_parts(
     k: usize,
@@ -217,6 +282,7 @@ fn on_parts(
     b: &[u8],
     c: &[u8],
     d: &[u8],
+    t: Terms,
     out: &mut [u8],
     words: &mut [u32],
     work: &mut [u32],
@@ -237,8 +303,11 @@ fn on_parts(
     if k == CHEAPEST {
         return cheapest(a, b, &words[0..m], work);
     }
+    if (QUOTE_ON <= k) & (k <= FIRST_DAY) {
+        return on_day(k, registers, a, b, d, t, &words[0..m], out, work);
+    }
     if (k == SHOW_UNCOVERED) | (k == PART) {
-        return both::call(k, a, b, d, registers, out, work);
+        return both::call(k, a, b, t, 0, d, registers, out, work);
     }
     if k == MAKE_INDEX {
         return indexed::make(c, room, out, work);
@@ -286,10 +355,12 @@ pub fn call(
     let be = end_of(registers, 1, memory.len());
     let ce = end_of(registers, 2, memory.len());
     let de = end_of(registers, 3, memory.len());
+    let te = end_of(registers, 4, memory.len());
     let a = start_of(registers, 0, ae);
     let b = start_of(registers, 1, be);
     let c = start_of(registers, 2, ce);
     let d = start_of(registers, 3, de);
+    let t = start_of(registers, 4, te);
     let w = slices::least(cells::number(registers, cells::WORK), work.len());
     on_parts(
         k,
@@ -298,6 +369,7 @@ pub fn call(
         &memory[b..be],
         &memory[c..ce],
         &memory[d..de],
+        terms::of(&memory[t..te]),
         out,
         words,
         &mut work[0..w],

@@ -3,7 +3,7 @@ ghost use mathlib.Core.Path.{_≡_};
 ghost use lib.ListN.{length};
 
 // The registers. The files of a case are parts of the memory, each from its start to its end: pattern or question, catalogue, record,
-// sheet, book or index; there is room for four more.
+// sheet, book or index, terms; there is room for three more.
 pub const PARTS: usize = 8;
 
 pub const START: usize = 0;
@@ -59,6 +59,9 @@ pub const SET: usize = 36;
 
 // How many questions are sent in one call.
 pub const QUESTIONS: usize = 37;
+
+// The day that is asked about.
+pub const DAY: usize = 38;
 
 // So many registers can be set by an instruction.
 pub const REGISTERS: usize = 64;

@@ -23,6 +23,7 @@ mod records;
 mod rounds;
 mod slices;
 mod states;
+mod terms;
 
 // So many instructions at most.
 const MOST: u32 = 1000000;

@@ -26,6 +26,9 @@ pub const PRICE: usize = 7;
 // The number of a join's steps, and the settled items beside it.
 pub const STEPS: usize = 8;
 
+// 1 and a first day beside it, or 0 where there is none.
+pub const DAY: usize = 9;
+
 // 0 or the refusal's number; the two values, of which a refusal's detail is the first; how much was written, a digest of it; and at how many
 // places of an output that the call alone knows the marks are not as they should be.
 pub struct Outcome {

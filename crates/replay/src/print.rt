@@ -94,6 +94,14 @@ fn say_values(form: usize, value: usize, other: usize, digest: u64) {
             say(b", set ");
             say_number(other);
         }
+        outcome::DAY => {
+            say(b"first day ");
+            if value == 1 {
+                say_number(other);
+            } else {
+                say(b"none");
+            }
+        }
         _ => {
             say_number(value);
             say(b" steps");

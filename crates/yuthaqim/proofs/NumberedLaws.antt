@@ -12,7 +12,7 @@ use Rattle.containment.specs.declared.quote_type.Coverage.{Coverage}
 use Rattle.containment.specs.declared.quote_type.Coverage.the-variants as coverage-is
 use Rattle.containment.specs.declared.quote_type.Quote.{Quote}
 use Rattle.containment.proofs.Numbered.{refusal-numbered}
-use Rattle.yuthaqim.specs.Numbered.{toldBy, numberedQuoteTold, numberedBothTold, numberedSeveralTold, numberedCheapestTold, QuoteZeros, BothZeros, SeveralZeros, CheapestZeros}
+use Rattle.yuthaqim.specs.Numbered.{toldBy, numberedQuoteTold, numberedBothTold, numberedSeveralTold, numberedCheapestTold, QuoteZeros, BothZeros, SeveralZeros, CheapestZeros, numberedFirstDayTold, FirstDayZeros}
 use Rattle.yuthaqim.specs.declared.numbered.NumberedQuote.{NumberedQuote}
 
 pub settled-as : {none : List ℕ} {a : Outcome} {r r′ : Told} {outs outs′ : List (List ℕ)} {work work′ : List ℕ}
@@ -88,3 +88,15 @@ pub cheapest-refused : (x : Refusal) {n d : ℕ} → n ≡ numberOf x → d ≡ 
 unfolding numberedCheapestTold
 cheapest-refused x p r =
     (rw (p, r, refused-told), record { no-detail = λ h. absurd (number-not-0 x (sym p ∙ h)); no-sum = λ n. refl; no-set = λ n. refl; no-chosen = λ n. refl })
+
+-- a first day in numbers, or none
+pub day-done : (found day : ℕ) → (numberedFirstDayTold (record { number = 0; detail = 0; found = found; day = day }) ≡ told 0 (found ∷ day ∷ []))
+    × FirstDayZeros (record { number = 0; detail = 0; found = found; day = day })
+unfolding numberedFirstDayTold toldBy
+day-done found day = (refl, record { no-detail = λ h. refl; no-found = λ n. absurd (n refl); no-day = λ n. absurd (n refl) })
+
+pub day-refused : (x : Refusal) {n d : ℕ} → n ≡ numberOf x → d ≡ detailOf x
+    → (numberedFirstDayTold (record { number = n; detail = d; found = 0; day = 0 }) ≡ told (numberOf x) (detailOf x ∷ []))
+    × FirstDayZeros (record { number = n; detail = d; found = 0; day = 0 })
+unfolding numberedFirstDayTold
+day-refused x p r = (rw (p, r, refused-told), record { no-detail = λ h. absurd (number-not-0 x (sym p ∙ h)); no-found = λ n. refl; no-day = λ n. refl })

@@ -11,6 +11,7 @@ use Rattle.yuthaqim.specs.declared.numbered.NumberedQuote.{NumberedQuote
 use Rattle.yuthaqim.specs.declared.numbered.NumberedBoth.{NumberedBoth}
 use Rattle.yuthaqim.specs.declared.numbered.NumberedSeveral.{NumberedSeveral}
 use Rattle.yuthaqim.specs.declared.numbered.NumberedCheapest.{NumberedCheapest}
+use Rattle.yuthaqim.specs.declared.numbered.NumberedFirstDay.{NumberedFirstDay}
 
 -- the values of success, or those of a refusal
 unfoldable pub toldBy : ℕ → List ℕ → List ℕ → Told
@@ -35,6 +36,9 @@ numberedSeveralTold s = toldBy (s .number) (s .bytes ∷ s .sheets ∷ []) (s .d
 unfoldable pub numberedCheapestTold : NumberedCheapest → Told
 numberedCheapestTold c = toldBy (c .number) (c .set ∷ c .sum ∷ c .chosen ∷ []) (c .detail ∷ [])
 
+unfoldable pub numberedFirstDayTold : NumberedFirstDay → Told
+numberedFirstDayTold d = toldBy (d .number) (d .found ∷ d .day ∷ []) (d .detail ∷ [])
+
 -- what is not told: a quote has no detail
 pub record QuoteZeros (q : NumberedQuote) : Type 0 where
   pub no-detail : q .number ≡ 0 → q .detail ≡ 0
@@ -57,3 +61,9 @@ pub record CheapestZeros (c : NumberedCheapest) : Type 0 where
   pub no-sum : (c .number ≡ 0 → ⊥) → c .sum ≡ 0
   pub no-set : (c .number ≡ 0 → ⊥) → c .set ≡ 0
   pub no-chosen : (c .number ≡ 0 → ⊥) → c .chosen ≡ 0
+
+-- a first day, or none, has no detail, and a refusal has no day
+pub record FirstDayZeros (d : NumberedFirstDay) : Type 0 where
+  pub no-detail : d .number ≡ 0 → d .detail ≡ 0
+  pub no-found : (d .number ≡ 0 → ⊥) → d .found ≡ 0
+  pub no-day : (d .number ≡ 0 → ⊥) → d .day ≡ 0

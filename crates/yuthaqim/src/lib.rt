@@ -1,6 +1,7 @@
 // The client calls for C and Rust to link. Each is the call of the same name in the crate that has it, and answers in numbers.
 mod numbered;
 
+ghost use mathlib.Core.Path.{_≡_};
 ghost use mathlib.Core.List.{[], _∷_};
 ghost use lib.ListN.{length};
 ghost use Rattle.packed.specs.Calls.{OneOutput, Settled, withWorkspace, patternRead, catalogueRead, recordRead, sheetRead, bookRead, patternWritten, catalogueWritten, recordWritten, sheetWritten, bookWritten};
@@ -13,9 +14,13 @@ ghost use Rattle.containment.specs.Part.{partOutcome};
 ghost use Rattle.containment.specs.Several.{severalOutcome};
 ghost use Rattle.containment.specs.Show.{showOutcome};
 ghost use Rattle.containment.specs.Cheapest.{cheapestOutcome};
-ghost use Rattle.yuthaqim.specs.Numbered.{numberedReplyTold, numberedQuoteTold, numberedBothTold, numberedSeveralTold, numberedCheapestTold, QuoteZeros, BothZeros, SeveralZeros, CheapestZeros};
+ghost use Rattle.yuthaqim.specs.Numbered.{numberedReplyTold, numberedQuoteTold, numberedBothTold, numberedSeveralTold, numberedCheapestTold, QuoteZeros, BothZeros, SeveralZeros, CheapestZeros, numberedFirstDayTold, FirstDayZeros};
+ghost use Rattle.containment.specs.Terms.{spreadOf, quoteOn, cheapestOn, partOn, showOn, firstDay};
+use containment::terms::Term;
+use containment::terms::Terms;
 use numbered::NumberedBoth;
 use numbered::NumberedCheapest;
+use numbered::NumberedFirstDay;
 use numbered::NumberedQuote;
 use numbered::NumberedReply;
 use numbered::NumberedSeveral;
@@ -316,4 +321,88 @@ pub extern "C" fn yuthaqim_cheapest(
     ensures { λ r. ⌜ Settled [] (withWorkspace (length (now (work .entry))) (cheapestOutcome (now (question .entry)) (now (catalogue .entry)) (now (charges .entry)))) (numberedCheapestTold r) [] [] (now (work .entry)) (now (work .exit)) × CheapestZeros r ⌝ }
 {
     numbered::cheapest(containment::cheapest(question, catalogue, charges, work))
+}
+
+// A list of terms in plain numbers, as the calls for a day take it.
+#[no_mangle]
+pub extern "C" fn yuthaqim_spread_terms(terms: &[Term]) -> Terms
+    ensures { λ r. ⌜ r ≡ spreadOf (now (terms .entry)) ⌝ }
+{
+    containment::spread(terms)
+}
+
+// Quotes a question for a day, by the extracts in force on it.
+#[no_mangle]
+pub extern "C" fn yuthaqim_quote_on(
+    question: &[u8],
+    catalogue: &[u8],
+    terms: Terms,
+    day: u16,
+    work: &mut [u32],
+) -> NumberedQuote
+    ensures { λ r. ⌜ Settled blank (withWorkspace (length (now (work .entry))) (quoteOn (now (question .entry)) (now (catalogue .entry)) terms day)) (numberedQuoteTold r) [] [] (now (work .entry)) (now (work .exit)) × QuoteZeros r ⌝ }
+{
+    numbered::quote(containment::quote_on(question, catalogue, terms, day, work))
+}
+
+// Finds the cheapest set of extracts in force on a day that covers a question, by the charges of all extracts.
+#[no_mangle]
+pub extern "C" fn yuthaqim_cheapest_on(
+    question: &[u8],
+    catalogue: &[u8],
+    terms: Terms,
+    day: u16,
+    charges: &[u32],
+    work: &mut [u32],
+) -> NumberedCheapest
+    ensures { λ r. ⌜ Settled [] (withWorkspace (length (now (work .entry))) (cheapestOn (now (question .entry)) (now (catalogue .entry)) terms day (now (charges .entry)))) (numberedCheapestTold r) [] [] (now (work .entry)) (now (work .exit)) × CheapestZeros r ⌝ }
+{
+    numbered::cheapest(containment::cheapest_on(question, catalogue, terms, day, charges, work))
+}
+
+// Finds the part of a question that the extracts in force on a day answer, and answers it from a book: writes the part as a pattern, and its sheet.
+#[no_mangle]
+pub extern "C" fn yuthaqim_part_on(
+    question: &[u8],
+    catalogue: &[u8],
+    terms: Terms,
+    day: u16,
+    book: &[u8],
+    part: &mut [u8],
+    answer: &mut [u8],
+    work: &mut [u32],
+) -> NumberedBoth
+    ensures { λ r. ⌜ Settled [] (withWorkspace (length (now (work .entry))) (partOn (now (question .entry)) (now (catalogue .entry)) terms day (now (book .entry)) (length (now (part .entry))) (length (now (answer .entry))))) (numberedBothTold r) (now (part .entry) ∷ now (answer .entry) ∷ []) (now (part .exit) ∷ now (answer .exit) ∷ []) (now (work .entry)) (now (work .exit)) × BothZeros r ⌝ }
+{
+    numbered::both(containment::part_on(question, catalogue, terms, day, book, part, answer, work))
+}
+
+// Shows why a question is not covered on a day: writes it as a record, and the same without the lowest link that no extract in force matches.
+#[no_mangle]
+pub extern "C" fn yuthaqim_show_on(
+    question: &[u8],
+    catalogue: &[u8],
+    terms: Terms,
+    day: u16,
+    first: &mut [u8],
+    second: &mut [u8],
+    work: &mut [u32],
+) -> NumberedBoth
+    ensures { λ r. ⌜ Settled [] (withWorkspace (length (now (work .entry))) (showOn (now (question .entry)) (now (catalogue .entry)) terms day (length (now (first .entry))) (length (now (second .entry))))) (numberedBothTold r) (now (first .entry) ∷ now (second .entry) ∷ []) (now (first .exit) ∷ now (second .exit) ∷ []) (now (work .entry)) (now (work .exit)) × BothZeros r ⌝ }
+{
+    numbered::both(containment::show_on(question, catalogue, terms, day, first, second, work))
+}
+
+// Finds the first day, not before the given one, on which a question is covered.
+#[no_mangle]
+pub extern "C" fn yuthaqim_first_day(
+    question: &[u8],
+    catalogue: &[u8],
+    terms: Terms,
+    day: u16,
+    work: &mut [u32],
+) -> NumberedFirstDay
+    ensures { λ r. ⌜ Settled [] (withWorkspace (length (now (work .entry))) (firstDay (now (question .entry)) (now (catalogue .entry)) terms day)) (numberedFirstDayTold r) [] [] (now (work .entry)) (now (work .exit)) × FirstDayZeros r ⌝ }
+{
+    numbered::first_day(containment::first_day(question, catalogue, terms, day, work))
 }

@@ -5,9 +5,11 @@ ghost use Rattle.containment.specs.Both.{bothTold};
 ghost use Rattle.containment.specs.Cheapest.{cheapestTold};
 ghost use Rattle.containment.specs.Quote.{quoteTold};
 ghost use Rattle.containment.specs.Several.{severalTold};
-ghost use Rattle.yuthaqim.specs.Numbered.{numberedReplyTold, numberedQuoteTold, numberedBothTold, numberedSeveralTold, numberedCheapestTold, QuoteZeros, BothZeros, SeveralZeros, CheapestZeros};
+ghost use Rattle.yuthaqim.specs.Numbered.{numberedReplyTold, numberedQuoteTold, numberedBothTold, numberedSeveralTold, numberedCheapestTold, QuoteZeros, BothZeros, SeveralZeros, CheapestZeros, numberedFirstDayTold, FirstDayZeros};
+ghost use Rattle.containment.specs.Terms.{firstDayTold};
 use containment::both::Both;
 use containment::costing::Cheapest;
+use containment::days::FirstDay;
 use containment::quote_type::Coverage;
 use containment::quote_type::Quote;
 use containment::several::Several;
@@ -59,6 +61,15 @@ pub struct NumberedCheapest {
     pub sum: u64,
     pub set: u16,
     pub chosen: u16,
+}
+
+// 0, and 1 and the first day or 0 for none, or a refusal's number and detail. What has no meaning is zero.
+#[repr(C)]
+pub struct NumberedFirstDay {
+    pub number: usize,
+    pub detail: usize,
+    pub found: u16,
+    pub day: u16,
 }
 
 pub fn reply(r: Reply) -> NumberedReply
@@ -167,6 +178,31 @@ pub fn cheapest(c: Cheapest) -> NumberedCheapest
             sum: 0,
             set: 0,
             chosen: 0,
+        },
+    }
+}
+
+pub fn first_day(d: FirstDay) -> NumberedFirstDay
+    ensures { λ n. ⌜ (numberedFirstDayTold n ≡ firstDayTold d) × FirstDayZeros n ⌝ }
+{
+    match d {
+        FirstDay::On(day) => NumberedFirstDay {
+            number: 0,
+            detail: 0,
+            found: 1,
+            day,
+        },
+        FirstDay::Never => NumberedFirstDay {
+            number: 0,
+            detail: 0,
+            found: 0,
+            day: 0,
+        },
+        FirstDay::Refused(x) => NumberedFirstDay {
+            number: reply::number_of(x),
+            detail: reply::detail_of(x),
+            found: 0,
+            day: 0,
         },
     }
 }

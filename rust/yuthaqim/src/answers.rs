@@ -54,6 +54,16 @@ pub struct Priced {
     pub chosen: u16,
 }
 
+/// A first day. What has no meaning is zero.
+#[repr(C)]
+#[derive(Clone, Copy, Debug, PartialEq, Eq)]
+pub struct Dated {
+    pub number: usize,
+    pub detail: usize,
+    pub found: u16,
+    pub day: u16,
+}
+
 fn judged<T>(number: usize, detail: usize, done: T) -> Result<T, Refusal> {
     if number == 0 {
         Ok(done)
@@ -98,5 +108,11 @@ impl Priced {
     pub fn result(self) -> Result<Cheapest, Refusal> {
         let cheapest = Cheapest { set: self.set, sum: self.sum, chosen: self.chosen };
         judged(self.number, self.detail, cheapest)
+    }
+}
+
+impl Dated {
+    pub fn result(self) -> Result<Option<u16>, Refusal> {
+        judged(self.number, self.detail, (self.found == 1).then_some(self.day))
     }
 }

@@ -26,6 +26,7 @@ macro_rules! calls {
         /// The same calls with all that the functions of the archive answer.
         pub mod raw {
             use super::*;
+            pub use crate::days::answered::*;
 
             $(
                 $(#[$doc])*

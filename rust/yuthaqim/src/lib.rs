@@ -60,6 +60,16 @@
 //! let length = yuthaqim::read_sheet(&part[..size], &same[..length], &mut content, &mut work)?;
 //! assert_eq!(content[..length], [1, 1, 0, 1, 1, 1, 2]);
 //!
+//! // Extracts that are sold for a season, each from a day up to another: on day 12 all three are in force, on day 10 the last
+//! // isn't yet. What is chosen for the day answers the question from the book.
+//! let terms = [(10, 20), (10, 15), (12, 20)].map(|(from, to)| yuthaqim::Term { from, to });
+//! assert_eq!(yuthaqim::quote_on(&question, &catalogue, &terms, 10, &mut work)?.lowest_unmatched, Some(1));
+//! assert_eq!(yuthaqim::first_day(&question, &catalogue, &terms, 10, &mut work)?, Some(12));
+//! assert_eq!(yuthaqim::first_day(&question, &catalogue, &terms, 15, &mut work)?, None);
+//! let quote = yuthaqim::quote_on(&question, &catalogue, &terms, 12, &mut work)?;
+//! let length = yuthaqim::answer_from(&question, &catalogue, quote.chosen as u16, book, &mut same, &mut work)?;
+//! assert_eq!(same[..length], sheet[..length]);
+//!
 //! // An index beside the record: a search by it gives the same sheet.
 //! let mut index = [0; yuthaqim::INDEX_ENTRIES];
 //! let entries = yuthaqim::make_index(record, &mut index, &mut work)?;
@@ -84,9 +94,11 @@
 
 mod answers;
 mod calls;
+mod days;
 
-pub use answers::{Both, Priced, Quoted, Replied, Several};
+pub use answers::{Both, Dated, Priced, Quoted, Replied, Several};
 pub use calls::*;
+pub use days::{cheapest_on, first_day, part_on, quote_on, show_on};
 
 use std::error::Error;
 use std::fmt;
@@ -134,9 +146,10 @@ pub const DESK: usize = 14;
 pub const CHARGES: usize = 15;
 pub const INDEX: usize = 16;
 pub const QUESTIONS: usize = 17;
+pub const TERMS: usize = 18;
 
 /// The word of each refusal, from 1 on.
-const WORDS: [&str; 17] = [
+const WORDS: [&str; 18] = [
     "long",
     "short",
     "count",
@@ -154,18 +167,20 @@ const WORDS: [&str; 17] = [
     "charges",
     "index",
     "questions",
+    "terms",
 ];
 
 /// Why a call refuses.
 #[derive(Clone, Copy, Debug, PartialEq, Eq)]
 pub struct Refusal {
-    /// 1 to 17.
+    /// 1 to 18.
     pub number: usize,
     /// Of 1 to 10 the file at fault (1 a pattern, 2 a catalogue, 3 a record, 4 a book or sheet), of [`UNCOVERED`] the
     /// lowest link that is unmatched, by the set that was named where one was, of [`NO_FIT`] how much the first output
     /// without room needs, or all answers together where several questions are answered, of [`CHARGES`] how many charges
     /// there were, of [`INDEX`] how many entries there were if that is wrong, else the first position that differs, of
-    /// [`QUESTIONS`] how many questions were sent, of the others zero.
+    /// [`QUESTIONS`] how many questions were sent, of [`TERMS`] how many entries there were if that is wrong, else the first
+    /// position whose from-day isn't below its to-day, of the others zero.
     pub detail: usize,
 }
 
@@ -217,6 +232,15 @@ pub struct Answers {
     pub bytes: usize,
     /// How many sheets of the book were needed: those of the extracts that are chosen for at least one question.
     pub sheets: usize,
+}
+
+/// The days of an extract: the first on which it is in force, and the first after that on which it isn't. The calls for a day take
+/// one for each extract, in catalogue order.
+#[repr(C)]
+#[derive(Clone, Copy, Debug, PartialEq, Eq)]
+pub struct Term {
+    pub from: u16,
+    pub to: u16,
 }
 
 /// The cheapest set of extracts that covers a question.

@@ -4,6 +4,7 @@
 use crate::files::*;
 use crate::part::choice;
 use crate::rule::{below, next, Drawn, Lists};
+use crate::terms::Term;
 
 pub struct Rule {
     state: u32,
@@ -205,6 +206,54 @@ pub fn draw_charges(rule: &mut Rule, extracts: usize) -> Vec<u32> {
     };
     let large = if least == 65_000 { 65_537 } else { 1 };
     (0..number).map(|_| (least + rule.draw(most)) * large).collect()
+}
+
+// Terms.
+
+/// A term that begins before a day and ends within a few days of its beginning, or of the last day; one in 64 is empty or turned.
+fn draw_term(rule: &mut Rule, days: u32) -> Term {
+    let (from, length) = (rule.draw(days), 1 + rule.draw(days));
+    let (from, to) = match rule.draw(16) {
+        0 => (from, 65_535),
+        1 => (65_535 - length, 65_535),
+        2 => (0, from + length),
+        _ => (from, from + length),
+    };
+    let [from, to] = [from, to].map(|day| day as u16);
+    match rule.draw(128) {
+        0 => Term { from, to: from },
+        1 => Term { from: to, to: from },
+        _ => Term { from, to },
+    }
+}
+
+/// Terms for so many extracts, and one time in sixteen for another number of them, up to a few more than a catalogue has.
+pub fn draw_terms(rule: &mut Rule, extracts: usize) -> Vec<Term> {
+    let number = match rule.draw(64) {
+        0 => 0,
+        1 => extracts.saturating_sub(1),
+        2 => extracts + 1,
+        3 => 15 + rule.draw(4) as usize,
+        _ => extracts,
+    };
+    let days = [4, 12, 40, 1_000][rule.draw(4) as usize];
+    (0..number).map(|_| draw_term(rule, days)).collect()
+}
+
+/// A day: at, before or after an end of a term, one within the first of them, the first or the last of all, or any.
+pub fn draw_day(rule: &mut Rule, terms: &[Term]) -> u16 {
+    if terms.is_empty() || rule.draw(8) == 0 {
+        return [0, 65_535, 65_534, rule.draw(65_536)][rule.draw(4) as usize] as u16;
+    }
+    let Term { from, to } = terms[rule.draw(terms.len() as u32) as usize];
+    match rule.draw(6) {
+        0 => from,
+        1 => from.saturating_sub(1),
+        2 => to,
+        3 => to.saturating_sub(1),
+        4 => to.saturating_add(1),
+        _ => from + rule.draw(to.saturating_sub(from).into()) as u16,
+    }
 }
 
 // Records.

@@ -15,5 +15,6 @@ mod replay;
 mod rule;
 pub mod several;
 pub mod steps;
+pub mod terms;
 
 pub use replay::CALLS;

@@ -39,6 +39,7 @@ const LINK_KINDS: usize = 34;
 const KIND_FORM: usize = 35;
 pub const SET: usize = 36;
 pub const QUESTIONS: usize = 37;
+pub const DAY: usize = 38;
 const REGISTERS: usize = 64;
 
 /// The instructions.
@@ -71,15 +72,17 @@ const SHORT_BY_ONE: usize = 101;
 /// The numbers that calls may have.
 const NUMBERS: usize = 64;
 
-/// The parts of the memory that the calls take: a pattern, a question or several, a catalogue, a record, a sheet, book or index.
+/// The parts of the memory that the calls take: a pattern, a question or several, a catalogue, a record, a sheet, book or index, and
+/// terms.
 pub const QUESTION_PART: usize = 0;
 pub const CATALOGUE_PART: usize = 1;
 pub const RECORD_PART: usize = 2;
 pub const BOOK_PART: usize = 3;
+pub const TERMS_PART: usize = 4;
 
 /// Where each part is laid by default, where the memory is zero for ever, where an index has room beside a book, and where the
 /// names of the calls stand.
-pub const PLACES: [usize; 4] = [0, 1_024, 4_096, 131_072];
+pub const PLACES: [usize; 5] = [0, 1_024, 4_096, 131_072, 130_048];
 pub const ZEROS: usize = 49_152;
 pub const INDEX_PLACE: usize = 118_784;
 const NAMES: usize = 128_000;
@@ -381,15 +384,17 @@ impl Script {
     // Calls.
 
     fn answered(&self, call: usize) -> Outcome {
-        let [question, catalogue, record, book] = [0, 1, 2, 3].map(|part| self.part(part));
+        let [question, catalogue, record, book, terms] = [0, 1, 2, 3, 4].map(|part| self.part(part));
         (row(call).answer)(&Lent {
             question,
             catalogue,
             record,
             book,
+            terms,
             content: &self.words[..self.registers[CONTENT].min(WORDS)],
             set: self.registers[SET] as u16,
             number: self.registers[QUESTIONS] as u32,
+            day: self.registers[DAY] as u16,
             words: self.registers[ROOM].min(WORDS),
             room: self.registers[ROOM].min(OUTPUT),
             second: self.registers[SECOND],
@@ -569,6 +574,8 @@ impl Script {
             (0, Form::Quote) => format!("uncovered, lowest {other}, digest {digest:016x}"),
             (0, Form::Price) => format!("cost {value}, set {other}, digest {digest:016x}"),
             (0, Form::Steps) => format!("{value} steps, digest {digest:016x}"),
+            (0, Form::Day) if *value == 1 => format!("first day {other}, digest {digest:016x}"),
+            (0, Form::Day) => format!("first day none, digest {digest:016x}"),
             _ => format!("refused {number} {value}"),
         };
         match output {

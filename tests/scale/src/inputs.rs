@@ -30,6 +30,9 @@ macro_rules! reply {
     }};
 }
 
+// After the macro, which it uses.
+mod days;
+
 /// A question and a catalogue for it, of which the other files are made.
 struct Subject {
     kinds: Kinds,
@@ -165,7 +168,9 @@ impl Test {
     pub fn input(&mut self, seed: u64) -> Result<(), Difference> {
         let draw = &mut Draw::new(seed);
         match draw.below(100) {
-            0..=23 => self.lone_file(draw),
+            0..=20 => self.lone_file(draw),
+            21..=22 => self.on_day(draw),
+            23 => self.on_day_and_search(draw),
             24..=25 => self.sort_record(draw),
             26..=27 => self.part(draw),
             28..=43 => self.file_beside(draw),

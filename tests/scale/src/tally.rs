@@ -29,6 +29,11 @@ pub enum Call {
     SearchIndexed,
     Part,
     AnswerSeveral,
+    QuoteOn,
+    CheapestOn,
+    PartOn,
+    ShowOn,
+    FirstDay,
 }
 
 impl Call {
@@ -38,7 +43,7 @@ impl Call {
 }
 
 /// The refusals are numbered from 1 to this.
-const REFUSALS: usize = 17;
+const REFUSALS: usize = 18;
 
 /// At 0 how often a call succeeded, then how often it gave each refusal.
 type Counts = [u64; REFUSALS + 1];
@@ -84,6 +89,14 @@ pub struct Tally {
     pub shared: u64,
     /// Calls with the empty file in the place of a catalogue without extracts.
     pub empty: u64,
+    /// Questions covered on a day that were answered from the book of a record by what the quote for the day chooses, and the record
+    /// searched; parts on a day, likewise; first days after the given one; showings for a day, and those of them by which the lists of an
+    /// extract change that is not in force.
+    pub on_days: u64,
+    pub parts_on: u64,
+    pub first_days: u64,
+    pub shown_on: u64,
+    pub others_differ: u64,
     /// Old files that were sorted, and those of them whose links were not in order.
     pub sorted: u64,
     pub disordered: u64,
@@ -114,6 +127,7 @@ impl fmt::Display for Tally {
         let Tally { cheapest, not_chosen, tied, sorted, disordered, .. } = self;
         let Tally { parts, parts_with_pairs, wider, whole, choices, smaller, .. } = self;
         let Tally { several, questions, questions_with_pairs, shared, empty, .. } = self;
+        let Tally { on_days, parts_on, first_days, shown_on, others_differ, .. } = self;
         writeln!(
             f,
             "{answered} covered questions answered as the record is searched, {with_pairs} of them with pairs, {beside} of \
@@ -138,6 +152,12 @@ impl fmt::Display for Tally {
              pairs; in {shared} calls two needed the same sheet"
         )?;
         writeln!(f, "{empty} calls on an empty catalogue, each as on one without extracts")?;
+        writeln!(
+            f,
+            "{on_days} questions covered on a day and answered as the record is searched, {parts_on} parts on a day answered so, \
+             {first_days} first days after the given one; {shown_on} showings for a day with the same lists of all extracts in \
+             force, {others_differ} of them with other lists of another"
+        )?;
         writeln!(f, "{apart} answers from books of no record that are not those of the chosen set")?;
         writeln!(f, "{cheapest} cheapest sets, {not_chosen} of them not the chosen one, {tied} tied with another up to the numbers")?;
         writeln!(

@@ -8,6 +8,7 @@ use crate::files::*;
 use crate::part::choice;
 use crate::quoting::{quote, Quote};
 use crate::several::QUESTIONS_MOST;
+use crate::terms::{bits, quote_on, Term};
 
 /// The most items of a question, whether question and catalogue are as large as can be, the most items of a record; how
 /// many questions, how many of them have a record, and how many a book of no record.
@@ -61,6 +62,37 @@ fn quotes(script: &mut Script) {
     script.round(SHOW_UNCOVERED);
 }
 
+/// Terms, and a day at, before or after one of their ends, or any: what is quoted and shown on it, and the first day from it on. The
+/// charges are what content there is.
+fn on_a_day(script: &mut Script, rule: &mut Rule, files: &Files) -> (Vec<Term>, u16) {
+    let terms = draw_terms(rule, files.extracts.len());
+    let day = draw_day(rule, &terms);
+    let bytes: Vec<u8> = terms.iter().flat_map(|term| [term.from, term.to]).flat_map(u16::to_be_bytes).collect();
+    script.bytes(TERMS_PART, &bytes);
+    script.set(DAY, day.into());
+    script.round(QUOTE_ON);
+    script.once(CHEAPEST_ON);
+    script.round(SHOW_ON);
+    script.once(FIRST_DAY);
+    (terms, day)
+}
+
+/// From the book of a record, which is laid: the part on a day, and where the question is covered on it, the answer by what the quote
+/// for the day chooses beside the search.
+fn answer_on_a_day(script: &mut Script, rule: &mut Rule, files: &Files) {
+    let (terms, day) = on_a_day(script, rule, files);
+    script.round(PART_ON);
+    if let Ok(Quote { covered: true, chosen, .. }) =
+        quote_on(&files.question, &files.catalogue, &terms, day, WORK_WORDS)
+    {
+        script.set(SET, bits(&chosen).into());
+        script.round(ANSWER_FROM);
+        script.hold();
+        script.round(SEARCH);
+        script.same();
+    }
+}
+
 /// The book of a record, where it fits, the part and the answers from it, beside searches where the question is covered, without
 /// an index and with one.
 fn answers(script: &mut Script, rule: &mut Rule, files: &Files, items: u32, kinds: Kinds) {
@@ -71,6 +103,7 @@ fn answers(script: &mut Script, rule: &mut Rule, files: &Files, items: u32, kind
     }
     keep_as(script, BOOK_PART);
     several(script, rule, files);
+    answer_on_a_day(script, rule, files);
     script.round(PART);
     script.round(ANSWER);
     if files.is_covered() {
@@ -225,6 +258,8 @@ fn case(
     if book {
         lay_book(script, rule, &files);
         several(script, rule, &files);
+        on_a_day(script, rule, &files);
+        script.round(PART_ON);
         both_answers(script, rule, &files);
         if rule.draw(2) == 0 {
             turned_kind(script, rule, &files, true);
@@ -243,6 +278,9 @@ fn case(
             script.round(ANSWER);
             script.once(ANSWER_FROM);
             script.once(ANSWER_SEVERAL);
+            script.once(PART_ON);
+            script.once(QUOTE_ON);
+            script.once(FIRST_DAY);
         }
     }
     files.is_covered()

@@ -4,6 +4,7 @@
 use super::*;
 use crate::files::*;
 use crate::indexing::INDEX;
+use crate::terms::TERMS;
 
 /// The library's calls that read files, and which.
 fn calls() -> Vec<(usize, Vec<usize>)> {
@@ -84,12 +85,22 @@ const INDEXES: Faulty = &[
     (INDEX, &[0, 0, 0, 1, 0, 2, 0, 3]),
 ];
 
+/// Of three extracts: no entry, one less, one more, each with its days turned, and days that are the same.
+const TERM_LISTS: Faulty = &[
+    (TERMS, &[]),
+    (TERMS, &[0, 10, 0, 20, 0, 10, 0, 15]),
+    (TERMS, &[0, 10, 0, 20, 0, 10, 0, 15, 0, 12, 0, 20, 0, 0, 0, 1]),
+    (TERMS, &[0, 20, 0, 10, 0, 10, 0, 15, 0, 12, 0, 20]),
+    (TERMS, &[0, 10, 0, 20, 1, 0, 0, 255, 0, 12, 0, 20]),
+    (TERMS, &[0, 10, 0, 20, 0, 10, 0, 15, 0, 12, 0, 12]),
+];
+
 fn faulty(call: usize, part: usize) -> Faulty {
     match part {
         BOOK_PART if [CHECK_INDEX, SEARCH_INDEXED].contains(&call) => INDEXES,
         RECORD_PART if call == SORT_RECORD => OLD_RECORDS,
         QUESTION_PART if call == ANSWER_SEVERAL => TWO,
-        _ => [PATTERNS, CATALOGUES, RECORDS, BOOKS][part],
+        _ => [PATTERNS, CATALOGUES, RECORDS, BOOKS, TERM_LISTS][part],
     }
 }
 
@@ -107,6 +118,7 @@ struct Good {
     question: Vec<u8>,
     catalogue: Vec<u8>,
     record: Vec<u8>,
+    terms: Vec<u8>,
     made: usize,
 }
 
@@ -122,12 +134,13 @@ impl Good {
             QUESTION_PART => script.bytes(part, &self.question),
             CATALOGUE_PART => script.bytes(part, &self.catalogue),
             RECORD_PART => script.bytes(part, &self.record),
+            TERMS_PART => script.bytes(part, &self.terms),
             _ => self.lay_book(script),
         }
     }
 
     fn lay_all(&self, script: &mut Script) {
-        for part in [QUESTION_PART, CATALOGUE_PART, RECORD_PART, BOOK_PART] {
+        for part in [QUESTION_PART, CATALOGUE_PART, RECORD_PART, BOOK_PART, TERMS_PART] {
             self.lay(script, part);
         }
     }
@@ -136,6 +149,11 @@ impl Good {
 /// Whether a call is made on an uncovered question.
 fn of_uncovered(call: usize) -> bool {
     [SHOW_UNCOVERED, PART].contains(&call)
+}
+
+/// The day of a call: one on which not all extracts are in force where an uncovered question is wanted, else one on which all are.
+fn lay_day(script: &mut Script, call: usize) {
+    script.set(DAY, if [SHOW_ON, PART_ON].contains(&call) { 10 } else { 12 });
 }
 
 /// A question, and where several are sent another after it.
@@ -157,6 +175,7 @@ fn small(call: usize) -> Good {
             SORT_RECORD => pack_old_record(&record(&[(1, 2, 0), (0, 1, 0)])),
             _ => pack_record(&record(&[(0, 1, 0), (1, 2, 0)])),
         },
+        terms: rules::terms("10-20 10-15 12-20"),
         made: made(call),
     }
 }
@@ -181,6 +200,7 @@ fn large(made: usize, packed: impl Fn(&[u32]) -> Vec<u8>) -> Good {
         question: write_pattern(&pattern, PATTERN_BYTES, WORK_WORDS).unwrap(),
         catalogue: write_catalogue(&catalogue, CATALOGUE_BYTES, WORK_WORDS).unwrap(),
         record: packed(&graph_fields(&[u32::MAX; 16], &links)),
+        terms: rules::terms("10-65535"),
         made,
     }
 }
@@ -193,6 +213,7 @@ fn of_kinds(call: usize) -> Good {
         question: asked(call, worked::pattern(&kinds::one(&[0, 1])), &worked::pattern(&kinds::one(&[1]))),
         catalogue: worked::catalogue(&kinds::each(extracts)),
         record: kinds::of_links(),
+        terms: rules::terms("10-20 12-15 12-20"),
         made: made(call),
     }
 }
@@ -235,6 +256,7 @@ fn without_extracts(script: &mut Script) {
             continue;
         }
         small(call).lay_all(script);
+        script.empty(TERMS_PART);
         for more in [0, 1] {
             script.bytes(BOOK_PART, &[0][..more]);
             for catalogue in [&[0][..], &[]] {
@@ -258,6 +280,7 @@ pub fn write(script: &mut Script) {
     for (call, parts) in calls() {
         let good = small(call);
         good.lay_all(script);
+        lay_day(script, call);
         for part in parts {
             for &(number, file) in faulty(call, part) {
                 lay_content(script, call);
@@ -280,6 +303,7 @@ pub fn write(script: &mut Script) {
     for (call, parts) in calls() {
         if call != SORT_RECORD {
             of_kinds(call).lay_all(script);
+            lay_day(script, call);
             for part in parts {
                 lay_content(script, call);
                 sweep(script, call, part, 1);
@@ -291,6 +315,9 @@ pub fn write(script: &mut Script) {
     large(MAKE_BOOK, pack_record).lay_all(script);
     script.content(&[u32::MAX]);
     sweep_all(script, &[SEARCH, MAKE_BOOK, QUOTE, ANSWER, CHEAPEST, ANSWER_FROM, PART], 101);
+    sweep(script, CHEAPEST_ON, TERMS_PART, 1);
+    sweep(script, PART_ON, TERMS_PART, 1);
+    sweep(script, FIRST_DAY, TERMS_PART, 1);
     let large_question = script.part(QUESTION_PART).to_vec();
     script.bytes(QUESTION_PART, &large_question.repeat(2));
     sweep_all(script, &[ANSWER_SEVERAL], 101);

@@ -80,6 +80,15 @@ fn between<'a>(text: &'a str, before: &str, after: &str) -> &'a str {
     rest.split_once(after).unwrap_or((rest, "")).0
 }
 
+/// Days of terms, each as from-to, as they are lent: four bytes for each entry.
+pub fn terms(text: &str) -> Vec<u8> {
+    let days = |word: &str| {
+        let (from, to) = word.split_once('-').unwrap();
+        [from, to].map(|day| day.parse::<u16>().unwrap())
+    };
+    words(text).into_iter().flat_map(days).flat_map(u16::to_be_bytes).collect()
+}
+
 // A call.
 
 /// A file of zeros stands in the memory already.
@@ -102,6 +111,8 @@ fn lay_arguments(script: &mut Script, names: &Names, call: &Call, arguments: &[&
                 let entries: Vec<u16> = numbers(text);
                 script.bytes(BOOK_PART, &entries.into_iter().flat_map(u16::to_be_bytes).collect::<Vec<u8>>());
             }
+            Takes::Terms => script.bytes(TERMS_PART, &terms(text)),
+            Takes::Day => script.set(DAY, text.parse().unwrap()),
             Takes::Set => script.set(SET, text.parse().unwrap()),
             Takes::Number => script.set(QUESTIONS, text.parse().unwrap()),
             Takes::Room => script.set(ROOM, text.parse().unwrap()),
@@ -149,6 +160,7 @@ fn expected(names: &Names, form: Form, answer: &str) -> Outcome {
             sum: rest.split_once(' ').unwrap().0.parse().unwrap(),
             chosen: numbers(between(rest, "chosen ", "\n")),
         })),
+        Form::Day => Outcome::dated(or(refusal, || rest.parse().ok())),
         Form::Steps => unreachable!(),
     }
 }
@@ -181,6 +193,6 @@ mod tests {
     fn every_call_answers_what_its_line_says() {
         write(&mut Script::new());
         let calls = lines().1.iter().filter(|line| matches!(line, Line::Call { .. })).count();
-        assert_eq!(calls, 469);
+        assert_eq!(calls, 536);
     }
 }

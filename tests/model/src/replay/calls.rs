@@ -1,7 +1,7 @@
 //! The calls: for each its number in the cases, its name, and what the model says of it.
 
 use super::outcome::Outcome;
-use super::{BOOK_PART, CATALOGUE_PART, QUESTION_PART, RECORD_PART};
+use super::{BOOK_PART, CATALOGUE_PART, QUESTION_PART, RECORD_PART, TERMS_PART};
 use crate::answering::{answer, answer_from};
 use crate::cheapest::cheapest;
 use crate::files::*;
@@ -10,17 +10,20 @@ use crate::matching::{make_book, search};
 use crate::part::part;
 use crate::quoting::{quote, show};
 use crate::several::answer_several;
+use crate::terms::{cheapest_on, first_day, part_on, quote_on, show_on, Term};
 
-/// What is lent to a call: the parts, the content, a set of extracts, how many questions there are; how many words are lent to a
-/// reader, and how much of an output and of a second one to the others; and the words to work in.
+/// What is lent to a call: the parts, the content, a set of extracts, how many questions there are, a day; how many words are lent
+/// to a reader, and how much of an output and of a second one to the others; and the words to work in.
 pub struct Lent<'a> {
     pub question: &'a [u8],
     pub catalogue: &'a [u8],
     pub record: &'a [u8],
     pub book: &'a [u8],
+    pub terms: &'a [u8],
     pub content: &'a [u32],
     pub set: u16,
     pub number: u32,
+    pub day: u16,
     pub words: usize,
     pub room: usize,
     pub second: usize,
@@ -39,6 +42,12 @@ impl Lent<'_> {
         entries.map(|two| u16::from_be_bytes([two[0], two[1]])).collect()
     }
 
+    /// The terms, four bytes for each entry.
+    fn terms(&self) -> Vec<Term> {
+        let day = |two: &[u8]| u16::from_be_bytes([two[0], two[1]]);
+        self.terms.chunks_exact(4).map(|four| Term { from: day(&four[..2]), to: day(&four[2..]) }).collect()
+    }
+
     /// The two outputs.
     fn rooms(&self) -> (usize, usize) {
         (self.room.min(FIRST), self.second.min(SECOND))
@@ -46,8 +55,8 @@ impl Lent<'_> {
 }
 
 /// What a call takes, in its order: parts of the memory, of which an index stands in a book's place and several questions in
-/// that of one; the content, which is the charges of the cheapest set too; a set of extracts; how many questions there are; and
-/// how much is lent for an output and for a second one.
+/// that of one; the content, which is the charges of the cheapest set too; a set of extracts; how many questions there are; a day;
+/// and how much is lent for an output and for a second one.
 #[derive(Clone, Copy)]
 pub enum Takes {
     Question,
@@ -55,9 +64,11 @@ pub enum Takes {
     Record,
     Book,
     Index,
+    Terms,
     Content,
     Set,
     Number,
+    Day,
     Room,
     Second,
 }
@@ -70,6 +81,7 @@ impl Takes {
             Takes::Catalogue => Some(CATALOGUE_PART),
             Takes::Record => Some(RECORD_PART),
             Takes::Book | Takes::Index => Some(BOOK_PART),
+            Takes::Terms => Some(TERMS_PART),
             _ => None,
         }
     }
@@ -158,6 +170,22 @@ calls! {
             };
         ANSWER_SEVERAL 22 "answer_several" [Question, Number, Catalogue, Book, Room]
             |l| Outcome::several(answer_several(l.question, l.number, l.catalogue, l.book, l.room, l.work));
+        QUOTE_ON 23 "quote_on" [Question, Catalogue, Terms, Day]
+            |l| Outcome::quoted(quote_on(l.question, l.catalogue, &l.terms(), l.day, l.work));
+        CHEAPEST_ON 24 "cheapest_on" [Question, Catalogue, Terms, Day, Content]
+            |l| Outcome::priced(cheapest_on(l.question, l.catalogue, &l.terms(), l.day, l.content, l.work));
+        PART_ON 25 "part_on" [Question, Catalogue, Terms, Day, Book, Room, Second]
+            |l| {
+                let (first, second) = l.rooms();
+                Outcome::both(part_on(l.question, l.catalogue, &l.terms(), l.day, l.book, first, second, l.work))
+            };
+        SHOW_ON 26 "show_on" [Question, Catalogue, Terms, Day, Room, Second]
+            |l| {
+                let (first, second) = l.rooms();
+                Outcome::both(show_on(l.question, l.catalogue, &l.terms(), l.day, first, second, l.work))
+            };
+        FIRST_DAY 27 "first_day" [Question, Catalogue, Terms, Day]
+            |l| Outcome::dated(first_day(l.question, l.catalogue, &l.terms(), l.day, l.work));
     }
     // The states of a join after each step, and the search that the program makes apart from the library's, which to the
     // model is the same.

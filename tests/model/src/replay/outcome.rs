@@ -39,7 +39,7 @@ pub enum Output {
 /// What the values of an accepted answer are. The first is how much was written: words, bytes, those of a sheet, the entries of
 /// an index, or the bytes of the first of two outputs, with those of the second beside it. Several answers have their bytes and
 /// the sheets that they needed. A quote has 1 and the chosen set, or 0 and the lowest unmatched link; the cheapest set its sum
-/// and itself; the steps of a join their number and the settled items.
+/// and itself; the steps of a join their number and the settled items; a first day 1 and itself, or 0 and 0 where there is none.
 #[derive(Clone, Copy, Debug, PartialEq)]
 pub enum Form {
     Words,
@@ -51,6 +51,7 @@ pub enum Form {
     Quote,
     Price,
     Steps,
+    Day,
 }
 
 /// 0 or the refusal's number; two values, of which a refusal's detail is the first; and a digest of what was written.
@@ -175,6 +176,20 @@ impl Outcome {
             Err(refusal) => {
                 let digest = over(DIGEST_START, &[0u64; 3]);
                 Outcome { digest, ..Outcome::refused(Form::Price, refusal) }
+            }
+        }
+    }
+
+    /// The digest is that of both values.
+    pub fn dated(result: Result<Option<u16>, Refusal>) -> Outcome {
+        match result {
+            Ok(day) => {
+                let (found, day) = (u64::from(day.is_some()), u64::from(day.unwrap_or(0)));
+                Outcome::values(Form::Day, found, day, over(DIGEST_START, &[found, day]))
+            }
+            Err(refusal) => {
+                let digest = over(DIGEST_START, &[0u64; 2]);
+                Outcome { digest, ..Outcome::refused(Form::Day, refusal) }
             }
         }
     }

@@ -5,6 +5,7 @@ use native.Mathlib.Omega.{arith}
 use Rattle.packed.proofs.CallLaws.{none-lent}
 use Rattle.containment.proofs.QueryLaws.{fair}
 use Rattle.containment.proofs.AnswerLaws.{query-few, views-few}
+use Rattle.containment.proofs.MappingLaws.{mapping-length}
 use Rattle.containment.proofs.PartAnswers.{part-room, part-encodes, part-bounds, part-query, part-covers, part-agrees, part-answer-is, part-tight, part-refused, part-given}
 use borrow.Author.Needs.{needs}
 use Rattle.containment.proofs.parting.part_pairs.Statement.{statement}
@@ -64,21 +65,24 @@ part-pattern-of-end c =
 pattern-of-requires : tie.Need-pattern-of-requires
 pattern-of-requires c κs = let x = c .before .before .before .before .before .before .before .before .before .before .before .before .before .before .before .pre in part-bounds x (c .before .before .before .before .before .before .before .before .before .before .part-fields .ensures)
 
+columns-in-requires : tie.Need-columns-in-requires
+columns-in-requires c κs = ap length (c .before .before .before .before .before .before .before .before .before .before .before .before .before .before .before .before .pre .table-is) ∙ mapping-length _ _
+
 part-rows-requires : tie.Need-part-rows-requires
-part-rows-requires c κs = query-few (c .before .before .before .before .before .before .before .before .before .before .before .before .before .before .before .before .pre .query)
+part-rows-requires c κs = query-few (c .before .before .before .before .before .before .before .before .before .before .before .before .before .before .before .before .before .before .pre .query)
 
 choose-requires : tie.Need-choose-requires
 choose-requires c κs =
-    let x = c .before .before .before .before .before .before .before .before .before .before .before .before .before .before .before .before .before .before .pre in
-    let f = c .before .before .before .before .before .before .before .before .before .before .before .before .before .part-fields .ensures in
-    let p = c .before .before .pattern-of .ensures in
-    let t = c .before .part-rows .ensures in
+    let x = c .before .before .before .before .before .before .before .before .before .before .before .before .before .before .before .before .before .before .before .before .pre in
+    let f = c .before .before .before .before .before .before .before .before .before .before .before .before .before .before .before .part-fields .ensures in
+    let p = c .before .before .before .before .pattern-of .ensures in
+    let t = rw (c .before .before .before .columns-in .ensures) at (c .before .part-rows .ensures) in
     (query-few (part-query x f p), views-few (x .views .views), part-covers x f p t)
 
 answer-pairs-requires : tie.Need-answer-pairs-requires
 answer-pairs-requires c κs =
-    let x = c .before .before .before .before .before .before .before .before .before .before .before .before .before .before .before .before .before .before .before .before .before .before .pre in
-    (fair (part-query x (c .before .before .before .before .before .before .before .before .before .before .before .before .before .before .before .before .before .part-fields .ensures) (c .before .before .before .before .before .before .pattern-of .ensures)), x .book .pairs)
+    let x = c .before .before .before .before .before .before .before .before .before .before .before .before .before .before .before .before .before .before .before .before .before .before .before .before .pre in
+    (fair (part-query x (c .before .before .before .before .before .before .before .before .before .before .before .before .before .before .before .before .before .before .before .part-fields .ensures) (c .before .before .before .before .before .before .before .before .pattern-of .ensures)), x .book .pairs)
 
 enum-known-r : tie.Need-enum-known-r
 enum-known-r c = search needs
@@ -91,8 +95,8 @@ part-write-part-start-3 c = search needs
 
 part-write-part-end-3 : tie.Need-part-write-part-end-3
 part-write-part-end-3 c =
-    let x = c .before .before .before .before .before .before .before .before .before .before .before .before .before .before .before .before .before .before .before .before .before .before .before .before .before .before .before .before .before .before .before .pre in
-    let h = part-room x (c .before .before .before .before .before .before .before .before .before .before .before .before .before .before .before .before .before .before .before .before .before .before .before .before .before .before .part-fields .ensures) in
+    let x = c .before .before .before .before .before .before .before .before .before .before .before .before .before .before .before .before .before .before .before .before .before .before .before .before .before .before .before .before .before .before .before .before .before .pre in
+    let h = part-room x (c .before .before .before .before .before .before .before .before .before .before .before .before .before .before .before .before .before .before .before .before .before .before .before .before .before .before .before .before .part-fields .ensures) in
     omega (arith, h .0, h .1)
 
 write-part-requires-2 : tie.Need-write-part-requires-2
@@ -103,8 +107,8 @@ enum-known-r-2 c = search needs
 
 same-length-2 : tie.Need-same-length-2
 same-length-2 c =
-    let w = c .before .before .before .before .before .before .before .before .before .before .before .before .before .before .before .before .before .before .before .before .before .before .before .before .before .before .write-part in
-    c .before .before .write-part2 .kept .1 .0 ∙ ap length (none-lent (c .before .before .before .before .before .before .before .before .before .before .before .before .before .before .before .before .before .before .before .before .before .before .before .before .before .before .before .before .before .before .before .before .before .before .before .before .args .part .now) (w .last .1 .0) (w .kept .1 .0))
+    let w = c .before .before .before .before .before .before .before .before .before .before .before .before .before .before .before .before .before .before .before .before .before .before .before .before .before .before .before .before .write-part in
+    c .before .before .write-part2 .kept .1 .0 ∙ ap length (none-lent (c .before .before .before .before .before .before .before .before .before .before .before .before .before .before .before .before .before .before .before .before .before .before .before .before .before .before .before .before .before .before .before .before .before .before .before .before .before .before .args .part .now) (w .last .1 .0) (w .kept .1 .0))
 
 same-length-3 : tie.Need-same-length-3
 same-length-3 c = search needs
@@ -114,20 +118,22 @@ same-length-4 c = search needs
 
 returns-2 : tie.Need-returns-2
 returns-2 c =
-    let a = c .before .before .before .before .before .before .before .before .before .before .before .before .before .before .before .before .before .before .before .before .before .before .before .before .before .before .before .before .before .before .before .before .before .before .before .before .args in
-    let w = c .before .before .before .before .before .before .before .before .before .before .before .before .before .before .before .before .before .before .before .before .before .before .before .before .before .before .write-part in
+    let a = c .before .before .before .before .before .before .before .before .before .before .before .before .before .before .before .before .before .before .before .before .before .before .before .before .before .before .before .before .before .before .before .before .before .before .before .before .before .before .args in
+    let w = c .before .before .before .before .before .before .before .before .before .before .before .before .before .before .before .before .before .before .before .before .before .before .before .before .before .before .before .before .write-part in
     let s = none-lent (a .part .now) (w .last .1 .0) (w .kept .1 .0) in
-    let f = c .before .before .before .before .before .before .before .before .before .before .before .before .before .before .before .before .before .before .before .before .before .before .before .before .before .before .before .before .before .before .before .part-fields .ensures in
-    let p = c .before .before .before .before .before .before .before .before .before .before .before .before .before .before .before .before .before .before .before .before .pattern-of .ensures in
+    let f = c .before .before .before .before .before .before .before .before .before .before .before .before .before .before .before .before .before .before .before .before .before .before .before .before .before .before .before .before .before .before .before .before .before .part-fields .ensures in
+    let p = c .before .before .before .before .before .before .before .before .before .before .before .before .before .before .before .before .before .before .before .before .before .before .pattern-of .ensures in
     λ x.
-    let t = c .before .before .before .before .before .before .before .before .before .before .before .before .before .before .before .before .before .before .before .part-rows .ensures in
+    let t = rw (c .before .before .before .before .before .before .before .before .before .before .before .before .before .before .before .before .before .before .before .before .before .columns-in .ensures) at (c .before .before .before .before .before .before .before .before .before .before .before .before .before .before .before .before .before .before .before .part-rows .ensures) in
     let b = part-encodes x f in
     let j = part-agrees x f p t (c .before .before .before .before .before .before .before .before .before .before .before .before .before .before .before .before .before .choose .ensures) (a .answer .now) in
     rw (part-answer-is x f p t (c .before .before .before .before .before .before .before .before .before .before .before .before .before .before .before .before .before .choose .ensures) (a .answer .now))
-    (part-given (a .part .now) (a .answer .now) _ (w .ensures _ b .0) (rw s at (c .before .before .before .before .before .before .before .before .before .before .before .before .before .before .before .before .before .before .before .before .before .before .before .if1 .left)) _ _ (rw s at (c .before .before .write-part2 .ensures _ b .1)) (rw (c .before .before .before .before .before .before .before .r .given .1) at (c .before .before .before .before .before .before .before .before .before .before .before .before .before .answer-pairs .ensures _ j)))
+    (part-given (a .part .now) (a .answer .now) _ (w .ensures _ b .0) (rw s at (c .before .before .before .before .before .before .before .before .before .before .before .before .before .before .before .before .before .before .before .before .before .before .before .before .before .if1 .left)) _ _ (rw s at (c .before .before .write-part2 .ensures _ b .1)) (rw (c .before .before .before .before .before .before .before .r .given .1) at (c .before .before .before .before .before .before .before .before .before .before .before .before .before .answer-pairs .ensures _ j)))
 
 same-length-5 : tie.Need-same-length-5
-same-length-5 c = search needs
+same-length-5 c =
+    let w = c .before .before .before .before .before .before .before .before .before .before .before .before .before .before .before .before .before .before .before .before .before .before .write-part in
+    ap length (none-lent (c .before .before .before .before .before .before .before .before .before .before .before .before .before .before .before .before .before .before .before .before .before .before .before .before .before .before .before .before .before .before .before .before .args .part .now) (w .last .1 .0) (w .kept .1 .0))
 
 same-length-6 : tie.Need-same-length-6
 same-length-6 c = search needs
@@ -137,17 +143,17 @@ same-length-7 c = search needs
 
 returns-3 : tie.Need-returns-3
 returns-3 c =
-    let a = c .before .before .before .before .before .before .before .before .before .before .before .before .before .before .before .before .before .before .before .before .before .before .before .before .before .before .before .before .before .before .args in
-    let w = c .before .before .before .before .before .before .before .before .before .before .before .before .before .before .before .before .before .before .before .before .write-part in
+    let a = c .before .before .before .before .before .before .before .before .before .before .before .before .before .before .before .before .before .before .before .before .before .before .before .before .before .before .before .before .before .before .before .before .args in
+    let w = c .before .before .before .before .before .before .before .before .before .before .before .before .before .before .before .before .before .before .before .before .before .before .write-part in
     let s = none-lent (a .part .now) (w .last .1 .0) (w .kept .1 .0) in
-    let f = c .before .before .before .before .before .before .before .before .before .before .before .before .before .before .before .before .before .before .before .before .before .before .before .before .before .part-fields .ensures in
-    let p = c .before .before .before .before .before .before .before .before .before .before .before .before .before .before .pattern-of .ensures in
+    let f = c .before .before .before .before .before .before .before .before .before .before .before .before .before .before .before .before .before .before .before .before .before .before .before .before .before .before .before .part-fields .ensures in
+    let p = c .before .before .before .before .before .before .before .before .before .before .before .before .before .before .before .before .pattern-of .ensures in
     λ x.
-    let t = c .before .before .before .before .before .before .before .before .before .before .before .before .before .part-rows .ensures in
+    let t = rw (c .before .before .before .before .before .before .before .before .before .before .before .before .before .before .before .columns-in .ensures) at (c .before .before .before .before .before .before .before .before .before .before .before .before .before .part-rows .ensures) in
     let b = part-encodes x f in
     let j = part-agrees x f p t (c .before .before .before .before .before .before .before .before .before .before .before .choose .ensures) (a .answer .now) in
     rw (part-answer-is x f p t (c .before .before .before .before .before .before .before .before .before .before .before .choose .ensures) (a .answer .now))
-    (part-refused (a .part .now) (a .answer .now) _ (w .ensures _ b .0) (rw s at (c .before .before .before .before .before .before .before .before .before .before .before .before .before .before .before .before .before .if1 .left)) _ (c .before .r2 .given .0 .0) s (rw (c .before .r2 .given .1) at (c .before .before .before .before .before .before .before .answer-pairs .ensures _ j)))
+    (part-refused (a .part .now) (a .answer .now) _ (w .ensures _ b .0) (rw s at (c .before .before .before .before .before .before .before .before .before .before .before .before .before .before .before .before .before .before .before .if1 .left)) _ (c .before .r2 .given .0 .0) s (rw (c .before .r2 .given .1) at (c .before .before .before .before .before .before .before .answer-pairs .ensures _ j)))
 
 pub part-pairs-spec : {M : Type 1} → statement M
 part-pairs-spec =
@@ -167,6 +173,7 @@ part-pairs-spec =
     part-pattern-of-start
     part-pattern-of-end
     pattern-of-requires
+    columns-in-requires
     part-rows-requires
     choose-requires
     answer-pairs-requires

@@ -1,9 +1,9 @@
--- `quote::put_line` meets its contract.
+-- `listing::print::put_line` meets its contract.
 use native.Mathlib.Omega.{arith}
 use Rattle.listing.proofs.WrittenLaws.{line-whole, line-never-refused}
 use borrow.Author.Needs.{needs}
-use Rattle.quote.proofs.put_line.Statement.{statement}
-use Rattle.quote.proofs.put_line.Tie as tie
+use Rattle.listing.proofs.print.put_line.Statement.{statement}
+use Rattle.listing.proofs.print.put_line.Tie as tie
 
 line-requires : tie.Need-line-requires
 line-requires c κs = search needs

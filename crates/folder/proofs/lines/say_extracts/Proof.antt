@@ -1,8 +1,8 @@
--- `cheapest::say_extracts` is safe and ends.
+-- `folder::lines::say_extracts` is safe and ends.
 use Prim.Native.Nat.{_-_}
 use borrow.Author.Needs.{needs}
-use Rattle.cheapest.proofs.say_extracts.Statement.{statement}
-use Rattle.cheapest.proofs.say_extracts.Tie as tie
+use Rattle.folder.proofs.lines.say_extracts.Statement.{statement}
+use Rattle.folder.proofs.lines.say_extracts.Tie as tie
 
 abbrev Inv-loop : tie.InvT-loop
 Inv-loop set a₀ a = Unit

@@ -1,8 +1,8 @@
--- `quote::print_quote` meets its contract: it ends.
+-- `listing::print::quote` meets its contract: it ends.
 use Prim.Native.Nat.{_≤_, _-_}
 use borrow.Author.Needs.{needs}
-use Rattle.quote.proofs.print_quote.Statement.{statement}
-use Rattle.quote.proofs.print_quote.Tie as tie
+use Rattle.listing.proofs.print.quote.Statement.{statement}
+use Rattle.listing.proofs.print.quote.Tie as tie
 
 abbrev Inv-loop : tie.InvT-loop
 Inv-loop q k₀ k = k ≤ 64
@@ -31,8 +31,8 @@ loop-again c = search needs
 returns-2 : tie.Need-returns-2 Inv-loop μ-loop
 returns-2 c = search needs
 
-pub print-quote-spec : {M : Type 1} → statement M
-print-quote-spec =
+pub quote-spec : {M : Type 1} → statement M
+quote-spec =
     tie.close
     (tie.spec
     Inv-loop
