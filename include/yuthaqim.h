@@ -20,9 +20,10 @@
  * before a call. Afterwards the first YUTHAQIM_WORK_WORDS of them are zero and those beyond are as they were; on
  * YUTHAQIM_DESK all of them are as they were.
  *
- * The stack, as measured on large files: sorting an old record 117,096 bytes, answering several questions 106,200,
- * finding a part 94,104, answering 91,800, making a book 88,536, searching 87,192, searching by an index 78,280, quoting
- * 28,692, showing 25,188, the cheapest set 24,804, reading a book 2,760, writing one 2,568, the others under 1,900. So
+ * The stack, as measured on large files: sorting an old record 117,096 bytes, answering several questions 107,208,
+ * finding a part 100,072, answering 92,808, making a book 89,144, searching 87,800, searching by an index 79,352,
+ * quoting 34,952, the first day 31,032, showing 28,920, the cheapest set 28,904, reading a book 2,760, writing one
+ * 2,568, the others under 1,900. So
  * 128 KB suffice.
  *
  * Content is a file's fields in order, one word each, padding left out. That of a pattern or a record is the number of
@@ -230,7 +231,8 @@ struct yuthaqim_reply yuthaqim_sort_record(const uint8_t *old, size_t old_length
                                            uint32_t *work, size_t work_length);
 
 /* Searches a record for a pattern: writes the pattern's sheet. A link of the pattern is met by links of the record of its
- * own kind alone; the sheet lists pairs, since the link of the pattern gives the kind. */
+ * own kind alone; the sheet lists pairs, since the link of the pattern gives the kind. What stands for an item of the pattern
+ * has a link for each that leaves that item and for each that arrives at it. */
 struct yuthaqim_reply yuthaqim_search(const uint8_t *pattern, size_t pattern_length, const uint8_t *record,
                                       size_t record_length, uint8_t *out, size_t out_length, uint32_t *work,
                                       size_t work_length);

@@ -10,10 +10,12 @@ const PANEL: (f64, f64) = (300.0, 290.0);
 /// Where in its panel a diagram stands, and how large it is.
 const CORNER: (f64, f64) = (62.0, 34.0);
 const DIAGRAM: (f64, f64) = (220.0, 206.0);
-const LEGEND: f64 = 84.0;
+const LEGEND: f64 = 106.0;
 
-const COLOURS: [&str; 10] =
-    ["#0072b2", "#e69f00", "#d55e00", "#009e73", "#666666", "#cc79a7", "#5e3c99", "#56b4e9", "#8c6d31", "#8b0000"];
+const COLOURS: [&str; 11] = [
+    "#0072b2", "#e69f00", "#d55e00", "#009e73", "#666666", "#1b7837", "#cc79a7", "#5e3c99", "#56b4e9", "#8c6d31",
+    "#8b0000",
+];
 
 /// A diagram's scales.
 struct Scale {
@@ -137,7 +139,7 @@ pub fn draw(cases: &[Case]) -> String {
     svg
 }
 
-/// Five entries in a row: the workloads by their colours, then the two sides.
+/// Six entries in a row: the workloads by their colours, then the two sides.
 fn legend(svg: &mut String, workloads: &[&str], width: f64, top: f64) {
     let coloured = workloads.iter().zip(COLOURS).map(|(&name, colour)| (name, colour, true));
     let sides = [("the library", "#222222", true), ("the baseline", "#222222", false)];
@@ -148,5 +150,5 @@ fn legend(svg: &mut String, workloads: &[&str], width: f64, top: f64) {
         text(svg, (x + 38.0, y), "", name);
     }
     let note = "Medians of all turns. The size of a quote is the number of extracts.";
-    text(svg, (CORNER.0, top + 50.0), "fill=\"#555555\"", note);
+    text(svg, (CORNER.0, top + 72.0), "fill=\"#555555\"", note);
 }

@@ -49,7 +49,8 @@ impl Workload {
 
 /// The workloads at a size: the full one divided by a power of two up to 8.
 pub fn all(part: usize) -> Vec<Workload> {
-    let makers = [layered, star, chain, cascade, hub, one_kind, nothing, mostly_nothing, everything, link_kinds];
+    let makers =
+        [layered, star, chain, cascade, hub, arrivals, one_kind, nothing, mostly_nothing, everything, link_kinds];
     makers.map(|make| make(ITEMS / part, LINKS / part)).into()
 }
 
@@ -271,7 +272,8 @@ fn cascade(items: usize, _: usize) -> Workload {
     let mut extracts = vec![path(&[0, 0]), ring(&zeros), ring(&zeros[..8])];
     extracts.extend((1..8).map(|kind| path(&[kind, kind + 1])));
     extracts.extend((1..6).map(|kind| path(&[kind, kind + 1, kind + 2])));
-    let about = "a chain through all items, numbers shuffled; question of sixteen items of one kind in a ring, which nothing \
+    let about =
+        "a chain through all items, numbers shuffled; question of sixteen items of one kind in a ring, which nothing \
                  matches in the end; 15 extracts, 2 of which cascade like it";
     workload("cascade", about, (kinds, links), ring(&zeros), extracts)
 }
@@ -293,6 +295,21 @@ fn hub(items: usize, _: usize) -> Workload {
     let about = "one item linked to all others, which stand in a chain, numbers shuffled; question of a self link, which nothing \
                  matches in the end; 15 extracts, 2 of which cascade like it";
     workload("hub", about, (kinds, links), ring(&[0]), extracts)
+}
+
+/// An item of low number at which a link arrives from each other item. But for the last they stand in a chain by their numbers and lose
+/// what they may stand for from the lowest on; the last and the first, linked both ways, keep each other.
+fn arrivals(items: usize, _: usize) -> Workload {
+    let last = items - 1;
+    let kinds: Vec<u32> = (0..items).map(|v| 1 | 2 << (v % 8)).collect();
+    let chain = (2..last).map(|v| (v - 1, v));
+    let links = plain((1..items).map(|v| (v, 0)).chain(chain).chain([(0, last)]));
+    let mut extracts = vec![path(&[0, 0]), ring(&[0]), ring(&[0, 0])];
+    extracts.extend((1..8).map(|kind| path(&[kind, kind + 1])));
+    extracts.extend((1..6).map(|kind| path(&[kind, kind + 1, kind + 2])));
+    let about = "an item of low number at which links arrive from all others, which stand in a chain and are lost from the lowest on, and \
+                 one that is not lost comes last; question of a self link, 15 extracts, 2 of which cascade like it";
+    workload("arrivals", about, (kinds, links), ring(&[0]), extracts)
 }
 
 /// All items of one kind. A sixteenth of them, the core, has two links each within the core; the others stand in three

@@ -345,7 +345,8 @@ static void link_kinds(void) {
     static const uint32_t record_fields[] = {3, 3, 1, 2, 2, 0, 1, 0, 0, 1, 1, 0, 2, 1};
     static const uint32_t lower[] = {3, 3, 1, 2, 2, 0, 1, 1, 0, 1, 0, 0, 2, 1};
     static const uint32_t fewer_fields[] = {2, 1, 1, 2, 0, 1, 1};
-    static const uint8_t both_sheet[] = {0x80, 0x02, 0x00, 0x00, 0x02, 0x00, 0x10, 0x00, 0x00, 0x08, 0x00, 0x00, 0x10};
+    /* No link of kind 0 arrives at item 2, so it is in neither list. */
+    static const uint8_t both_sheet[] = {0x80, 0x02, 0x00, 0x00, 0x02, 0x00, 0x08, 0x00, 0x00, 0x08};
     static const uint8_t extract_sheet[] = {0x80, 0x04, 0x00, 0x00, 0x02, 0x00, 0x00, 0x04};
     static uint8_t record[YUTHAQIM_RECORD_BYTES], shown[YUTHAQIM_RECORD_BYTES];
     size_t length =
@@ -754,6 +755,28 @@ static void no_catalogue(void) {
     expect("show_uncovered: D with no extracts", s.number, s.first, s.number == 0 && s.first == 33 && s.second == 30);
 }
 
+/* K6 with item 4 of kind {1}, which hangs on no section, and the link 4 to 2: extract 1 lists what it lists on K6. A question 0 to 1,
+ * 1 to 1 of one kind is uncovered by 0 to 0. */
+static void both_ways(void) {
+    static const uint32_t vial_fields[] = {5, 4, 1, 2, 8, 2, 2, 0, 1, 0, 0, 3, 0, 1, 2, 0, 4, 2, 0};
+    static const uint8_t line[] = {0x10, 0x40, 0x00, 0x08, 0x11, 0x00}, loop[] = {0x08, 0x08, 0x20, 0x00, 0x00};
+    static uint8_t vial[YUTHAQIM_RECORD_BYTES];
+    size_t length = yuthaqim_write_record(vial_fields, LENGTH(vial_fields), vial, sizeof vial, work, LENGTH(work)).value;
+    struct yuthaqim_quote q;
+
+    mark();
+    expect_bytes("search: a run that hangs on no section",
+                 yuthaqim_search(SLOW, sizeof SLOW, vial, length, bytes, sizeof bytes, work, LENGTH(work)), K6_SHEET,
+                 sizeof K6_SHEET);
+    mark();
+    expect_bytes("make_book: the same",
+                 yuthaqim_make_book(C, sizeof C, vial, length, bytes, sizeof bytes, work, LENGTH(work)), K6_BOOK,
+                 sizeof K6_BOOK);
+    q = yuthaqim_quote(line, sizeof line, loop, sizeof loop, work, LENGTH(work));
+    expect("quote: nothing arrives at item 0", q.number, q.lowest,
+           q.number == 0 && q.covered == 0 && q.lowest == 0 && maps(&q, 1, 0, 1) && masks(&q) == 1);
+}
+
 /* D with C on a day, by these terms. */
 static struct yuthaqim_quote quote_on(const struct yuthaqim_term *terms, size_t n, uint16_t day) {
     mark();
@@ -896,6 +919,7 @@ int main(void) {
     showing();
     no_catalogue();
     days();
+    both_ways();
     refusals();
     printf("%d wrong\n", failures);
     return failures != 0;

@@ -1,5 +1,5 @@
-//! Matching: the greatest simulation by counters and a worklist, after Henzinger, Henzinger and Kopke, and the sheets
-//! that follow from it.
+//! Matching: the greatest simulation, by the links that leave and by those that arrive, with counters for both directions and a
+//! worklist, after Henzinger, Henzinger and Kopke; and the sheets that follow from it.
 
 use super::bits::Writer;
 use super::files::*;
@@ -20,102 +20,167 @@ pub fn members(set: u32) -> impl Iterator<Item = usize> {
     })
 }
 
-/// A graph whose arriving links can be found: those at item w are `arriving[first[w]..first[w + 1]]`, each by the item
-/// that it leaves and, above 12 bits, its kind.
+/// The links at each item: those at item v are `links[first[v]..first[v + 1]]`, each by the item at its other end and, above 12
+/// bits, its kind.
+struct Beside {
+    first: Vec<usize>,
+    links: Vec<u16>,
+}
+
+impl Beside {
+    /// Of so many items, each link by the item that it stands at and the one at its other end.
+    fn new(items: usize, links: &[Link], near_and_far: impl Fn(Link) -> (usize, usize)) -> Beside {
+        let mut first = vec![0; items + 2];
+        for &link in links {
+            first[near_and_far(link).0 + 2] += 1;
+        }
+        for v in 2..first.len() {
+            first[v] += first[v - 1];
+        }
+        // The places of v's links begin at first[v + 1] and, once they are filled, end there.
+        let mut beside = vec![0; links.len()];
+        for &link in links {
+            let (near, far) = near_and_far(link);
+            beside[first[near + 1]] = (kind_of(link) << 12 | far) as u16;
+            first[near + 1] += 1;
+        }
+        Beside { first, links: beside }
+    }
+
+    fn at(&self, v: usize) -> &[u16] {
+        &self.links[self.first[v]..self.first[v + 1]]
+    }
+}
+
+/// A graph of which the links leaving an item can be found, and those arriving at it.
 pub struct Graph {
     pub kinds: Vec<u32>,
     pub links: Vec<Link>,
-    first: Vec<usize>,
-    arriving: Vec<u16>,
+    leaving: Beside,
+    arriving: Beside,
 }
 
 impl Graph {
     pub fn new(kinds: Vec<u32>, links: Vec<Link>) -> Graph {
-        let mut first = vec![0; kinds.len() + 2];
-        for &link in &links {
-            first[ends(pair_of(link)).1 + 2] += 1;
-        }
-        for w in 2..first.len() {
-            first[w] += first[w - 1];
-        }
-        // The places of w's links begin at first[w + 1] and, once they are filled, end there.
-        let mut arriving = vec![0; links.len()];
-        for &link in &links {
+        let leaving = Beside::new(kinds.len(), &links, |link| ends(pair_of(link)));
+        let arriving = Beside::new(kinds.len(), &links, |link| {
             let (v, w) = ends(pair_of(link));
-            arriving[first[w + 1]] = (kind_of(link) << 12 | v) as u16;
-            first[w + 1] += 1;
+            (w, v)
+        });
+        Graph { kinds, links, leaving, arriving }
+    }
+}
+
+/// What a pattern's links ask for in one direction is goals: a link of a kind, and the item at its far end. By kind, the items of
+/// such goals; by kind and item, the goal's number. To a goal from the items that have a link to it, and from an item to its goals.
+struct Goals {
+    ends_of_links: [Items; LINK_KINDS],
+    numbers: [[u8; 16]; LINK_KINDS],
+    leading: [Items; 32],
+    led_to: [Links; 16],
+    number: usize,
+}
+
+impl Goals {
+    /// By the near end, the far end and the kind of each link.
+    fn new(links: impl Iterator<Item = (usize, usize, usize)>) -> Goals {
+        let (ends_of_links, numbers) = ([0; LINK_KINDS], [[0u8; 16]; LINK_KINDS]);
+        let mut goals = Goals { ends_of_links, numbers, leading: [0; 32], led_to: [0; 16], number: 0 };
+        for (near, far, kind) in links {
+            if goals.ends_of_links[kind] >> far & 1 == 0 {
+                goals.ends_of_links[kind] |= 1 << far;
+                goals.numbers[kind][far] = goals.number as u8;
+                goals.number += 1;
+            }
+            let goal = goals.numbers[kind][far];
+            goals.leading[goal as usize] |= 1 << near;
+            goals.led_to[near] |= 1 << goal;
         }
-        Graph { kinds, links, first, arriving }
+        goals
+    }
+}
+
+/// For each item of a graph and each goal, how many links of its kind lead from the one to an item that holds the other's.
+struct Counters {
+    goals: Goals,
+    counts: Vec<u16>,
+    /// Which of an item's counts are not zero at first.
+    reached: Vec<Links>,
+}
+
+impl Counters {
+    fn new(goals: Goals, items: usize) -> Counters {
+        let counts = vec![0; goals.number * items];
+        Counters { goals, counts, reached: vec![0; items] }
+    }
+
+    /// A link of a kind from the near item leads to one that holds these.
+    fn add(&mut self, near: usize, kind: usize, held: Items) {
+        let Counters { goals, counts, reached } = self;
+        let counts = &mut counts[goals.number * near..][..goals.number];
+        for u in members((held & goals.ends_of_links[kind]).into()) {
+            let goal = goals.numbers[kind][u];
+            counts[goal as usize] += 1;
+            reached[near] |= 1 << goal;
+        }
+    }
+
+    /// Those of the held items that lack a goal, at first.
+    fn lacking(&self, v: usize, held: Items) -> Items {
+        let unsupported = members(held.into()).filter(|&u| self.goals.led_to[u] & !self.reached[v] != 0);
+        unsupported.fold(0, |lost, u| lost | 1 << u)
+    }
+
+    /// The item at a link's far end no longer holds these: what the near one may lose by that.
+    fn take(&mut self, near: usize, kind: usize, gone: Items) -> Items {
+        let Counters { goals, counts, .. } = self;
+        let counts = &mut counts[goals.number * near..][..goals.number];
+        let mut lost = 0;
+        for u in members((gone & goals.ends_of_links[kind]).into()) {
+            let goal = goals.numbers[kind][u] as usize;
+            counts[goal] -= 1;
+            if counts[goal] == 0 {
+                lost |= goals.leading[goal];
+            }
+        }
+        lost
     }
 }
 
 /// The greatest simulation: for each item of the graph the items of the pattern that it may stand for.
 fn simulate(pattern: &Pattern, graph: &Graph) -> Vec<Items> {
-    // What a link of the pattern asks for is a goal: a link of its kind to the item at its end. By kind, the items of such
-    // goals; by kind and item, the goal's number. To a goal from the items that have a link to it, and from an item to its
-    // goals.
-    let mut ends_of_links: [Items; LINK_KINDS] = [0; LINK_KINDS];
-    let mut numbers = [[0u8; 16]; LINK_KINDS];
-    let mut leading: [Items; 32] = [0; 32];
-    let mut led_to: [Links; 16] = [0; 16];
-    let mut m = 0;
-    for &(u, next, kind) in &pattern.links {
-        if ends_of_links[kind] >> next & 1 == 0 {
-            ends_of_links[kind] |= 1 << next;
-            numbers[kind][next] = m as u8;
-            m += 1;
-        }
-        let goal = numbers[kind][next];
-        leading[goal as usize] |= 1 << u;
-        led_to[u] |= 1 << goal;
-    }
     // All items of its kind, at first.
     let at_first = |kinds: &u32| {
         let fits = |(u, kind): (usize, &u32)| ((kinds >> kind & 1) << u) as Items;
         pattern.kinds.iter().enumerate().map(fits).sum()
     };
     let mut held: Vec<Items> = graph.kinds.iter().map(at_first).collect();
-    // At m · v + goal, how many links of its kind lead from v to an item that holds its item; and at v, which of them are
-    // not zero.
-    let mut counts = vec![0u16; m * held.len()];
-    let mut reached: Vec<Links> = vec![0; held.len()];
+    let mut leaving = Counters::new(Goals::new(pattern.links.iter().copied()), held.len());
+    let turned = pattern.links.iter().map(|&(u, next, kind)| (next, u, kind));
+    let mut arriving = Counters::new(Goals::new(turned), held.len());
     for &link in &graph.links {
-        let (v, w) = ends(pair_of(link));
-        let (kind, counts) = (kind_of(link), &mut counts[m * v..][..m]);
-        let mut goals = 0;
-        for u in members((held[w] & ends_of_links[kind]).into()) {
-            let goal = numbers[kind][u];
-            counts[goal as usize] += 1;
-            goals |= 1 << goal;
-        }
-        reached[v] |= goals;
+        let ((v, w), kind) = (ends(pair_of(link)), kind_of(link));
+        leaving.add(v, kind, held[w]);
+        arriving.add(w, kind, held[v]);
     }
     // What was dropped and isn't taken off the counts yet.
     let mut dropped: Vec<(usize, Items)> = Vec::new();
     for v in 0..held.len() {
-        let unsupported = members(held[v].into()).filter(|&u| led_to[u] & !reached[v] != 0);
-        let lost = unsupported.fold(0, |lost, u| lost | 1 << u);
+        let lost = leaving.lacking(v, held[v]) | arriving.lacking(v, held[v]);
         if lost != 0 {
             held[v] &= !lost;
             dropped.push((v, lost));
         }
     }
-    while let Some((w, gone)) = dropped.pop() {
-        for &arriving in &graph.arriving[graph.first[w]..graph.first[w + 1]] {
-            let (v, kind) = ((arriving & 4_095) as usize, (arriving >> 12) as usize);
-            let counts = &mut counts[m * v..][..m];
-            let mut lost = 0;
-            for u in members((gone & ends_of_links[kind]).into()) {
-                let goal = numbers[kind][u] as usize;
-                counts[goal] -= 1;
-                if counts[goal] == 0 {
-                    lost |= leading[goal];
+    while let Some((v, gone)) = dropped.pop() {
+        for (beside, counters) in [(&graph.arriving, &mut leaving), (&graph.leaving, &mut arriving)] {
+            for &link in beside.at(v) {
+                let (near, kind) = ((link & 4_095) as usize, (link >> 12) as usize);
+                let lost = counters.take(near, kind, gone) & held[near];
+                if lost != 0 {
+                    held[near] &= !lost;
+                    dropped.push((near, lost));
                 }
-            }
-            lost &= held[v];
-            if lost != 0 {
-                held[v] &= !lost;
-                dropped.push((v, lost));
             }
         }
     }

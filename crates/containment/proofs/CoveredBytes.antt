@@ -1,9 +1,9 @@
 -- Answering from a book: the views in a set and their sheets, the book that is made from a record, and that every answer is a sheet.
-use Prim.Native.Nat.{ℕ, zero, suc, _+_, _/_, _%_, _^_, _<_, _≤_}
+use Prim.Native.Nat.{ℕ, _+_, _/_, _%_, _^_, _<_, _≤_}
 use mathlib.Core.Path.{_≡_, refl, sym, ap, ap₂, subst, _∙_}
 use mathlib.Core.Bool.{Bool, true, false}
 use mathlib.Core.List.{List, [], _∷_, map}
-use lib.ListN.{length, drop, getD, length-map}
+use lib.ListN.{length, drop, getD, length-map, List·getD-map}
 use lib.Seq.{getD-drop}
 use lib.Dec.{T, eqb, ltb, ltb→lt, lt→ltb}
 use lib.Pow.{shr-shr}
@@ -25,7 +25,7 @@ use Rattle.packed.proofs.WalkLaws.{book-pairs}
 use Rattle.packed.proofs.BookSheetLaws.{sheets-back, list-is, list-stands, list-small, list-in-book}
 use Rattle.packed.proofs.CallLaws.{overFile, overFile-no, fitFile-fits}
 use Rattle.matching.specs.Lists.{In, keep, each}
-use Rattle.matching.specs.Simulation.{oneWay, Pattern, Graph, bit, patternOf, graphOf, sound, matchSets, viewSheet}
+use Rattle.matching.specs.Simulation.{bothWays, Pattern, Graph, bit, patternOf, graphOf, sound, matchSets, viewSheet}
 use Rattle.matching.specs.Join.{View, covered, answerSets}
 use Rattle.matching.proofs.ByEdge.{viewOf}
 use Rattle.matching.specs.Search.{sheetBytes, viewSheets, searchOutcome}
@@ -37,17 +37,15 @@ use Rattle.matching.proofs.SheetBytes.{SheetFields, sheet-by, fit-by}
 use Rattle.matching.proofs.BookBytes.{bookFields, counts-are, made-back, made-few}
 use Rattle.matching.proofs.JoinLaws.{answer-each}
 use Rattle.matching.proofs.AnswerLaws.{AnswerStands, answer-all-or-none, answer-listable}
-use Rattle.matching.proofs.SimLaws.{not-both}
-use Rattle.matching.proofs.MatchLaws.{Weaker}
 use Rattle.matching.proofs.Covered.{covered-answer}
 use Rattle.matching.specs.Offered.{viewPatterns}
 use Rattle.containment.specs.Choice.{everyView, coversIn}
-use Rattle.containment.specs.Quote.{noPattern, mapping, quotedBy, viewsInSet}
+use Rattle.containment.specs.Quote.{mapping, quotedBy, viewsInSet}
 use Rattle.containment.specs.Answer.{viewsIn, answerBytes, Choose, answerIn, answerFor, answerBy}
 use Rattle.containment.specs.Demands.{Question, Catalogue, Record, Book, Covers, Leaves, bookOf, lackingIn}
 use Rattle.containment.proofs.ChoiceLaws.{covers-alike, lowest-alike}
 use Rattle.containment.proofs.CandidateLaws.{views-say}
-use Rattle.containment.proofs.QuoteLaws.{place-of, chosen-say, set-covers-exactly}
+use Rattle.containment.proofs.QuoteLaws.{place-of, set-covers-exactly}
 
 -- ---- the views in a set
 
@@ -117,17 +115,16 @@ question-bounds q qs h = plain-bounds (pattern-read q qs .0 h .1 .laid)
 pub few-views : (c cs : List ℕ) → Catalogue c cs → length (viewPatterns cs) ≤ 16
 few-views c cs h = let v = catalogue-views c cs h in omega (arith, length-map (viewsOf cs) patternOf, v .many, v .most)
 
--- a view's rule is no stronger than a query's: both are matched one-way
-views-rule : (vs : List (List ℕ)) (a : ℕ) → getD (map patternOf vs) a noPattern .rule ≡ oneWay
+-- a query is matched both ways, so that no view has a stronger rule
+pub query-rule : (qs : List ℕ) → patternOf qs .rule ≡ bothWays
 unfolding patternOf
-views-rule [] a = refl
-views-rule (v ∷ vs) zero = refl
-views-rule (v ∷ vs) (suc a) = views-rule vs a
+query-rule qs = refl
 
-views-weaker : (qs : List ℕ) (set : ℕ) (cs : List ℕ) (P : Pattern) → In P (viewsInSet set (viewPatterns cs)) → Weaker P (patternOf qs)
-views-weaker qs set cs P i b =
-    let o = chosen-say set (viewPatterns cs) P i in
-    absurd (not-both (sym (ap (λ (R : Pattern). R .rule) (o .holds .1) ∙ views-rule (viewsOf cs) (o .at)) ∙ b))
+-- and so is each view
+pub views-rule : (cs : List ℕ) (P : Pattern) → In P (viewPatterns cs) → P .rule ≡ bothWays
+views-rule cs P i =
+    let o = place-of (patternOf []) i in
+    ap (λ (R : Pattern). R .rule) (o .holds ∙ List·getD-map patternOf (viewsOf cs) (o .at) []) ∙ query-rule (getD (viewsOf cs) (o .at) [])
 
 -- ---- the book that is made from a record
 
@@ -192,7 +189,7 @@ module _ (q c qs cs : List ℕ) (p : Question q qs) (d : Catalogue c cs) where
         let k : T (covered Q (viewsInSet set (viewPatterns cs))) = set-covers-exactly Q (viewPatterns cs) set (few-views c cs d) (z .few-edges) .0 (rw (z .many) h) in
         ap sheetBytes
         (ap (answerSets Q) (sets-chosen set (graphOf rs) (viewsOf cs))
-        ∙ covered-answer Q (viewsInSet set (viewPatterns cs)) (z .sound) (z .few-nodes) (views-weaker qs set cs) k (graphOf rs) (graph-narrow r rs (record-is r rs f)))
+        ∙ covered-answer Q (viewsInSet set (viewPatterns cs)) (z .sound) (z .few-nodes) (λ P i b. query-rule qs) k (graphOf rs) (graph-narrow r rs (record-is r rs f)))
 
     pub answer-search : (choose : Choose) → Covers (choose (quotedBy qs cs)) qs cs → length (bookOf cs rs) ≤ 65536 → (room : ℕ)
         → answerBy choose q c (bookOf cs rs) room ≡ searchOutcome q r room

@@ -8,12 +8,12 @@ use native.Mathlib.Omega.{arith}
 use Rattle.packed.specs.Formats.{code}
 use Rattle.packed.specs.Contents.{edgeCounts, sheetsIn}
 use Rattle.matching.specs.Lists.{In}
-use Rattle.matching.specs.Simulation.{Pair, Edge, noEdge, oneWay, Pattern, patternOf, ascending}
+use Rattle.matching.specs.Simulation.{Pair, Edge, noEdge, Pattern, patternOf, ascending}
 use Rattle.matching.specs.Join.{View, pairOf, candidates, Offer, choice, join, answerSets}
 use Rattle.matching.proofs.ByEdge.{answerTo}
 use Rattle.matching.proofs.ListLaws.{in-cast, getD-each}
 use Rattle.matching.proofs.CodeLaws.{code-same, ascending-say, ascending-by}
-use Rattle.matching.proofs.JoinLaws.{Supported, supported-one, choice-candidate, choice-supported, choice-most, JoinedPair, join-candidate, complete-say, complete-by, answer-say, answer-by, answer-each, code-pair, pair-code}
+use Rattle.matching.proofs.JoinLaws.{Supported, choice-candidate, choice-supported, choice-most, JoinedPair, join-candidate, complete-say, complete-by, answer-say, answer-by, answer-each, code-pair, pair-code}
 use Rattle.matching.specs.Offered.{viewPatterns}
 use Rattle.containment.specs.Quote.{noPattern}
 use Rattle.containment.specs.Answer.{viewsIn}
@@ -27,24 +27,32 @@ unfolding pairOf
 pair-narrow {f} c e = let q : f .1 ≡ c % 4096 = ap (λ (g : Pair). g .1) e in omega arith
 
 -- ---- the greatest choice, without an algorithm
-pub choice-greatest : (Q : Pattern) (cs : Offer) → Q .rule ≡ oneWay → GreatestChoice Q (λ e f. In f (cs e)) (λ e f. In (e, f) (choice Q cs))
-choice-greatest Q cs one = record {
+-- what supports itself is supported by the test of the join
+pub supports-supported : (Q : Pattern) (L : Edge → Pair → Type 0) → SupportsItself Q L → (e : Edge) (f : Pair) → L e f → Supported Q L e f
+supports-supported Q L s e f k = record {
+  tail = λ g i q. let r = s .leaving-from e (f .0) (f .1) k g i q in ((f .0, r .0), r .1, refl);
+  head = λ g i q. let r = s .leaving-to e (f .0) (f .1) k g i q in ((f .1, r .0), r .1, refl);
+  tail-back = λ b g i q. let r = s .arriving-from b e (f .0) (f .1) k g i q in ((r .0, f .0), r .1, refl);
+  head-back = λ b g i q. let r = s .arriving-to b e (f .0) (f .1) k g i q in ((r .0, f .1), r .1, refl);
+}
+
+pub choice-greatest : (Q : Pattern) (cs : Offer) → GreatestChoice Q (λ e f. In f (cs e)) (λ e f. In (e, f) (choice Q cs))
+choice-greatest Q cs = record {
   chooses = λ e f k. choice-candidate Q cs k;
   supports = record {
     leaving-from = λ e v v′ k g i q. begins (choice-supported Q cs k .tail g i q);
     leaving-to = λ e v v′ k g i q. begins (choice-supported Q cs k .head g i q);
+    arriving-from = λ b e v v′ k g i q. closes (choice-supported Q cs k .tail-back b g i q);
+    arriving-to = λ b e v v′ k g i q. closes (choice-supported Q cs k .head-back b g i q);
   };
-  greatest = λ L c s. choice-most Q cs L c (supported L s);
+  greatest = λ L c s. choice-most Q cs L c (supports-supported Q L s);
 }
   where
     begins : {g : Edge} {v : ℕ} → (h : Pair) × In (g, h) (choice Q cs) × (h .0 ≡ v) → (x : ℕ) × In (g, (v, x)) (choice Q cs)
     begins {g} {v} (h, k, q) = (h .1, subst (λ z. In (g, (z, h .1)) (choice Q cs)) q k)
 
-    supported : (L : Edge → Pair → Type 0) → SupportsItself Q L → (e : Edge) (f : Pair) → L e f → Supported Q L e f
-    supported L s e f k =
-        supported-one one
-        (λ g i q. let r = s .leaving-from e (f .0) (f .1) k g i q in ((f .0, r .0), r .1, refl))
-        (λ g i q. let r = s .leaving-to e (f .0) (f .1) k g i q in ((f .1, r .0), r .1, refl))
+    closes : {g : Edge} {v : ℕ} → (h : Pair) × In (g, h) (choice Q cs) × (h .1 ≡ v) → (x : ℕ) × In (g, (x, v)) (choice Q cs)
+    closes {g} {v} (h, k, q) = (h .0, subst (λ z. In (g, (h .0, z)) (choice Q cs)) q k)
 
 -- the same of candidates and of a choice that are said in other words
 module _ {Q : Pattern} {C C′ K K′ : Edge → Pair → Type 0} (offers : (e : Edge) (f : Pair) → C e f → C′ e f) (offered : (e : Edge) (f : Pair) → C′ e f → C e f)
@@ -55,11 +63,13 @@ module _ {Q : Pattern} {C C′ K K′ : Edge → Pair → Type 0} (offers : (e :
     supports = record {
       leaving-from = λ e v v′ k h i q. let r = g .supports .leaving-from e v v′ (kept e (v, v′) k) h i q in (r .0, keeps h (v, r .0) (r .1));
       leaving-to = λ e v v′ k h i q. let r = g .supports .leaving-to e v v′ (kept e (v, v′) k) h i q in (r .0, keeps h (v′, r .0) (r .1));
+      arriving-from = λ b e v v′ k h i q. let r = g .supports .arriving-from b e v v′ (kept e (v, v′) k) h i q in (r .0, keeps h (r .0, v) (r .1));
+      arriving-to = λ b e v v′ k h i q. let r = g .supports .arriving-to b e v v′ (kept e (v, v′) k) h i q in (r .0, keeps h (r .0, v′) (r .1));
     };
     greatest = λ L c s e f l. keeps e f (g .greatest L (λ h x k. let r = c h x k in (r .0, offered h x (r .1))) s e f l);
   }
 
-module _ (Q : Pattern) (Ps : List Pattern) (sheets : List (List (List ℕ))) (set : ℕ) (one : Q .rule ≡ oneWay) where
+module _ (Q : Pattern) (Ps : List Pattern) (sheets : List (List (List ℕ))) (set : ℕ) where
   abbrev views : List View
   views = viewsIn set Ps sheets
 
@@ -97,7 +107,7 @@ module _ (Q : Pattern) (Ps : List Pattern) (sheets : List (List (List ℕ))) (se
 
   greatest-choice : GreatestChoice Q (Candidate Q Ps sheets set) Keeps
   unfolding join
-  greatest-choice = greatest-as (λ e f i. candidate-say i) (λ e f c. candidate-by c) (λ e f k. k) (λ e f k. k) (choice-greatest Q (candidates Q views) one)
+  greatest-choice = greatest-as (λ e f i. candidate-say i) (λ e f c. candidate-by c) (λ e f k. k) (λ e f k. k) (choice-greatest Q (candidates Q views))
 
   -- ---- the lists of the answer
   abbrev Complete : Type 0
@@ -119,13 +129,9 @@ module _ (Q : Pattern) (Ps : List Pattern) (sheets : List (List (List ℕ))) (se
         λ m. subst (λ l. In (code (f .0) (f .1)) l) (sym at) (ascending-by (answer-by Q views (complete-by Q views (m .0)) (m .1))),
       )
 
-query-rule : (qs : List ℕ) → patternOf qs .rule ≡ oneWay
-unfolding patternOf
-query-rule qs = refl
-
 pub answer-joins : (set : ℕ) (qs cs bs : List ℕ) → Joins set qs cs bs
 answer-joins set qs cs bs = record {
-  keeps = Keeps (patternOf qs) (viewPatterns cs) (sheetsIn (edgeCounts cs) bs) set (query-rule qs);
-  is = greatest-choice (patternOf qs) (viewPatterns cs) (sheetsIn (edgeCounts cs) bs) set (query-rule qs);
-  lists = answer-lists (patternOf qs) (viewPatterns cs) (sheetsIn (edgeCounts cs) bs) set (query-rule qs);
+  keeps = Keeps (patternOf qs) (viewPatterns cs) (sheetsIn (edgeCounts cs) bs) set;
+  is = greatest-choice (patternOf qs) (viewPatterns cs) (sheetsIn (edgeCounts cs) bs) set;
+  lists = answer-lists (patternOf qs) (viewPatterns cs) (sheetsIn (edgeCounts cs) bs) set;
 }

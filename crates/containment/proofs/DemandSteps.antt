@@ -1,4 +1,4 @@
--- The join goes by steps, from the ends inward, and after each the settled links hold the greatest choice for them alone.
+-- The join goes by steps, from the ends inward, and after each the settled links hold the greatest choice for them alone; then what is left is pruned both ways.
 use Prim.Native.Nat.{ℕ, _<_}
 use mathlib.Core.Path.{_≡_, refl, sym, ap, subst}
 use mathlib.Core.Logic.{_⊎_, _↔_, inl, inr, ⊎-elim}
@@ -9,13 +9,14 @@ use Rattle.packed.specs.declared.by_value.Pattern.{Pattern as Given}
 use Rattle.matching.specs.Lists.{_or_, In}
 use Rattle.matching.specs.Simulation.{Pair, Edge, bit, oneWay, Pattern, ruled, givenEdge, patternIn, sound}
 use Rattle.matching.specs.Join.{Offer}
-use Rattle.matching.specs.Components.{Nodes, leavingOf, joinIn, stateAt, reaches, together, Shut, OneStep, StepsTo, Holds, Ran}
+use Rattle.matching.specs.Components.{Nodes, leavingOf, joinIn, stateAt, reaches, together, Shut, OneStep, StepsTo, Holds, Ran, Pruned}
 use Rattle.matching.proofs.ListLaws.{in-cast, keep-all}
 use Rattle.matching.proofs.MatchLaws.{sound-say}
-use Rattle.matching.proofs.ComponentLaws.{Ended, leaving-rule, JoinedIn, join-in-candidate, state-say, state-old, state-new, join-cut, join-grow, reaches-self, reaches-shut, reaches-least, together-say, together-by, ready-say, step-old, step-in, step-new, step-apart, ready-one, steps-shut, steps-few}
-use Rattle.matching.proofs.ReachLaws.{in-edges, edges-in}
+use Rattle.matching.proofs.ComponentLaws.{Ended, JoinedIn, join-in-candidate, state-say, state-candidate, state-old, state-new, choice-state, join-cut, join-grow, reaches-self, reaches-shut, reaches-least, together-say, together-by, ready-say, step-old, step-in, step-new, step-apart, ready-one, steps-shut, steps-few}
+use Rattle.matching.proofs.JoinLaws.{choice-candidate, kept-in, in-kept}
+use Rattle.matching.proofs.ReachLaws.{in-edges, edges-in, given-rule}
 use Rattle.containment.specs.Demands.{GreatestChoice, AddsOne, AfterStep, HeldFor, BySteps}
-use Rattle.containment.proofs.DemandJoin.{choice-greatest, greatest-as}
+use Rattle.containment.proofs.DemandJoin.{supports-supported, choice-greatest, greatest-as}
 
 -- ---- what is held
 module _ (Q : Pattern) (S : Nodes) (cs : Offer) where
@@ -31,10 +32,10 @@ module _ (Q : Pattern) (S : Nodes) (cs : Offer) where
       greatest-as (λ e f i. i) (λ e f i. i)
       (λ e f j. let c = join-in-candidate S Q cs j in (c .from, (c .edge, state-old S Q cs j)))
       (λ e f k. joined (k .0) (k .1 .1))
-      (choice-greatest (leavingOf S Q) cs (leaving-rule S Q))
+      (choice-greatest (leavingOf S Q) cs)
 
   others : (e : Edge) → In e (Q .edges) → (T (S (e .from)) → ⊥) → (f : Pair) → State e f ↔ In f (cs e)
-  others e i n f = (λ k. ⊎-elim (λ r. absurd (n (r .0))) (λ r. r .1) (state-say S Q cs (k .1)), λ c. (i, state-new S Q cs e f n c))
+  others e i n f = (λ k. state-candidate S Q cs (k .1), λ c. (i, state-new S Q cs e f n c))
 
   after-step : AfterStep Q S cs State
   after-step = record { settled = settled; others = others }
@@ -83,6 +84,27 @@ whole : (Q : Pattern) (S : Nodes) → ((e : Edge) → In e (Q .edges) → T (S (
 unfolding leavingOf
 whole Q S all = ap (λ (es : List Edge). record { labels = Q .labels; edges = es; rule = oneWay }) (keep-all (λ e. S (e .from)) (Q .edges) all)
 
+-- ---- the pruning
+prunes : (q : Given) (d : ℕ) (w w′ : List ℕ) → Pruned q d w w′ → (cs : Offer) → Holds q d w cs → GreatestChoice (patternIn q) (λ e f. In f (cs e)) (HeldFor q d w′)
+prunes q d w w′ p cs h =
+    let s = p .state cs h in
+    greatest-as (λ e f i. i) (λ e f i. i)
+    (λ e f k. words-by s e f (choice-candidate (patternIn q) cs k .0, in-kept _ k))
+    (λ e f k. kept-in _ (words-say s e f k .1))
+    (choice-greatest (patternIn q) cs)
+
+from-steps : (Q : Pattern) (S : Nodes) (cs : Offer) (K : Edge → Pair → Type 0) → GreatestChoice Q (λ e f. In f (stateAt S Q cs e)) K → GreatestChoice Q (λ e f. In f (cs e)) K
+from-steps Q S cs K g = record {
+  chooses = λ e f k. let r = g .chooses e f k in (r .0, state-candidate S Q cs (r .1));
+  supports = g .supports;
+  greatest = λ L c s. g .greatest L (choice-state S Q cs L c (supports-supported Q L s)) s;
+}
+
+after-both : (q : Given) (d steps settled : ℕ) (w w′ w″ : List ℕ) → Ran q d steps w settled w′ → Pruned q d w′ w″ → (cs : Offer) → Holds q d w cs
+    → GreatestChoice (patternIn q) (λ e f. In f (cs e)) (HeldFor q d w″)
+after-both q d steps settled w w′ w″ ran pruned cs h =
+    from-steps (patternIn q) (bit settled) cs (HeldFor q d w″) (prunes q d w′ w″ pruned (stateAt (bit settled) (patternIn q) cs) (ran .state cs h))
+
 -- ---- the steps
 module _ (Q : Pattern) (s : T (sound Q)) where
   ends : Ended Q
@@ -123,4 +145,8 @@ by-steps = record {
   words = words;
   stays = stays;
   whole = whole;
+  both-ways = given-rule;
+  prunes = prunes;
+  from-steps = from-steps;
+  after-both = after-both;
 }

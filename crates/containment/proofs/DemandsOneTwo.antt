@@ -46,7 +46,7 @@ use Rattle.containment.proofs.SetBits.{never, test-cases, bit-zero, bit
 use Rattle.containment.specs.Terms.{judgeTerms, onDay, firstDayFor, firstDay}
 use Rattle.containment.specs.declared.terms.Terms.{Terms}
 use Rattle.containment.proofs.ChoiceLaws.{chosen-none, chosen-covers, chosen-needed}
-use Rattle.containment.proofs.CoveredBytes.{coveredIn, question-bounds, few-views, record-is}
+use Rattle.containment.proofs.CoveredBytes.{coveredIn, question-bounds, query-rule, views-rule, few-views, record-is}
 use Rattle.containment.proofs.ColumnLaws.{column-in, column-out}
 use Rattle.containment.proofs.AnswerLaws.{judged-rejected}
 use Rattle.containment.proofs.QuoteLaws.{test-is, mapping-exactly, quote-says-covered}
@@ -341,6 +341,8 @@ quote-says w q c qs cs eq ec y b words = (
 pub demand-2 : Demand2
 unfolding fieldsOf ends
 demand-2 = record {
+  both-ways = query-rule;
+  extracts-both-ways = views-rule;
   simulates = sim-is;
   greatest = sim-most;
   searches = way-searched;

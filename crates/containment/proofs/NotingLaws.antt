@@ -14,7 +14,7 @@ use Rattle.packed.specs.Matches.{matchesOf}
 use Rattle.packed.specs.declared.by_value.Pattern.{Pattern as Given}
 use Rattle.packed.proofs.AcceptedBounds.{catalogue-views}
 use Rattle.matching.specs.Lists.{In, here, there}
-use Rattle.matching.specs.Simulation.{Edge, noEdge, Rule, oneWay, Pattern, patternOf, graphOf, asGraph, matchSets, viewSheet}
+use Rattle.matching.specs.Simulation.{Edge, noEdge, Rule, bothWays, Pattern, patternOf, graphOf, asGraph, matchSets, viewSheet}
 use Rattle.matching.specs.Loaded.{givenEdge, patternIn, graphIn, Edges}
 use Rattle.matching.specs.Masks.{OneOf}
 use Rattle.matching.specs.Matched.{EdgesMatched, ViewAt}
@@ -132,7 +132,7 @@ module _ {q : Given} {s : List ℕ} {n m : ℕ} {w : List ℕ} (t : Query q) (h 
 
   -- ---- the next view's column
   module _ {c : List ℕ} {k a byte : ℕ} {table table′ : List ℕ} (o : Noted q c k a byte table) (l : a < k) (v : Views c k) (r : View) (view : ViewAt c byte r)
-      {w₁ w₂ : List ℕ} (g : Edges w w₁) (d : EdgesMatched oneWay (r .pattern) s n m w₁ w₂)
+      {w₁ w₂ : List ℕ} (g : Edges w w₁) (d : EdgesMatched bothWays (r .pattern) s n m w₁ w₂)
       (col : Column a (q .edges) (λ e x. x ≡ maskIn (givenEdge q e) (patternIn (r .pattern) .edges) (matchesOf m (r .pattern .edges) w₂)) table table′) where
     abbrev Q : Pattern
     Q = patternOf (t .content)
@@ -180,7 +180,7 @@ module _ {q : Given} {s : List ℕ} {n m : ℕ} {w : List ℕ} (t : Query q) (h 
 
 pub noted-more : {q : Given} {s : List ℕ} {n m : ℕ} {w : List ℕ} → Holds s n m w → ((t : Query q) → decode record′ s ≡ ok (graphFields (t .content)))
     → {c : List ℕ} {k a byte : ℕ} {table table′ : List ℕ} → Noted q c k a byte table → a < k → (r : View) → ViewAt c byte r
-    → {w₁ w₂ : List ℕ} → Edges w w₁ → EdgesMatched oneWay (r .pattern) s n m w₁ w₂
+    → {w₁ w₂ : List ℕ} → Edges w w₁ → EdgesMatched bothWays (r .pattern) s n m w₁ w₂
     → Column a (q .edges) (λ e x. x ≡ maskIn (givenEdge q e) (patternIn (r .pattern) .edges) (matchesOf m (r .pattern .edges) w₂)) table table′ → Noted q c k (a + 1) (r .next) table′
 noted-more h reads {c} {a = a} o l r view g d col =
     record {

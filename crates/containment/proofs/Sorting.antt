@@ -16,11 +16,10 @@ use Rattle.packed.proofs.CallLaws.{read-says, read-finds, write-finds, accepted
 use Rattle.packed.proofs.Accepted.{old-accepted, record-accepted, record-read}
 use Rattle.packed.proofs.SortedEdges.{sorted-plain}
 use Rattle.matching.specs.Lists.{In}
-use Rattle.matching.specs.Simulation.{Pair, Edge, noEdge, oneWay, Pattern, Graph, edgesIn, graphOf, IsSim, matchSets}
+use Rattle.matching.specs.Simulation.{Pair, Edge, noEdge, Pattern, Graph, edgesIn, graphOf, IsSim, matchSets}
 use Rattle.matching.specs.Search.{sheetBytes}
 use Rattle.matching.proofs.EdgeLaws.{edgesIn-at}
 use Rattle.matching.proofs.ListLaws.{in-at}
-use Rattle.matching.proofs.SimLaws.{not-both}
 use Rattle.matching.proofs.SortedGraphs.{Alike, ends-narrow, sorted-in, alike-sets, alike-views}
 use Rattle.containment.specs.Show.{recordBytes}
 use Rattle.containment.specs.Demands.{no-more, Matching, OldFile, EndsSim, EndsMatching, AllKind0, Sorting}
@@ -98,14 +97,18 @@ module _ (s ws : List ℕ) (old : OldFile s ws) where
   is-record = record-read (recordBytes (sortedFields ws)) (sortedFields ws) .1 (made .size, record-accepted (recordBytes (sortedFields ws)) (sortedFields ws) .0 (made .back))
 
 -- where all kinds are 0, links are told apart by their ends alone
-ends-sim : (P : Pattern) (G : Graph) → AllKind0 P → P .rule ≡ oneWay → ((f : Edge) → In f (G .edges) → f .kind ≡ 0)
+ends-sim : (P : Pattern) (G : Graph) → AllKind0 P → ((f : Edge) → In f (G .edges) → f .kind ≡ 0)
     → (R : ℕ → ℕ → Type 0) → IsSim P G R ↔ EndsSim P G R
-ends-sim P G p one g R = (
-  λ s. record { fit = s .fit; follow = λ u v r e i l. let q = s .follow u v r e i l in (q .0, q .1, q .2, q .4) },
+ends-sim P G p g R = (
+  λ s. record {
+    fit = s .fit;
+    follow = λ u v r e i l. let q = s .follow u v r e i l in (q .0, q .1, q .2, q .4);
+    arrive = λ b u v r e i l. let q = s .arrive b u v r e i l in (q .0, q .1, q .2, q .4);
+  },
   λ s. record {
     fit = s .fit;
     follow = λ u v r e i l. let q = s .follow u v r e i l in (q .0, q .1, q .2, g (q .0) (q .1) ∙ sym (p e i), q .3);
-    arrive = λ b. absurd (not-both (sym one ∙ b));
+    arrive = λ b u v r e i l. let q = s .arrive b u v r e i l in (q .0, q .1, q .2, g (q .0) (q .1) ∙ sym (p e i), q .3);
   },
 )
 
@@ -138,6 +141,6 @@ sorting = record {
   kinds = sorted-kind;
   sheets = λ s ws o P. ap sheetBytes (alike-sets P (graphOf (sortedFields ws)) (graphOf ws) (alike s ws o));
   extract-sheets = λ s ws o P. ap sheetBytes (alike-views P (graphOf (sortedFields ws)) (graphOf ws) (alike s ws o));
-  as-before = λ s ws o P p one. ends-sim P (graphOf (sortedFields ws)) p one (sorted-kind s ws o);
+  as-before = λ s ws o P p. ends-sim P (graphOf (sortedFields ws)) p (sorted-kind s ws o);
   lists-before = lists-before;
 }

@@ -1,5 +1,5 @@
--- The cases K1 to K10 of the requirements, and cases of several questions in one call, of the empty catalogue and of terms, proved in one table with one
--- statement: on bytes and fields, over the functions that the contracts of the calls cite.
+-- The cases K1 to K10 of the requirements, what matching both ways adds to K6, and cases of several questions in one call, of the empty catalogue and of
+-- terms, proved in one table with one statement: on bytes and fields, over the functions that the contracts of the calls cite.
 use Prim.Native.Nat.{ℕ, _+_, _-_, _*_}
 use Prim.Native.Char.{code as codeOf}
 use Prim.Native.String.{String, [] as []ˢ, _∷_ as _∷ˢ_}
@@ -134,6 +134,26 @@ r9 = hex "00 18 00 40 00 00 00 20 00 00 00 c0 00 00 01 00 00 00 20 00 40 08 00"
 abbrev pub r10 : List ℕ
 r10 = hex "00 00 00 00"
 
+-- K6 with item 4 of kind {1} and a link 4 → 2; the same with a link 0 → 4 of kind 1, where all others have kind 0
+abbrev pub r6Both : List ℕ
+r6Both = hex "00 28 00 80 00 00 00 20 00 00 00 40 00 00 01 00 00 00 00 40 00 00 00 40 00 00 20 00 00 0c 00 08 01 00 04 00 20"
+
+abbrev pub r6Kind : List ℕ
+r6Kind = hex "00 28 00 a0 00 00 00 20 00 00 00 40 00 00 01 00 00 00 00 40 00 00 00 40 00 00 20 00 00 0c 00 00 02 10 01 00 20 00 80 04 00"
+
+-- the question 0 → 1, 1 → 1 of one kind, the catalogue whose one extract is 0 → 0, and the two records that show why the question is uncovered
+abbrev pub toLoop : List ℕ
+toLoop = hex "10 40 00 08 11 00"
+
+abbrev pub loops : List ℕ
+loops = hex "08 08 20 00 00"
+
+abbrev pub firstLoop : List ℕ
+firstLoop = hex "00 10 00 40 00 00 00 20 00 00 00 20 00 00 20 00 40 04 00"
+
+abbrev pub secondLoop : List ℕ
+secondLoop = hex "00 10 00 20 00 00 00 20 00 00 00 20 02 00 20"
+
 -- the record of K6 as it was stored when links had no kinds, in order and not
 abbrev pub old6 : List ℕ
 old6 = hex "00 20 00 60 00 00 00 20 00 00 00 40 00 00 01 00 00 00 00 40 00 00 20 00 00 60 02 00 40"
@@ -223,6 +243,12 @@ table =
     ∷ call (sheetRead extract1 s6 7) (output s6Fields)
     ∷ call (sheetWritten extract1 s6Fields 10) (output s6)
     ∷ call (searchOutcome extract1 r6 10) (output s6)
+    -- item 4 is at no link from a section: the second list was (1, 2), (4, 2) and is (1, 2); a link of another kind from one doesn't help
+    ∷ call (searchOutcome extract1 r6Both 10) (output s6)
+    ∷ call (searchOutcome extract1 r6Kind 10) (output s6)
+    -- the extract's list on the question was (0, 1), (1, 1) and is (1, 1): uncovered, link 0; the second shown record lacks 0 → 1
+    ∷ call (quoteOutcome toLoop loops) (give (0 ∷ (rowsOf (rowOf 0 0 0 ++ rowOf 1 0 0 ++ rowOf 0 0 0 ++ rowOf 0 0 0) ++ (2 ∷ 0 ∷ 0 ∷ []))) [])
+    ∷ call (showOutcome toLoop loops 19 15) (give [] (firstLoop ∷ secondLoop ∷ []))
     -- K7, K8, K9
     ∷ call (searchOutcome selfLoop r7 8) (output (hex "80 04 00 00 02 00 20 00"))
     ∷ call (searchOutcome selfLoop r8 1) (output (hex "00"))
@@ -237,6 +263,8 @@ table =
     -- several questions: their answers, and how many sheets they needed
     ∷ call (severalOutcome dLink 2 c b9 25) (give (3 ∷ []) ((s9 ++ hex "80 02 00 00 02") ∷ []))
     ∷ call (severalOutcome (d ++ d) 2 c (hex "00 00 00") 2) (give (2 ∷ []) (hex "00 00" ∷ []))
+    -- from a book of no record, in which the second list is (1, 2), (4, 2): no pair of the first ends at 4
+    ∷ call (severalOutcome extract1 1 c3 (hex "80 02 00 00 02 00 10 00 80 10 02 00 10") 10) (give (1 ∷ []) (s6 ∷ []))
     -- 12 with the sum
     ∷ call (severalOutcome dLink 2 c b9 24) (refuse 12 25)
     -- 17 with the number, whatever the files

@@ -23,9 +23,9 @@ use Rattle.packed.specs.declared.by_value.Pattern.{Pattern as Given}
 use Rattle.packed.specs.OldRecord.{readOldRecord, OldRecordFile, sortedFields, recordSorted}
 use Rattle.packed.specs.Calls.{Outcome, give, refuse, fronts, Settled, FulfilsOne, withWorkspace, Verdict, accepted, rejected, readPattern, readQuestions, QuestionFiles, readCatalogue, readRecord, readSheet, readBook, writeFile, writeSheet, writeBook, pairsOf, fit, fitFile, patternRead, catalogueRead, recordRead, sheetRead, bookRead, patternWritten, catalogueWritten, recordWritten, sheetWritten, bookWritten}
 use Rattle.matching.specs.Lists.{In, some, keep, each}
-use Rattle.matching.specs.Simulation.{Pair, Edge, between, noEdge, oneWay, Pattern, ruled, Graph, patternOf, graphOf, givenEdge, patternIn, asGraph, bit, fits, IsSim, MatchingBy, sim, sound, matchSets, viewSheet, asPair}
+use Rattle.matching.specs.Simulation.{Pair, Edge, between, noEdge, oneWay, bothWays, Pattern, ruled, Graph, patternOf, graphOf, givenEdge, patternIn, asGraph, bit, fits, IsSim, MatchingBy, sim, sound, matchSets, viewSheet, asPair}
 use Rattle.matching.specs.Join.{without, Offer, answerSets, matched}
-use Rattle.matching.specs.Components.{reaches, Nodes, leavingOf, stateAt, Shut, OneStep, StepsTo, pairAt, IsHeld, Holds, Ran}
+use Rattle.matching.specs.Components.{reaches, Nodes, leavingOf, stateAt, Shut, OneStep, StepsTo, pairAt, IsHeld, Holds, Ran, Pruned}
 use Rattle.matching.specs.Part.{rank, number, partOf, patternFields, patternBytes}
 use Rattle.matching.specs.Offered.{viewPatterns}
 use Rattle.matching.specs.Search.{sheetBytes, bookBytes, viewSheets, searchOutcome, makeBookOutcome}
@@ -518,6 +518,10 @@ pub record RoundTrip (Such : List ℕ → Type 0) (read : List ℕ → ℕ → O
       → withWorkspace words (read s room′) ≡ give [] (ws ∷ [])
 
 pub record Demand2 : Type 1 where
+  -- a pattern, a question or an extract, is matched both ways: by the links that leave an item, and "for each pattern link from u'' to u there is a record link
+  -- from some v'' to v with (u'', v'') in the relation"
+  pub both-ways : (ps : List ℕ) → patternOf ps .rule ≡ bothWays
+  pub extracts-both-ways : (cs : List ℕ) (P : Pattern) → In P (viewPatterns cs) → P .rule ≡ bothWays
   -- "the greatest simulation": sim is one, and every simulation lies in it
   pub simulates : (P : Pattern) (G : Graph) → IsSim P G (λ u v. In (u, v) (sim P G))
   pub greatest : (P : Pattern) (G : Graph) (R : ℕ → ℕ → Type 0) → IsSim P G R → (u v : ℕ) → R u v → In (u, v) (sim P G)
@@ -624,12 +628,13 @@ pub record EmptyCatalogues : Type 0 where
 abbrev pub OldFile : List ℕ → List ℕ → Type 0
 OldFile s ws = readOldRecord s ≡ accepted ws
 
--- R is a simulation as it was before links had kinds: by the ends of links alone
+-- R is a simulation as it is where links have no kinds: by the ends of links alone, as the rule of the pattern asks
 pub record EndsSim (P : Pattern) (G : Graph) (R : ℕ → ℕ → Type 0) : Type 0 where
   pub fit : (u v : ℕ) → R u v → T (fits P G (u, v))
   pub follow : (u v : ℕ) → R u v → (e : Edge) → In e (P .edges) → e .from ≡ u → (f : Edge) × In f (G .edges) × (f .from ≡ v) × R (e .to) (f .to)
+  pub arrive : P .rule ≡ bothWays → (u v : ℕ) → R u v → (e : Edge) → In e (P .edges) → e .to ≡ u → (f : Edge) × In f (G .edges) × (f .to ≡ v) × R (e .from) (f .from)
 
--- a pair is listed under an edge as it was then: by the ends of links alone, of whatever kind
+-- a pair is listed under an edge as it is then: by the ends of links alone, of whatever kind
 abbrev pub EndsMatching : Pattern → Graph → Edge → Pair → Type 0
 EndsMatching P G e f = (kind : ℕ) × Matching P G (between (e .from) (e .to) kind) f
 
@@ -654,8 +659,9 @@ pub record Sorting : Type 1 where
   -- and every pattern has the same sheet on both, as a question and as an extract
   pub sheets : (s ws : List ℕ) → OldFile s ws → (P : Pattern) → sheetOf P (sortedFields ws) ≡ sheetOf P ws
   pub extract-sheets : (s ws : List ℕ) → OldFile s ws → (P : Pattern) → extractSheetOf P (sortedFields ws) ≡ extractSheetOf P ws
-  -- "its sheets stay the same for patterns whose links all have kind 0": these are matched as before links had kinds, and list the same pairs
-  pub as-before : (s ws : List ℕ) → OldFile s ws → (P : Pattern) → AllKind0 P → P .rule ≡ oneWay
+  -- "its sheets stay the same for patterns whose links all have kind 0": these are matched as where links have no kinds, one-way as both ways, and list
+  -- the same pairs
+  pub as-before : (s ws : List ℕ) → OldFile s ws → (P : Pattern) → AllKind0 P
       → (R : ℕ → ℕ → Type 0) → IsSim P (graphOf (sortedFields ws)) R ↔ EndsSim P (graphOf (sortedFields ws)) R
   pub lists-before : (s ws : List ℕ) → OldFile s ws → (P : Pattern) → AllKind0 P → (i : ℕ) → i < length (P .edges) → (f : Pair) → f .1 < 4096
       → In (code (f .0) (f .1)) (getD (matchSets P (graphOf (sortedFields ws))) i []) ↔ EndsMatching P (graphOf (sortedFields ws)) (getD (P .edges) i noEdge) f
@@ -733,10 +739,13 @@ abbrev pub Chooses : Pattern → (Edge → Pair → Type 0) → (Edge → Pair �
 Chooses Q Candidates K = (e : Edge) (f : Pair) → K e f → In e (Q .edges) × Candidates e f
 
 -- "for each pair (v, v') kept for a link (u, u'), each question link leaving u keeps some pair that begins at v, and each leaving u' keeps some
--- pair that begins at v'"
+-- pair that begins at v'"; "support at both ends for links arriving as well as leaving", where the question is matched both ways: each arriving at u keeps
+-- some pair that ends at v, and each arriving at u' keeps some pair that ends at v'
 pub record SupportsItself (Q : Pattern) (K : Edge → Pair → Type 0) : Type 0 where
   pub leaving-from : (e : Edge) (v v′ : ℕ) → K e (v, v′) → (g : Edge) → In g (Q .edges) → g .from ≡ e .from → (x : ℕ) × K g (v, x)
   pub leaving-to : (e : Edge) (v v′ : ℕ) → K e (v, v′) → (g : Edge) → In g (Q .edges) → g .from ≡ e .to → (x : ℕ) × K g (v′, x)
+  pub arriving-from : Q .rule ≡ bothWays → (e : Edge) (v v′ : ℕ) → K e (v, v′) → (g : Edge) → In g (Q .edges) → g .to ≡ e .from → (x : ℕ) × K g (x, v)
+  pub arriving-to : Q .rule ≡ bothWays → (e : Edge) (v v′ : ℕ) → K e (v, v′) → (g : Edge) → In g (Q .edges) → g .to ≡ e .to → (x : ℕ) × K g (x, v′)
 
 -- "the greatest choice of pairs from the candidates such that .."
 pub record GreatestChoice (Q : Pattern) (Candidates K : Edge → Pair → Type 0) : Type 1 where
@@ -779,7 +788,7 @@ pub record Answering : Type 1 where
 
 -- ---- the join by steps. "The links leaving an item are settled together, after those of the items it leads to, and items that lead to each other, directly or
 -- through others, in one step. After each step, up to the last zeroing, the settled links hold the greatest choice for them alone, and all others still their
--- candidates."
+-- candidates." These "steps stay one-way and come first; pruning both ways starts from what they leave, before the zeroing."
 
 -- "items that lead to each other, directly or through others"
 abbrev pub Together : Pattern → ℕ → ℕ → Type 0
@@ -826,14 +835,22 @@ pub record BySteps : Type 1 where
   -- "after each step, .., the settled links hold the greatest choice for them alone, and all others still their candidates"
   pub state : (Q : Pattern) (S : Nodes) (cs : Offer) → AfterStep Q S cs (λ e f. In e (Q .edges) × In f (stateAt S Q cs e))
   -- so it is in the words that the steps of the program leave, whatever candidates they held at first: `Ran` is the contract of `matching::steps::run`, which
-  -- makes so many steps as it is asked for, and what the contract of the join, `matching::join::join`, says of its words before the zeroing
+  -- makes so many steps as it is asked for, and what the contract of the join, `matching::join::join`, says of its words before the pruning
   pub words : (q : Given) (d steps settled : ℕ) (w w′ : List ℕ) → Ran q d steps w settled w′ → (cs : Offer) → Holds q d w cs
       → AfterStep (patternIn q) (bit settled) cs (HeldFor q d w′)
   -- what is settled stays: the greatest choice for more links, cut to those that leave S, is the greatest choice for these
   pub stays : (Q : Pattern) (S S′ : Nodes) → Shut Q S → ((v : ℕ) → T (S v) → T (S′ v)) → (cs : Offer) (e : Edge) → T (S (e .from)) → (f : Pair)
       → In f (stateAt S′ Q cs e) ↔ In f (stateAt S Q cs e)
-  -- "up to the last zeroing": where all items are settled, these are all links of the question
+  -- the steps "stay one-way": where all items are settled, the settled links are all of the question, matched one-way
   pub whole : (Q : Pattern) (S : Nodes) → ((e : Edge) → In e (Q .edges) → T (S (e .from))) → leavingOf S Q ≡ ruled oneWay Q
+  -- "pruning both ways starts from what they leave, before the zeroing": whatever candidates the words held, pruning leaves the greatest choice from them both
+  -- ways. `Pruned` is the contract of `matching::steps::prune`, and what the contract of the join says of its last words before the zeroing
+  pub both-ways : (q : Given) → patternIn q .rule ≡ bothWays
+  pub prunes : (q : Given) (d : ℕ) (w w′ : List ℕ) → Pruned q d w w′ → (cs : Offer) → Holds q d w cs → GreatestChoice (patternIn q) (λ e f. In f (cs e)) (HeldFor q d w′)
+  -- whatever items are settled, the greatest choice from what is held then is the greatest choice from the candidates; so it is in the words after both
+  pub from-steps : (Q : Pattern) (S : Nodes) (cs : Offer) (K : Edge → Pair → Type 0) → GreatestChoice Q (λ e f. In f (stateAt S Q cs e)) K → GreatestChoice Q (λ e f. In f (cs e)) K
+  pub after-both : (q : Given) (d steps settled : ℕ) (w w′ w″ : List ℕ) → Ran q d steps w settled w′ → Pruned q d w′ w″ → (cs : Offer) → Holds q d w cs
+      → GreatestChoice (patternIn q) (λ e f. In f (cs e)) (HeldFor q d w″)
 
 -- ---- what holds of the part. "For an uncovered question clients want the part that the extracts do answer: its matched links, with their items renumbered upward."
 

@@ -9,7 +9,7 @@ use Rattle.packed.specs.Format.{pick}
 use Rattle.packed.specs.Contents.{edgesOf}
 use Rattle.packed.specs.Refusals.{Told, told, numberOf, detailOf}
 use Rattle.packed.specs.Calls.{Outcome, give, judged, readPattern}
-use Rattle.matching.specs.Simulation.{Edge, noEdge, oneWay, Pattern, bit, patternOf, asGraph, viewSheet}
+use Rattle.matching.specs.Simulation.{Edge, noEdge, bothWays, Pattern, bit, patternOf, asGraph, viewSheet}
 use Rattle.matching.specs.Lists.{upTo}
 use Rattle.matching.specs.Join.{isMatch}
 use Rattle.matching.specs.Offered.{Offered, offeredBy, offered}
@@ -29,7 +29,7 @@ unfoldable pub matchMask : Pattern → Edge → Pattern → ℕ
 matchMask Q e P = maskIn e (P .edges) (viewSheet P (asGraph Q))
 
 abbrev pub noPattern : Pattern
-noPattern = record { labels = []; edges = []; rule = oneWay }
+noPattern = record { labels = []; edges = []; rule = bothWays }
 
 -- the table of a quote: 16 masks for each edge, one for each view; zero beyond the edges and beyond the views
 unfoldable pub maskAt : Pattern → List Pattern → ℕ → ℕ

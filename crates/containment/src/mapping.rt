@@ -102,7 +102,7 @@ fn note_views(
     while a < k {
         let v = views::view_at(catalogue, byte);
         let p = v.pattern;
-        matched::match_edges(s, n, m, p, false, work, &mut leave, &mut arrive, &mut held);
+        matched::match_edges(s, n, m, p, true, work, &mut leave, &mut arrive, &mut held);
         note_view(&mut mapping, a, q, m, p, work);
         byte = v.next;
         a += 1;

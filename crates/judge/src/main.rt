@@ -1,6 +1,6 @@
 // Judges the files that it finds in the folder it is run in: `question`, `catalogue`, `record`, a `sheet` and an `answer` beside the question, a
-// `book` and `charges` beside the catalogue, a `part` and a `part_answer` beside it, `questions` beside their `number`, the records `first` and `second`,
-// an `index` beside the record, a `set`, and a record `old`, stored before links had kinds. One that is not there gets no line.
+// `book`, `charges` and `terms` beside the catalogue, a `part` and a `part_answer` beside it, `questions` beside their `number`, the records `first` and
+// `second`, an `index` beside the record, a `set`, a `day`, and a record `old`, stored before links had kinds. One that is not there gets no line.
 ghost use mathlib.Core.Path.{_≡_};
 ghost use lib.ListN.{length};
 use folder::days;

@@ -22,7 +22,7 @@ use Rattle.packed.proofs.BookSheetLaws.{none-total}
 use Rattle.packed.proofs.MatchLaws.{fit-lists, matches-long, matches-encode}
 use Rattle.packed.proofs.AcceptedBounds.{catalogue-views}
 use Rattle.packed.specs.declared.by_value.Pattern.{Pattern as Given}
-use Rattle.matching.specs.Simulation.{oneWay, Pattern, ruled, Graph, patternOf, matchSets, viewSheet}
+use Rattle.matching.specs.Simulation.{bothWays, Pattern, ruled, Graph, patternOf, matchSets, viewSheet}
 use Rattle.matching.specs.Search.{sheetBytes, bookBytes, viewSheets}
 use Rattle.matching.specs.Loaded.{patternIn, graphIn, Fair, Ready, Edges}
 use Rattle.matching.specs.Matched.{Proper, Rises, EdgesMatched, SheetSized, ViewAt}
@@ -51,11 +51,11 @@ size-at-most d m w h few =
     omega (arith, length-most m (pairCount (matchesOf d m w)) (8192 * m) (omega (arith, t, matches-long d m w)))
 
 -- a pattern that is given is matched by its own rule
-pub own-rule : (p : Given) → ruled oneWay (patternIn p) ≡ patternIn p
+pub own-rule : (p : Given) → ruled bothWays (patternIn p) ≡ patternIn p
 unfolding patternIn
 own-rule p = refl
 
-pub sheeted-by : {p : Given} {s : List ℕ} {n m : ℕ} {w w′ : List ℕ} → EdgesMatched oneWay p s n m w w′ → SheetSized p s n m w m w′
+pub sheeted-by : {p : Given} {s : List ℕ} {n m : ℕ} {w w′ : List ℕ} → EdgesMatched bothWays p s n m w w′ → SheetSized p s n m w m w′
 sheeted-by {p = p} {s = s} {n = n} {m = m} {w = w} q =
     record { edges = q .edges; marked = q .marked; sets = q .sets ∙ ap (λ (P : Pattern). matchSets P (graphIn s n m w)) (own-rule p) }
 
@@ -311,7 +311,7 @@ module _ {c s : List ℕ} {n m : ℕ} {w₀ : List ℕ} {k size byte a : ℕ} {s
   pub keeping-room : a < k → a < length sizes
   keeping-room h = omega (arith, z .long, z .sizing .turn .few)
 
-  pub keeping-next : (some : a < k) (v : View) (at : ViewAt c byte v) {w′ : List ℕ} (q : EdgesMatched oneWay (v .pattern) s n m w w′) (r : ℕ)
+  pub keeping-next : (some : a < k) (v : View) (at : ViewAt c byte v) {w′ : List ℕ} (q : EdgesMatched bothWays (v .pattern) s n m w w′) (r : ℕ)
       → r ≡ sheetLength (v .pattern .edges) (pairCount (matchesOf m (v .pattern .edges) w′)) → Keeping c s n m w₀ k (size + r) (v .next) (a + 1) (set sizes a r) w′
   unfolding sizing-next turned-next
   keeping-next some v at q r e =

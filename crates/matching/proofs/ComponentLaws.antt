@@ -1,5 +1,5 @@
 -- The greatest choice for the edges that leave a shut set of nodes does not depend on the other edges; components, and the steps that settle them.
-use mathlib.Core.Path.{_≡_, refl, sym, ap, ap₂, subst}
+use mathlib.Core.Path.{_≡_, refl, sym, ap, subst, _∙_}
 use mathlib.Core.Logic.{_⊎_, inl, inr, ⊎-elim}
 use mathlib.Core.Bool.{Bool, true, false, not}
 use mathlib.Core.List.{List}
@@ -8,12 +8,13 @@ use native.Mathlib.Omega.{arith}
 use lib.ListN.{length}
 use lib.Dec.{T, eqb, eqb→eq, eqb-refl}
 use Rattle.matching.specs.Lists.{_implies_, In, some, keep, below}
-use Rattle.matching.specs.Simulation.{Pair, Edge, Rule, oneWay, Pattern}
-use Rattle.matching.specs.Join.{View, Offer, candidates, choice, join, keptFor}
+use Rattle.matching.specs.Simulation.{Pair, Edge, oneWay, bothWays, Pattern}
+use Rattle.matching.specs.Join.{Offer, choice, keptFor}
 use Rattle.matching.specs.Components.{Nodes, leavingOf, joinIn, stateAt, Shut, apart, unreached, reaches, together, ready, OneStep, StepsTo, start, step}
-use Rattle.matching.proofs.ListLaws.{and-left, and-right, both, or-left, or-right, or-cases, use-if, make-if, decide, cond-case, in-cast, every-in, in-every, every-fails, keep-length, keep-shorter, keep-keep, keep-all, some-in, in-some, keep-in, in-keep, below-in, in-below, in-length}
+use Rattle.matching.proofs.ListLaws.{and-left, and-right, both, or-left, or-right, or-cases, use-if, make-if, decide, cond-case, in-cast, every-in, in-every, every-fails, keep-length, keep-shorter, keep-keep, some-in, in-some, keep-in, in-keep, below-in, in-below, in-length}
 use Rattle.matching.proofs.GreatestLaws.{greatest-part, greatest-ok, greatest-all}
-use Rattle.matching.proofs.JoinLaws.{Supported, supported-one, choice-candidate, choice-supported, choice-most, kept-in, in-kept}
+use Rattle.matching.proofs.SimLaws.{not-both}
+use Rattle.matching.proofs.JoinLaws.{Supported, supported-one, ChoicePair, choice-candidate, choice-supported, choice-most, kept-in, in-kept}
 
 -- ---- an edge that leaves S
 pub leaving-in : (S : Nodes) (Q : Pattern) {e : Edge} → In e (leavingOf S Q .edges) → In e (Q .edges) × T (S (e .from))
@@ -27,6 +28,9 @@ in-leaving S Q i t = in-keep (λ e. S (e .from)) i t
 pub leaving-rule : (S : Nodes) (Q : Pattern) → leavingOf S Q .rule ≡ oneWay
 unfolding leavingOf
 leaving-rule S Q = refl
+
+pub leaving-one : (S : Nodes) (Q : Pattern) → leavingOf S Q .rule ≡ bothWays → ⊥
+leaving-one S Q b = not-both (sym (leaving-rule S Q) ∙ b)
 
 -- ---- the three laws of the greatest choice for S
 module _ (S : Nodes) (Q : Pattern) (cs : Offer) where
@@ -51,6 +55,19 @@ module _ (S : Nodes) (Q : Pattern) (cs : Offer) where
   unfolding joinIn
   join-in-most K c s = choice-most (leavingOf S Q) cs K (λ e f k. let r = c e f k in (in-leaving S Q (r .edge) (r .from), r .listed)) s
 
+  -- a choice that supports itself, by whatever rule, for edges among which are those that leave S lies in it as far as these go
+  pub cut-to : (P : Pattern) → ((x : Edge) → In x (Q .edges) → T (S (x .from)) → In x (P .edges)) → (K : Edge → Pair → Type 0)
+      → ((g : Edge) (h : Pair) → K g h → In g (Q .edges) × In h (cs g)) → ((g : Edge) (h : Pair) → K g h → Supported P K g h)
+      → {e : Edge} {f : Pair} → K e f → T (S (e .from)) → JoinedIn e f
+  cut-to P more K c s {e} {f} k t =
+      join-in-most (λ g h. K g h × T (S (g .from)))
+      (λ g h a. let r = c g h (a .0) in record { edge = r .0; from = a .1; listed = r .1 })
+      (λ g h a. let r = s g h (a .0) in
+      supported-one (leaving-rule S Q)
+      (λ x j q. let m = leaving-in S Q j in let b = r .tail x (more x (m .0) (m .1)) q in (b .0, (b .1, m .1), b .2))
+      (λ x j q. let m = leaving-in S Q j in let b = r .head x (more x (m .0) (m .1)) q in (b .0, (b .1, m .1), b .2)))
+      e f (k, t)
+
   -- ---- the state between steps
   pub state-say : {e : Edge} {f : Pair} → In f (stateAt S Q cs e) → (T (S (e .from)) × JoinedIn e f) ⊎ ((T (S (e .from)) → ⊥) × In f (cs e))
   unfolding stateAt
@@ -58,6 +75,9 @@ module _ (S : Nodes) (Q : Pattern) (cs : Offer) where
       cond-case (λ l. In f l → (T (S (e .from)) × JoinedIn e f) ⊎ ((T (S (e .from)) → ⊥) × In f (cs e))) (S (e .from)) (keptFor (joinIn S Q cs) e) (cs e)
       (λ t i. inl (t, kept-in _ i))
       (λ n i. inr (n, i))
+
+  pub state-candidate : {e : Edge} {f : Pair} → In f (stateAt S Q cs e) → In f (cs e)
+  state-candidate i = ⊎-elim (λ r. join-in-candidate (r .1) .listed) (λ r. r .1) (state-say i)
 
   pub state-old : {e : Edge} {f : Pair} → JoinedIn e f → In f (stateAt S Q cs e)
   unfolding stateAt
@@ -71,14 +91,11 @@ module _ (S : Nodes) (Q : Pattern) (cs : Offer) where
 -- ---- the law of a step: of two shut sets the greatest choice for the larger, cut to the edges that leave the smaller, is the greatest choice for the smaller
 module _ (S S′ : Nodes) (Q : Pattern) (cs : Offer) (shut : Shut Q S) (within : (v : ℕ) → T (S v) → T (S′ v)) where
   pub join-cut : {e : Edge} {f : Pair} → JoinedIn S′ Q cs e f → T (S (e .from)) → JoinedIn S Q cs e f
-  join-cut {e} {f} i t =
-      join-in-most S Q cs (λ g h. JoinedIn S′ Q cs g h × T (S (g .from)))
-      (λ g h k. let c = join-in-candidate S′ Q cs (k .0) in record { edge = c .edge; from = k .1; listed = c .listed })
-      (λ g h k. let s = join-in-supported S′ Q cs (k .0) in
-      supported-one (leaving-rule S Q)
-      (λ x j q. let m = leaving-in S Q j in let r = s .tail x (in-leaving S′ Q (m .0) (within (x .from) (m .1))) q in (r .0, (r .1, m .1), r .2))
-      (λ x j q. let m = leaving-in S Q j in let r = s .head x (in-leaving S′ Q (m .0) (within (x .from) (m .1))) q in (r .0, (r .1, m .1), r .2)))
-      e f (i, t)
+  join-cut i t =
+      cut-to S Q cs (leavingOf S′ Q) (λ x j s. in-leaving S′ Q j (within (x .from) s)) (JoinedIn S′ Q cs)
+      (λ g h k. let c = join-in-candidate S′ Q cs k in (c .edge, c .listed))
+      (λ g h k. join-in-supported S′ Q cs k)
+      i t
 
   pub join-grow : {e : Edge} {f : Pair} → JoinedIn S Q cs e f → JoinedIn S′ Q cs e f
   join-grow {e} {f} i =
@@ -90,13 +107,28 @@ module _ (S S′ : Nodes) (Q : Pattern) (cs : Offer) (shut : Shut Q S) (within :
       (λ x j q. s .head x (in-leaving S Q (leaving-in S′ Q j .0) (subst (λ z. T (S z)) (sym q) (shut g (c .edge) (c .from)))) q))
       e f i
 
--- ---- with every node settled it is the join
-pub join-in-all : (S : Nodes) (Q : Pattern) (vs : List View) → Q .rule ≡ oneWay → ((e : Edge) → In e (Q .edges) → T (S (e .from)))
-    → joinIn S Q (candidates Q vs) ≡ join Q vs
-unfolding joinIn join leavingOf
-join-in-all S Q vs one all =
-    ap₂ (λ (es : List Edge) (r : Rule). choice (record { labels = Q .labels; edges = es; rule = r }) (candidates Q vs))
-    (keep-all (λ e. S (e .from)) (Q .edges) all) (sym one)
+-- ---- the greatest choice by the rule of the query may start from the state at any set of nodes
+module _ (S : Nodes) (Q : Pattern) (cs : Offer) where
+  pub after-more : {e : Edge} {f : Pair} → In (e, f) (choice Q (stateAt S Q cs)) → In (e, f) (choice Q cs)
+  after-more {e} {f} i =
+      choice-most Q cs (ChoicePair Q (stateAt S Q cs))
+      (λ g h k. let c = choice-candidate Q (stateAt S Q cs) k in (c .0, state-candidate S Q cs (c .1)))
+      (λ g h k. choice-supported Q (stateAt S Q cs) k)
+      e f i
+
+  -- a choice from the candidates that supports itself is one from the state
+  pub choice-state : (K : Edge → Pair → Type 0) → ((g : Edge) (h : Pair) → K g h → In g (Q .edges) × In h (cs g)) → ((g : Edge) (h : Pair) → K g h → Supported Q K g h)
+      → (e : Edge) (f : Pair) → K e f → In e (Q .edges) × In f (stateAt S Q cs e)
+  choice-state K c s e f k =
+      let r = c e f k in
+      (r .0, ⊎-elim (λ t. state-old S Q cs (cut-to S Q cs Q (λ x j _. j) K c s k t)) (λ n. state-new S Q cs e f n (r .1)) (decide (S (e .from))))
+
+  pub after-less : {e : Edge} {f : Pair} → In (e, f) (choice Q cs) → In (e, f) (choice Q (stateAt S Q cs))
+  after-less {e} {f} i =
+      choice-most Q (stateAt S Q cs) (ChoicePair Q cs)
+      (choice-state (ChoicePair Q cs) (λ g h k. choice-candidate Q cs k) (λ g h k. choice-supported Q cs k))
+      (λ g h k. choice-supported Q cs k)
+      e f i
 
 -- ---- reaching
 not-say : (b : Bool) → T (not b) → T b → ⊥

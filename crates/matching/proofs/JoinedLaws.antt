@@ -1,12 +1,11 @@
--- What the steps of a join leave is the join.
-use Prim.Native.Nat.{ℕ, _+_, _≤_, _<_}
+-- What pruning both ways leaves of what the steps of a join left is the join.
+use Prim.Native.Nat.{ℕ, _+_, _<_}
 use mathlib.Core.Path.{_≡_, sym, ap, subst, _∙_}
 use mathlib.Core.Logic.{inr, ⊎-elim}
 use mathlib.Core.Bool.{Bool}
 use mathlib.Core.List.{List}
 use lib.ListN.{getD}
 use native.Mathlib.Omega.{arith}
-use Rattle.packed.proofs.OrderCases.{lt-or-ge}
 use Rattle.packed.specs.Limits.{patternNodesMost}
 use Rattle.packed.specs.Formats.{code}
 use Rattle.packed.specs.Contents.{distinct}
@@ -16,9 +15,9 @@ use Rattle.packed.specs.Matches.{Marked as MarkedPairs}
 use Rattle.packed.specs.declared.by_value.Pattern.{Pattern as Given}
 use Rattle.matching.specs.Lists.{In, each, keep, upTo}
 use Rattle.matching.specs.Simulation.{bit, Pair, Edge, Pattern, has, ascending}
-use Rattle.matching.specs.Join.{View, pairOf, candidates, Kept, join, keptFor, answerSets}
-use Rattle.matching.specs.Components.{joinIn, stateAt, Holds, Ran}
-use Rattle.matching.specs.Loaded.{givenEdge, patternIn, Fair, Edges}
+use Rattle.matching.specs.Join.{View, pairOf, candidates, Kept, choice, join, keptFor, answerSets}
+use Rattle.matching.specs.Components.{stateAt, Holds, Ran, Pruned}
+use Rattle.matching.specs.Loaded.{givenEdge, patternIn, Edges}
 use Rattle.matching.specs.Masks.{Has, OneOf}
 use Rattle.matching.specs.Candidates.{Booked, Blank, Taken, BookListing}
 use Rattle.matching.specs.Joining.{Agrees, Joined}
@@ -29,13 +28,12 @@ use Rattle.matching.proofs.UpToLaws.{in-upTo}
 use Rattle.matching.proofs.CodeLaws.{ascending-same}
 use Rattle.matching.proofs.MatchedLaws.{row-marked, sets-marked}
 use Rattle.matching.proofs.JoinLaws.{kept-in, in-kept, pair-code}
-use Rattle.matching.proofs.ComponentLaws.{join-in-all, state-say, state-old, steps-all}
-use Rattle.matching.proofs.ReachLaws.{given-rule, given-nodes, given-ended}
+use Rattle.matching.proofs.ComponentLaws.{after-more, after-less}
 use Rattle.matching.proofs.AnswerLaws.{answer-all-or-none}
 
-module _ (q : Given) (t : List ℕ) (set : ℕ) {s counts : List ℕ} {k d : ℕ} {w w₁ w₂ w₃ : List ℕ} {settled : ℕ} (fair : Fair q)
+module _ (q : Given) (t : List ℕ) (set : ℕ) {s counts : List ℕ} {k d : ℕ} {w w₁ w₂ w₃ w₄ : List ℕ} {settled : ℕ}
     (book : Booked s counts k d w) (blank : Blank d w w₁) (taken : Taken d (BookListing s counts k t set (q .edges)) w₁ w₂)
-    (ran : Ran q d patternNodesMost w₂ settled w₃) where
+    (ran : Ran q d patternNodesMost w₂ settled w₃) (pruned : Pruned q d w₃ w₄) where
   abbrev Q : Pattern
   Q = patternIn q
 
@@ -52,18 +50,18 @@ module _ (q : Given) (t : List ℕ) (set : ℕ) {s counts : List ℕ} {k d : ℕ
   twice : (i : ℕ) → i < 8192 → getD w₂ i 0 ≡ getD w i 0
   twice i l = taken .around .low i l ∙ once i l
 
-  edges : Edges w w₃
+  edges : Edges w w₄
   edges =
       record {
-        long = ran .long ∙ taken .around .long ∙ blank .around .long;
-        same = λ i l. ran .pairs i l ∙ twice i l;
+        long = pruned .long ∙ ran .long ∙ taken .around .long ∙ blank .around .long;
+        same = λ i l. pruned .pairs i l ∙ ran .pairs i l ∙ twice i l;
       }
 
   -- a word is the code of its pair
-  low : (i : ℕ) → i < d → pairIn (getD w₃ i 0) ≡ getD w₃ i 0
+  low : (i : ℕ) → i < d → pairIn (getD w₄ i 0) ≡ getD w₄ i 0
   low i l = let z = edges .same i (short i l) in let s = book .pool .small i l in omega arith
 
-  pairs-marked : MarkedPairs d w₃
+  pairs-marked : MarkedPairs d w₄
   pairs-marked =
       let p = book .pool in
       let o = p .long in
@@ -96,23 +94,16 @@ module _ (q : Given) (t : List ℕ) (set : ℕ) {s counts : List ℕ} {k d : ℕ
       let a = h .holds .1 .under in
       book .each (h .at) (h .below) .each (a .at) (a .below) .present c (a .holds .0)
 
-  -- ---- and after them
-  all-settled : (u : ℕ) → u < q .nodes → Has settled u
-  all-settled u l =
-      let z = given-nodes fair in
-      ⊎-elim (λ (p : ran .number < patternNodesMost). ran .last p u l)
-      (λ (p : patternNodesMost ≤ ran .number). steps-all Q (given-ended fair) (ran .sequence) (let a = fair .nodes in omega arith) u (omega arith))
-      (lt-or-ge (ran .number) patternNodesMost)
-
-  all-leave : (e : Edge) → In e (Q .edges) → Has settled (e .from)
-  all-leave e i = all-settled (e .from) (let a = given-ended fair e i .0 in let z = given-nodes fair in omega arith)
-
   pair : ℕ → Pair
-  pair i = pairOf (getD w₃ i 0)
+  pair i = pairOf (getD w₄ i 0)
 
   module _ (vs : List View) (g : Agrees q t set s counts k vs) where
     abbrev J : List Kept
     J = join Q vs
+
+    -- what is chosen from what the steps leave
+    abbrev After : List Kept
+    After = choice Q (stateAt (bit settled) Q (candidates Q vs))
 
     pair-same : {a b : ℕ} → pairOf a ≡ pairOf b → b ≡ a
     pair-same {a} {b} e = sym (pair-code b) ∙ sym (ap (λ (x : Pair). code (x .0) (x .1)) e) ∙ pair-code a
@@ -131,36 +122,29 @@ module _ (q : Given) (t : List ℕ) (set : ℕ) {s counts : List ℕ} {k d : ℕ
               (o .at, o .below, r .1 ∙ ap pairOf (sym (o .holds) ∙ sym (twice (o .at) (short (o .at) (o .below))))));
         }
 
-    -- in the end for those of the join
-    last : Holds q d w₃ (keptFor J)
+    -- in the end for those of the join: pruning starts from the state at the nodes that the steps settled
+    last : Holds q d w₄ (keptFor J)
+    unfolding join
     last =
-        let h = ran .state (candidates Q vs) first in
+        let h = pruned .state (stateAt (bit settled) Q (candidates Q vs)) (ran .state (candidates Q vs) first) in
         record {
-          listed = λ i n l le x. say n le (h .listed i n l le x);
-          held = λ i n l le x. h .held i n l le (by n le x);
-          among = λ n f le x. h .among n f le (by n le x);
+          listed = λ i n l le x. say (givenEdge q n) (h .listed i n l le x);
+          held = λ i n l le x. h .held i n l le (by (givenEdge q n) x);
+          among = λ n f le x. h .among n f le (by (givenEdge q n) x);
         }
       where
-        whole : joinIn (bit settled) Q (candidates Q vs) ≡ J
-        whole = join-in-all (bit settled) Q vs (given-rule q) all-leave
+        say : (e : Edge) {f : Pair} → In f (keptFor After e) → In f (keptFor J e)
+        say e x = in-kept J (after-more (bit settled) Q (candidates Q vs) (kept-in After x))
 
-        from-settled : (n : ℕ) → n < q .edges → Has settled (getD (q .from) n 0)
-        from-settled n le = all-settled (getD (q .from) n 0) (fair .from n le)
-
-        say : (n : ℕ) → n < q .edges → {f : Pair} → In f (stateAt (bit settled) Q (candidates Q vs) (givenEdge q n)) → In f (keptFor J (givenEdge q n))
-        say n le {f} x =
-            ⊎-elim (λ r. in-kept J (subst (λ (l : List Kept). In (givenEdge q n, f) l) whole (r .1))) (λ r. absurd (r .0 (from-settled n le)))
-            (state-say (bit settled) Q (candidates Q vs) x)
-
-        by : (n : ℕ) → n < q .edges → {f : Pair} → In f (keptFor J (givenEdge q n)) → In f (stateAt (bit settled) Q (candidates Q vs) (givenEdge q n))
-        by n le {f} x = state-old (bit settled) Q (candidates Q vs) (subst (λ (l : List Kept). In (givenEdge q n, f) l) (sym whole) (kept-in J x))
+        by : (e : Edge) {f : Pair} → In f (keptFor J e) → In f (keptFor After e)
+        by e x = in-kept After (after-less (bit settled) Q (candidates Q vs) (kept-in J x))
 
     -- ---- the lists
-    row : (n : ℕ) → n < q .edges → distinct (marked n (codesOf d w₃) (masksOf d w₃)) ≡ ascending (keptFor J (givenEdge q n))
+    row : (n : ℕ) → n < q .edges → distinct (marked n (codesOf d w₄) (masksOf d w₄)) ≡ ascending (keptFor J (givenEdge q n))
     row n l =
         row-marked pairs-marked n (λ i. i) pair test
         (λ i m. same-test _ _ (λ h. in-has (unfold pair in last .listed i n m l h)) (λ h. last .held i n m l (unfold pair in has-in (pair i) h)))
-        (λ i m. low i m ∙ sym (unfold pair in pair-code (getD w₃ i 0)))
+        (λ i m. low i m ∙ sym (unfold pair in pair-code (getD w₄ i 0)))
         ∙ ascending-same (each pair (keep test (upTo (λ i. i) d))) (keptFor J (givenEdge q n))
         (λ f j. let r = each-in pair _ j in in-cast (sym (r .2)) (has-in (pair (r .0)) (keep-in test (upTo (λ i. i) d) (r .1) .1)))
         (λ f j.
@@ -171,9 +155,9 @@ module _ (q : Given) (t : List ℕ) (set : ℕ) {s counts : List ℕ} {k d : ℕ
         test : ℕ → Bool
         test i = has (pair i) (keptFor J (givenEdge q n))
 
-    sets : matchesOf d (q .edges) w₃ ≡ answerSets Q vs
+    sets : matchesOf d (q .edges) w₄ ≡ answerSets Q vs
     unfolding patternIn
     sets = sets-marked pairs-marked (q .edges) (givenEdge q) (keptFor J) row ∙ sym (answer-all-or-none Q vs)
 
-  pub joined-by : Joined q t set s counts k d w w₃
-  joined-by = record { edges = edges; sets = sets; start = w₂; settled = settled; held = first; ran = ran }
+  pub joined-by : Joined q t set s counts k d w w₄
+  joined-by = record { edges = edges; sets = sets; start = w₂; settled = settled; held = first; middle = w₃; ran = ran; pruned = pruned }

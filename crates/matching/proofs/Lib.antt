@@ -47,7 +47,9 @@ pub mod FoundLaws
 pub mod JoinLaws
 pub mod ComponentLaws
 pub mod ReachLaws
+pub mod LeftLaws
 pub mod SteppingLaws
+pub mod PruningLaws
 pub mod Taking
 pub mod TakingSheets
 pub mod JoinedLaws

@@ -11,7 +11,7 @@ use Rattle.packed.specs.Contents.{nodesOf, edgesOf}
 use Rattle.packed.specs.Plain.{PlainPattern, fromAt, toAt, kindAt}
 use Rattle.packed.specs.ByValue.{HoldsPattern}
 use Rattle.packed.specs.declared.by_value.Pattern.{Pattern as Given}
-use Rattle.matching.specs.Simulation.{Edge, between, oneWay, Pattern, edgesIn, patternOf, sound}
+use Rattle.matching.specs.Simulation.{Edge, between, bothWays, Pattern, edgesIn, patternOf, sound}
 use Rattle.matching.specs.Loaded.{patternIn, Fair}
 use Rattle.matching.specs.Loaded.{givenEdge as givenAt}
 use Rattle.matching.specs.Lists.{upTo}
@@ -21,7 +21,7 @@ use Rattle.matching.proofs.MatchLaws.{SoundPattern, sound-by}
 use Rattle.matching.proofs.EdgeLaws.{edgeAt, edgesIn-upTo, edgesIn-length, edgesIn-at, at-edgesIn}
 
 abbrev made : List ℕ → List Edge → Pattern
-made l es = record { labels = l; edges = es; rule = oneWay }
+made l es = record { labels = l; edges = es; rule = bothWays }
 
 module _ {ws : List ℕ} {bs : List Bool} (q : PlainPattern ws bs) where
   abbrev all : List ℕ

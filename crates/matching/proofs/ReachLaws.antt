@@ -11,7 +11,7 @@ use lib.Bits.{bitAnd, bitOr}
 use Rattle.packed.specs.declared.by_value.Pattern.{Pattern as Given}
 use Rattle.packed.proofs.OrderCases.{lt-or-ge}
 use Rattle.matching.specs.Lists.{_or_, In}
-use Rattle.matching.specs.Simulation.{bit, Edge, oneWay}
+use Rattle.matching.specs.Simulation.{bit, Edge, bothWays}
 use Rattle.matching.specs.Components.{Nodes, reaches, together, ready, Shut, OneStep}
 use Rattle.matching.specs.Loaded.{givenEdge, patternIn, Fair}
 use Rattle.matching.specs.Masks.{Has, Mask, OneOf}
@@ -31,7 +31,7 @@ module _ (q : Given) where
   unfolding patternIn
   edges-in i = upTo-in (givenEdge q) (q .edges) i
 
-  pub given-rule : patternIn q .rule ≡ oneWay
+  pub given-rule : patternIn q .rule ≡ bothWays
   unfolding patternIn
   given-rule = refl
 

@@ -1,8 +1,8 @@
 -- What the masks hold between steps is the state at the settled nodes; what a step keeps of this, and where it starts.
 use mathlib.Core.Path.{_≡_, refl, ap, _∙_, sym, subst}
 use mathlib.Core.Logic.{inl, inr, ⊎-elim}
-use mathlib.Core.Bool.{Bool}
-use mathlib.Core.List.{List, [], _∷_, _++_}
+use mathlib.Core.Bool.{Bool, true, false}
+use mathlib.Core.List.{List, [], _++_}
 use Prim.Native.Nat.{ℕ, suc, _+_, _≤_, _<_, _/_, _%_, _^_}
 use native.Mathlib.Nat.{zero-add}
 use native.Mathlib.Omega.{arith}
@@ -15,210 +15,82 @@ use Rattle.packed.specs.Calls.{Verdict, accepted, rejected, readPattern}
 use Rattle.packed.specs.Accepting.{Held}
 use Rattle.packed.specs.declared.by_value.Pattern.{Pattern as Given}
 use Rattle.packed.proofs.OrderCases.{lt-or-ge}
-use Rattle.matching.specs.Lists.{In, here, there, gather}
-use Rattle.matching.specs.Simulation.{bit, Pair, Edge, Pattern, has}
-use Rattle.matching.specs.Join.{pairOf, Offer, Kept}
-use Rattle.matching.specs.Components.{Nodes, leavingOf, joinIn, stateAt, Shut, OneStep, StepsTo, start, step, Holds, Ran}
+use Rattle.matching.specs.Lists.{In}
+use Rattle.matching.specs.Simulation.{bit, Edge, Pattern}
+use Rattle.matching.specs.Join.{pairOf, Offer, Kept, choice}
+use Rattle.matching.specs.Components.{Nodes, leavingOf, joinIn, stateAt, Shut, OneStep, StepsTo, start, step, pairAt, Holds, Ran, Pruned}
 use Rattle.matching.specs.Loaded.{givenEdge, patternIn, Fair}
 use Rattle.matching.specs.Masks.{Has, Mask, OneOf}
 use Rattle.matching.specs.Candidates.{Pool}
 use Rattle.matching.specs.Sweeping.{fromOf, toOf, Ends, heldAt, Tabled, LookedUp}
-use Rattle.matching.specs.Rounds.{Offers, Supports, Safe, Stays, Sound, Falls, Prepared, Fixed, Round}
-use Rattle.matching.specs.Stepping.{PairsTaken, LeavingLinks, Loose, LooseLinks, Between, At, Fresh, Started, Stepped, Going, Tried}
+use Rattle.matching.specs.Rounds.{Supports, Safe, Stays, Sound, Falls, Prepared, Fixed, Round}
+use Rattle.matching.specs.Stepping.{PairsTaken, LeavingLinks, Loose, LooseLinks, Between, At, Fresh, Started, Stepped, Going, RanPruned, Tried}
 use Rattle.matching.specs.declared.steps.Place.{Place}
-use Rattle.matching.proofs.ListLaws.{decide, same-test, in-cases, in-cast, not-in-none, gather-in, in-gather}
-use Rattle.matching.proofs.SimLaws.{has-in, in-has}
+use Rattle.matching.proofs.ListLaws.{decide, same-test}
 use Rattle.matching.proofs.MaskBits.{none-has, or-left, or-right, or-cases, and-say, and-by, minus-say, minus-by, mask-cast, union-more}
 use Rattle.matching.proofs.RoundLaws.{fixed-prepared, prepared-ends}
 use Rattle.matching.proofs.JoiningLaws.{every-prepared, every-has, every-shape}
-use Rattle.matching.proofs.JoinLaws.{Supported, supported-one}
-use Rattle.matching.proofs.ComponentLaws.{leaving-rule, leaving-in, in-leaving, join-in-candidate, join-in-supported, join-in-most, state-say, state-old, state-new, step-shut}
+use Rattle.matching.proofs.ComponentLaws.{leaving-one, leaving-in, in-leaving, join-in-candidate, state-say, state-candidate, state-old, state-new, step-shut}
 use Rattle.matching.proofs.ReachLaws.{in-edges, edges-in, given-ended}
-
--- ---- the ends of what is kept
--- the nodes that stand for nodes of the query as the ends of a pair that is kept for an edge
-ends-of : Kept → List Pair
-ends-of k = (k .0 .from, k .1 .0) ∷ (k .0 .to, k .1 .1) ∷ []
-
-unfoldable stands : List Kept → ℕ → ℕ → Bool
-stands l u v = has (u, v) (gather ends-of l)
-
-module _ {l : List Kept} where
-  tail-stands : {e : Edge} {f : Pair} → In (e, f) l → T (stands l (e .from) (f .0))
-  unfolding stands ends-of
-  tail-stands i = in-has (in-gather ends-of i (here refl))
-
-  head-stands : {e : Edge} {f : Pair} → In (e, f) l → T (stands l (e .to) (f .1))
-  unfolding stands ends-of
-  head-stands i = in-has (in-gather ends-of i (there (here refl)))
-
-  -- what holds of both ends of each pair that is kept holds of all that stands
-  stands-all : (R : ℕ → ℕ → Type 0) → ((e : Edge) (f : Pair) → In (e, f) l → R (e .from) (f .0) × R (e .to) (f .1)) → {u v : ℕ} → T (stands l u v) → R u v
-  unfolding stands ends-of
-  stands-all R h {u} {v} t = from (gather-in ends-of l (has-in (u, v) t))
-    where
-      from : (k : Kept) × In k l × In (u, v) (ends-of k) → R u v
-      from (k, i, j) =
-          let r = h (k .0) (k .1) i in
-          ⊎-elim (λ (p : (u, v) ≡ (k .0 .from, k .1 .0)). subst (λ (x : Pair). R (x .0) (x .1)) (sym p) (r .0))
-          (λ m. ⊎-elim (λ (p : (u, v) ≡ (k .0 .to, k .1 .1)). subst (λ (x : Pair). R (x .0) (x .1)) (sym p) (r .1)) (λ n. absurd (not-in-none n)) (in-cases m))
-          (in-cases j)
+use Rattle.matching.proofs.LeftLaws.{stands, stands-all, Rested, left-candidate, left-chosen, stands-below, chosen-supports, chosen-left}
 
 -- ---- the state
-module _ {q : Given} {n d : ℕ} {w : List ℕ} {s : Place} {w′ leave arrive : List ℕ} (ends : Ends n d w) (few : n ≤ 4096)
-    (b : Between q n d w s w′ leave arrive) (cs : Offer) (first : Holds q d w cs) where
+module _ {q : Given} {n d : ℕ} {w : List ℕ} {s : Place} {w′ leave arrive : List ℕ} (ends : Ends n d w) (b : Between q n d w s w′ leave arrive) where
   abbrev Q : Pattern
   Q = patternIn q
 
   abbrev S : Nodes
   S = bit (s .settled)
 
-  abbrev J : List Kept
-  J = joinIn S Q cs
-
-  -- the pair i is held for the edge e
-  abbrev After : ℕ → ℕ → Type 0
-  After i e = Has (heldAt w′ i) e
-
-  pair : ℕ → Pair
-  pair i = pairOf (getD w i 0)
-
-  -- it begins where its word says
-  pair-from : (i : ℕ) → i < d → pair i .0 ≡ fromOf w i
-  unfolding pair pairOf
-  pair-from i l = let z = b .small i l in omega arith
-
-  from-same : (i : ℕ) → i < d → fromOf w′ i ≡ fromOf w i
-  from-same i l = ap (λ (y : ℕ). y / 4096 % 4096) (b .falls .same i l)
-
-  to-same : (i : ℕ) → i < d → toOf w′ i ≡ toOf w i
-  to-same i l = ap (λ (y : ℕ). y % 4096) (b .falls .same i l)
-
-  -- what is held for a settled link lies in the masks
-  within : (i e : ℕ) → i < d → e < q .edges → T (S (getD (q .from) e 0)) → After i e → Has (getD leave (fromOf w i) 0) e × Has (getD arrive (toOf w i) 0) e
-  within i e l le t h =
-      ⊎-elim (λ f. absurd (b .free .why e (b .loose e le f) .1 t))
-      (λ m. (subst (λ (y : ℕ). Has (getD leave y 0) e) (from-same i l) (m .0), subst (λ (y : ℕ). Has (getD arrive y 0) e) (to-same i l) (m .1)))
-      (b .within i e l h)
-
-  -- a link that may leave a node is held there
-  begins : (v k : ℕ) → v < n → k < q .edges → Has (getD leave v 0) k → OneOf d (λ j. (fromOf w j ≡ v) × After j k)
-  begins v k l lk h =
-      let o = b .offered v k l lk h in
-      record { at = o .at; below = o .below; holds = (sym (from-same (o .at) (o .below)) ∙ o .holds .0, o .holds .1) }
-
-  -- the pair f is held for the settled edge e
-  abbrev Marks : Edge → Pair → Type 0
-  Marks e f = OneOf (q .edges) (λ k. (e ≡ givenEdge q k) × T (S (getD (q .from) k 0)) × OneOf d (λ i. (f ≡ pair i) × After i k))
-
-  marks-from : (u v : ℕ) {x : ℕ} → v ≡ x → ((k : ℕ) → k < q .edges → getD (q .from) k 0 ≡ u → OneOf d (λ j. (fromOf w j ≡ v) × After j k))
-      → (e : Edge) → In e (leavingOf S Q .edges) → e .from ≡ u → (f : Pair) × Marks e f × (f .0 ≡ x)
-  marks-from u v y h e j p =
-      let m = leaving-in S Q j in
-      let o = edges-in q (m .0) in
-      let z = ap (λ (x : Edge). x .from) (o .holds) in
-      let r = h (o .at) (o .below) (sym z ∙ p) in (
-        pair (r .at),
-        record { at = o .at; below = o .below; holds = (o .holds, subst (λ (x : ℕ). T (S x)) z (m .1), record { at = r .at; below = r .below; holds = (refl, r .holds .1) }) },
-        pair-from (r .at) (r .below) ∙ r .holds .0 ∙ y,
-      )
-
-  supports : (i e : ℕ) → i < d → e < q .edges → T (S (getD (q .from) e 0)) → After i e → Supported (leavingOf S Q) Marks (givenEdge q e) (pair i)
-  unfolding pair pairOf
-  supports i e l le t h =
-      let m = within i e l le t h in
-      supported-one (leaving-rule S Q)
-      (marks-from (getD (q .from) e 0) (fromOf w i) (sym (pair-from i l)) (λ k lk p. begins (fromOf w i) k (ends .from i l) lk (b .shape .out-out (fromOf w i) e k le lk (sym p) (m .0))))
-      (marks-from (getD (q .to) e 0) (toOf w i) refl (λ k lk p. begins (toOf w i) k (ends .to i l) lk (b .shape .in-out (toOf w i) e k le lk (sym p) (m .1))))
-
-  candidate : (i e : ℕ) → i < d → e < q .edges → After i e → In (pair i) (cs (givenEdge q e))
-  unfolding pair
-  candidate i e l le h = first .listed i e l le (b .falls .part i e l h)
-
-  after-joined : (i e : ℕ) → i < d → e < q .edges → T (S (getD (q .from) e 0)) → After i e → In (givenEdge q e, pair i) J
-  after-joined i e l le t h =
-      join-in-most S Q cs Marks
-      (λ g f c. let o = c .holds .2 in
-      let z = sym (c .holds .0) in
+  -- the settled links rest
+  rested : Rested q n d w w′ leave arrive (leavingOf S Q) (λ e. T (S (getD (q .from) e 0)))
+  rested =
       record {
-        edge = in-cast z (in-edges q (c .at) (c .below));
-        from = subst (λ (x : Edge). T (S (x .from))) z (c .holds .1);
-        listed = subst (λ (x : Edge). In f (cs x)) z (in-cast (sym (o .holds .0)) (candidate (o .at) (c .at) (o .below) (c .below) (o .holds .1)));
-      })
-      (λ g f c. let o = c .holds .2 in
-      subst (λ (x : Edge). Supported (leavingOf S Q) Marks x f) (sym (c .holds .0))
-      (subst (Supported (leavingOf S Q) Marks (givenEdge q (c .at))) (sym (o .holds .0)) (supports (o .at) (c .at) (o .below) (c .below) (c .holds .1) (o .holds .1))))
-      (givenEdge q e) (pair i) (record { at = e; below = le; holds = (refl, t, record { at = i; below = l; holds = (refl, h) }) })
-
-  -- ---- what is in the choice is held
-  joined-at : (e : ℕ) → e < q .edges → {f : Pair} → In (givenEdge q e, f) J → (i : ℕ) × (i < d) × (f ≡ pair i)
-  unfolding pair
-  joined-at e le {f} j = first .among e f le (join-in-candidate S Q cs j .listed)
-
-  joined-before : (i e : ℕ) → i < d → e < q .edges → In (givenEdge q e, pair i) J → Has (heldAt w i) e
-  unfolding pair
-  joined-before i e l le j = first .held i e l le (join-in-candidate S Q cs j .listed)
-
-  offers : (e : ℕ) → e < q .edges → {f : Pair} → In (givenEdge q e, f) J → Offers (q .to) d w (λ u v. T (stands J u v)) (f .0) e
-  unfolding pair pairOf
-  offers e le {f} j =
-      let o = joined-at e le j in
-      let i : In (givenEdge q e, pair (o .0)) J = subst (λ (x : Pair). In (givenEdge q e, x) J) (o .2) j in
-      record {
-        at = o .0;
-        below = o .1;
-        holds = (sym (ap (λ (x : Pair). x .0) (o .2) ∙ pair-from (o .0) (o .1)), joined-before (o .0) e (o .1) le i, head-stands i);
+        small = b .small;
+        ends = ends;
+        same = b .falls .same;
+        part = b .falls .part;
+        asked = λ e le t. in-leaving S Q (in-edges q e le) t;
+        only = λ g j.
+            (let m = leaving-in S Q j in
+            let o = edges-in q (m .0) in
+            record { at = o .at; below = o .below; holds = (o .holds, subst (λ (x : Edge). T (S (x .from))) (o .holds) (m .1)) });
+        shape = b .shape;
+        within = λ i e l le t h. ⊎-elim (λ f. absurd (b .free .why e (b .loose e le f) .1 t)) (λ m. m) (b .within i e l h);
+        begins = b .offered;
+        closes = λ r. absurd (leaving-one S Q r);
       }
 
-  -- the nodes at its ends support themselves for all links, since those that leave them leave S
-  stands-supports : Supports (q .from) (q .to) (q .edges) (λ e. Unit {0}) d w (λ u v. T (stands J u v))
-  stands-supports u v h e le a =
-      stands-all (λ x y. getD (q .from) e 0 ≡ x → Offers (q .to) d w (λ a b. T (stands J a b)) y e)
-      (λ g f j. let r = join-in-supported S Q cs j in let c = join-in-candidate S Q cs j in (
-        λ p. from (r .tail (givenEdge q e) (in-leaving S Q (in-edges q e le) (subst (λ (x : ℕ). T (S x)) (sym p) (c .from))) p),
-        λ p. from (r .head (givenEdge q e) (in-leaving S Q (in-edges q e le) (subst (λ (x : ℕ). T (S x)) (sym p) (b .shut g (c .edge) (c .from)))) p),
-      ))
-      h
-    where
-      from : {y : ℕ} → (f : Pair) × In (givenEdge q e, f) J × (f .0 ≡ y) → Offers (q .to) d w (λ a b. T (stands J a b)) y e
-      from (f, j, p) = subst (λ (y : ℕ). Offers (q .to) d w (λ a b. T (stands J a b)) y e) p (offers e le j)
+  module _ (cs : Offer) (first : Holds q d w cs) where
+    abbrev J : List Kept
+    J = choice (leavingOf S Q) cs
 
-  stands-below : (u v : ℕ) → T (stands J u v) → v < 4096
-  unfolding pair pairOf
-  stands-below u v h = stands-all (λ x y. y < 4096) below h
-    where
-      below : (g : Edge) (f : Pair) → In (g, f) J → (f .0 < 4096) × (f .1 < 4096)
-      below g f j =
-          let c = edges-in q (join-in-candidate S Q cs j .edge) in
-          let o = joined-at (c .at) (c .below) (subst (λ (x : Edge). In (x, f) J) (c .holds) j) in
-          let a = pair-from (o .0) (o .1) in
-          let x = ends .from (o .0) (o .1) in
-          let y = ends .to (o .0) (o .1) in
-          subst (λ (x : Pair). (x .0 < 4096) × (x .1 < 4096)) (sym (o .2)) (omega arith, omega arith)
+    -- the links that leave what stands leave S
+    settled : (e v : ℕ) → T (stands J (getD (q .from) e 0) v) → T (S (getD (q .from) e 0))
+    unfolding joinIn
+    settled e v h = stands-all (λ x y. T (S x)) (λ g f j. let c = join-in-candidate S Q cs j in (c .from, b .shut g (c .edge) (c .from))) h
 
-  joined-after : (i e : ℕ) → i < d → e < q .edges → In (givenEdge q e, pair i) J → After i e
-  unfolding pair pairOf
-  joined-after i e l le j = b .stays (stands J) stands-supports stands-below i e l le
-      (subst (λ (v : ℕ). T (stands J (getD (q .from) e 0) v)) (pair-from i l) (tail-stands j)) (head-stands j) (joined-before i e l le j)
+    state : Holds q d w′ (stateAt S Q cs)
+    unfolding joinIn
+    state =
+        record {
+          listed = λ i e l le h. subst (λ (x : ℕ). In (pairOf x) (stateAt S Q cs (givenEdge q e))) (sym (b .falls .same i l))
+              (⊎-elim (λ t. state-old S Q cs (left-chosen rested cs first i e l le t h))
+              (λ n. state-new S Q cs (givenEdge q e) (pairAt w i) n (left-candidate rested cs first i e l le h)) (decide (S (getD (q .from) e 0))));
+          held = λ i e l le h. ⊎-elim
+              (λ r. chosen-left rested cs first stays i e l le (r .1))
+              (λ r. b .falls .untouched i e l (b .free .hit e (le, r .0)) (first .held i e l le (r .1)))
+              (state-say S Q cs (subst (λ (x : ℕ). In (pairOf x) (stateAt S Q cs (givenEdge q e))) (b .falls .same i l) h));
+          among = λ e f le h.
+              (let o = first .among e f le (state-candidate S Q cs h) in
+              (o .0, o .1, o .2 ∙ ap pairOf (sym (b .falls .same (o .0) (o .1)))));
+        }
+      where
+        stays : (i e : ℕ) → i < d → e < q .edges → T (stands J (getD (q .from) e 0) (fromOf w i)) → T (stands J (getD (q .to) e 0) (toOf w i)) → Has (heldAt w i) e → Has (heldAt w′ i) e
+        stays = b .stays (stands J) (chosen-supports rested cs first (λ e. Unit {0}) (λ e v le m h. settled e v h)) (stands-below rested cs first)
 
-  -- ---- the lists
-  state : Holds q d w′ (stateAt S Q cs)
-  unfolding pair
-  state =
-      record {
-        listed = λ i e l le h. subst (λ (x : ℕ). In (pairOf x) (stateAt S Q cs (givenEdge q e))) (sym (b .falls .same i l))
-            (⊎-elim (λ t. state-old S Q cs (after-joined i e l le t h)) (λ n. state-new S Q cs (givenEdge q e) (pair i) n (candidate i e l le h)) (decide (S (getD (q .from) e 0))));
-        held = λ i e l le h. ⊎-elim
-            (λ r. joined-after i e l le (r .1))
-            (λ r. b .falls .untouched i e l (b .free .hit e (le, r .0)) (first .held i e l le (r .1)))
-            (state-say S Q cs (subst (λ (x : ℕ). In (pairOf x) (stateAt S Q cs (givenEdge q e))) (b .falls .same i l) h));
-        among = λ e f le h.
-            (let o = first .among e f le (⊎-elim (λ r. join-in-candidate S Q cs (r .1) .listed) (λ r. r .1) (state-say S Q cs h)) in
-            (o .0, o .1, o .2 ∙ ap pairOf (sym (b .falls .same (o .0) (o .1)))));
-      }
-
-pub between-at : {q : Given} {n d : ℕ} {w : List ℕ} {s : Place} {w′ leave arrive : List ℕ} → Ends n d w → n ≤ 4096 → Between q n d w s w′ leave arrive → At q n d w s w′ leave arrive
-between-at ends few b = record { state = state ends few b; edges = record { long = b .falls .long; same = b .falls .low }; between = b }
+pub between-at : {q : Given} {n d : ℕ} {w : List ℕ} {s : Place} {w′ leave arrive : List ℕ} → Ends n d w → Between q n d w s w′ leave arrive → At q n d w s w′ leave arrive
+between-at ends b = record { state = state ends b; edges = record { long = b .falls .long; same = b .falls .low }; between = b }
 
 -- the first words have the pairs of the later ones
 ends-first : {free n d : ℕ} {w w′ : List ℕ} → Falls free d w w′ → Ends n d w′ → Ends n d w
@@ -345,10 +217,10 @@ module _ {q : Given} {n d all : ℕ} {w leave arrive out leaving arriving : List
         }
 
     pub started-by : Started q n d w s w′ leave′ arrive′ out′
-    started-by = record { settled = z; prepared = fixed-prepared F (fresh-prepared pool f); at = between-at (f .ends) (f .few) first-between }
+    started-by = record { settled = z; prepared = fixed-prepared F (fresh-prepared pool f); at = between-at (f .ends) first-between }
 
 -- ---- a step
-module _ {q : Given} {n d : ℕ} (c due : ℕ) {w leave arrive out : List ℕ} (s : Place) (fair : Fair q) (few : n ≤ 4096)
+module _ {q : Given} {n d : ℕ} (c due : ℕ) {w leave arrive out : List ℕ} (s : Place) (fair : Fair q)
     (one : OneStep (patternIn q) (bit (s .settled)) (bit (bitOr (s .settled) c))) (new : bitAnd c (s .settled) ≡ 0)
     (links : LeavingLinks (q .from) (q .edges) c due) (P : Prepared n d w leave arrive out) where
   due-say : (e : ℕ) → Has due e → (e < q .edges) × Has c (getD (q .from) e 0)
@@ -524,13 +396,13 @@ module _ {q : Given} {n d : ℕ} (c due : ℕ) {w leave arrive out : List ℕ} (
   -- ---- the contract
   pub stepped-skip : bitAnd due (s .loose) ≡ 0 → (s′ : Place) → s′ .settled ≡ settled′ → s′ .free ≡ free′ → s′ .loose ≡ s .loose → Stepped q n d c s w leave arrive out s′ w leave arrive out
   stepped-skip z s′ x y v =
-      record { settled = x; leave-long = refl; arrive-long = refl; out-long = refl; prepared = P; at = λ w₀ a. between-at (ends₀ (a .between)) few (between-skip (a .between) z s′ x y v) }
+      record { settled = x; leave-long = refl; arrive-long = refl; out-long = refl; prepared = P; at = λ w₀ a. between-at (ends₀ (a .between)) (between-skip (a .between) z s′ x y v) }
 
   pub stepped-rest : {leaving arriving w′ leave′ arrive′ out′ : List ℕ} {r : ℕ} → Tabled (q .from) (q .from) (q .edges) leaving → Tabled (q .from) (q .to) (q .edges) arriving
       → Fixed n free′ due 0 d leaving arriving leaving arriving w leave arrive out 0 w′ leave′ arrive′ out′ → LookedUp arriving due r
       → (s′ : Place) → s′ .settled ≡ settled′ → s′ .free ≡ free′ → s′ .loose ≡ bitAnd (bitOr (s .loose) r) free′ → Stepped q n d c s w leave arrive out s′ w′ leave′ arrive′ out′
   stepped-rest T₁ T₂ F L s′ x y v =
-      record { settled = x; leave-long = F .leave-long; arrive-long = F .arrive-long; out-long = F .out-long; prepared = fixed-prepared F P; at = λ w₀ a. between-at (ends₀ (a .between)) few (between-rest T₁ T₂ F L (a .between) s′ x y v) }
+      record { settled = x; leave-long = F .leave-long; arrive-long = F .arrive-long; out-long = F .out-long; prepared = fixed-prepared F P; at = λ w₀ a. between-at (ends₀ (a .between)) (between-rest T₁ T₂ F L (a .between) s′ x y v) }
 
 -- ---- steps one after the other
 -- some steps from the place s₀ at no node, while so many are left
@@ -588,6 +460,17 @@ module _ {q : Given} {n d steps : ℕ} (s₀ : Place) {w₀ leave₀ arrive₀ o
         let y = g .count in
         record { number = g .number; most = omega arith; last = λ l. absurd (omega arith); sequence = g .sequence; state = b .state; long = b .edges .long; pairs = b .edges .same }
 
+-- ---- with the pruning or without
+true-false : true ≡ false → ⊥
+true-false e = subst T e tt
+
+module _ {q : Given} {d steps settled : ℕ} {pruned : Bool} {w w′ : List ℕ} (r : Ran q d steps w settled w′) where
+  pub ran-alone : pruned ≡ false → RanPruned q d steps pruned w settled w′
+  ran-alone e = record { middle = w′; ran = r; steps-alone = λ n. refl; then-pruned = λ y. absurd (true-false (sym y ∙ e)); long = r .long }
+
+  pub ran-pruned : {w″ : List ℕ} → pruned ≡ true → Pruned q d w′ w″ → RanPruned q d steps pruned w settled w″
+  ran-pruned y p = record { middle = w′; ran = r; steps-alone = λ n. absurd (true-false (sym y ∙ n)); then-pruned = λ _. p; long = p .long ∙ r .long }
+
 -- ---- a trial
 is-accepted : Verdict → Type 0
 is-accepted (accepted ws) = Unit {0}
@@ -601,14 +484,14 @@ not-both : {v : Verdict} {ws : List ℕ} {n d : ℕ} → v ≡ accepted ws → v
 unfolding is-accepted
 not-both e f = subst is-accepted (sym e ∙ f) tt
 
-module _ (s : List ℕ) (d steps : ℕ) (w : List ℕ) where
-  pub tried-short : length w < 16384 → Tried s d steps w 0 w
+module _ (s : List ℕ) (d steps : ℕ) (pruned : Bool) (w : List ℕ) where
+  pub tried-short : length w < 16384 → Tried s d steps pruned w 0 w
   tried-short l = record { short = λ h. (refl, refl); refused = λ n d e. (refl, refl); ran = λ h. absurd (omega arith) }
 
-  pub tried-refused : {n e : ℕ} → readPattern s ≡ rejected n e → Tried s d steps w 0 w
+  pub tried-refused : {n e : ℕ} → readPattern s ≡ rejected n e → Tried s d steps pruned w 0 w
   tried-refused e = record { short = λ h. (refl, refl); refused = λ n d f. (refl, refl); ran = λ h ws f. absurd (not-both f e) }
 
-  pub tried-ran : {n r pairs : ℕ} {room : List ℕ} (l rest : List ℕ) (p : Given) → 16384 ≤ length w → PairsTaken d (take 16384 w) pairs → Held (λ ws. HoldsPattern ws p) (readPattern s) n room → Ran p pairs steps (take 16384 w) r l → Tried s d steps w r (l ++ rest)
+  pub tried-ran : {n r pairs : ℕ} {room : List ℕ} (l rest : List ℕ) (p : Given) → 16384 ≤ length w → PairsTaken d (take 16384 w) pairs → Held (λ ws. HoldsPattern ws p) (readPattern s) n room → RanPruned p pairs steps pruned (take 16384 w) r l → Tried s d steps pruned w r (l ++ rest)
   unfolding content-of
   tried-ran {r = settled} {pairs = pairs} l rest p h u a r =
       record {
@@ -620,7 +503,7 @@ module _ (s : List ℕ) (d steps : ℕ) (w : List ℕ) where
               holds = subst (λ (y : List ℕ). HoldsPattern y p) (ap content-of (sym (a .is) ∙ f)) (a .holds);
               pairs = pairs;
               taken = u;
-              ran = subst (λ (y : List ℕ). Ran p pairs steps (take 16384 w) settled y) (sym front) r;
+              ran = subst (λ (y : List ℕ). RanPruned p pairs steps pruned (take 16384 w) settled y) (sym front) r;
             };
       }
     where

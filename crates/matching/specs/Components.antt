@@ -1,5 +1,5 @@
 -- The join by steps, from the ends inward: the greatest choice for the edges that leave a set of nodes, the components that the steps add one by one, and what the
--- program's words hold after each step.
+-- program's words hold after each step, and after the pruning that follows the last.
 use mathlib.Core.Path.{_≡_}
 use mathlib.Core.Bool.{Bool, cond, false, not}
 use mathlib.Core.List.{List}
@@ -96,5 +96,12 @@ pub record Ran (q : Given) (d steps : ℕ) (w : List ℕ) (settled : ℕ) (w′ 
   pub last : number < steps → (u : ℕ) → u < q .nodes → T (bit settled u)
   pub sequence : StepsTo (patternIn q) number (bit settled)
   pub state : HoldsState q d w settled w′
+  pub long : length w′ ≡ length w
+  pub pairs : (i : ℕ) → i < 8192 → getD w′ i 0 ≡ getD w i 0
+
+-- "pruning both ways starts from what they leave": whatever candidates the words w held, the words w′ hold the greatest choice from them by the rule of the query,
+-- and the pairs stay where they are
+pub record Pruned (q : Given) (d : ℕ) (w w′ : List ℕ) : Type 0 where
+  pub state : (cs : Offer) → Holds q d w cs → Holds q d w′ (keptFor (choice (patternIn q) cs))
   pub long : length w′ ≡ length w
   pub pairs : (i : ℕ) → i < 8192 → getD w′ i 0 ≡ getD w i 0

@@ -81,9 +81,9 @@ edgesIn (a ∷ []) = []
 edgesIn (a ∷ b ∷ []) = []
 edgesIn (a ∷ b ∷ k ∷ es) = between a b k ∷ edgesIn es
 
--- what the content of a pattern and of a record mean: patterns are matched one-way
+-- what the content of a pattern and of a record mean: patterns are matched both ways
 unfoldable pub patternOf : List ℕ → Pattern
-patternOf ws = record { labels = take (nodesOf ws) (drop 2 ws); edges = edgesIn (drop (2 + nodesOf ws) ws); rule = oneWay }
+patternOf ws = record { labels = take (nodesOf ws) (drop 2 ws); edges = edgesIn (drop (2 + nodesOf ws) ws); rule = bothWays }
 
 unfoldable pub graphOf : List ℕ → Graph
 graphOf ws = record { labels = take (nodesOf ws) (drop 2 ws); edges = edgesIn (drop (2 + nodesOf ws) ws) }
@@ -93,7 +93,7 @@ abbrev pub givenEdge : Given → ℕ → Edge
 givenEdge p e = between (getD (p .from) e 0) (getD (p .to) e 0) (getD (p .kind) e 0)
 
 unfoldable pub patternIn : Given → Pattern
-patternIn p = record { labels = take (p .nodes) (p .labels); edges = upTo (givenEdge p) (p .edges); rule = oneWay }
+patternIn p = record { labels = take (p .nodes) (p .labels); edges = upTo (givenEdge p) (p .edges); rule = bothWays }
 
 -- a pattern read as a graph ("read the question as a record"): each node has its own label alone
 unfoldable pub asGraph : Pattern → Graph

@@ -2,7 +2,7 @@
 use Prim.Native.Nat.{ℕ, _+_, _^_, _<_, _≤_}
 use mathlib.Core.Path.{_≡_}
 use mathlib.Core.List.{List}
-use mathlib.Core.Bool.{Bool}
+use mathlib.Core.Bool.{Bool, true, false}
 use mathlib.Core.Logic.{_⊎_}
 use lib.ListN.{length, getD, take, replicate}
 use lib.Dec.{T}
@@ -12,7 +12,7 @@ use Rattle.packed.specs.ByValue.{HoldsPattern}
 use Rattle.packed.specs.Calls.{accepted, rejected, readPattern}
 use Rattle.packed.specs.declared.by_value.Pattern.{Pattern as Given}
 use Rattle.matching.specs.Simulation.{bit}
-use Rattle.matching.specs.Components.{reaches, Shut, HoldsState, Ran}
+use Rattle.matching.specs.Components.{reaches, Shut, HoldsState, Ran, Pruned}
 use Rattle.matching.specs.Loaded.{patternIn, Edges}
 use Rattle.matching.specs.Masks.{Has, Mask, OneOf}
 use Rattle.matching.specs.Sweeping.{fromOf, toOf, Ends, heldAt, Tabled}
@@ -111,22 +111,30 @@ pub record Started (q : Given) (n d : ℕ) (w : List ℕ) (s : Place) (w′ leav
 abbrev pub Going : Given → ℕ → ℕ → ℕ → Place → List ℕ → List ℕ → List ℕ → ℕ → List ℕ → Type 0
 Going q n d steps s w leave arrive settled w′ = (w₀ : List ℕ) → At q n d w₀ s w leave arrive → Ran q d steps w₀ settled w′
 
+-- at most so many steps, and then the pruning if it is asked for
+pub record RanPruned (q : Given) (d steps : ℕ) (pruned : Bool) (w : List ℕ) (settled : ℕ) (w′ : List ℕ) : Type 0 where
+  pub middle : List ℕ
+  pub ran : Ran q d steps w settled middle
+  pub steps-alone : pruned ≡ false → w′ ≡ middle
+  pub then-pruned : pruned ≡ true → Pruned q d middle w′
+  pub long : length w′ ≡ length w
+
 -- as many of the first d words as are pairs in order
 pub record PairsTaken (d : ℕ) (w : List ℕ) (r : ℕ) : Type 0 where
   pub pool : Pool r w
   pub upto : r ≤ d
   pub most : r < d → Pool (r + 1) w → ⊥
 
--- the steps of the question with the content ws, from the first of the lent words
-pub record TriedFor (ws : List ℕ) (d steps : ℕ) (w : List ℕ) (r : ℕ) (w′ : List ℕ) : Type 0 where
+-- the steps of the question with the content ws, and the pruning if it is asked for, from the first of the lent words
+pub record TriedFor (ws : List ℕ) (d steps : ℕ) (pruned : Bool) (w : List ℕ) (r : ℕ) (w′ : List ℕ) : Type 0 where
   pub given : Given
   pub holds : HoldsPattern ws given
   pub pairs : ℕ
   pub taken : PairsTaken d (take 16384 w) pairs
-  pub ran : Ran given pairs steps (take 16384 w) r (take 16384 w′)
+  pub ran : RanPruned given pairs steps pruned (take 16384 w) r (take 16384 w′)
 
 -- nothing happens where the question s is refused or the words are too few
-pub record Tried (s : List ℕ) (d steps : ℕ) (w : List ℕ) (r : ℕ) (w′ : List ℕ) : Type 0 where
+pub record Tried (s : List ℕ) (d steps : ℕ) (pruned : Bool) (w : List ℕ) (r : ℕ) (w′ : List ℕ) : Type 0 where
   pub short : length w < 16384 → (r ≡ 0) × (w′ ≡ w)
   pub refused : (number detail : ℕ) → readPattern s ≡ rejected number detail → (r ≡ 0) × (w′ ≡ w)
-  pub ran : 16384 ≤ length w → (ws : List ℕ) → readPattern s ≡ accepted ws → TriedFor ws d steps w r w′
+  pub ran : 16384 ≤ length w → (ws : List ℕ) → readPattern s ≡ accepted ws → TriedFor ws d steps pruned w r w′

@@ -44,7 +44,7 @@ fn search_for(p: Pattern, record: &[u8], out: &mut [u8], work: &mut [u32]) -> Re
                 n,
                 m,
                 p,
-                false,
+                true,
                 work,
                 &mut leave,
                 &mut arrive,
@@ -96,7 +96,7 @@ fn book_size(
     while a < k {
         let v = views::view_at(catalogue, byte);
         let p = v.pattern;
-        matched::match_edges(record, n, m, p, false, work, leave, arrive, held);
+        matched::match_edges(record, n, m, p, true, work, leave, arrive, held);
         let more = matches::sheet_size(work, m, p.edges as u32);
         sizes[a] = more;
         size += more;
@@ -125,7 +125,7 @@ fn match_again(
     if size == 1 {
         return 0;
     }
-    matched::match_edges(record, n, m, p, false, work, leave, arrive, held);
+    matched::match_edges(record, n, m, p, true, work, leave, arrive, held);
     m
 }
 

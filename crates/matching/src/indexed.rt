@@ -69,7 +69,7 @@ fn search_for(p: Pattern, record: &[u8], index: &[u16], out: &mut [u8], work: &m
                 n,
                 m,
                 p,
-                false,
+                true,
                 index,
                 work,
                 &mut leave,

@@ -25,4 +25,5 @@ pub fn join(
     candidates::clear_masks(work, d);
     candidates::take_book(s, counts, k, t, set, m, work, d);
     steps::run(q, limits::PATTERN_NODES_MOST, work, d);
+    steps::prune(q, work, d);
 }

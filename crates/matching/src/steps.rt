@@ -1,5 +1,5 @@
-// The join by steps, from the ends inward: a step settles the links that leave one component of the query, after those of all that it leads to. Workspace: the
-// d pairs from word 0 on, and from 8192 on for each the links that it is held for.
+// The join by steps, from the ends inward: a step settles the links that leave one component of the query, after those of all that it leads to. What the steps
+// leave is then pruned both ways. Workspace: the d pairs from word 0 on, and from 8192 on for each the links that it is held for.
 ghost use mathlib.Core.Path.{_≡_};
 ghost use Prim.Native.Nat.{ℕ, _<_, _≤_};
 ghost use lib.ListN.{length, replicate};
@@ -9,8 +9,8 @@ ghost use Rattle.matching.specs.Loaded.{Fair, patternIn};
 ghost use Rattle.matching.specs.Candidates.{Pool};
 ghost use Rattle.matching.specs.Sweeping.{toOf, Ends, Tabled};
 ghost use Rattle.matching.specs.Rounds.{Prepared};
-ghost use Rattle.matching.specs.Components.{OneStep, Ran};
-ghost use Rattle.matching.specs.Stepping.{PairsTaken, LooseLinks, Fresh, Started, Stepped, AllReached, AllComponents, Going, Tried};
+ghost use Rattle.matching.specs.Components.{OneStep, Ran, Pruned};
+ghost use Rattle.matching.specs.Stepping.{PairsTaken, LooseLinks, Fresh, Started, Stepped, AllReached, AllComponents, Going, RanPruned, Tried};
 use crate::components;
 use crate::engine;
 use crate::link_tables;
@@ -248,6 +248,53 @@ pub fn run(q: Pattern, steps: usize, work: &mut [u32], d: usize) -> u32
     )
 }
 
+// Pruning both ways, from what the pairs are held for: a pair stays held for a link where each link that leaves or arrives at an end of it has such a pair at the
+// same end. Every item may stand at every node at first, so that nothing need be known of the steps.
+pub fn prune(q: Pattern, work: &mut [u32], d: usize)
+    requires { ⌜ Fair q × Pool d (now work) ⌝ }
+    ensures { λ r. ⌜ Pruned q d (now (work .entry)) (now (work .exit)) ⌝ }
+{
+    let m = q.edges;
+    let from = q.from;
+    let to = q.to;
+    let leaving = link_tables::table(&from, &from, m);
+    let arriving = link_tables::table(&from, &to, m);
+    let ending = link_tables::table(&to, &to, m);
+    let starting = link_tables::table(&to, &from, m);
+    let all = link_tables::all(m);
+    let n = nodes(work, d);
+    let mut leave = [all; 4096];
+    let mut arrive = [all; 4096];
+    let mut held = [0u32; 4096];
+    engine::rest(
+        work,
+        d,
+        n,
+        &mut leave,
+        &mut arrive,
+        &mut held,
+        0,
+        all,
+        all,
+        &leaving,
+        &arriving,
+        &ending,
+        &starting,
+    );
+}
+
+// At most so many steps, and then the pruning if it is asked for. The nodes that the steps settled.
+fn run_pruned(q: Pattern, steps: usize, pruned: bool, work: &mut [u32], d: usize) -> u32
+    requires { ⌜ Fair q × Pool d (now work) ⌝ }
+    ensures { λ r. ⌜ RanPruned q d steps pruned (now (work .entry)) r (now (work .exit)) ⌝ }
+{
+    let settled = run(q, steps, work, d);
+    if pruned {
+        prune(q, work, d);
+    }
+    settled
+}
+
 // How many of the first d words ascend, each once, and are codes of pairs.
 fn pairs_at_front(work: &[u32], d: usize) -> usize
     requires { ⌜ length (now work) ≡ 16384 ⌝ }
@@ -278,10 +325,10 @@ fn no_words() -> [u32; 16384]
     [0u32; 16384]
 }
 
-// At most so many steps for a question, from words that may be anything: as many of the first d as ascend are taken for pairs. The nodes that are settled then;
-// none, where the question is refused or the words are too few.
-pub fn trial(question: &[u8], d: usize, steps: usize, work: &mut [u32]) -> u32
-    ensures { λ r. ⌜ Tried (now (question .entry)) d steps (now (work .entry)) r (now (work .exit)) ⌝ }
+// At most so many steps for a question, and then the pruning if it is asked for, from words that may be anything: as many of the first d as ascend are taken for
+// pairs. The nodes that are settled then; none, where the question is refused or the words are too few.
+pub fn trial(question: &[u8], d: usize, steps: usize, pruned: bool, work: &mut [u32]) -> u32
+    ensures { λ r. ⌜ Tried (now (question .entry)) d steps pruned (now (work .entry)) r (now (work .exit)) ⌝ }
 {
     if work.len() < limits::WORKSPACE {
         return 0;
@@ -293,5 +340,11 @@ pub fn trial(question: &[u8], d: usize, steps: usize, work: &mut [u32]) -> u32
         return 0;
     };
     let number = pairs_at_front(&work[0..limits::WORKSPACE], d);
-    run(f.pattern, steps, &mut work[0..limits::WORKSPACE], number)
+    run_pruned(
+        f.pattern,
+        steps,
+        pruned,
+        &mut work[0..limits::WORKSPACE],
+        number,
+    )
 }

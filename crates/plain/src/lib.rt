@@ -1,5 +1,5 @@
-// Plain simulation on content words, made apart from the crate `matching` to be compared with it: whole passes over one byte for each pair
-// of a pattern's node and a record's, until nothing changes.
+// Plain simulation on content words, both ways, made apart from the crate `matching` to be compared with it: whole passes over one byte for
+// each pair of a pattern's node and a record's, until nothing changes.
 //
 // Any words will do. Of a pattern at most 16 nodes and 32 edges count, of a record at most 4,096 and 8,192; a word that isn't there is 0.
 mod edges;

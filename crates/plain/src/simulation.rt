@@ -1,6 +1,7 @@
-// The greatest simulation: a byte for each pair of a pattern's node u and a record's node v, at 4096 * u + v, 1 while they are related.
+// The greatest simulation, by the edges that leave a node and by those that arrive at it: a byte for each pair of a pattern's node u and a record's node v, at
+// 4096 * u + v, 1 while they are related.
 ghost use mathlib.Core.Path.{_≡_};
-ghost use Prim.Native.Nat.{_≤_};
+ghost use Prim.Native.Nat.{_<_, _≤_};
 ghost use lib.ListN.{length};
 use crate::graph;
 
@@ -64,31 +65,52 @@ fn clear(reached: &mut [u8], n: usize) {
     }
 }
 
-// Marks the node from which the edge i leads to a partner of the pattern's node u, if it is of this kind.
+// The node that the edge i leaves, or at which it arrives.
+fn end(record: &[u32], n: usize, i: usize, arriving: bool) -> usize
+    requires { ⌜ (n ≤ 4096) × (i ≤ 8192) ⌝ }
+    ensures { λ r. ⌜ r < 4096 ⌝ }
+{
+    if arriving {
+        graph::to(record, n, i)
+    } else {
+        graph::from(record, n, i)
+    }
+}
+
+// Marks the node that the edge i leaves, or at which it arrives, if it is of this kind and its other end is a partner of the pattern's node u.
 fn mark_one(
     record: &[u32],
     n: usize,
     i: usize,
     u: usize,
     kind: usize,
+    arriving: bool,
     related: &[u8],
     reached: &mut [u8],
 )
     requires { ⌜ (n ≤ 4096) × (i ≤ 8192) × (u ≤ 4096) ⌝ }
 {
-    if (graph::kind(record, n, i) == kind) & is_related(related, u, graph::to(record, n, i)) {
-        graph::put_byte(reached, graph::from(record, n, i), 1);
+    if (graph::kind(record, n, i) == kind) & is_related(related, u, end(record, n, i, !arriving)) {
+        graph::put_byte(reached, end(record, n, i, arriving), 1);
     }
 }
 
-// Marks each node from which an edge of this kind leads to a partner of the pattern's node u.
-fn mark(record: &[u32], n: usize, u: usize, kind: usize, related: &[u8], reached: &mut [u8])
+// Marks each node that an edge of this kind leaves, or at which one arrives, whose other end is a partner of the pattern's node u.
+fn mark(
+    record: &[u32],
+    n: usize,
+    u: usize,
+    kind: usize,
+    arriving: bool,
+    related: &[u8],
+    reached: &mut [u8],
+)
     requires { ⌜ (n ≤ 4096) × (u ≤ 4096) ⌝ }
 {
     let m = graph::record_edges(record);
     let mut i: usize = 0;
     while i < m {
-        mark_one(record, n, i, u, kind, related, reached);
+        mark_one(record, n, i, u, kind, arriving, related, reached);
         i += 1;
     }
 }
@@ -120,8 +142,26 @@ fn drop_unmarked(u: usize, n: usize, related: &mut [u8], reached: &[u8]) -> bool
     0 < dropped
 }
 
-// Drops the partners of u that have no edge of this kind to a partner of the pattern's node next.
+// Drops the partners of u that no edge of this kind leaves to a partner of the pattern's node next, or at which none arrives from one.
 fn support(
+    u: usize,
+    next: usize,
+    kind: usize,
+    arriving: bool,
+    record: &[u32],
+    n: usize,
+    related: &mut [u8],
+    reached: &mut [u8],
+) -> bool
+    requires { ⌜ (u ≤ 4096) × (next ≤ 4096) × (n ≤ 4096) ⌝ }
+{
+    clear(reached, n);
+    mark(record, n, next, kind, arriving, related, reached);
+    drop_unmarked(u, n, related, reached)
+}
+
+// Drops the partners of the ends of the pattern's edge from u to next that lack it, as it leaves the one and as it arrives at the other.
+fn support_edge(
     u: usize,
     next: usize,
     kind: usize,
@@ -132,9 +172,9 @@ fn support(
 ) -> bool
     requires { ⌜ (u ≤ 4096) × (next ≤ 4096) × (n ≤ 4096) ⌝ }
 {
-    clear(reached, n);
-    mark(record, n, next, kind, related, reached);
-    drop_unmarked(u, n, related, reached)
+    let start = support(u, next, kind, false, record, n, related, reached);
+    let end = support(next, u, kind, true, record, n, related, reached);
+    start | end
 }
 
 // One pass over the pattern's edges: whether a pair was dropped.
@@ -149,7 +189,7 @@ fn pass(pattern: &[u32], record: &[u32], n: usize, related: &mut [u8], reached: 
         let u = graph::from(pattern, nodes, e);
         let next = graph::to(pattern, nodes, e);
         let kind = graph::kind(pattern, nodes, e);
-        dropped = support(u, next, kind, record, n, related, reached) | dropped;
+        dropped = support_edge(u, next, kind, record, n, related, reached) | dropped;
         e += 1;
     }
     dropped

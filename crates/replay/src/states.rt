@@ -1,4 +1,5 @@
-// The states of a join, step by step: the pairs that a question's links are left with after each, from the crate `matching` itself.
+// The states of a join, step by step: the pairs that a question's links are left with after each, and after pruning both ways from there, from the crate
+// `matching` itself.
 //
 // The content is pairs, ascending, two words for each: its code, 4096 * from + to, and the links of the question that it is a candidate for.
 use crate::cells;
@@ -122,9 +123,10 @@ struct Seen {
     digest: u64,
 }
 
-// The state after k steps, beside that after one step less.
+// The state after k steps, or after pruning from there, beside what was seen before.
 fn after(
     k: usize,
+    pruned: bool,
     before: Seen,
     question: &[u8],
     limit: usize,
@@ -133,7 +135,7 @@ fn after(
 ) -> Seen {
     let d = content.len() / 2;
     lay(content, work);
-    let settled = steps::trial(question, d, k, work);
+    let settled = steps::trial(question, d, k, pruned, work);
     let more = slices::one_if(settled != before.settled);
     let h = digest::step(before.digest, settled as u64);
     Seen {
@@ -151,7 +153,8 @@ fn after_each(question: &[u8], limit: usize, content: &[u32], work: &mut [u32]) 
     };
     let mut k: usize = 0;
     while k <= STEPS_MOST {
-        seen = after(k, seen, question, limit, content, work);
+        seen = after(k, false, seen, question, limit, content, work);
+        seen = after(k, true, seen, question, limit, content, work);
         k += 1;
     }
     seen

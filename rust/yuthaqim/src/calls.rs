@@ -81,7 +81,8 @@ calls! {
     /// [`TWICE`](crate::TWICE) for one that repeats an earlier one.
     sort_record = yuthaqim_sort_record(old: u8; out: u8) -> Replied, usize;
     /// Searches a record for a pattern: writes the pattern's sheet. A link of the pattern is met by links of the record of
-    /// its own kind alone; the sheet lists pairs, since the link of the pattern gives the kind.
+    /// its own kind alone; the sheet lists pairs, since the link of the pattern gives the kind. What stands for an item of the
+    /// pattern has a link for each that leaves that item and for each that arrives at it.
     search = yuthaqim_search(pattern: u8, record: u8; out: u8) -> Replied, usize;
     /// Makes the index of a record: for each item the number of links that begin at lower items, then the number of all
     /// links. So a record of n items has n + 1 entries.

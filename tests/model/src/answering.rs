@@ -21,16 +21,28 @@ fn candidates(mapping: &[Vec<(usize, usize)>], set: &[usize], book: &Book) -> Ch
     candidates
 }
 
+/// By which links a pair is supported at its ends: those that leave them, or those that arrive there too.
+#[derive(Clone, Copy, PartialEq, Eq)]
+pub enum Ways {
+    Leaving,
+    Both,
+}
+
 /// The greatest choice. A pair that lacks what is asked of it is dropped, until none is; a pair of any choice that
 /// has what is asked is never dropped.
-pub fn greatest_choice(question: &Pattern, candidates: Choice) -> Choice {
+pub fn greatest_choice(question: &Pattern, candidates: Choice, ways: Ways) -> Choice {
     let mut kept = candidates;
     loop {
-        let begins: Vec<BTreeSet<u32>> = kept.iter().map(|pairs| pairs.iter().map(|pair| pair.0).collect()).collect();
-        // Each question link that leaves u keeps some pair that begins at v.
+        let items = |end: fn(&(u32, u32)) -> u32| -> Vec<BTreeSet<u32>> {
+            kept.iter().map(|pairs| pairs.iter().map(end).collect()).collect()
+        };
+        let (begins, ends) = (items(|pair| pair.0), items(|pair| pair.1));
+        // Each question link that leaves u keeps some pair that begins at v, and each that arrives at u one that ends at v.
         let supported = |u: u32, v: u32| {
             let mut leaving = question.links.iter().zip(&begins).filter(|(link, _)| link.0 == u);
+            let mut arriving = question.links.iter().zip(&ends).filter(|(link, _)| link.1 == u);
             leaving.all(|(_, begins)| begins.contains(&v))
+                && (ways == Ways::Leaving || arriving.all(|(_, ends)| ends.contains(&v)))
         };
         let mut dropped = false;
         for (&(u, next, _), pairs) in question.links.iter().zip(&mut kept) {
@@ -42,6 +54,11 @@ pub fn greatest_choice(question: &Pattern, candidates: Choice) -> Choice {
             return kept;
         }
     }
+}
+
+/// What an answer keeps: first by the links that leave, then from what that leaves by those that arrive too.
+pub fn pruned(question: &Pattern, candidates: Choice) -> Choice {
+    greatest_choice(question, greatest_choice(question, candidates, Ways::Leaving), Ways::Both)
 }
 
 /// The answer as a sheet. If any link keeps none, all are empty.
@@ -61,7 +78,7 @@ fn written(
     room: usize,
     work_words: usize,
 ) -> Result<Vec<u8>, Refusal> {
-    let choice = greatest_choice(&judge_pattern(question)?, candidates(mapping, set, book));
+    let choice = pruned(&judge_pattern(question)?, candidates(mapping, set, book));
     write_sheet(question, &fields(&sheet(choice)), room, work_words)
 }
 
@@ -130,11 +147,21 @@ mod tests {
     #[test]
     fn a_book_of_no_record() {
         // The slow run (0, 3) has no reading, so it is dropped.
-        let sheets = [1, 1, 7, 7, 1, 2, 0, 1, 0, 3, 1, 1, 2, 1, 1, 0, 1, 1, 1, 5];
-        assert_eq!(answered(&book(&sheets)), [1, 1, 0, 1, 1, 0, 1, 1, 1, 2, 1, 1, 5]);
+        let sheets = [1, 1, 7, 7, 1, 2, 0, 1, 0, 3, 1, 1, 2, 1, 1, 0, 1, 1, 1, 2];
+        assert_eq!(answered(&book(&sheets)), [1, 1, 0, 1, 1, 0, 1, 1, 1, 2, 1, 1, 2]);
         // Sheets that aren't chosen alter nothing.
-        let others = [1, 2, 0, 0, 7, 8, 1, 2, 0, 1, 0, 3, 1, 1, 2, 1, 1, 0, 1, 1, 1, 5];
+        let others = [1, 2, 0, 0, 7, 8, 1, 2, 0, 1, 0, 3, 1, 1, 2, 1, 1, 0, 1, 1, 1, 2];
         assert_eq!(answered(&book(&others)), answered(&book(&sheets)));
+    }
+
+    #[test]
+    fn a_pair_needs_what_arrives_too() {
+        // The run 3 has a reading, and no section: by what leaves alone it would stay.
+        let sheets = book(&[0, 1, 1, 0, 1, 2, 1, 2, 3, 2, 1, 1, 0, 1, 1, 1, 2]);
+        assert_eq!(answered(&sheets), [1, 1, 0, 1, 1, 0, 1, 1, 1, 2, 1, 1, 2]);
+        // Nor does a reading of the one run alone.
+        let apart = book(&[0, 1, 1, 0, 1, 1, 1, 2, 1, 1, 0, 1, 1, 1, 5]);
+        assert_eq!(answered(&apart), [0]);
     }
 
     #[test]
@@ -160,9 +187,9 @@ mod tests {
             assert_eq!(answer_from(&D, &C, set, &made, ROOM, WORK), refused(UNCOVERED, lowest));
         }
         // Where the book is of no record, extract 0 adds a slow run whose reading extract 1 lists.
-        let sheets = book(&[1, 1, 0, 3, 1, 1, 0, 1, 2, 1, 2, 3, 4, 1, 1, 0, 1, 1, 1, 5]);
-        assert_eq!(answered_from(6, &sheets), [1, 1, 0, 1, 1, 0, 1, 2, 1, 2, 3, 4, 1, 1, 5]);
-        assert_eq!(answered_from(7, &sheets), [1, 2, 0, 1, 0, 3, 1, 0, 1, 2, 1, 2, 3, 4, 1, 1, 5]);
+        let sheets = book(&[1, 1, 0, 3, 1, 1, 0, 1, 2, 1, 2, 3, 2, 1, 1, 0, 1, 1, 1, 2]);
+        assert_eq!(answered_from(6, &sheets), [1, 1, 0, 1, 1, 0, 1, 1, 1, 2, 1, 1, 2]);
+        assert_eq!(answered_from(7, &sheets), [1, 2, 0, 1, 0, 3, 1, 0, 1, 2, 1, 2, 3, 2, 1, 1, 2]);
     }
 
     #[test]
@@ -181,7 +208,7 @@ mod tests {
         let record = write_record(&kinds, ROOM, WORK).unwrap();
         let book = make_book(&catalogue, &record, ROOM, WORK).unwrap();
         let searched = search(&question, &record, ROOM, WORK).unwrap();
-        assert_eq!(read_sheet(&question, &searched, ROOM, WORK).unwrap(), [1, 2, 0, 2, 1, 2, 2, 0, 2, 1, 3]);
+        assert_eq!(read_sheet(&question, &searched, ROOM, WORK).unwrap(), [1, 1, 0, 2, 1, 0, 2]);
         assert_eq!(answer(&question, &catalogue, &book, ROOM, WORK), Ok(searched.clone()));
         for set in [3, 4, 5, 6, 7, 0xffff] {
             assert_eq!(answer_from(&question, &catalogue, set, &book, ROOM, WORK), Ok(searched.clone()));
@@ -196,9 +223,14 @@ mod tests {
     fn candidates_of_two_kinds_in_a_book_of_no_record() {
         let (question, catalogue) = of_kinds(&[0, 1], &[&[1], &[0]]);
         // Pairs of kind 1, then of kind 0. Item 3 lacks kind 1, and item 5 kind 0.
-        let book = write_book(&catalogue, &[1, 2, 0, 1, 5, 6, 1, 2, 0, 2, 3, 4], ROOM, WORK).unwrap();
-        let sheet = answer(&question, &catalogue, &book, ROOM, WORK).unwrap();
-        assert_eq!(read_sheet(&question, &sheet, ROOM, WORK).unwrap(), [1, 1, 0, 2, 1, 0, 1]);
+        let answered = |fields: &[u32]| {
+            let book = write_book(&catalogue, fields, ROOM, WORK).unwrap();
+            let sheet = answer(&question, &catalogue, &book, ROOM, WORK).unwrap();
+            read_sheet(&question, &sheet, ROOM, WORK).unwrap()
+        };
+        assert_eq!(answered(&[1, 2, 0, 1, 5, 6, 1, 2, 0, 1, 3, 4]), [1, 1, 0, 1, 1, 0, 1]);
+        // Where they end at different items, each of these lacks the other kind.
+        assert_eq!(answered(&[1, 2, 0, 1, 5, 6, 1, 2, 0, 2, 3, 4]), [0]);
     }
 
     #[test]

@@ -1,4 +1,4 @@
-//! Matching by simulation: searching a record for a pattern, and making the book of a catalogue from a record.
+//! Matching by simulation, both ways: searching a record for a pattern, and making the book of a catalogue from a record.
 
 use crate::files::*;
 
@@ -20,8 +20,10 @@ pub fn record_of(bytes: &[u8], work_words: usize) -> Result<Record, Refusal> {
 /// dropped, until none is. A pair of any simulation is never dropped, so all of them lie in what is left.
 fn greatest_simulation(pattern: &Pattern, record: &Record) -> Vec<Vec<bool>> {
     let mut leaving = vec![Vec::new(); record.kinds.len()];
+    let mut arriving = vec![Vec::new(); record.kinds.len()];
     for &(from, to, kind) in &record.links {
         leaving[from as usize].push((to as usize, kind));
+        arriving[to as usize].push((from as usize, kind));
     }
     let has = |v: usize, kind: u32| record.kinds[v] >> kind & 1 == 1;
     let items = 0..record.kinds.len();
@@ -30,11 +32,14 @@ fn greatest_simulation(pattern: &Pattern, record: &Record) -> Vec<Vec<bool>> {
     loop {
         let mut dropped = false;
         for &(u, next, kind) in &pattern.links {
-            for v in items.clone() {
-                let supported = leaving[v].iter().any(|&(w, its)| its == kind && related[next as usize][w]);
-                if related[u as usize][v] && !supported {
-                    related[u as usize][v] = false;
-                    dropped = true;
+            // As the link leaves its one end, and as it arrives at the other.
+            for (own, other, beside) in [(u, next, &leaving), (next, u, &arriving)] {
+                for v in items.clone() {
+                    let supported = beside[v].iter().any(|&(w, its)| its == kind && related[other as usize][w]);
+                    if related[own as usize][v] && !supported {
+                        related[own as usize][v] = false;
+                        dropped = true;
+                    }
                 }
             }
         }
@@ -135,6 +140,30 @@ mod tests {
         assert_eq!(listed(&SLOW, &k6()), [1, 1, 0, 1, 1, 1, 2]);
     }
 
+    /// K6 with a run of kind 1 that hangs on no section, and a link from it to the reading.
+    fn k6_and_a_vial() -> Vec<u8> {
+        record(&[1, 2, 8, 2, 2], &[(0, 1, 0), (0, 3, 0), (1, 2, 0), (4, 2, 0)])
+    }
+
+    #[test]
+    fn what_hangs_on_no_section_is_not_listed() {
+        let bytes = [
+            0x00, 0x28, 0x00, 0x80, 0x00, 0x00, 0x00, 0x20, 0x00, 0x00, 0x00, 0x40, 0x00, 0x00, 0x01, 0x00, 0x00, 0x00,
+            0x00, 0x40, 0x00, 0x00, 0x00, 0x40, 0x00, 0x00, 0x20, 0x00, 0x00, 0x0c, 0x00, 0x08, 0x01, 0x00, 0x04, 0x00,
+            0x20,
+        ];
+        assert_eq!(k6_and_a_vial(), bytes);
+        assert_eq!(listed(&SLOW, &k6_and_a_vial()), [1, 1, 0, 1, 1, 1, 2]);
+        // The same by links of another kind, which support nothing as they arrive.
+        let other = record(&[1, 2, 8, 2], &[(0, 1, 1), (0, 3, 0), (1, 2, 0), (3, 2, 1)]);
+        assert_eq!(listed(&SLOW, &other), [0]);
+        let both = record(&[1, 2, 8, 2], &[(0, 1, 0), (0, 1, 1), (0, 3, 1), (1, 2, 0), (3, 2, 0)]);
+        assert_eq!(listed(&SLOW, &both), [1, 1, 0, 1, 1, 1, 2]);
+        // A reading that has a slow run alone is none of D's, whose reading has both.
+        let apart = record(&[1, 2, 4, 8, 8], &[(0, 1, 0), (0, 2, 0), (1, 3, 0), (2, 4, 0)]);
+        assert_eq!(listed(&D, &apart), [0]);
+    }
+
     #[test]
     fn k7_the_greatest_and_not_the_least() {
         let both_ways = record(&[32, 32], &[(0, 1, 0), (1, 0, 0)]);
@@ -182,10 +211,11 @@ mod tests {
             (&[1], &[1, 2, 0, 2, 0, 3]),
             (&[7], &[1, 1, 1, 2]),
             (&[2], &[0]),
-            // Item 1 has no link of kind 1, so its link of kind 0 goes.
-            (&[0, 1], &[1, 1, 0, 2, 2, 0, 2, 0, 3]),
-            (&[1, 0], &[1, 2, 0, 2, 0, 3, 1, 0, 2]),
-            (&[0, 7], &[1, 1, 1, 3, 1, 1, 2]),
+            // Item 1 has no link of kind 1, so its link of kind 0 goes, and item 3, at which no other of that kind arrives.
+            (&[0, 1], &[1, 1, 0, 2, 1, 0, 2]),
+            (&[1, 0], &[1, 1, 0, 2, 1, 0, 2]),
+            // Item 1 has links of both kinds, but no item has both arriving.
+            (&[0, 7], &[0]),
             (&[0, 1, 7], &[0]),
         ] {
             assert_eq!(listed(&pattern(&one(links)), &kinds), lists);

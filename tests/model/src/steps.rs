@@ -1,6 +1,6 @@
-//! The order in which an answer's pairs are pruned: from the ends inward, by the item that a link leaves.
+//! The order in which an answer's pairs are pruned: from the ends inward, by the item that a link leaves; then both ways.
 
-use crate::answering::{greatest_choice, Choice};
+use crate::answering::{greatest_choice, Choice, Ways};
 use crate::files::Pattern;
 use std::collections::BTreeSet;
 
@@ -51,7 +51,7 @@ fn state(question: &Pattern, candidates: &Choice, settled: &Items) -> Choice {
     let links = question.links.iter().zip(&leaves).filter(|(_, leaves)| **leaves).map(|(link, _)| *link).collect();
     let alone = Pattern { kinds: question.kinds.clone(), links };
     let own = candidates.iter().zip(&leaves).filter(|(_, leaves)| **leaves).map(|(pairs, _)| pairs.clone()).collect();
-    let mut greatest = greatest_choice(&alone, own).into_iter();
+    let mut greatest = greatest_choice(&alone, own, Ways::Leaving).into_iter();
     let stands = |(pairs, leaves): (&BTreeSet<(u32, u32)>, &bool)| match leaves {
         true => greatest.next().unwrap(),
         false => pairs.clone(),
@@ -70,9 +70,15 @@ pub fn steps(question: &Pattern, candidates: &Choice) -> Vec<(Items, Choice)> {
     steps
 }
 
+/// What is left of a state when it is pruned both ways.
+pub fn pruned(question: &Pattern, state: &Choice) -> Choice {
+    greatest_choice(question, state.clone(), Ways::Both)
+}
+
 #[cfg(test)]
 mod tests {
     use super::*;
+    use crate::drawing::{draw_kinds, draw_pattern, Rule};
 
     fn question(items: usize, links: &[(u32, u32)]) -> Pattern {
         Pattern { kinds: vec![0; items], links: links.iter().map(|&(from, to)| (from, to, 0)).collect() }
@@ -164,7 +170,7 @@ mod tests {
             }
         }
         let all = &states.last().unwrap().1;
-        assert_eq!(*all, greatest_choice(&question, candidates.clone()));
+        assert_eq!(*all, greatest_choice(&question, candidates.clone(), Ways::Leaving));
     }
 
     #[test]
@@ -177,5 +183,44 @@ mod tests {
         let states = steps(&question, &candidates);
         assert_eq!(states[1].1, candidates);
         assert_eq!(states[2].1, choice(&[&[(0, 1)], &[(0, 1)], &[(1, 2)]]));
+    }
+
+    #[test]
+    fn a_pair_that_nothing_arrives_at() {
+        // (3, 2) goes on from no first link, so it stays through the steps and goes in the pruning.
+        let question = question(3, &[(0, 1), (1, 2)]);
+        let candidates = choice(&[&[(0, 1)], &[(1, 2), (3, 2)]]);
+        let states = steps(&question, &candidates);
+        assert_eq!(states[2].1, candidates);
+        assert_eq!(pruned(&question, &candidates), choice(&[&[(0, 1)], &[(1, 2)]]));
+        // A reading needs both runs.
+        let reading = Pattern { kinds: vec![0; 3], links: vec![(0, 2, 0), (1, 2, 0)] };
+        let candidates = choice(&[&[(0, 5), (1, 6)], &[(2, 6), (3, 7)]]);
+        assert_eq!(pruned(&reading, &candidates), choice(&[&[(1, 6)], &[(2, 6)]]));
+    }
+
+    #[test]
+    fn from_every_state_the_same_is_left() {
+        let mut rule = Rule::new();
+        let mut fewer = 0;
+        for _ in 0..200 {
+            let kinds = draw_kinds(&mut rule);
+            let fields = draw_pattern(&mut rule, kinds);
+            let (items, links) = (fields[0] as usize, fields[2 + fields[0] as usize..].chunks(3));
+            let links: Vec<_> = links.map(|link| (link[0], link[1], link[2])).collect();
+            let question = Pattern { kinds: vec![0; items], links };
+            let nodes = 2 + rule.draw(5);
+            let most = 1 + rule.draw(16);
+            let candidates: Choice = question
+                .links
+                .iter()
+                .map(|_| (0..most).map(|_| (rule.draw(nodes), rule.draw(nodes))).collect())
+                .collect();
+            let left = pruned(&question, &candidates);
+            let states = steps(&question, &candidates);
+            assert!(states.iter().all(|(_, state)| pruned(&question, state) == left));
+            fewer += u32::from(states.last().is_some_and(|(_, state)| *state != left));
+        }
+        assert!(fewer > 40, "{fewer}");
     }
 }

@@ -194,18 +194,65 @@ pub fn draw_record(draw: &mut Draw, kinds: &Kinds, size: Size, patterns: &[Patte
             record.links.push(link);
         }
     };
-    while record.links.len() < most / 2 && !patterns.is_empty() && !draw.one_in(64) {
+    // One in six is a line and little else, so that what is lost at its ends goes along it item by item.
+    let lined = draw.one_in(6);
+    while !lined && record.links.len() < most / 2 && !patterns.is_empty() && !draw.one_in(64) {
         let pattern = &patterns[draw.below(patterns.len())];
         for link in plant(draw, pattern, &mut record) {
             put(&mut record, link);
         }
     }
-    for _ in 0..most {
+    if lined {
+        let all: u32 = kinds.items.iter().fold(0, |all, kind| all | 1 << kind);
+        for link in draw_line(draw, items.min(200)) {
+            record.kinds[link.0 as usize] |= all;
+            record.kinds[link.1 as usize] |= all;
+            put(&mut record, (link.0, link.1, kinds.links[0]));
+        }
+    }
+    for _ in 0..if lined { most / 16 } else { most } {
         let link = draw_link(draw, kinds, items, &record.links, 4);
         put(&mut record, link);
     }
     record.links.sort();
     record
+}
+
+/// The pairs of a line through so many items, in any order or by their numbers: all in one direction, in turns there and back, or in
+/// either.
+fn draw_line(draw: &mut Draw, items: usize) -> Vec<(u32, u32)> {
+    let mut order: Vec<u32> = (0..items as u32).collect();
+    match draw.below(3) {
+        0 => order.reverse(),
+        1 => draw.shuffle(&mut order),
+        _ => (),
+    }
+    let form = draw.below(4);
+    let mut pairs = Vec::new();
+    for (i, two) in order.windows(2).enumerate() {
+        let back = match form {
+            0 => false,
+            1 => true,
+            2 => i % 2 == 1,
+            _ => draw.one_in(2),
+        };
+        pairs.push(if back { (two[1], two[0]) } else { (two[0], two[1]) });
+    }
+    pairs
+}
+
+/// A sheet whose lists have the pairs of a line, but for a few.
+fn draw_along(draw: &mut Draw, line: &[(u32, u32)], links: usize) -> Sheet {
+    let mut list = |_| {
+        let few = draw.of(&[4, 20, 60]);
+        let pairs: BTreeSet<(u32, u32)> = line.iter().copied().filter(|_| !draw.one_in(few)).collect();
+        if pairs.is_empty() {
+            vec![line[0]]
+        } else {
+            pairs.into_iter().collect()
+        }
+    };
+    (0..links).map(&mut list).collect()
 }
 
 /// What becomes of a link that is to be like another: that one in all three, in its ends, or in one end and the kind.
@@ -293,6 +340,11 @@ fn draw_many(draw: &mut Draw, catalogue: &[Pattern]) -> Book {
 
 /// A book for a catalogue, of no record.
 pub fn draw_book(draw: &mut Draw, size: Size, catalogue: &[Pattern]) -> Book {
+    if size != Size::Large && draw.one_in(6) {
+        let items = draw.of(&[3, 20, 60]);
+        let line = draw_line(draw, items);
+        return catalogue.iter().map(|extract| draw_along(draw, &line, extract.links.len())).collect();
+    }
     let (items, most) = match size {
         Size::Small => (draw.of(&[2, 3, 6, 4_096]), 4),
         Size::Middle => (draw.of(&[4, 16, 64, 4_096]), 40),

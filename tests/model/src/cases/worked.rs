@@ -180,7 +180,7 @@ fn chosen_by_the_client(script: &mut Script, name: &str) {
     for set in [0xffff, 0xfffe, 0xfff8] {
         answered_from(script, name, set);
     }
-    script.content(&[1, 1, 0, 3, 1, 1, 0, 1, 2, 1, 2, 3, 4, 1, 1, 0, 1, 1, 1, 5]);
+    script.content(&[1, 1, 0, 3, 1, 1, 0, 1, 2, 1, 2, 3, 2, 1, 1, 0, 1, 1, 1, 2]);
     script.once(WRITE_BOOK);
     keep_as(script, BOOK_PART);
     answered_from(script, "a book of no record", 6);

@@ -5,7 +5,7 @@ use crate::cheapest::Cheapest;
 use crate::files::{Pattern, Refusal};
 use crate::quoting::Quote;
 use crate::several::Several;
-use crate::steps::{steps, Items};
+use crate::steps::{pruned, steps, Items};
 
 /// FNV-1a, a number at a time.
 pub const DIGEST_START: u64 = 0xcbf2_9ce4_8422_2325;
@@ -195,7 +195,8 @@ impl Outcome {
     }
 
     /// The states of a join from pairs and the links that each is a candidate for, from no step to sixteen, or as many as
-    /// there are: the digest has of each state the settled items and the links that each pair is kept for.
+    /// there are, and after each what is left of it when it is pruned both ways: the digest has of each state, and of what is
+    /// left of it, the settled items and the links that each pair is kept for.
     pub fn stepped(question: &Pattern, content: &[u32]) -> Outcome {
         let pairs: Vec<(u32, u32)> = content.chunks(2).map(|pair| (pair[0] / 4_096, pair[0] % 4_096)).collect();
         let candidates = (0..question.links.len()).map(|e| {
@@ -207,11 +208,15 @@ impl Outcome {
         let mut states = vec![(Items::new(), candidates)];
         states.extend(steps.clone());
         let mut digest = DIGEST_START;
-        for step in 0..=16 {
-            let (settled, state) = &states[step.min(steps.len())];
+        let mut see = |settled: &Items, state: &Choice| {
             let kept = |pair| (0..state.len()).filter(|&e| state[e].contains(pair)).map(|e| 1 << e).sum();
             let masks: Vec<u64> = pairs.iter().map(kept).collect();
             digest = over(over(digest, &[items(settled)]), &masks);
+        };
+        for step in 0..=16 {
+            let (settled, state) = &states[step.min(steps.len())];
+            see(settled, state);
+            see(settled, &pruned(question, state));
         }
         let (settled, _) = &states[steps.len()];
         Outcome::values(Form::Steps, steps.len() as u64, items(settled), digest)

@@ -22,18 +22,30 @@ run-requires c κs =
     let take-book = c .before .before .before .take-book in
     (pre .0, pool-keep (pool-keep (pre .1 .pool) (edges-around (clear-masks .ensures .around))) (edges-around (take-book .ensures .around)))
 
+prune-requires : tie.Need-prune-requires
+prune-requires c κs =
+    let pre = c .before .before .before .before .before .before .before .before .before .before .before .before .before .before .before .pre in
+    let clear-masks = c .before .before .before .before .before .before .before .before .before .before .before .clear-masks in
+    let take-book = c .before .before .before .before .before .before .before .take-book in
+    let run = c .before .before .before .run in (
+      pre .0,
+      pool-keep (pool-keep (pool-keep (pre .1 .pool) (edges-around (clear-masks .ensures .around))) (edges-around (take-book .ensures .around)))
+          (record { long = run .ensures .long; same = run .ensures .pairs }),
+    )
+
 same-length : tie.Need-same-length
 same-length c = search needs
 
 returns : tie.Need-returns
 returns c =
-    let pre = c .before .before .before .before .before .before .before .before .before .before .before .before .before .before .pre in
-    let clear-masks = c .before .before .before .before .before .before .before .before .before .before .clear-masks in
-    let take-book = c .before .before .before .before .before .before .take-book in
-    let run = c .before .before .run in
-    joined-by _ _ _ (pre .0) (pre .1) (clear-masks .ensures) (take-book .ensures) (run .ensures)
+    let pre = c .before .before .before .before .before .before .before .before .before .before .before .before .before .before .before .before .before .before .pre in
+    let clear-masks = c .before .before .before .before .before .before .before .before .before .before .before .before .before .before .clear-masks in
+    let take-book = c .before .before .before .before .before .before .before .before .before .before .take-book in
+    let run = c .before .before .before .before .before .before .run in
+    let prune = c .before .before .prune in
+    joined-by _ _ _ (pre .1) (clear-masks .ensures) (take-book .ensures) (run .ensures) (prune .ensures)
 
 pub join-spec : {M : Type 1} → statement M
 join-spec =
     tie.close
-    (tie.spec clear-masks-requires take-book-requires run-requires same-length returns)
+    (tie.spec clear-masks-requires take-book-requires run-requires prune-requires same-length returns)

@@ -12,7 +12,7 @@ leaving-requires c κs = (c .before .before .before .before .before .before .pre
 returns : tie.Need-returns
 returns c =
     let pre = c .before .before .before .before .before .before .before .before .before .before .before .before .pre in
-    stepped-skip _ _ (c .before .before .before .before .before .before .before .before .before .before .before .before .args .place) (pre .0) (pre .5) (pre .3) (pre .4) (c .before .before .before .before .before .leaving .ensures) (pre .6) (c .if1 .taken) _ refl refl refl
+    stepped-skip _ _ (c .before .before .before .before .before .before .before .before .before .before .before .before .args .place) (pre .0) (pre .3) (pre .4) (c .before .before .before .before .before .leaving .ensures) (pre .6) (c .if1 .taken) _ refl refl refl
 
 rest-requires : tie.Need-rest-requires
 rest-requires c κs = search needs
@@ -35,7 +35,7 @@ same-length-4 c = search needs
 returns-2 : tie.Need-returns-2
 returns-2 c =
     let pre = c .before .before .before .before .before .before .before .before .before .before .before .before .before .before .before .before .before .before .before .before .before .before .before .before .before .before .before .pre in
-    stepped-rest _ _ (c .before .before .before .before .before .before .before .before .before .before .before .before .before .before .before .before .before .before .before .before .before .before .before .before .before .before .before .args .place) (pre .0) (pre .5) (pre .3) (pre .4) (c .before .before .before .before .before .before .before .before .before .before .before .before .before .before .before .before .before .before .before .before .leaving .ensures) (pre .6) (pre .1) (pre .2) (c .before .before .before .before .before .before .before .before .before .before .rest .ensures) (c .before .look-up .ensures) _ refl refl refl
+    stepped-rest _ _ (c .before .before .before .before .before .before .before .before .before .before .before .before .before .before .before .before .before .before .before .before .before .before .before .before .before .before .before .args .place) (pre .0) (pre .3) (pre .4) (c .before .before .before .before .before .before .before .before .before .before .before .before .before .before .before .before .before .before .before .before .leaving .ensures) (pre .6) (pre .1) (pre .2) (c .before .before .before .before .before .before .before .before .before .before .rest .ensures) (c .before .look-up .ensures) _ refl refl refl
 
 pub step-spec : {M : Type 1} → statement M
 step-spec =

@@ -7,7 +7,7 @@ use Rattle.matching.proofs.steps.trial.Statement.{statement}
 use Rattle.matching.proofs.steps.trial.Tie as tie
 
 returns : tie.Need-returns
-returns c = tried-short (now (c .before .before .before .args .question)) (c .before .before .before .args .d) (c .before .before .before .args .steps) (now (c .before .before .before .args .work)) (c .if1 .taken)
+returns c = tried-short (now (c .before .before .before .args .question)) (c .before .before .before .args .d) (c .before .before .before .args .steps) (c .before .before .before .args .pruned) (now (c .before .before .before .args .work)) (c .if1 .taken)
 
 no-words-requires : tie.Need-no-words-requires
 no-words-requires c κs = search needs
@@ -28,7 +28,7 @@ returns-2 : tie.Need-returns-2
 returns-2 c =
     let accept-pattern = c .before .before .before .accept-pattern in
     let e = c .enum-told2 .given .1 in
-    tried-refused (now (c .before .before .before .before .before .before .before .before .before .args .question)) (c .before .before .before .before .before .before .before .before .before .args .d) (c .before .before .before .before .before .before .before .before .before .args .steps) (now (c .before .before .before .before .before .before .before .before .before .args .work)) ((rw e at (accept-pattern .ensures)) .0)
+    tried-refused (now (c .before .before .before .before .before .before .before .before .before .args .question)) (c .before .before .before .before .before .before .before .before .before .args .d) (c .before .before .before .before .before .before .before .before .before .args .steps) (c .before .before .before .before .before .before .before .before .before .args .pruned) (now (c .before .before .before .before .before .before .before .before .before .args .work)) ((rw e at (accept-pattern .ensures)) .0)
 
 sub-pairs-at-front : tie.Need-sub-pairs-at-front
 sub-pairs-at-front c = search needs
@@ -42,17 +42,17 @@ part-pairs-at-front-end c = search needs
 pairs-at-front-requires : tie.Need-pairs-at-front-requires
 pairs-at-front-requires c κs = search needs
 
-sub-run : tie.Need-sub-run
-sub-run c = search needs
+sub-run-pruned : tie.Need-sub-run-pruned
+sub-run-pruned c = search needs
 
-part-run-start : tie.Need-part-run-start
-part-run-start c = search needs
+part-run-pruned-start : tie.Need-part-run-pruned-start
+part-run-pruned-start c = search needs
 
-part-run-end : tie.Need-part-run-end
-part-run-end c = search needs
+part-run-pruned-end : tie.Need-part-run-pruned-end
+part-run-pruned-end c = search needs
 
-run-requires : tie.Need-run-requires
-run-requires c κs =
+run-pruned-requires : tie.Need-run-pruned-requires
+run-pruned-requires c κs =
     let accept-pattern = c .before .before .before .before .before .before .before .accept-pattern in
     let enum-told = c .before .before .before .before .enum-told in
     let q = rw (enum-told .given .1) at (accept-pattern .ensures) in
@@ -66,7 +66,7 @@ returns-3 c =
     let accept-pattern = c .before .before .before .before .before .before .before .before .before .before .accept-pattern in
     let enum-told = c .before .before .before .before .before .before .before .enum-told in
     let q = rw (enum-told .given .1) at (accept-pattern .ensures) in
-    tried-ran (now (c .before .before .before .before .before .before .before .before .before .before .before .before .before .before .before .before .args .question)) (c .before .before .before .before .before .before .before .before .before .before .before .before .before .before .before .before .args .d) (c .before .before .before .before .before .before .before .before .before .before .before .before .before .before .before .before .args .steps) (now (c .before .before .before .before .before .before .before .before .before .before .before .before .before .before .before .before .args .work)) _ _ _ (c .before .before .before .before .before .before .before .before .before .before .before .before .before .if1 .left) (c .before .before .before .before .pairs-at-front .ensures) q (c .before .before .run .ensures)
+    tried-ran (now (c .before .before .before .before .before .before .before .before .before .before .before .before .before .before .before .before .args .question)) (c .before .before .before .before .before .before .before .before .before .before .before .before .before .before .before .before .args .d) (c .before .before .before .before .before .before .before .before .before .before .before .before .before .before .before .before .args .steps) (c .before .before .before .before .before .before .before .before .before .before .before .before .before .before .before .before .args .pruned) (now (c .before .before .before .before .before .before .before .before .before .before .before .before .before .before .before .before .args .work)) _ _ _ (c .before .before .before .before .before .before .before .before .before .before .before .before .before .if1 .left) (c .before .before .before .before .pairs-at-front .ensures) q (c .before .before .run-pruned .ensures)
 
 pub trial-spec : {M : Type 1} → statement M
 trial-spec =
@@ -83,9 +83,9 @@ trial-spec =
     part-pairs-at-front-start
     part-pairs-at-front-end
     pairs-at-front-requires
-    sub-run
-    part-run-start
-    part-run-end
-    run-requires
+    sub-run-pruned
+    part-run-pruned-start
+    part-run-pruned-end
+    run-pruned-requires
     same-length
     returns-3)

@@ -7,10 +7,10 @@ use Rattle.plain.proofs.simulation.mark.Statement.{statement}
 use Rattle.plain.proofs.simulation.mark.Tie as tie
 
 abbrev Inv-loop : tie.InvT-loop
-Inv-loop «record» n u kind related reached₀ m i₀ reached i = (length reached ≡ length reached₀) × (i ≤ m)
+Inv-loop «record» n u kind arriving related reached₀ m i₀ reached i = (length reached ≡ length reached₀) × (i ≤ m)
 
 abbrev μ-loop : tie.MeasureT-loop
-μ-loop «record» n u kind related reached₀ m i₀ reached i = m - i
+μ-loop «record» n u kind arriving related reached₀ m i₀ reached i = m - i
 
 record-edges-requires : tie.Need-record-edges-requires Inv-loop μ-loop
 record-edges-requires c κs = search needs

@@ -30,8 +30,8 @@ to-requires c κs = search needs
 kind-requires : tie.Need-kind-requires Inv-loop μ-loop
 kind-requires c κs = search needs
 
-support-requires : tie.Need-support-requires Inv-loop μ-loop
-support-requires c κs = search needs
+support-edge-requires : tie.Need-support-edge-requires Inv-loop μ-loop
+support-edge-requires c κs = search needs
 
 add-e : tie.Need-add-e Inv-loop μ-loop
 add-e c = search needs
@@ -63,7 +63,7 @@ pass-spec =
     from-requires
     to-requires
     kind-requires
-    support-requires
+    support-edge-requires
     add-e
     loop-less
     loop-again

@@ -18,6 +18,9 @@ loop-holds c = search needs
 after-requires : tie.Need-after-requires Inv-loop μ-loop
 after-requires c κs = search needs
 
+after-requires-2 : tie.Need-after-requires-2 Inv-loop μ-loop
+after-requires-2 c κs = search needs
+
 add-k : tie.Need-add-k Inv-loop μ-loop
 add-k c = search needs
 
@@ -41,6 +44,7 @@ after-each-spec =
     μ-loop
     loop-holds
     after-requires
+    after-requires-2
     add-k
     loop-less
     loop-again
