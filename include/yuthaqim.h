@@ -1,7 +1,8 @@
 /*
  * Yuthaqim from C: files of patterns, catalogues, records, sheets and books; searching a record, by an index beside it
  * too, quoting a question, finding the cheapest extracts for it, answering it, several at once or the part of it that can
- * be had from a book, showing why it is uncovered, and all that quotes for a day on which not all extracts are in force.
+ * be had from a book, showing why it is uncovered, and all that quotes for a day on which not all extracts are in force;
+ * and entering a link into a record, after asking what it would change.
  *
  * Every function of this header is proved to meet its contract for every input: see crates/yuthaqim/src/lib.rt.
  *
@@ -20,11 +21,10 @@
  * before a call. Afterwards the first YUTHAQIM_WORK_WORDS of them are zero and those beyond are as they were; on
  * YUTHAQIM_DESK all of them are as they were.
  *
- * The stack, as measured on large files: sorting an old record 117,096 bytes, answering several questions 107,208,
- * finding a part 100,072, answering 92,808, making a book 89,144, searching 87,800, searching by an index 79,352,
- * quoting 34,952, the first day 31,032, showing 28,920, the cheapest set 28,904, reading a book 2,760, writing one
- * 2,568, the others under 1,900. So
- * 128 KB suffice.
+ * The stack, as measured on large files: sorting an old record 117,096 bytes, committing 115,552, answering several
+ * questions 107,272, finding a part 100,088, answering 92,808, making a book 89,112, asking 88,952, searching 87,832,
+ * searching by an index 79,352, quoting 29,720, the first day 25,784, showing 23,688, the cheapest set 23,672, reading a
+ * book 2,760, writing one 2,568, the others under 1,900. So 128 KB suffice.
  *
  * Content is a file's fields in order, one word each, padding left out. That of a pattern or a record is the number of
  * items, the number of links, the kind of each item or in a record its kinds, and for each link its from, its to and its
@@ -32,6 +32,13 @@
  *
  * A catalogue of zero bytes is one without extracts, like the byte 0: every call that takes a catalogue takes it, and its
  * content is the word 0. It is written as the byte 0. A book for it has zero bytes.
+ *
+ * A catalogue comes with a set, one_way, in every call that matches its extracts: the bit worth 2^a says that extract a is
+ * matched one-way, by the links that leave an item alone, against a question and on a record; the others are matched both
+ * ways, and a question always is. 0 names none. A book goes with its catalogue and its set: where it was made under another
+ * set than the one that is asked with, nothing is promised of an answer but that it is one. Extracts whose sheets were made
+ * before matches looked both ways are named in the set, and their sheets go on serving. Calls that read or write a catalogue
+ * or a book take no set, nor do searches.
  */
 #ifndef YUTHAQIM_H
 #define YUTHAQIM_H
@@ -69,8 +76,9 @@ extern "C" {
 #define YUTHAQIM_QUESTIONS_MOST 8
 
 /* The refusals. Where several would fall, YUTHAQIM_DESK comes first, then 17, then the faults of the files in the order
- * of a function's parameters, each file front to back, 16 right after the record, 18 right after the catalogue, then 10, 15,
- * 11 or 13, and 12. */
+ * of a function's parameters, each file front to back, 16 right after the record, 18 and then 19 right after the
+ * catalogue, then 10, 15, 11 or 13, and 12; where a link enters, 20 and 21 right after the record, then the faults of the
+ * link, and 12. */
 enum {
     YUTHAQIM_LONG = 1,       /* long: a file is over its most bytes */
     YUTHAQIM_SHORT = 2,      /* short: its bits, or a writer's words, end before a field does */
@@ -93,15 +101,16 @@ enum {
     YUTHAQIM_CHARGES = 15,   /* charges: there isn't one charge for each extract of the catalogue */
     YUTHAQIM_INDEX = 16,     /* index: the lent index isn't the record's own */
     YUTHAQIM_QUESTIONS = 17, /* questions: none is sent, or more than YUTHAQIM_QUESTIONS_MOST */
-    YUTHAQIM_TERMS = 18      /* terms: there isn't one entry for each extract of the catalogue, or an entry's from-day isn't
+    YUTHAQIM_TERMS = 18,     /* terms: there isn't one entry for each extract of the catalogue, or an entry's from-day isn't
                               * below its to-day */
+    YUTHAQIM_SET = 19        /* set: one_way names an extract that the catalogue doesn't have */
 };
 
 /* The detail of a refusal: of 1 to 10 one of these, the file at fault; of 11 the lowest unmatched link; of 12 the bytes
  * that the first output without room needs, or the words where content is the output, or the entries where an index is,
  * or the bytes of all answers where several questions are answered; of 13 and 14 zero; of 15 the number of charges; of 16
  * the number of entries if that is wrong, else the first position, from 0, that differs; of 17 the number that was sent;
- * of 18 the number of entries if that is wrong, else the first position, from 0, that is. */
+ * of 18 the number of entries if that is wrong, else the first position, from 0, that is; of 19 the lowest such number. */
 enum {
     YUTHAQIM_IN_PATTERN = 1, /* the question, or several, or another lone pattern */
     YUTHAQIM_IN_CATALOGUE = 2,
@@ -251,34 +260,36 @@ struct yuthaqim_reply yuthaqim_search_indexed(const uint8_t *pattern, size_t pat
                                               size_t record_length, const uint16_t *index, size_t index_length,
                                               uint8_t *out, size_t out_length, uint32_t *work, size_t work_length);
 
-/* Makes the book of a catalogue from a record: writes a sheet for each extract. */
-struct yuthaqim_reply yuthaqim_make_book(const uint8_t *catalogue, size_t catalogue_length, const uint8_t *record,
-                                         size_t record_length, uint8_t *out, size_t out_length, uint32_t *work,
-                                         size_t work_length);
+/* Makes the book of a catalogue from a record: writes a sheet for each extract, by its own rule. */
+struct yuthaqim_reply yuthaqim_make_book(const uint8_t *catalogue, size_t catalogue_length, uint16_t one_way,
+                                         const uint8_t *record, size_t record_length, uint8_t *out, size_t out_length,
+                                         uint32_t *work, size_t work_length);
 
-/* Quotes a question with a catalogue: a link of an extract matches links of the question of its own kind alone. It has no
- * output, and uncovered is one of its results: it never gives 11 or 12. */
+/* Quotes a question with a catalogue: a link of an extract matches links of the question of its own kind alone, and
+ * an extract is set against the question by its own rule. It has no output, and uncovered is one of its results: it never
+ * gives 11 or 12. */
 struct yuthaqim_quote yuthaqim_quote(const uint8_t *question, size_t question_length, const uint8_t *catalogue,
-                                     size_t catalogue_length, uint32_t *work, size_t work_length);
+                                     size_t catalogue_length, uint16_t one_way, uint32_t *work, size_t work_length);
 
 /* Finds the cheapest set of extracts that covers a question: charges has one for each extract, in catalogue order. No set
  * that covers the question costs less; of those that cost as much it has the fewest extracts, and of those it comes first
  * when the numbers are read upward. It has no output and never gives 12. */
 struct yuthaqim_cheapest yuthaqim_cheapest(const uint8_t *question, size_t question_length, const uint8_t *catalogue,
-                                           size_t catalogue_length, const uint32_t *charges, size_t charges_length,
-                                           uint32_t *work, size_t work_length);
+                                           size_t catalogue_length, uint16_t one_way, const uint32_t *charges,
+                                           size_t charges_length, uint32_t *work, size_t work_length);
 
-/* Answers a covered question from a book: writes the question's sheet, the one that searching the record gives if the
- * book was made from a record. */
+/* Answers a covered question from a book: writes the question's sheet, the one that searching the record gives, both ways,
+ * if the book was made from a record for this catalogue and this set. */
 struct yuthaqim_reply yuthaqim_answer(const uint8_t *question, size_t question_length, const uint8_t *catalogue,
-                                      size_t catalogue_length, const uint8_t *book, size_t book_length, uint8_t *out,
-                                      size_t out_length, uint32_t *work, size_t work_length);
+                                      size_t catalogue_length, uint16_t one_way, const uint8_t *book,
+                                      size_t book_length, uint8_t *out, size_t out_length, uint32_t *work,
+                                      size_t work_length);
 
 /* The same by a set of extracts that the client names, the bit worth 2^a for extract a; bits that name no extract of the
- * catalogue are ignored. Every set that covers the question serves: if the book was made from a record, all of them give
- * the same. Of 11 the detail is the lowest link that this set leaves unmatched. */
+ * catalogue are ignored. Every set that covers the question serves: if the book was made from a record for this
+ * catalogue and this one_way, all of them give the same. Of 11 the detail is the lowest link that this set leaves unmatched. */
 struct yuthaqim_reply yuthaqim_answer_from(const uint8_t *question, size_t question_length, const uint8_t *catalogue,
-                                           size_t catalogue_length, uint16_t set, const uint8_t *book,
+                                           size_t catalogue_length, uint16_t one_way, uint16_t set, const uint8_t *book,
                                            size_t book_length, uint8_t *out, size_t out_length, uint32_t *work,
                                            size_t work_length);
 
@@ -288,9 +299,9 @@ struct yuthaqim_reply yuthaqim_answer_from(const uint8_t *question, size_t quest
  * first question that isn't covered. It is refused with 12 if one sheet is over YUTHAQIM_SHEET_BYTES or all are over what
  * is lent, and then the detail is the bytes of all, which have no limit of their own. */
 struct yuthaqim_several yuthaqim_answer_several(const uint8_t *questions, size_t questions_length, uint32_t number,
-                                                const uint8_t *catalogue, size_t catalogue_length, const uint8_t *book,
-                                                size_t book_length, uint8_t *out, size_t out_length, uint32_t *work,
-                                                size_t work_length);
+                                                const uint8_t *catalogue, size_t catalogue_length, uint16_t one_way,
+                                                const uint8_t *book, size_t book_length, uint8_t *out,
+                                                size_t out_length, uint32_t *work, size_t work_length);
 
 /* Finds the part of a question that the extracts answer, and answers it from a book: writes the part as a pattern, and
  * its sheet, which yuthaqim_answer gives for the part by itself. The part has the question's matched links in their
@@ -299,17 +310,17 @@ struct yuthaqim_several yuthaqim_answer_several(const uint8_t *questions, size_t
  * the part if these don't fit, else those of its answer; nothing is written unless both fit. YUTHAQIM_PATTERN_BYTES always
  * suffice for the part. */
 struct yuthaqim_part yuthaqim_part(const uint8_t *question, size_t question_length, const uint8_t *catalogue,
-                                   size_t catalogue_length, const uint8_t *book, size_t book_length, uint8_t *part,
-                                   size_t part_length, uint8_t *answer, size_t answer_length, uint32_t *work,
-                                   size_t work_length);
+                                   size_t catalogue_length, uint16_t one_way, const uint8_t *book, size_t book_length,
+                                   uint8_t *part, size_t part_length, uint8_t *answer, size_t answer_length,
+                                   uint32_t *work, size_t work_length);
 
 /* Shows why a question is uncovered: writes the question read as a record, and the same without its lowest unmatched
  * link, which is the lowest by its number in the question; a link between the same items of another kind stays. The links
- * of both records ascend. Every extract lists the same on both, the question doesn't. */
+ * of both records ascend. Every extract lists the same on both, by its own rule; the question doesn't. */
 struct yuthaqim_showing yuthaqim_show_uncovered(const uint8_t *question, size_t question_length,
-                                                const uint8_t *catalogue, size_t catalogue_length, uint8_t *first,
-                                                size_t first_length, uint8_t *second, size_t second_length,
-                                                uint32_t *work, size_t work_length);
+                                                const uint8_t *catalogue, size_t catalogue_length, uint16_t one_way,
+                                                uint8_t *first, size_t first_length, uint8_t *second,
+                                                size_t second_length, uint32_t *work, size_t work_length);
 
 /* For a day. The catalogue comes with a list of terms, an entry for each extract in catalogue order, handed over as
  * yuthaqim_spread_terms(terms, terms_length): an extract is in force from its from-day on, up to its to-day, which doesn't
@@ -323,30 +334,31 @@ struct yuthaqim_terms yuthaqim_spread_terms(const struct yuthaqim_term *terms, s
 
 /* Uncovered says that the extracts in force don't suffice. */
 struct yuthaqim_quote yuthaqim_quote_on(const uint8_t *question, size_t question_length, const uint8_t *catalogue,
-                                        size_t catalogue_length, struct yuthaqim_terms terms, uint16_t day,
-                                        uint32_t *work, size_t work_length);
+                                        size_t catalogue_length, uint16_t one_way, struct yuthaqim_terms terms,
+                                        uint16_t day, uint32_t *work, size_t work_length);
 
 struct yuthaqim_cheapest yuthaqim_cheapest_on(const uint8_t *question, size_t question_length, const uint8_t *catalogue,
-                                              size_t catalogue_length, struct yuthaqim_terms terms, uint16_t day,
-                                              const uint32_t *charges, size_t charges_length, uint32_t *work,
-                                              size_t work_length);
+                                              size_t catalogue_length, uint16_t one_way, struct yuthaqim_terms terms,
+                                              uint16_t day, const uint32_t *charges, size_t charges_length,
+                                              uint32_t *work, size_t work_length);
 
 struct yuthaqim_part yuthaqim_part_on(const uint8_t *question, size_t question_length, const uint8_t *catalogue,
-                                      size_t catalogue_length, struct yuthaqim_terms terms, uint16_t day,
-                                      const uint8_t *book, size_t book_length, uint8_t *part, size_t part_length,
-                                      uint8_t *answer, size_t answer_length, uint32_t *work, size_t work_length);
+                                      size_t catalogue_length, uint16_t one_way, struct yuthaqim_terms terms,
+                                      uint16_t day, const uint8_t *book, size_t book_length, uint8_t *part,
+                                      size_t part_length, uint8_t *answer, size_t answer_length, uint32_t *work,
+                                      size_t work_length);
 
 /* Every extract in force lists the same on both records, whatever the others list; the question doesn't. */
 struct yuthaqim_showing yuthaqim_show_on(const uint8_t *question, size_t question_length, const uint8_t *catalogue,
-                                         size_t catalogue_length, struct yuthaqim_terms terms, uint16_t day,
-                                         uint8_t *first, size_t first_length, uint8_t *second, size_t second_length,
-                                         uint32_t *work, size_t work_length);
+                                         size_t catalogue_length, uint16_t one_way, struct yuthaqim_terms terms,
+                                         uint16_t day, uint8_t *first, size_t first_length, uint8_t *second,
+                                         size_t second_length, uint32_t *work, size_t work_length);
 
 /* Finds the first day, not before the given one, on which the question is covered, or that there is none up to 65,535, which
  * is no refusal. It has no output. */
 struct yuthaqim_first_day yuthaqim_first_day(const uint8_t *question, size_t question_length, const uint8_t *catalogue,
-                                             size_t catalogue_length, struct yuthaqim_terms terms, uint16_t day,
-                                             uint32_t *work, size_t work_length);
+                                             size_t catalogue_length, uint16_t one_way, struct yuthaqim_terms terms,
+                                             uint16_t day, uint32_t *work, size_t work_length);
 
 #ifdef __cplusplus
 }

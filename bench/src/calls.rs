@@ -129,9 +129,9 @@ impl Desk {
             Call::CheckIndex => yuthaqim::check_index(record, index, work),
             Call::Search => yuthaqim::search(question, record, bytes, work),
             Call::SearchIndexed => yuthaqim::search_indexed(question, record, index, bytes, work),
-            Call::MakeBook => yuthaqim::make_book(catalogue, record, bytes, work),
+            Call::MakeBook => yuthaqim::make_book(catalogue, 0, record, bytes, work),
             Call::ReadBook => yuthaqim::read_book(catalogue, book, words, work),
-            Call::Answer | Call::AnswerBySort => yuthaqim::answer(question, catalogue, book, bytes, work),
+            Call::Answer | Call::AnswerBySort => yuthaqim::answer(question, catalogue, 0, book, bytes, work),
             Call::Quote | Call::QuoteOn | Call::FirstDay | Call::Cheapest => unreachable!("it has no output"),
             Call::Part | Call::PartOfCovered | Call::OneOfSeveral | Call::Several => {
                 unreachable!("it gives two values")
@@ -141,34 +141,34 @@ impl Desk {
 
     /// For the last day on which a term begins, on which all are in force.
     fn quote_on(&mut self, files: &Files) -> yuthaqim::Quoted {
-        yuthaqim::raw::quote_on(&files.question, &files.catalogue, &files.terms, files.day, &mut self.work)
+        yuthaqim::raw::quote_on(&files.question, &files.catalogue, 0, &files.terms, files.day, &mut self.work)
     }
 
     /// From the first of all days on.
     fn first_day(&mut self, files: &Files) -> yuthaqim::Dated {
-        yuthaqim::raw::first_day(&files.question, &files.catalogue, &files.terms, 0, &mut self.work)
+        yuthaqim::raw::first_day(&files.question, &files.catalogue, 0, &files.terms, 0, &mut self.work)
     }
 
     fn cheapest(&mut self, files: &Files) -> yuthaqim::Priced {
-        yuthaqim::raw::cheapest(&files.question, &files.catalogue, &files.charges, &mut self.work)
+        yuthaqim::raw::cheapest(&files.question, &files.catalogue, 0, &files.charges, &mut self.work)
     }
 
     fn part(&mut self, files: &Files) -> yuthaqim::Both {
         let Files { question, catalogue, book, .. } = files;
-        yuthaqim::raw::part(question, catalogue, book, &mut self.part, &mut self.bytes, &mut self.work)
+        yuthaqim::raw::part(question, catalogue, 0, book, &mut self.part, &mut self.bytes, &mut self.work)
     }
 
     /// One question, or all of them.
     fn several(&mut self, call: Call, files: &Files) -> yuthaqim::Several {
         let Files { question, questions, paper, catalogue, book, .. } = files;
         let (paper, number) = if call == Call::Several { (paper, questions.len()) } else { (question, 1) };
-        yuthaqim::raw::answer_several(paper, number as u32, catalogue, book, &mut self.answers, &mut self.work)
+        yuthaqim::raw::answer_several(paper, number as u32, catalogue, 0, book, &mut self.answers, &mut self.work)
     }
 
     /// Each question answered by itself, as it is timed.
     pub fn run_answers(&mut self, files: &Files) {
         for question in &files.questions {
-            let answer = yuthaqim::answer(question, &files.catalogue, &files.book, &mut self.bytes, &mut self.work);
+            let answer = yuthaqim::answer(question, &files.catalogue, 0, &files.book, &mut self.bytes, &mut self.work);
             let _ = black_box(answer);
         }
     }
@@ -176,7 +176,7 @@ impl Desk {
     /// A call of the library, as it is timed.
     pub fn run(&mut self, call: Call, files: &Files) {
         match call {
-            Call::Quote => drop(black_box(yuthaqim::raw::quote(&files.question, &files.catalogue, &mut self.work))),
+            Call::Quote => drop(black_box(yuthaqim::raw::quote(&files.question, &files.catalogue, 0, &mut self.work))),
             Call::QuoteOn => drop(black_box(self.quote_on(files))),
             Call::FirstDay => drop(black_box(self.first_day(files))),
             Call::Cheapest => drop(black_box(self.cheapest(files))),
@@ -189,7 +189,7 @@ impl Desk {
     /// A call of the library, with what it gives.
     pub fn outcome(&mut self, call: Call, files: &Files) -> Outcome {
         let outcome = match call {
-            Call::Quote => yuthaqim::quote(&files.question, &files.catalogue, &mut self.work).map(quoted),
+            Call::Quote => yuthaqim::quote(&files.question, &files.catalogue, 0, &mut self.work).map(quoted),
             Call::QuoteOn => self.quote_on(files).result().map(quoted),
             Call::FirstDay => self.first_day(files).result().map(Outcome::Day),
             Call::Cheapest => self.cheapest(files).result().map(Outcome::Cheapest),

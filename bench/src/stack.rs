@@ -107,20 +107,20 @@ fn depths(files: &Files) -> Vec<(&'static str, usize)> {
         "make an index": make_index(record, &mut entries, &mut work);
         "check an index": check_index(record, index, &mut work);
         "search by index": search_indexed(question, record, index, &mut bytes, &mut work);
-        "make a book": make_book(catalogue, record, &mut bytes, &mut work);
-        "quote": raw::quote(question, catalogue, &mut work);
-        "cheapest set": raw::cheapest(question, catalogue, &charges, &mut work);
-        "quote for a day": raw::quote_on(question, catalogue, &terms, 10, &mut work);
-        "cheapest set for a day": raw::cheapest_on(question, catalogue, &terms, 10, &charges, &mut work);
-        "first day": raw::first_day(question, catalogue, &terms, 0, &mut work);
-        "answer": answer(question, catalogue, book, &mut bytes, &mut work);
-        "answer from a set": answer_from(question, catalogue, u16::MAX, book, &mut bytes, &mut work);
-        "answer several": answer_several(paper, number, catalogue, book, &mut many, &mut work);
-        "part": part(question, catalogue, book, &mut more, &mut bytes, &mut work);
-        "part for a day": part_on(question, catalogue, &terms, 10, book, &mut more, &mut bytes, &mut work);
-        "show for a day": show_on(question, catalogue, &terms, 20, &mut bytes, &mut more, &mut work);
-        "show": show_uncovered(question, catalogue, &mut bytes, &mut more, &mut work);
-        "show": show_uncovered(question, NO_VIEWS, &mut bytes, &mut more, &mut work);
+        "make a book": make_book(catalogue, 0, record, &mut bytes, &mut work);
+        "quote": raw::quote(question, catalogue, 0, &mut work);
+        "cheapest set": raw::cheapest(question, catalogue, 0, &charges, &mut work);
+        "quote for a day": raw::quote_on(question, catalogue, 0, &terms, 10, &mut work);
+        "cheapest set for a day": raw::cheapest_on(question, catalogue, 0, &terms, 10, &charges, &mut work);
+        "first day": raw::first_day(question, catalogue, 0, &terms, 0, &mut work);
+        "answer": answer(question, catalogue, 0, book, &mut bytes, &mut work);
+        "answer from a set": answer_from(question, catalogue, 0, u16::MAX, book, &mut bytes, &mut work);
+        "answer several": answer_several(paper, number, catalogue, 0, book, &mut many, &mut work);
+        "part": part(question, catalogue, 0, book, &mut more, &mut bytes, &mut work);
+        "part for a day": part_on(question, catalogue, 0, &terms, 10, book, &mut more, &mut bytes, &mut work);
+        "show for a day": show_on(question, catalogue, 0, &terms, 20, &mut bytes, &mut more, &mut work);
+        "show": show_uncovered(question, catalogue, 0, &mut bytes, &mut more, &mut work);
+        "show": show_uncovered(question, NO_VIEWS, 0, &mut bytes, &mut more, &mut work);
     }
     found
 }

@@ -16,7 +16,7 @@ fn same<T: PartialEq>(what: &str, baseline: Result<T, baseline::Refusal>, model:
 }
 
 fn model_quote(question: &[u8], catalogue: &[u8]) -> Result<baseline::Quote, Refusal> {
-    let quote = quoting::quote(question, catalogue, WORK_WORDS)?;
+    let quote = quoting::quote(question, catalogue, 0, WORK_WORDS)?;
     let mut mapping = [0; 512];
     for (e, matches) in quote.mapping.iter().enumerate() {
         matches.iter().for_each(|&(a, b)| mapping[16 * e + a] |= 1 << b);
@@ -31,7 +31,7 @@ fn model_quote(question: &[u8], catalogue: &[u8]) -> Result<baseline::Quote, Ref
 }
 
 fn model_cheapest(question: &[u8], catalogue: &[u8], charges: &[u32]) -> Result<yuthaqim::Cheapest, Refusal> {
-    let cheapest::Cheapest { set, sum, chosen } = cheapest::cheapest(question, catalogue, charges, WORK_WORDS)?;
+    let cheapest::Cheapest { set, sum, chosen } = cheapest::cheapest(question, catalogue, 0, charges, WORK_WORDS)?;
     let bits = |set: Vec<usize>| set.iter().map(|a| 1 << a).sum();
     Ok(yuthaqim::Cheapest { set: bits(set), sum, chosen: bits(chosen) })
 }
@@ -49,9 +49,9 @@ fn without_record(question: &[u8], catalogue: &[u8], book: &[u8]) -> Option<Vec<
         same_cheapest(question, catalogue, &charges);
     }
     same("read a book", baseline::read_book(catalogue, book, ROOM), read_book(catalogue, book, ROOM, WORK_WORDS));
-    let parts = part::part(question, catalogue, book, ROOM, ROOM, WORK_WORDS);
+    let parts = part::part(question, catalogue, 0, book, ROOM, ROOM, WORK_WORDS);
     same("part", baseline::part(question, catalogue, book, ROOM, ROOM), parts);
-    let answer = answering::answer(question, catalogue, book, ROOM, WORK_WORDS);
+    let answer = answering::answer(question, catalogue, 0, book, ROOM, WORK_WORDS);
     same("answer, sorting", baseline::answer_by_sorting(question, catalogue, book, ROOM), answer.clone());
     same("answer", baseline::answer(question, catalogue, book, ROOM), answer)
 }
@@ -71,7 +71,7 @@ fn agree(record: &[u8], question: &[u8], catalogue: &[u8]) -> bool {
     }
     let search = matching::search(question, record, ROOM, WORK_WORDS);
     let sheet = same("search", baseline::search(question, record, ROOM), search);
-    let made = matching::make_book(catalogue, record, ROOM, WORK_WORDS);
+    let made = matching::make_book(catalogue, 0, record, ROOM, WORK_WORDS);
     let Some(book) = same("make a book", baseline::make_book(catalogue, record, ROOM), made) else {
         return false;
     };

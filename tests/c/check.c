@@ -209,7 +209,7 @@ static void nothing(void) {
     expect_refusal("search: no room for nothing", r.number, r.value, YUTHAQIM_NO_FIT, 1);
     mark();
     expect_bytes("make_book: C on a record of no items",
-                 yuthaqim_make_book(C, sizeof C, no_items, sizeof no_items, bytes, sizeof bytes, work, LENGTH(work)),
+                 yuthaqim_make_book(C, sizeof C, 0, no_items, sizeof no_items, bytes, sizeof bytes, work, LENGTH(work)),
                  zeros, sizeof zeros);
     mark();
     expect_words("read_sheet: nothing",
@@ -237,7 +237,7 @@ static void matching(void) {
                  sizeof K6_SHEET);
     mark();
     expect_bytes("make_book: C on K6",
-                 yuthaqim_make_book(C, sizeof C, K6, sizeof K6, bytes, sizeof bytes, work, LENGTH(work)), K6_BOOK,
+                 yuthaqim_make_book(C, sizeof C, 0, K6, sizeof K6, bytes, sizeof bytes, work, LENGTH(work)), K6_BOOK,
                  sizeof K6_BOOK);
     mark();
     expect_bytes("search: D on K9",
@@ -319,18 +319,18 @@ static void quoting(void) {
     struct yuthaqim_quote q;
 
     mark();
-    q = yuthaqim_quote(D, sizeof D, C, sizeof C, work, LENGTH(work));
+    q = yuthaqim_quote(D, sizeof D, C, sizeof C, 0, work, LENGTH(work));
     expect("quote: D with C is covered", q.number, q.covered,
            q.number == 0 && q.detail == 0 && q.covered == 1 && q.edges == 4 && q.lowest == 0 && is_cleared());
     expect("quote: extracts 1 and 2 are chosen", q.number, q.chosen, q.chosen == (1 << 1 | 1 << 2));
     expect("quote: the links by 0.0 and 1.0, 2.0, 1.1, 2.1", q.number, masks(&q),
            maps(&q, 0, 0, 1) && maps(&q, 0, 1, 1) && maps(&q, 1, 2, 1) && maps(&q, 2, 1, 2) && maps(&q, 3, 2, 2) &&
                masks(&q) == 5);
-    q = yuthaqim_quote(D, sizeof D, ONLY_SLOW, sizeof ONLY_SLOW, work, LENGTH(work));
+    q = yuthaqim_quote(D, sizeof D, ONLY_SLOW, sizeof ONLY_SLOW, 0, work, LENGTH(work));
     expect("quote: D with extract 1 alone lacks link 1", q.number, q.lowest,
            q.number == 0 && q.covered == 0 && q.edges == 4 && q.chosen == 0 && q.lowest == 1 && maps(&q, 0, 0, 1) &&
                maps(&q, 2, 0, 2) && masks(&q) == 2);
-    q = yuthaqim_quote(D, sizeof D, C, sizeof C - 1, work, LENGTH(work));
+    q = yuthaqim_quote(D, sizeof D, C, sizeof C - 1, 0, work, LENGTH(work));
     expect("quote: a catalogue that is cut off", q.number, q.detail,
            q.number == YUTHAQIM_SHORT && q.detail == YUTHAQIM_IN_CATALOGUE && q.covered == 0 && q.edges == 0 &&
                q.chosen == 0 && q.lowest == 0 && masks(&q) == 0);
@@ -368,11 +368,11 @@ static void link_kinds(void) {
                  yuthaqim_search(second, sizeof second, record, length, bytes, sizeof bytes, work, LENGTH(work)),
                  extract_sheet, sizeof extract_sheet);
     mark();
-    q = yuthaqim_quote(both, sizeof both, extract, sizeof extract, work, LENGTH(work));
+    q = yuthaqim_quote(both, sizeof both, extract, sizeof extract, 0, work, LENGTH(work));
     expect("quote: the link of the extract's kind is matched", q.number, q.lowest,
            q.number == 0 && q.covered == 0 && q.edges == 2 && q.lowest == 0 && maps(&q, 1, 0, 1) && masks(&q) == 1);
     mark();
-    s = yuthaqim_show_uncovered(both, sizeof both, extract, sizeof extract, bytes, sizeof bytes, more, sizeof more, work,
+    s = yuthaqim_show_uncovered(both, sizeof both, extract, sizeof extract, 0, bytes, sizeof bytes, more, sizeof more, work,
                                 LENGTH(work));
     memcpy(shown, more, sizeof shown);
     mark();
@@ -415,67 +415,67 @@ static void charging(void) {
                                              LENGTH(work)).value;
 
     mark();
-    expect_cheapest("cheapest: D with C", yuthaqim_cheapest(D, sizeof D, C, sizeof C, charges, 3, work, LENGTH(work)),
+    expect_cheapest("cheapest: D with C", yuthaqim_cheapest(D, sizeof D, C, sizeof C, 0, charges, 3, work, LENGTH(work)),
                     350, 1 << 1 | 1 << 2, 1 << 1 | 1 << 2);
     mark();
     expect_cheapest("cheapest: sums beyond 32 bits",
-                    yuthaqim_cheapest(D, sizeof D, C, sizeof C, most, 3, work, LENGTH(work)), 2 * (uint64_t)UINT32_MAX,
+                    yuthaqim_cheapest(D, sizeof D, C, sizeof C, 0, most, 3, work, LENGTH(work)), 2 * (uint64_t)UINT32_MAX,
                     1 << 1 | 1 << 2, 1 << 1 | 1 << 2);
     mark();
     expect_cheapest("cheapest: two extracts for less than one",
-                    yuthaqim_cheapest(D, sizeof D, halves, length, dear, 4, work, LENGTH(work)), 6, 1 << 1 | 1 << 2,
+                    yuthaqim_cheapest(D, sizeof D, halves, length, 0, dear, 4, work, LENGTH(work)), 6, 1 << 1 | 1 << 2,
                     1 << 0 | 1 << 2);
     mark();
     expect_cheapest("cheapest: of sets that cost the same the smallest",
-                    yuthaqim_cheapest(D, sizeof D, halves, length, alike, 4, work, LENGTH(work)), 7, 1 << 3,
+                    yuthaqim_cheapest(D, sizeof D, halves, length, 0, alike, 4, work, LENGTH(work)), 7, 1 << 3,
                     1 << 0 | 1 << 2);
     mark();
     expect_no_cheapest("cheapest: two charges for three extracts",
-                       yuthaqim_cheapest(D, sizeof D, C, sizeof C, charges, 2, work, LENGTH(work)), YUTHAQIM_CHARGES, 2);
+                       yuthaqim_cheapest(D, sizeof D, C, sizeof C, 0, charges, 2, work, LENGTH(work)), YUTHAQIM_CHARGES, 2);
     expect_no_cheapest("cheapest: no charges",
-                       yuthaqim_cheapest(D, sizeof D, C, sizeof C, charges, 0, work, LENGTH(work)), YUTHAQIM_CHARGES, 0);
+                       yuthaqim_cheapest(D, sizeof D, C, sizeof C, 0, charges, 0, work, LENGTH(work)), YUTHAQIM_CHARGES, 0);
     expect_no_cheapest("cheapest: D with extract 1 alone, two charges",
-                       yuthaqim_cheapest(D, sizeof D, ONLY_SLOW, sizeof ONLY_SLOW, charges, 2, work, LENGTH(work)),
+                       yuthaqim_cheapest(D, sizeof D, ONLY_SLOW, sizeof ONLY_SLOW, 0, charges, 2, work, LENGTH(work)),
                        YUTHAQIM_CHARGES, 2);
     expect_no_cheapest("cheapest: D with extract 1 alone is uncovered",
-                       yuthaqim_cheapest(D, sizeof D, ONLY_SLOW, sizeof ONLY_SLOW, charges, 1, work, LENGTH(work)),
+                       yuthaqim_cheapest(D, sizeof D, ONLY_SLOW, sizeof ONLY_SLOW, 0, charges, 1, work, LENGTH(work)),
                        YUTHAQIM_UNCOVERED, 1);
     expect_no_cheapest("cheapest: a catalogue that is cut off",
-                       yuthaqim_cheapest(D, sizeof D, C, sizeof C - 1, charges, 0, work, LENGTH(work)), YUTHAQIM_SHORT,
+                       yuthaqim_cheapest(D, sizeof D, C, sizeof C - 1, 0, charges, 0, work, LENGTH(work)), YUTHAQIM_SHORT,
                        YUTHAQIM_IN_CATALOGUE);
 }
 
 static void answering(void) {
     static uint8_t book[YUTHAQIM_BOOK_BYTES];
-    size_t length = yuthaqim_make_book(C, sizeof C, K9, sizeof K9, book, sizeof book, work, LENGTH(work)).value;
+    size_t length = yuthaqim_make_book(C, sizeof C, 0, K9, sizeof K9, book, sizeof book, work, LENGTH(work)).value;
     struct yuthaqim_reply r;
 
     mark();
-    r = yuthaqim_answer(D, sizeof D, C, sizeof C, book, length, bytes, sizeof bytes, work, LENGTH(work));
+    r = yuthaqim_answer(D, sizeof D, C, sizeof C, 0, book, length, bytes, sizeof bytes, work, LENGTH(work));
     expect_bytes("answer: D from the book of C on K9", r, K9_SHEET, sizeof K9_SHEET);
     mark();
-    r = yuthaqim_answer(D, sizeof D, C, sizeof C, book, length - 1, bytes, sizeof bytes, work, LENGTH(work));
+    r = yuthaqim_answer(D, sizeof D, C, sizeof C, 0, book, length - 1, bytes, sizeof bytes, work, LENGTH(work));
     expect_refusal("answer: from a book that is cut off", r.number, r.value, YUTHAQIM_SHORT, YUTHAQIM_IN_BOOK);
     mark();
-    r = yuthaqim_answer(D, sizeof D, ONLY_SLOW, sizeof ONLY_SLOW, K6_SHEET, sizeof K6_SHEET, bytes, sizeof bytes, work,
+    r = yuthaqim_answer(D, sizeof D, ONLY_SLOW, sizeof ONLY_SLOW, 0, K6_SHEET, sizeof K6_SHEET, bytes, sizeof bytes, work,
                         LENGTH(work));
     expect_refusal("answer: D with extract 1 alone is uncovered", r.number, r.value, YUTHAQIM_UNCOVERED, 1);
     mark();
-    r = yuthaqim_answer_from(D, sizeof D, C, sizeof C, 1 << 1 | 1 << 2, book, length, bytes, sizeof bytes, work,
+    r = yuthaqim_answer_from(D, sizeof D, C, sizeof C, 0, 1 << 1 | 1 << 2, book, length, bytes, sizeof bytes, work,
                              LENGTH(work));
     expect_bytes("answer_from: extracts 1 and 2", r, K9_SHEET, sizeof K9_SHEET);
     mark();
-    r = yuthaqim_answer_from(D, sizeof D, C, sizeof C, 0xffff, book, length, bytes, sizeof bytes, work, LENGTH(work));
+    r = yuthaqim_answer_from(D, sizeof D, C, sizeof C, 0, 0xffff, book, length, bytes, sizeof bytes, work, LENGTH(work));
     expect_bytes("answer_from: all extracts, and bits that name none", r, K9_SHEET, sizeof K9_SHEET);
     mark();
-    r = yuthaqim_answer_from(D, sizeof D, C, sizeof C, 1 << 0 | 1 << 2, book, length, bytes, sizeof bytes, work,
+    r = yuthaqim_answer_from(D, sizeof D, C, sizeof C, 0, 1 << 0 | 1 << 2, book, length, bytes, sizeof bytes, work,
                              LENGTH(work));
     expect_refusal("answer_from: extracts 0 and 2 leave link 2", r.number, r.value, YUTHAQIM_UNCOVERED, 2);
     mark();
-    r = yuthaqim_answer_from(D, sizeof D, C, sizeof C, 0xfff8, book, length, bytes, sizeof bytes, work, LENGTH(work));
+    r = yuthaqim_answer_from(D, sizeof D, C, sizeof C, 0, 0xfff8, book, length, bytes, sizeof bytes, work, LENGTH(work));
     expect_refusal("answer_from: no extract", r.number, r.value, YUTHAQIM_UNCOVERED, 0);
     mark();
-    r = yuthaqim_answer_from(D, sizeof D, C, sizeof C, 0xffff, book, length, bytes, sizeof K9_SHEET - 1, work,
+    r = yuthaqim_answer_from(D, sizeof D, C, sizeof C, 0, 0xffff, book, length, bytes, sizeof K9_SHEET - 1, work,
                              LENGTH(work));
     expect_refusal("answer_from: no room", r.number, r.value, YUTHAQIM_NO_FIT, sizeof K9_SHEET);
 }
@@ -498,7 +498,7 @@ static void expect_no_part(const char *what, struct yuthaqim_part p, size_t numb
 static struct yuthaqim_part part_lent(const uint8_t *catalogue, size_t catalogue_length, const uint8_t *book,
                                       size_t book_length, size_t first, size_t second) {
     mark();
-    return yuthaqim_part(D, sizeof D, catalogue, catalogue_length, book, book_length, more, first, bytes, second, work,
+    return yuthaqim_part(D, sizeof D, catalogue, catalogue_length, 0, book, book_length, more, first, bytes, second, work,
                          LENGTH(work));
 }
 
@@ -535,7 +535,7 @@ static void parts(void) {
                                        0x80, 0x10, 0x80, 0x02, 0x00, 0xa0, 0x02};
     static const uint8_t by_both[] = {0x80, 0x04, 0x00, 0x00, 0x02, 0x00, 0xa0, 0x02, 0x00, 0x08, 0x00, 0x80, 0x10};
     static uint8_t book[YUTHAQIM_BOOK_BYTES];
-    size_t length = yuthaqim_make_book(C, sizeof C, K9, sizeof K9, book, sizeof book, work, LENGTH(work)).value;
+    size_t length = yuthaqim_make_book(C, sizeof C, 0, K9, sizeof K9, book, sizeof book, work, LENGTH(work)).value;
     struct yuthaqim_reply r;
     struct yuthaqim_part p;
 
@@ -545,7 +545,7 @@ static void parts(void) {
     expect_part("part: items 2 and 3 become 0 and 1", part_of_d(fast, sizeof fast, fast_book, sizeof fast_book), fast + 1,
                 sizeof fast - 1, fast_book, sizeof fast_book);
     mark();
-    p = yuthaqim_part(kinds, sizeof kinds, kind_1, sizeof kind_1, kind_1_sheet, sizeof kind_1_sheet, more, sizeof more,
+    p = yuthaqim_part(kinds, sizeof kinds, kind_1, sizeof kind_1, 0, kind_1_sheet, sizeof kind_1_sheet, more, sizeof more,
                       bytes, sizeof bytes, work, LENGTH(work));
     expect_part("part: of two kinds of links one", p, kind_1 + 1, sizeof kind_1 - 1, kind_1_sheet, sizeof kind_1_sheet);
     expect_no_part("part: no extracts", part_of_d(no_extracts, sizeof no_extracts, zero, 0), YUTHAQIM_UNCOVERED, 0);
@@ -556,7 +556,7 @@ static void parts(void) {
     expect_part("part: by its own quote", part_of_d(two, sizeof two, two_book, sizeof two_book), SLOW, sizeof SLOW,
                 K6_SHEET, sizeof K6_SHEET);
     mark();
-    r = yuthaqim_answer_from(SLOW, sizeof SLOW, two, sizeof two, 3, two_book, sizeof two_book, bytes, sizeof bytes, work,
+    r = yuthaqim_answer_from(SLOW, sizeof SLOW, two, sizeof two, 0, 3, two_book, sizeof two_book, bytes, sizeof bytes, work,
                              LENGTH(work));
     expect_bytes("answer_from: the part by all extracts", r, by_both, sizeof by_both);
 }
@@ -585,7 +585,7 @@ static const uint8_t K9_BOOK[] = {0x80, 0x02, 0x00, 0x00, 0x02, 0x80, 0x02, 0x00
 /* So many questions of these bytes, with C and the book of K9, and so much lent. */
 static struct yuthaqim_several several_lent(const uint8_t *questions, size_t length, uint32_t number, size_t room) {
     mark();
-    return yuthaqim_answer_several(questions, length, number, C, sizeof C, K9_BOOK, sizeof K9_BOOK, bytes, room, work,
+    return yuthaqim_answer_several(questions, length, number, C, sizeof C, 0, K9_BOOK, sizeof K9_BOOK, bytes, room, work,
                                    LENGTH(work));
 }
 
@@ -613,7 +613,7 @@ static void several(void) {
     expect_several("answer_several: section to slow eight times", several_lent(ones, sizeof ones, 8, sizeof one_sheets),
                    one_sheets, sizeof one_sheets, 1);
     mark();
-    s = yuthaqim_answer_several(twice, sizeof twice, 2, C, sizeof C, zeros, sizeof zeros, bytes, sizeof bytes, work,
+    s = yuthaqim_answer_several(twice, sizeof twice, 2, C, sizeof C, 0, zeros, sizeof zeros, bytes, sizeof bytes, work,
                                 LENGTH(work));
     expect_several("answer_several: nothing found", s, zeros, 2, 2);
     expect_no_several("answer_several: lent 24", several_lent(D_AND_ONE, sizeof D_AND_ONE, 2, 24), YUTHAQIM_NO_FIT, 25);
@@ -630,11 +630,11 @@ static void several(void) {
     expect_no_several("answer_several: 57 bytes for one", several_lent(longer, 57, 1, 25), YUTHAQIM_LONG,
                       YUTHAQIM_IN_PATTERN);
     mark();
-    s = yuthaqim_answer_several(d_and_fast, sizeof d_and_fast, 2, one_alone, sizeof one_alone, zeros, 1, bytes, 0, work,
+    s = yuthaqim_answer_several(d_and_fast, sizeof d_and_fast, 2, one_alone, sizeof one_alone, 0, zeros, 1, bytes, 0, work,
                                 LENGTH(work));
     expect_no_several("answer_several: D is the first uncovered one", s, YUTHAQIM_UNCOVERED, 1);
     mark();
-    s = yuthaqim_answer_several(D_AND_ONE, 0, 0, C, sizeof C, K9_BOOK, sizeof K9_BOOK, bytes, sizeof bytes, work,
+    s = yuthaqim_answer_several(D_AND_ONE, 0, 0, C, sizeof C, 0, K9_BOOK, sizeof K9_BOOK, bytes, sizeof bytes, work,
                                 YUTHAQIM_WORK_WORDS - 1);
     expect_no_several("answer_several: too few words to work in", s, YUTHAQIM_DESK, 0);
 }
@@ -667,14 +667,14 @@ static void sums(void) {
                                   LENGTH(work)).value;
     length = to_itself(700, self, sizeof self, book, sizeof book);
     mark();
-    s = yuthaqim_answer_several(questions, 4 + size, 2, self, sizeof self, book, length, bytes, sizeof bytes, work,
+    s = yuthaqim_answer_several(questions, 4 + size, 2, self, sizeof self, 0, book, length, bytes, sizeof bytes, work,
                                 LENGTH(work));
     expect_no_several("answer_several: one answer is too long", s, YUTHAQIM_NO_FIT, 69359);
     memmove(questions, questions + 4, size);
     memcpy(questions + size, questions, size);
     length = to_itself(682, self, sizeof self, book, sizeof book);
     mark();
-    s = yuthaqim_answer_several(questions, 2 * size, 2, self, sizeof self, book, length, bytes, sizeof bytes, work,
+    s = yuthaqim_answer_several(questions, 2 * size, 2, self, sizeof self, 0, book, length, bytes, sizeof bytes, work,
                                 LENGTH(work));
     expect("answer_several: the sum has no limit", s.number, s.bytes,
            s.number == 0 && s.bytes == 131058 && s.sheets == 1 && memcmp(bytes, bytes + 65529, 65529) == 0 &&
@@ -686,7 +686,7 @@ static void showing(void) {
     struct yuthaqim_showing s;
 
     mark();
-    s = yuthaqim_show_uncovered(D, sizeof D, ONLY_SLOW, sizeof ONLY_SLOW, bytes, sizeof bytes, more, sizeof more, work,
+    s = yuthaqim_show_uncovered(D, sizeof D, ONLY_SLOW, sizeof ONLY_SLOW, 0, bytes, sizeof bytes, more, sizeof more, work,
                                 LENGTH(work));
     expect("show_uncovered: D with extract 1 alone", s.number, s.first,
            s.number == 0 && s.detail == 0 && s.first == 33 && s.second == 30 && is_cleared() &&
@@ -701,10 +701,10 @@ static void showing(void) {
                  yuthaqim_read_record(second, s.second, words, LENGTH(words), work, LENGTH(work)), FEWER_FIELDS,
                  LENGTH(FEWER_FIELDS));
     mark();
-    s = yuthaqim_show_uncovered(D, sizeof D, C, sizeof C, bytes, sizeof bytes, more, sizeof more, work, LENGTH(work));
+    s = yuthaqim_show_uncovered(D, sizeof D, C, sizeof C, 0, bytes, sizeof bytes, more, sizeof more, work, LENGTH(work));
     expect_refusal("show_uncovered: D with C is covered", s.number, s.detail, YUTHAQIM_COVERED, 0);
     mark();
-    s = yuthaqim_show_uncovered(D, sizeof D, ONLY_SLOW, sizeof ONLY_SLOW, bytes, 33, more, 29, work, LENGTH(work));
+    s = yuthaqim_show_uncovered(D, sizeof D, ONLY_SLOW, sizeof ONLY_SLOW, 0, bytes, 33, more, 29, work, LENGTH(work));
     expect_refusal("show_uncovered: no room for the second", s.number, s.detail, YUTHAQIM_NO_FIT, 30);
 }
 
@@ -736,22 +736,22 @@ static void no_catalogue(void) {
     expect_refusal("read_book: a byte beside no bytes", r.number, r.value, YUTHAQIM_TAIL, YUTHAQIM_IN_BOOK);
     mark();
     expect_bytes("make_book: no extracts",
-                 yuthaqim_make_book(zero_byte, 0, K6, sizeof K6, bytes, sizeof bytes, work, LENGTH(work)), zero_byte, 0);
+                 yuthaqim_make_book(zero_byte, 0, 0, K6, sizeof K6, bytes, sizeof bytes, work, LENGTH(work)), zero_byte, 0);
     mark();
-    q = yuthaqim_quote(D, sizeof D, zero_byte, 0, work, LENGTH(work));
+    q = yuthaqim_quote(D, sizeof D, zero_byte, 0, 0, work, LENGTH(work));
     expect("quote: D with no extracts", q.number, q.lowest,
            q.number == 0 && q.covered == 0 && q.edges == 4 && q.chosen == 0 && q.lowest == 0 && masks(&q) == 0 &&
                is_cleared());
     mark();
     expect_no_cheapest("cheapest: no extracts, a charge",
-                       yuthaqim_cheapest(D, sizeof D, zero_byte, 0, zero_field, 1, work, LENGTH(work)), YUTHAQIM_CHARGES,
+                       yuthaqim_cheapest(D, sizeof D, zero_byte, 0, 0, zero_field, 1, work, LENGTH(work)), YUTHAQIM_CHARGES,
                        1);
     mark();
-    r = yuthaqim_answer(D, sizeof D, zero_byte, 0, zero_byte, 0, bytes, sizeof bytes, work, LENGTH(work));
+    r = yuthaqim_answer(D, sizeof D, zero_byte, 0, 0, zero_byte, 0, bytes, sizeof bytes, work, LENGTH(work));
     expect_refusal("answer: no extracts", r.number, r.value, YUTHAQIM_UNCOVERED, 0);
     expect_no_part("part: a catalogue of no bytes", part_of_d(zero_byte, 0, zero_byte, 0), YUTHAQIM_UNCOVERED, 0);
     mark();
-    s = yuthaqim_show_uncovered(D, sizeof D, zero_byte, 0, bytes, 33, more, 30, work, LENGTH(work));
+    s = yuthaqim_show_uncovered(D, sizeof D, zero_byte, 0, 0, bytes, 33, more, 30, work, LENGTH(work));
     expect("show_uncovered: D with no extracts", s.number, s.first, s.number == 0 && s.first == 33 && s.second == 30);
 }
 
@@ -770,17 +770,105 @@ static void both_ways(void) {
                  sizeof K6_SHEET);
     mark();
     expect_bytes("make_book: the same",
-                 yuthaqim_make_book(C, sizeof C, vial, length, bytes, sizeof bytes, work, LENGTH(work)), K6_BOOK,
+                 yuthaqim_make_book(C, sizeof C, 0, vial, length, bytes, sizeof bytes, work, LENGTH(work)), K6_BOOK,
                  sizeof K6_BOOK);
-    q = yuthaqim_quote(line, sizeof line, loop, sizeof loop, work, LENGTH(work));
+    q = yuthaqim_quote(line, sizeof line, loop, sizeof loop, 0, work, LENGTH(work));
     expect("quote: nothing arrives at item 0", q.number, q.lowest,
            q.number == 0 && q.covered == 0 && q.lowest == 0 && maps(&q, 1, 0, 1) && masks(&q) == 1);
+}
+
+/* The set 8 names extract 3, and C has three: each call that takes a set refuses it, before a book, a record and charges are looked at. */
+static void strays(void) {
+    static const struct yuthaqim_term season[] = {{10, 20}, {10, 15}, {12, 20}};
+    static const uint8_t no_book[] = {0x80};
+    static const uint32_t no_charges[] = {0};
+    struct yuthaqim_terms t = yuthaqim_spread_terms(season, 3);
+    struct yuthaqim_quote q;
+    struct yuthaqim_showing s;
+    struct yuthaqim_first_day f;
+    struct yuthaqim_reply r;
+
+    mark();
+    r = yuthaqim_make_book(C, sizeof C, 8, K6, 1, bytes, sizeof bytes, work, LENGTH(work));
+    expect_refusal("make_book: no extract 3", r.number, r.value, YUTHAQIM_SET, 3);
+    q = yuthaqim_quote(D, sizeof D, C, sizeof C, 8, work, LENGTH(work));
+    expect("quote: no extract 3", q.number, q.detail,
+           q.number == YUTHAQIM_SET && q.detail == 3 && q.edges == 0 && masks(&q) == 0);
+    mark();
+    expect_no_cheapest("cheapest: no extract 3",
+                       yuthaqim_cheapest(D, sizeof D, C, sizeof C, 8, no_charges, 0, work, LENGTH(work)), YUTHAQIM_SET, 3);
+    r = yuthaqim_answer(D, sizeof D, C, sizeof C, 8, no_book, sizeof no_book, bytes, sizeof bytes, work, LENGTH(work));
+    expect_refusal("answer: no extract 3", r.number, r.value, YUTHAQIM_SET, 3);
+    r = yuthaqim_answer_from(D, sizeof D, C, sizeof C, 8, 8, no_book, sizeof no_book, bytes, sizeof bytes, work,
+                             LENGTH(work));
+    expect_refusal("answer_from: no extract 3", r.number, r.value, YUTHAQIM_SET, 3);
+    expect_no_several("answer_several: no extract 3",
+                      yuthaqim_answer_several(D_AND_ONE, sizeof D_AND_ONE, 2, C, sizeof C, 8, no_book, sizeof no_book, bytes,
+                                              sizeof bytes, work, LENGTH(work)),
+                      YUTHAQIM_SET, 3);
+    expect_no_part("part: no extract 3",
+                   yuthaqim_part(D, sizeof D, C, sizeof C, 8, no_book, sizeof no_book, more, sizeof more, bytes,
+                                 sizeof bytes, work, LENGTH(work)),
+                   YUTHAQIM_SET, 3);
+    s = yuthaqim_show_uncovered(D, sizeof D, C, sizeof C, 8, bytes, sizeof bytes, more, sizeof more, work, LENGTH(work));
+    expect_refusal("show_uncovered: no extract 3", s.number, s.detail, YUTHAQIM_SET, 3);
+    q = yuthaqim_quote_on(D, sizeof D, C, sizeof C, 8, t, 12, work, LENGTH(work));
+    expect("quote_on: no extract 3", q.number, q.detail, q.number == YUTHAQIM_SET && q.detail == 3 && masks(&q) == 0);
+    expect_no_cheapest("cheapest_on: no extract 3",
+                       yuthaqim_cheapest_on(D, sizeof D, C, sizeof C, 8, t, 12, no_charges, 0, work, LENGTH(work)),
+                       YUTHAQIM_SET, 3);
+    expect_no_part("part_on: no extract 3",
+                   yuthaqim_part_on(D, sizeof D, C, sizeof C, 8, t, 12, no_book, sizeof no_book, more, sizeof more, bytes,
+                                    sizeof bytes, work, LENGTH(work)),
+                   YUTHAQIM_SET, 3);
+    s = yuthaqim_show_on(D, sizeof D, C, sizeof C, 8, t, 12, bytes, sizeof bytes, more, sizeof more, work, LENGTH(work));
+    expect_refusal("show_on: no extract 3", s.number, s.detail, YUTHAQIM_SET, 3);
+    f = yuthaqim_first_day(D, sizeof D, C, sizeof C, 8, t, 12, work, LENGTH(work));
+    expect("first_day: no extract 3", f.number, f.detail,
+           f.number == YUTHAQIM_SET && f.detail == 3 && f.found == 0 && f.day == 0);
+    q = yuthaqim_quote_on(D, sizeof D, C, sizeof C, 8, yuthaqim_spread_terms(season, 2), 12, work, LENGTH(work));
+    expect("quote_on: the terms before the set", q.number, q.detail, q.number == YUTHAQIM_TERMS && q.detail == 2);
+    q = yuthaqim_quote(D, sizeof D, no_book, 0, 32769, work, LENGTH(work));
+    expect("quote: no extracts, and a set", q.number, q.detail, q.number == YUTHAQIM_SET && q.detail == 0);
+    r = yuthaqim_make_book((const uint8_t[]){0}, 1, 32769, K6, sizeof K6, bytes, sizeof bytes, work, LENGTH(work));
+    expect_refusal("make_book: no extracts, and a set", r.number, r.value, YUTHAQIM_SET, 0);
+}
+
+/* Extracts that are matched one-way: the question that 0 to 0 leaves uncovered both ways is covered one-way. Of K6 with item 4 extract 1
+ * lists (4,2) too, and what its question gets from that book is what a search gives. */
+static void one_way(void) {
+    static const uint32_t vial_fields[] = {5, 4, 1, 2, 8, 2, 2, 0, 1, 0, 0, 3, 0, 1, 2, 0, 4, 2, 0};
+    static const uint8_t line[] = {0x10, 0x40, 0x00, 0x08, 0x11, 0x00}, loop[] = {0x08, 0x08, 0x20, 0x00, 0x00};
+    static const uint8_t mixed[] = {0x80, 0x04, 0x00, 0x00, 0x02, 0x00, 0x00, 0x06, 0x80, 0x02, 0x00,
+                                    0x00, 0x02, 0x00, 0x10, 0x00, 0x80, 0x10, 0x02, 0x00, 0x10, 0x00};
+    static uint8_t vial[YUTHAQIM_RECORD_BYTES];
+    size_t length = yuthaqim_write_record(vial_fields, LENGTH(vial_fields), vial, sizeof vial, work, LENGTH(work)).value;
+    struct yuthaqim_quote q;
+    struct yuthaqim_reply r;
+
+    mark();
+    q = yuthaqim_quote(line, sizeof line, loop, sizeof loop, 1, work, LENGTH(work));
+    expect("quote: one-way 0 to 0 covers", q.number, q.chosen,
+           q.number == 0 && q.covered == 1 && q.chosen == 1 && maps(&q, 0, 0, 1) && maps(&q, 1, 0, 1) && masks(&q) == 2 &&
+               is_cleared());
+    mark();
+    expect_bytes("make_book: extract 1 one-way",
+                 yuthaqim_make_book(C, sizeof C, 2, vial, length, bytes, sizeof bytes, work, LENGTH(work)), mixed,
+                 sizeof mixed);
+    mark();
+    r = yuthaqim_answer(SLOW, sizeof SLOW, C, sizeof C, 2, mixed, sizeof mixed, bytes, sizeof bytes, work, LENGTH(work));
+    expect_bytes("answer: from that book", r, K6_SHEET, sizeof K6_SHEET);
+    mark();
+    r = yuthaqim_answer(SLOW, sizeof SLOW, C, sizeof C, 0, K6_BOOK, sizeof K6_BOOK, bytes, sizeof bytes, work,
+                        LENGTH(work));
+    expect_bytes("answer: from the book both ways", r, K6_SHEET, sizeof K6_SHEET);
+    strays();
 }
 
 /* D with C on a day, by these terms. */
 static struct yuthaqim_quote quote_on(const struct yuthaqim_term *terms, size_t n, uint16_t day) {
     mark();
-    return yuthaqim_quote_on(D, sizeof D, C, sizeof C, yuthaqim_spread_terms(terms, n), day, work, LENGTH(work));
+    return yuthaqim_quote_on(D, sizeof D, C, sizeof C, 0, yuthaqim_spread_terms(terms, n), day, work, LENGTH(work));
 }
 
 static void expect_no_quote(const char *what, struct yuthaqim_quote q, size_t number, size_t detail) {
@@ -793,7 +881,7 @@ static void expect_first_day(const char *what, const struct yuthaqim_term *terms
                              uint16_t first) {
     struct yuthaqim_first_day f;
     mark();
-    f = yuthaqim_first_day(D, sizeof D, C, sizeof C, yuthaqim_spread_terms(terms, 3), day, work, LENGTH(work));
+    f = yuthaqim_first_day(D, sizeof D, C, sizeof C, 0, yuthaqim_spread_terms(terms, 3), day, work, LENGTH(work));
     expect(what, f.number, f.day,
            f.number == 0 && f.detail == 0 && f.found == found && f.day == first && is_cleared());
 }
@@ -809,7 +897,7 @@ static void days(void) {
     static const uint8_t three_sheet[] = {0x80, 0x02, 0x00, 0x00, 0x02, 0x00, 0x08, 0x00,
                                           0x00, 0x08, 0x00, 0x20, 0x02, 0x00, 0x40};
     static uint8_t book[YUTHAQIM_BOOK_BYTES];
-    size_t length = yuthaqim_make_book(C, sizeof C, K9, sizeof K9, book, sizeof book, work, LENGTH(work)).value;
+    size_t length = yuthaqim_make_book(C, sizeof C, 0, K9, sizeof K9, book, sizeof book, work, LENGTH(work)).value;
     struct yuthaqim_terms t = yuthaqim_spread_terms(season, 3);
     struct yuthaqim_quote q;
     struct yuthaqim_showing s;
@@ -844,38 +932,38 @@ static void days(void) {
     expect_first_day("first_day: from the last", late, 65535, 0, 0);
     mark();
     expect_cheapest("cheapest_on: day 12",
-                    yuthaqim_cheapest_on(D, sizeof D, C, sizeof C, t, 12, charges, 3, work, LENGTH(work)), 350,
+                    yuthaqim_cheapest_on(D, sizeof D, C, sizeof C, 0, t, 12, charges, 3, work, LENGTH(work)), 350,
                     1 << 1 | 1 << 2, 1 << 1 | 1 << 2);
     expect_no_cheapest("cheapest_on: day 10",
-                       yuthaqim_cheapest_on(D, sizeof D, C, sizeof C, t, 10, charges, 3, work, LENGTH(work)),
+                       yuthaqim_cheapest_on(D, sizeof D, C, sizeof C, 0, t, 10, charges, 3, work, LENGTH(work)),
                        YUTHAQIM_UNCOVERED, 1);
     expect_no_cheapest("cheapest_on: two charges",
-                       yuthaqim_cheapest_on(D, sizeof D, C, sizeof C, t, 12, charges, 2, work, LENGTH(work)),
+                       yuthaqim_cheapest_on(D, sizeof D, C, sizeof C, 0, t, 12, charges, 2, work, LENGTH(work)),
                        YUTHAQIM_CHARGES, 2);
     mark();
     expect_part("part_on: day 10",
-                yuthaqim_part_on(D, sizeof D, C, sizeof C, t, 10, book, length, more, sizeof more, bytes, sizeof bytes, work,
+                yuthaqim_part_on(D, sizeof D, C, sizeof C, 0, t, 10, book, length, more, sizeof more, bytes, sizeof bytes, work,
                                  LENGTH(work)),
                 SLOW, sizeof SLOW, K6_SHEET, sizeof K6_SHEET);
     mark();
     expect_part("part_on: day 15",
-                yuthaqim_part_on(D, sizeof D, C, sizeof C, t, 15, book, length, more, sizeof more, bytes, sizeof bytes, work,
+                yuthaqim_part_on(D, sizeof D, C, sizeof C, 0, t, 15, book, length, more, sizeof more, bytes, sizeof bytes, work,
                                  LENGTH(work)),
                 three, sizeof three, three_sheet, sizeof three_sheet);
     mark();
     expect_no_part("part_on: day 9",
-                   yuthaqim_part_on(D, sizeof D, C, sizeof C, t, 9, book, length, more, sizeof more, bytes, sizeof bytes,
+                   yuthaqim_part_on(D, sizeof D, C, sizeof C, 0, t, 9, book, length, more, sizeof more, bytes, sizeof bytes,
                                     work, LENGTH(work)),
                    YUTHAQIM_UNCOVERED, 0);
     mark();
-    s = yuthaqim_show_on(D, sizeof D, C, sizeof C, t, 10, bytes, 33, more, 30, work, LENGTH(work));
+    s = yuthaqim_show_on(D, sizeof D, C, sizeof C, 0, t, 10, bytes, 33, more, 30, work, LENGTH(work));
     expect("show_on: day 10", s.number, s.first, s.number == 0 && s.first == 33 && s.second == 30 && is_cleared());
     memset(work, 0xa5, sizeof work);
     expect_words("show_on: the second lacks link 1",
                  yuthaqim_read_record(more, 30, words, LENGTH(words), work, LENGTH(work)), FEWER_FIELDS,
                  LENGTH(FEWER_FIELDS));
     mark();
-    s = yuthaqim_show_on(D, sizeof D, C, sizeof C, t, 12, bytes, 33, more, 30, work, LENGTH(work));
+    s = yuthaqim_show_on(D, sizeof D, C, sizeof C, 0, t, 12, bytes, 33, more, 30, work, LENGTH(work));
     expect_refusal("show_on: day 12 is covered", s.number, s.detail, YUTHAQIM_COVERED, 0);
 }
 
@@ -920,6 +1008,7 @@ int main(void) {
     no_catalogue();
     days();
     both_ways();
+    one_way();
     refusals();
     printf("%d wrong\n", failures);
     return failures != 0;

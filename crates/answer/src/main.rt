@@ -1,5 +1,5 @@
-// Answers the file `question` from the file `book`, which belongs to the file `catalogue`, all in the folder it is run in, and writes the file
-// `answer` there.
+// Answers the file `question` from the file `book`, which belongs to the file `catalogue` and to the set of its extracts that are matched one-way,
+// which the file `one_way` has, all in the folder it is run in, and writes the file `answer` there.
 use folder::files;
 use folder::lent;
 
@@ -9,12 +9,17 @@ fn main() {
     let mut book = lent::sheet_bytes();
     let mut answer = lent::output_bytes();
     let mut work = lent::work_words();
+    let one_way = folder::extracts(b"one_way");
+    if !one_way.good {
+        return;
+    }
     let n = files::read(b"question", &mut question);
     let m = files::read(b"catalogue", &mut catalogue);
     let k = files::read(b"book", &mut book);
     let reply = containment::answer(
         &question[0..n],
         &catalogue[0..m],
+        one_way.set,
         &book[0..k],
         &mut answer,
         &mut work,

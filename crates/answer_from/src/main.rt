@@ -1,9 +1,8 @@
 // Answers the file `question` by the extracts that the file `set` names, their numbers in decimal, from the file `book`, which belongs to the file
-// `catalogue`, all in the folder it is run in, and writes the file `answer` there.
+// `catalogue` and to the set of its extracts that are matched one-way, which the file `one_way` has, all in the folder it is run in, and writes the
+// file `answer` there.
 use folder::files;
 use folder::lent;
-use folder::lines;
-use folder::numbers;
 
 fn main() {
     let mut question = lent::question_bytes();
@@ -11,9 +10,12 @@ fn main() {
     let mut book = lent::sheet_bytes();
     let mut answer = lent::output_bytes();
     let mut work = lent::work_words();
-    let text = numbers::read_set(b"set");
-    if !text.good {
-        lines::failed_at(b"set", text.count);
+    let one_way = folder::extracts(b"one_way");
+    if !one_way.good {
+        return;
+    }
+    let set = folder::extracts(b"set");
+    if !set.good {
         return;
     }
     let n = files::read(b"question", &mut question);
@@ -22,7 +24,8 @@ fn main() {
     let reply = containment::answer_from(
         &question[0..n],
         &catalogue[0..m],
-        text.set,
+        one_way.set,
+        set.set,
         &book[0..k],
         &mut answer,
         &mut work,

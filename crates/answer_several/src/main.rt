@@ -1,5 +1,6 @@
 // Answers the questions of the file `questions`, as many as the file `number` says in decimal, from the file `book`, which belongs to the file
-// `catalogue`, all in the folder it is run in, and writes the file `answers` there: the answers one after the other.
+// `catalogue` and to the set of its extracts that are matched one-way, which the file `one_way` has, all in the folder it is run in, and writes the
+// file `answers` there: the answers one after the other.
 use containment::several::Several;
 use folder::files;
 use folder::lent;
@@ -38,6 +39,10 @@ fn main() {
         lines::failed(b"number");
         return;
     }
+    let one_way = folder::extracts(b"one_way");
+    if !one_way.good {
+        return;
+    }
     let n = files::read(b"questions", &mut questions);
     let m = files::read(b"catalogue", &mut catalogue);
     let k = files::read(b"book", &mut book);
@@ -45,6 +50,7 @@ fn main() {
         &questions[0..n],
         number.value,
         &catalogue[0..m],
+        one_way.set,
         &book[0..k],
         &mut answers,
         &mut work,

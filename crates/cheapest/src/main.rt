@@ -1,5 +1,6 @@
-// Finds the cheapest extracts of the file `catalogue` that cover the file `question`, by the file `charges`, which has a decimal number a line
-// for each extract, all in the folder it is run in. Prints them and what they cost.
+// Finds the cheapest extracts of the file `catalogue` that cover the file `question`, by the file `charges`, which has a decimal number a line for
+// each extract; the file `one_way` names the extracts that are matched one-way. All are in the folder it is run in. Prints the extracts and what they
+// cost.
 use containment::costing::Cheapest;
 use folder::files;
 use folder::lent;
@@ -26,12 +27,13 @@ fn say(c: Cheapest, charges: usize) {
 fn find(
     question: &[u8],
     catalogue: &[u8],
+    one_way: u16,
     charges: &[u32],
     count: usize,
     work: &mut [u32],
 ) -> Cheapest {
     let n = lent::least(count, charges.len());
-    containment::cheapest(question, catalogue, &charges[0..n], work)
+    containment::cheapest(question, catalogue, one_way, &charges[0..n], work)
 }
 
 fn main() {
@@ -39,6 +41,10 @@ fn main() {
     let mut catalogue = lent::catalogue_bytes();
     let mut charges = lent::charge_words();
     let mut work = lent::work_words();
+    let one_way = folder::extracts(b"one_way");
+    if !one_way.good {
+        return;
+    }
     let text = numbers::read_list(b"charges", &mut charges);
     if !text.good {
         lines::failed_at(b"charges", text.count);
@@ -49,6 +55,7 @@ fn main() {
     let c = find(
         &question[0..n],
         &catalogue[0..m],
+        one_way.set,
         &charges,
         text.count,
         &mut work,

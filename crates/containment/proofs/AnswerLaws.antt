@@ -1,43 +1,39 @@
 -- The answers of quoting and of showing, from what their parts found.
 use Prim.Native.Nat.{ℕ, _<_, _≤_}
 use mathlib.Core.Path.{_≡_, refl, sym, subst, _∙_}
-use mathlib.Core.Bool.{Bool, true, false}
+use mathlib.Core.Bool.{true, false}
 use mathlib.Core.List.{List, [], _∷_}
-use lib.ListN.{length, replicate, length-map, List·getD-map}
-use lib.Seq.{sets}
-use lib.Dec.{T, ltb}
+use lib.ListN.{length, replicate}
+use lib.Dec.{T}
 use native.Mathlib.Omega.{arith}
 use borrow.Author.Tests.{lt-ltb, le-ltb}
 use Rattle.packed.specs.Format.{pick}
 use Rattle.packed.specs.Formats.{pattern}
-use Rattle.packed.specs.Contents.{edgesOf, viewsOf}
+use Rattle.packed.specs.Contents.{edgesOf}
 use Rattle.packed.specs.ByValue.{HoldsPattern}
 use Rattle.packed.specs.Accepting.{Held, HoldsViews}
 use Rattle.packed.specs.Refusals.{Told, told, numberOf, detailOf}
-use Rattle.packed.specs.Calls.{Outcome, refuse, toldOf, fronts, outputsOf, Fulfils, Verdict, rejected, judged, readPattern, readCatalogue}
+use Rattle.packed.specs.Calls.{Outcome, refuse, toldOf, fronts, outputsOf, Fulfils, accepted, readPattern, readCatalogue, recordBytes, fitBoth}
 use Rattle.packed.specs.declared.reply.Refusal.{Refusal}
 use Rattle.packed.specs.declared.reply.Reply.{Reply}
 use Rattle.packed.specs.declared.reply.Reply.the-variants as reply-is
 use Rattle.packed.specs.declared.by_value.Pattern.{Pattern as Given}
-use Rattle.packed.proofs.Sets.{sets-front}
 use Rattle.packed.proofs.Accepted.{catalogue-read}
 use Rattle.packed.proofs.AcceptedBounds.{catalogue-views}
 use Rattle.packed.proofs.CallLaws.{refusal-answered, read-says}
-use Rattle.matching.specs.Lists.{In}
-use Rattle.matching.specs.Simulation.{Pattern, patternOf, sound}
-use Rattle.matching.specs.Offered.{viewPatterns}
-use Rattle.matching.proofs.ListLaws.{in-at}
-use Rattle.matching.proofs.PatternLaws.{sound-of}
-use Rattle.matching.proofs.ViewLaws.{all-ahead, in-follow}
+use Rattle.engine.specs.Lists.{In}
+use Rattle.engine.specs.Simulation.{Pattern, sound}
+use Rattle.matching.specs.Offered.{offers, viewPatterns}
+use Rattle.matching.proofs.OfferedLaws.{views-number, view-of, view-sound}
 use Rattle.containment.specs.Choice.{coversIn, columnsIn, lowestUnmatched, chosen}
 use Rattle.containment.specs.Quote.{blank, flat, Quoted, tableOf, valuesFrom, quoteValues, quoteFor, quoteTold}
-use Rattle.containment.specs.Show.{graphFields, fewerFields, recordBytes, fitBoth, showFor}
+use Rattle.containment.specs.Show.{graphFields, fewerFields, showFor}
 use Rattle.containment.specs.Steps.{Query, Views, ViewCounts, quotedAs, JudgedTo, shownFields}
 use Rattle.containment.specs.declared.judging.Judged.{Judged}
 use Rattle.containment.specs.declared.quote_type.Coverage.the-variants as coverage-is
 use Rattle.containment.proofs.ChoiceLaws.{chosen-none, lowest-leaves, lowest-covers}
-use Rattle.containment.proofs.QuoteLaws.{place-of}
-use Rattle.containment.proofs.QueryLaws.{few-edges, shown-whole}
+use Rattle.containment.proofs.QueryLaws.{few-edges}
+use Rattle.containment.proofs.NotingLaws.{views-many as contents-many}
 
 -- ---- what is judged
 
@@ -53,10 +49,6 @@ module _ {none : List ℕ} {r : Told} (f : (Quoted → Outcome) → Outcome) (k 
 pub judged-by : {f g : (Quoted → Outcome) → Outcome} → ((k : Quoted → Outcome) → f k ≡ g k) → (r : Judged) (v : Reply) → JudgedTo g r v → JudgedTo f r v
 judged-by e r (reply-is.Done n) h = record { query = h .query; views = h .views; on = λ k. e k ∙ h .on k; table = h .table }
 judged-by e r (reply-is.Refused x) h = (λ k. e k ∙ h .0 k, h .1)
-
-pub judged-rejected : {v : Verdict} {n d : ℕ} (k : List ℕ → Outcome) → v ≡ rejected n d → judged v k ≡ refuse n d
-unfolding judged
-judged-rejected k e = rw e
 
 -- ---- what a quote tells
 
@@ -86,43 +78,42 @@ pub query-few : {q : Given} → Query q → q .edges ≤ 32
 query-few t = let h = few-edges t in omega (arith, t .holds .edges)
 
 -- the views of a catalogue that was accepted
-module _ (s : List ℕ) {n k : ℕ} {w counts : List ℕ} (h : Held (λ cs. HoldsViews cs k counts) (readCatalogue s) n w) where
+module _ (s : List ℕ) {cs : List ℕ} (is : readCatalogue s ≡ accepted cs) where
   pub views-small : length s ≤ 897
-  views-small = catalogue-read s (h .fields) .0 (h .is) .0
+  views-small = catalogue-read s cs .0 is .0
 
-  abbrev pub views-by : Views s k
-  views-by = record { content = h .fields; is = h .is; number = h .holds .number }
+  module _ {k : ℕ} {counts : List ℕ} (h : HoldsViews cs k counts) where
+    abbrev pub views-by : Views s k
+    views-by = record { content = cs; is = is; number = h .number }
 
-  -- with the numbers of their edges
-  abbrev pub counts-by : ViewCounts counts k
-  counts-by = record { bytes = s; views = views-by; are = h .holds .are; small = h .holds .small }
+    -- with the numbers of their edges, and a set of those that are matched one-way
+    abbrev pub counts-by : ℕ → ViewCounts counts k
+    counts-by one = record { bytes = s; views = views-by; oneWay = one; are = h .are; small = h .small }
 
 module _ {s : List ℕ} {k : ℕ} (v : Views s k) where
   pub views-few : k ≤ 16
   views-few = let q = catalogue-views s (v .content) (v .is) .most in omega (arith, v .number)
 
-  pub views-many : length (viewPatterns (v .content)) ≡ k
-  views-many = length-map (viewsOf (v .content)) patternOf ∙ catalogue-views s (v .content) (v .is) .many ∙ sym (v .number)
+  -- by whatever rule each is matched
+  module _ (one : ℕ) where
+    pub views-many : length (viewPatterns (offers (v .content) one)) ≡ k
+    views-many = views-number (offers (v .content) one) ∙ contents-many v
 
-  -- each of them is sound
-  pub views-sound : (P : Pattern) → In P (viewPatterns (v .content)) → T (sound P)
-  views-sound P i =
-      let o = place-of (patternOf []) i in
-      let l : o .at < length (viewsOf (v .content)) = omega (arith, o .below, length-map (viewsOf (v .content)) patternOf) in
-      let q = in-follow (all-ahead s (v .content) (v .is) .follow) (in-at (viewsOf (v .content)) (o .at) [] l) in
-      rw (o .holds ∙ List·getD-map patternOf (viewsOf (v .content)) (o .at) []) (sound-of (q .1))
+    -- each of them is sound
+    pub views-sound : (P : Pattern) → In P (viewPatterns (offers (v .content) one)) → T (sound P)
+    views-sound P i = let o = view-of (offers (v .content) one) i in rw (o .holds) (view-sound s (v .content) (v .is) (o .at) (o .below) one)
 
 module _ {q : Given} (t : Query q) {counts : List ℕ} {k : ℕ} (v : ViewCounts counts k) (usable : ℕ) {table : List ℕ} (e : table ≡ tableOf (quotedAs t v usable)) where
   pub quote-given : {r : Told} → r ≡ told 0 (flat (valuesFrom table usable (q .edges) k)) → Fulfils blank (quoteFor (quotedAs t v usable)) r [] []
   unfolding quoteFor quoteValues toldOf outputsOf fronts
-  quote-given h = record { result = rw (← t .holds .edges, views-many (v .views)) (rw e at h); outputs = refl }
+  quote-given h = record { result = rw (← t .holds .edges, views-many (v .views) (v .oneWay)) (rw e at h); outputs = refl }
 
   module _ (room room′ : ℕ) where
     show-by : showFor room room′ (quotedAs t v usable)
         ≡ pick (coversIn table usable k (q .edges)) (refuse 13 0)
         (fitBoth room room′ (recordBytes (graphFields (t .content))) (recordBytes (fewerFields (t .content) (lowestUnmatched table usable k (q .edges)))))
     unfolding showFor
-    show-by = rw (e, views-many (v .views), ← t .holds .edges)
+    show-by = rw (e, views-many (v .views) (v .oneWay), ← t .holds .edges)
 
     module _ {r : Told} {n : ℕ} (is : n ≡ lowestUnmatched table usable k (q .edges)) where
       pub show-covered : (outs : List (List ℕ)) → q .edges ≤ n → r ≡ told 13 (0 ∷ []) → Fulfils [] (showFor room room′ (quotedAs t v usable)) r outs outs
@@ -138,36 +129,3 @@ module _ {q : Given} (t : Query q) {counts : List ℕ} {k : ℕ} (v : ViewCounts
           let d : showFor room room′ (quotedAs t v usable) ≡ fitBoth room room′ (recordBytes (graphFields (t .content))) (recordBytes (fewerFields (t .content) n)) =
           show-by ∙ rw (lowest-leaves table usable k (q .edges) is h, is) in
           subst (λ a. Fulfils [] a r outs outs′) (sym d) (rw (x, y) at b)
-
--- ---- two outputs
-
-module _ (first second A B : List ℕ) {a : ℕ} (na : a ≡ length A) where
-  -- the first doesn't fit
-  pub first-tight : {first′ second′ : List ℕ} → length first < a → first′ ≡ first → second′ ≡ second
-      → Fulfils [] (fitBoth (length first) (length second) A B) (told 12 (a ∷ [])) (first ∷ second ∷ []) (first′ ∷ second′ ∷ [])
-  unfolding fitBoth toldOf outputsOf
-  first-tight h p q = let e = lt-ltb (length first) (length A) (omega (arith, na)) in record { result = rw (e, na); outputs = rw (e, p, q) }
-
-  fits-first : a ≤ length first → ltb (length first) (length A) ≡ false
-  fits-first fits = le-ltb (length first) (length A) (omega (arith, na))
-
-  module _ {b : ℕ} (nb : b ≡ length B) (fits : a ≤ length first) where
-    -- the second doesn't fit
-    pub second-tight : {first′ second′ : List ℕ} → length second < b → first′ ≡ first → second′ ≡ second
-        → Fulfils [] (fitBoth (length first) (length second) A B) (told 12 (b ∷ [])) (first ∷ second ∷ []) (first′ ∷ second′ ∷ [])
-    unfolding fitBoth toldOf outputsOf
-    second-tight h p q =
-        let d = fits-first fits in
-        let e = lt-ltb (length second) (length B) (omega (arith, nb)) in
-        record { result = rw (d, e, nb); outputs = rw (d, e, p, q) }
-
-    -- both are given
-    pub both-given : {first′ second′ : List ℕ} → b ≤ length second → first′ ≡ sets first 0 A → second′ ≡ sets second 0 B
-        → Fulfils [] (fitBoth (length first) (length second) A B) (told 0 (a ∷ b ∷ [])) (first ∷ second ∷ []) (first′ ∷ second′ ∷ [])
-    unfolding fitBoth toldOf outputsOf fronts
-    both-given h p q =
-        let d = fits-first fits in
-        let e = le-ltb (length second) (length B) (omega (arith, nb)) in
-        let x = p ∙ sets-front first A (omega (arith, na)) in
-        let y = q ∙ sets-front second B (omega (arith, nb)) in
-        record { result = rw (d, e, na, nb); outputs = rw (d, e, x, y) }

@@ -1,5 +1,5 @@
 -- The answers of answering a query from a book, from what their parts found.
-use Prim.Native.Nat.{ℕ, _+_, _*_, _/_, _<_, _≤_}
+use Prim.Native.Nat.{ℕ, _+_, _*_, _<_, _≤_}
 use mathlib.Core.Path.{_≡_, refl, sym, ap, subst, _∙_}
 use mathlib.Core.List.{List, [], _∷_, map, flatten}
 use lib.ListN.{length, getD, take}
@@ -18,21 +18,22 @@ use Rattle.packed.specs.declared.reply.Reply.the-variants as reply-is
 use Rattle.packed.specs.declared.by_value.Pattern.{Pattern as Given}
 use Rattle.packed.proofs.WalkLaws.{book-pairs}
 use Rattle.packed.proofs.CallLaws.{read-says, judged-accepted, gathered-many, gathered-few, refusal-answered, body-declined}
-use Rattle.matching.specs.Masks.{Has}
-use Rattle.matching.specs.Offered.{viewPatterns}
+use Rattle.engine.specs.Masks.{Has}
+use Rattle.engine.specs.Loaded.{patternIn}
+use Rattle.matching.specs.Offered.{Offered, viewPatterns}
 use Rattle.matching.specs.Search.{sheetBytes}
 use Rattle.matching.specs.Join.{View, answerSets}
-use Rattle.matching.specs.Loaded.{patternIn}
 use Rattle.matching.specs.Candidates.{Pool}
 use Rattle.matching.specs.Joining.{Agrees, Joined}
 use Rattle.matching.proofs.PatternLaws.{pattern-same}
 use Rattle.matching.proofs.BookLaws.{made-encodes}
+use Rattle.matching.proofs.OfferedLaws.{judged-rejected}
 use Rattle.containment.specs.Choice.{coversIn, lowestUnmatched, used}
 use Rattle.containment.specs.Quote.{tableOf, usedBy}
 use Rattle.containment.specs.Answer.{viewsIn, answerBytes, answerIn}
-use Rattle.containment.specs.Steps.{Query, ViewCounts, quotedAs, Loaded}
+use Rattle.containment.specs.Steps.{Query, ViewCounts, quotedAs, Loaded, offerOf}
 use Rattle.containment.proofs.QueryLaws.{plain}
-use Rattle.containment.proofs.AnswerLaws.{judged-rejected, views-many}
+use Rattle.containment.proofs.AnswerLaws.{views-many}
 use Rattle.containment.proofs.ChoiceLaws.{lowest-leaves, lowest-covers, lowest-used}
 use Rattle.containment.proofs.BookLaws.{booked-by}
 use Rattle.containment.proofs.CandidateLaws.{agrees-by}
@@ -63,14 +64,14 @@ module _ {q : Given} {table : List ℕ} {set : ℕ} {s counts : List ℕ} {k d :
 -- ---- what is answered from an accepted book
 
 -- the sheet by the views in a set
-abbrev bySet : Given → List ℕ → List ℕ → ℕ → ℕ → Outcome
-bySet q cs bs room set = fitFile room (sheetBytes (answerSets (patternIn q) (viewsIn set (viewPatterns cs) (sheetsIn (edgeCounts cs) bs))))
+abbrev bySet : Given → Offered → List ℕ → ℕ → ℕ → Outcome
+bySet q o bs room set = fitFile room (sheetBytes (answerSets (patternIn q) (viewsIn set (viewPatterns o) (sheetsIn (edgeCounts (o .content)) bs))))
 
 -- the views that the quote chooses
 module _ {q : Given} (t : Query q) {counts : List ℕ} {k : ℕ} (v : ViewCounts counts k) (usable : ℕ) {table : List ℕ} (is : table ≡ tableOf (quotedAs t v usable)) {set : ℕ}
     (chosen : set ≡ used table usable (q .edges) k) where
   pub used-is : set ≡ usedBy (quotedAs t v usable)
-  used-is = chosen ∙ rw (is, views-many (v .views), ← t .holds .edges)
+  used-is = chosen ∙ rw (is, views-many (v .views) (v .oneWay), ← t .holds .edges)
 
   pub used-lowest : {lowest : ℕ} → lowest ≡ lowestUnmatched table usable k (q .edges) → lowest ≡ lowestUnmatched table set k (q .edges)
   used-lowest e = e ∙ sym (ap (λ (s : ℕ). lowestUnmatched table s k (q .edges)) chosen ∙ lowest-used table usable k (q .edges))
@@ -116,9 +117,9 @@ module _ {q : Given} (t : Query q) {counts : List ℕ} {k : ℕ} (v : ViewCounts
   answers bs = answerIn set (quotedAs t v usable) bs (length out)
 
   answer-is : (bs : List ℕ) → answers bs
-      ≡ withinPairs content-of bs (pick (coversIn table set k (q .edges)) (bySet q content-of bs (length out) set) (refuse 11 (lowestUnmatched table set k (q .edges))))
+      ≡ withinPairs content-of bs (pick (coversIn table set k (q .edges)) (bySet q (offerOf v) bs (length out) set) (refuse 11 (lowestUnmatched table set k (q .edges))))
   unfolding answerIn answerBytes
-  answer-is bs = rw (pattern-same (plain t) (t .holds), is, views-many (v .views), ← t .holds .edges)
+  answer-is bs = rw (pattern-same (plain t) (t .holds), is, views-many (v .views) (v .oneWay), ← t .holds .edges)
 
   pub unloaded-answered : (x : Refusal) → ((a : List ℕ → Outcome) → judged (readBook (v .views .content) s) (λ bs. withinPairs (v .views .content) bs (a bs)) ≡ refuse (numberOf x) (detailOf x))
       → {out′ : List ℕ} → out′ ≡ out → FulfilsOne (judged (readBook (v .views .content) s) answers) (replyTold (reply-is.Refused x)) out out′
@@ -131,12 +132,12 @@ module _ {q : Given} (t : Query q) {counts : List ℕ} {k : ℕ} (v : ViewCounts
 
     -- the views of the set with their sheets, which the join is lent, by a table that has the columns of these views
     pub book-agrees : (rows : List ℕ) → ((i a : ℕ) → i < q .edges → a < k → Has set a → getD rows (16 * i + a) 0 ≡ getD (tableOf (quotedAs t v usable)) (16 * i + a) 0)
-        → Agrees q rows set s counts k (viewsIn set (viewPatterns (v .views .content)) (sheetsIn (edgeCounts (v .views .content)) (b .fields)))
-    book-agrees rows rows-are = agrees-by t (v .views) counts s (b .fields) (v .are) (read-says 65536 4 (book (edgeCounts content-of)) s (b .fields) (b .is) .0) rows set rows-are
+        → Agrees q rows set s counts k (viewsIn set (viewPatterns (offerOf v)) (sheetsIn (edgeCounts (v .views .content)) (b .fields)))
+    book-agrees rows rows-are = agrees-by t (v .views) counts s (b .fields) (v .are) (read-says 65536 4 (book (edgeCounts content-of)) s (b .fields) (b .is) .0) (v .oneWay) rows set rows-are
 
     pub covered-is : q .edges ≤ lowest
         → judged (readBook (v .views .content) s) answers
-        ≡ fitFile (length out) (sheetBytes (answerSets (patternIn q) (viewsIn set (viewPatterns (v .views .content)) (sheetsIn (edgeCounts (v .views .content)) (b .fields)))))
+        ≡ fitFile (length out) (sheetBytes (answerSets (patternIn q) (viewsIn set (viewPatterns (offerOf v)) (sheetsIn (edgeCounts (v .views .content)) (b .fields)))))
     covered-is h = judged-accepted answers (b .is) ∙ answer-is (b .fields) ∙ b .few _ ∙ rw (lowest-covers table set k (q .edges) low h)
 
     pub covered-answered : {x : Told} {out′ : List ℕ} → q .edges ≤ lowest

@@ -17,11 +17,11 @@ use Rattle.packed.proofs.DistinctMerge.{increasing-at}
 use Rattle.packed.proofs.Walks.{standing-most}
 use Rattle.packed.proofs.AcceptedBounds.{catalogue-bounds}
 use Rattle.packed.proofs.BookSheetLaws.{sheet-many, list-is, list-stands, list-increasing, list-small, list-in-book, lists-begin, list-fits}
-use Rattle.matching.specs.Lists.{In}
-use Rattle.matching.specs.Masks.{OneOf}
+use Rattle.engine.specs.Lists.{In}
+use Rattle.engine.specs.Masks.{OneOf}
 use Rattle.matching.specs.Candidates.{Pool, SheetedAt, Booked}
-use Rattle.matching.proofs.ListLaws.{not-in-none, in-at, append-in}
-use Rattle.matching.proofs.CodeLaws.{in-member, member-in}
+use Rattle.engine.proofs.ListLaws.{not-in-none, in-at, append-in}
+use Rattle.engine.proofs.CodeLaws.{in-member, member-in}
 use Rattle.containment.specs.Steps.{Views}
 use Rattle.containment.proofs.AnswerLaws.{views-few}
 use Rattle.containment.proofs.QuoteLaws.{place-of}

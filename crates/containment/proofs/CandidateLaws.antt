@@ -4,34 +4,34 @@ use mathlib.Core.Path.{_≡_, sym, ap, subst, _∙_}
 use mathlib.Core.Bool.{cond}
 use mathlib.Core.Logic.{⊎-elim, _↔_}
 use mathlib.Core.List.{List, [], _∷_}
-use lib.ListN.{length, take, drop, getD, List·getD-map}
+use lib.ListN.{length, take, drop, getD}
 use lib.Dec.{T}
 use native.Mathlib.Omega.{arith}
 use Rattle.packed.specs.Format.{ok, decode}
 use Rattle.packed.specs.Formats.{code, book}
-use Rattle.packed.specs.Contents.{viewsOf, edgeCounts, sheetsIn}
+use Rattle.packed.specs.Contents.{edgeCounts, sheetsIn}
 use Rattle.packed.specs.Walks.{fieldOr}
 use Rattle.packed.specs.BookSheets.{sheetAt}
 use Rattle.packed.proofs.Walks.{standing-most}
 use Rattle.packed.specs.declared.by_value.Pattern.{Pattern as Given}
-use Rattle.matching.specs.Lists.{In, gather}
-use Rattle.matching.specs.Simulation.{Pair, Edge, noEdge, Pattern, bit, edgesIn, patternOf, asGraph, viewSheet}
+use Rattle.engine.specs.Lists.{In, gather}
+use Rattle.engine.specs.Simulation.{Pair, Edge, noEdge, Pattern, bit, edgesIn, patternOf, asGraph, viewSheet}
+use Rattle.engine.specs.Masks.{Has, OneOf}
+use Rattle.engine.specs.Loaded.{givenEdge}
 use Rattle.matching.specs.Join.{isMatch, View, pairOf, under, candidates}
-use Rattle.matching.specs.Masks.{Has, OneOf}
 use Rattle.matching.specs.Candidates.{SheetListingAt, BookListing}
 use Rattle.matching.specs.Joining.{Agrees}
-use Rattle.matching.specs.Loaded.{givenEdge}
-use Rattle.matching.proofs.ListLaws.{cond-case, not-in-none, in-cast, in-at, append-in, in-append-left, in-append-right, gather-in, in-gather, each-in, in-each}
+use Rattle.engine.proofs.ListLaws.{cond-case, not-in-none, in-cast, append-in, in-append-left, in-append-right, gather-in, in-gather, each-in, in-each}
 use Rattle.matching.proofs.JoinLaws.{match-say, match-by}
 use Rattle.matching.proofs.MatchSetLaws.{view-length}
 use Rattle.matching.proofs.PatternLaws.{edges-many, pattern-same}
-use Rattle.matching.proofs.ViewLaws.{all-ahead, in-follow}
-use Rattle.matching.specs.Offered.{viewPatterns}
+use Rattle.matching.proofs.OfferedLaws.{view-is, view-plain}
+use Rattle.matching.specs.Offered.{offers, viewPatterns}
 use Rattle.containment.specs.Quote.{noPattern, mapping}
 use Rattle.containment.specs.Answer.{viewsIn}
 use Rattle.containment.specs.Steps.{Query, Views}
+use Rattle.matching.proofs.MarkedLaws.{rest-at, pick-say, pick-first, pick-rest}
 use Rattle.containment.proofs.SetBits.{bit-half}
-use Rattle.containment.proofs.MappingLaws.{rest-at, pick-say, pick-first, pick-rest}
 use Rattle.containment.proofs.QueryLaws.{plain, few-edges, query-number, query-edge}
 use Rattle.containment.proofs.NotingLaws.{views-many as contents-many}
 use Rattle.containment.proofs.AnswerLaws.{views-few, views-many}
@@ -136,13 +136,13 @@ module _ (Q : Pattern) (set : ℕ) (Ps : List Pattern) (sheets : List (List (Lis
 
 -- ---- an accepted query, and a book that was accepted for the views of a catalogue
 module _ {q : Given} (t : Query q) {c : List ℕ} {k : ℕ} (v : Views c k) (counts s bs : List ℕ) (same : take k counts ≡ edgeCounts (v .content))
-    (e : decode (book (edgeCounts (v .content))) s ≡ ok bs) (table : List ℕ) (set : ℕ)
-    (is : (i a : ℕ) → i < q .edges → a < k → Has set a → getD table (16 * i + a) 0 ≡ getD (mapping (patternOf (t .content)) (viewPatterns (v .content))) (16 * i + a) 0) where
+    (e : decode (book (edgeCounts (v .content))) s ≡ ok bs) (one : ℕ) (table : List ℕ) (set : ℕ)
+    (is : (i a : ℕ) → i < q .edges → a < k → Has set a → getD table (16 * i + a) 0 ≡ getD (mapping (patternOf (t .content)) (viewPatterns (offers (v .content) one))) (16 * i + a) 0) where
   abbrev Q : Pattern
   Q = patternOf (t .content)
 
   abbrev Ps : List Pattern
-  Ps = viewPatterns (v .content)
+  Ps = viewPatterns (offers (v .content) one)
 
   abbrev sheets : List (List (List ℕ))
   sheets = sheetsIn (edgeCounts (v .content)) bs
@@ -150,16 +150,15 @@ module _ {q : Given} (t : Query q) {c : List ℕ} {k : ℕ} (v : Views c k) (cou
   view-edges : (a : ℕ) → a < k → length (getD Ps a noPattern .edges) ≡ getD counts a 0
   unfolding patternOf edgesIn
   view-edges a h =
-      let p = in-follow (all-ahead c (v .content) (v .is) .follow) (in-at (viewsOf (v .content)) a [] (omega (arith, contents-many v))) in
-      ap (λ (P : Pattern). length (P .edges)) (List·getD-map patternOf (viewsOf (v .content)) a [])
-      ∙ edges-many (p .1)
+      ap (λ (P : Pattern). length (P .edges)) (view-is (offers (v .content) one) a noPattern (omega (arith, contents-many v)))
+      ∙ edges-many (view-plain c (v .content) (v .is) a (omega (arith, contents-many v)) .1)
       ∙ sym (count-is v counts s bs same e a h)
 
   -- the table says which edges of a view in the set match
   matches-exactly : (i a f : ℕ) → i < q .edges → a < k → Has set a → f < getD counts a 0
       → Has (getD table (16 * i + a) 0) f ↔ Matching (givenEdge q i) (getD Ps a noPattern .edges) (viewSheet (getD Ps a noPattern) (asGraph Q)) f
   matches-exactly i a f h l y j =
-      let m = mapping-exactly Q Ps (omega (arith, query-number t, t .holds .edges, few-edges t)) i a (omega (arith, query-number t)) (omega (arith, views-many v)) (omega (arith, views-few v)) f (omega (arith, view-edges a l)) in
+      let m = mapping-exactly Q Ps (omega (arith, query-number t, t .holds .edges, few-edges t)) i a (omega (arith, query-number t)) (omega (arith, views-many v one)) (omega (arith, views-few v)) f (omega (arith, view-edges a l)) in
       rw (← is i a h l y, query-edge t i h) at m
 
   abbrev Listing : ℕ → ℕ → Type 0
@@ -177,7 +176,7 @@ module _ {q : Given} (t : Query q) {c : List ℕ} {k : ℕ} (v : Views c k) (cou
       offered-by Q set Ps sheets (givenEdge q i)
       (record {
         view = a;
-        given = omega (arith, views-many v);
+        given = omega (arith, views-many v one);
         chosen = o .holds .0;
         edge = f;
         below = omega (arith, sheet-long v counts s bs same e a l);
@@ -191,14 +190,14 @@ module _ {q : Given} (t : Query q) {c : List ℕ} {k : ℕ} (v : Views c k) (cou
   listing i x h o =
       let a : ℕ = o .view in
       let f : ℕ = o .edge in
-      let l : a < k = omega (arith, o .given, views-many v) in
+      let l : a < k = omega (arith, o .given, views-many v one) in
       let j : f < getD counts a 0 = omega (arith, o .below, sheet-long v counts s bs same e a l) in
       let b = list-there v counts s bs same e a f x l (o .lists) in
       let u : SheetListingAt s (sheetAt s 0 (take k counts) a) (getD counts a 0) table a (q .edges) x i =
       record { edge = h; under = record { at = f; below = b; holds = (rw (list-same v counts s bs same e a f l b) (o .lists), matches-exactly i a f h l (o .chosen) j .1 (o .kind, o .matches)) } } in
       record { at = a; below = l; holds = (o .chosen, u) }
 
-  pub agrees-by : Agrees q table set s counts k (viewsIn set (viewPatterns (v .content)) (sheetsIn (edgeCounts (v .content)) bs))
+  pub agrees-by : Agrees q table set s counts k (viewsIn set (viewPatterns (offers (v .content) one)) (sheetsIn (edgeCounts (v .content)) bs))
   agrees-by =
       let p = pattern-same (plain t) (t .holds) in
       record {

@@ -11,7 +11,7 @@ use lib.Dec.{ltb}
 use borrow.Author.Tests.{ltb-true, lt-ltb, eqb-true, eq-eqb}
 use Rattle.packed.specs.Format.{pick}
 use Rattle.packed.proofs.OrderCases.{lt-or-ge, eq-or-ne, trichotomy, or-cases, and-both}
-use Rattle.matching.specs.Simulation.{bit}
+use Rattle.engine.specs.Simulation.{bit}
 use Rattle.containment.specs.Choice.{coversIn, chosen}
 use Rattle.containment.specs.Cheapest.{weigh, cost, size, turned, Sooner, Less, lesser, Better, better, misses, ahead, foremost, cheapest, IsCheapest}
 use Rattle.containment.proofs.SetBits.{test-cases, never, bit-say, bit-by, bit-half}

@@ -10,9 +10,9 @@ use borrow.Author.Tests.{eq-eqb, ne-eqb}
 use Rattle.packed.specs.Contents.{edgesOf}
 use Rattle.packed.specs.Calls.{Outcome, give, refuse, withWorkspace}
 use Rattle.packed.proofs.OrderCases.{lt-or-ge, eq-or-ne}
-use Rattle.matching.specs.Simulation.{bit, patternOf}
-use Rattle.matching.specs.Offered.{viewPatterns}
-use Rattle.matching.proofs.MaskBits.{few-lt}
+use Rattle.engine.specs.Simulation.{bit, patternOf}
+use Rattle.matching.specs.Offered.{Brought, Offered, viewPatterns}
+use Rattle.engine.proofs.MaskBits.{few-lt}
 use Rattle.containment.specs.Choice.{matches, coversIn}
 use Rattle.containment.specs.Quote.{mapping, quotedIn}
 use Rattle.containment.specs.Cheapest.{weigh, cost, Better, IsCheapest, cheapest, cheapestFrom, cheapestFor}
@@ -29,7 +29,7 @@ use Rattle.containment.proofs.DemandThree.{demand-3}
 use Rattle.containment.proofs.CheapestLaws.{better-total, cheapest-covered}
 
 -- by the extracts in a set
-module _ (usable : ℕ) (qs cs charges : List ℕ) where
+module _ (usable : ℕ) (qs : List ℕ) (cs : Offered) (charges : List ℕ) where
   abbrev number : ℕ
   number = length (viewPatterns cs)
 
@@ -145,7 +145,7 @@ module _ (usable : ℕ) (qs cs charges : List ℕ) where
       λ x. enough-words words _ (x .0) ∙ is ∙ lacks (x .1) (x .2) ∙ ap (refuse 11) (sym (x .3)),
     )
 
-cheapest-goes-on : (w : When) (q c qs cs charges : List ℕ) → Question q qs → Catalogue c cs → Timely cs w → cheapestWhen w q c charges ≡ cheapestFor charges (quotedIn (usableWhen w cs) qs cs)
+cheapest-goes-on : (w : When) (q : List ℕ) (c : Brought) (qs : List ℕ) (cs : Offered) (charges : List ℕ) → Question q qs → Catalogue c cs → Timely cs w → cheapestWhen w q c charges ≡ cheapestFor charges (quotedIn (usableWhen w cs) qs cs)
 cheapest-goes-on w q c qs cs charges p d y = cheapest-by q c w charges ∙ goes-on-when w q c qs cs p d y (cheapestFor charges)
 
 pub cheapests : Cheapests

@@ -12,8 +12,8 @@ use lib.Dec.{ltb}
 use borrow.Author.Tests.{ltb-true, ltb-false}
 use Rattle.packed.specs.Format.{pick}
 use Rattle.packed.proofs.OrderCases.{lt-or-ge, trichotomy, or-cases, and-both, and-cases}
-use Rattle.matching.specs.Simulation.{bit}
-use Rattle.matching.specs.Masks.{OneOf}
+use Rattle.engine.specs.Simulation.{bit}
+use Rattle.engine.specs.Masks.{OneOf}
 use Rattle.containment.specs.Choice.{matches, matchedIn, coversIn, lowestUnmatched, addsTo, taken, kept, chosen, used}
 use Rattle.containment.proofs.SetBits.{test-cases, never, bit-lt, bit-over, bit-zero, more-self, more-has, more-other, less-self, less-say, less-by}
 
@@ -79,7 +79,7 @@ module _ (t : List ℕ) where
 
   -- ---- sets that have the same of k views
   module _ (set set′ : ℕ) where
-    matched-alike : (k : ℕ) → ((a : ℕ) → a < k → bit set a ≡ bit set′ a) → (e : ℕ) → matchedIn t set e k ≡ matchedIn t set′ e k
+    pub matched-alike : (k : ℕ) → ((a : ℕ) → a < k → bit set a ≡ bit set′ a) → (e : ℕ) → matchedIn t set e k ≡ matchedIn t set′ e k
     unfolding matchedIn
     matched-alike zero f e = refl
     matched-alike (suc k) f e = rw (matched-alike k (λ a l. f a (omega arith)) e, f k (omega arith))
@@ -96,7 +96,7 @@ module _ (t : List ℕ) where
       lowest-alike (suc m) = rw (lowest-alike m, matched-alike k f m)
 
   -- ---- the views taken
-  adds-by : (set a m e : ℕ) → e < m → matches t e a ≡ true → matchedIn t set e a ≡ false → addsTo t set a m ≡ true
+  pub adds-by : (set a m e : ℕ) → e < m → matches t e a ≡ true → matchedIn t set e a ≡ false → addsTo t set a m ≡ true
   unfolding addsTo
   adds-by set a zero e l h n = absurd (omega arith)
   adds-by set a (suc m) e l h n =
@@ -119,7 +119,7 @@ module _ (t : List ℕ) where
     unfolding taken
     taken-step P a f g = pick-cases P (takes a) (taken t set m a + 2 ^ a) (taken t set m a) f g
 
-    pub taken-small : (a : ℕ) → taken t set m a < 2 ^ a
+    taken-small : (a : ℕ) → taken t set m a < 2 ^ a
     unfolding taken
     taken-small zero = omega arith
     taken-small (suc a) =
@@ -335,9 +335,6 @@ module _ (t : List ℕ) (set k : ℕ) where
   lowest-by m r f =
       let i = lowest-is m in
       trichotomy r (lowestUnmatched t set k m) (λ l. absurd (not-below m _ _ f i l)) (λ e. e) (λ l. absurd (not-below m _ _ i f l))
-
-  pub lowest-most : (m : ℕ) {r : ℕ} → r ≡ lowestUnmatched t set k m → r ≤ m
-  lowest-most m e = omega (arith, e, lowest-is m .within)
 
   -- one is unmatched exactly if the set doesn't cover the query
   pub lowest-below : (m : ℕ) → (lowestUnmatched t set k m < m) ↔ (coversIn t set k m ≡ false)

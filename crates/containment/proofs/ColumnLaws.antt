@@ -12,7 +12,7 @@ use native.Mathlib.Omega.{arith}
 use Rattle.packed.specs.Format.{pick}
 use Rattle.packed.proofs.ByValueLaws.{nothing-at}
 use Rattle.packed.proofs.OrderCases.{lt-or-ge}
-use Rattle.matching.specs.Simulation.{bit}
+use Rattle.engine.specs.Simulation.{bit}
 use Rattle.containment.specs.Choice.{matches, matchedIn, coversIn, everyView, columnsFrom, columnsIn, addsTo, taken, kept, chosen}
 use Rattle.containment.proofs.SetBits.{test-cases, bit-every, less-say}
 use Rattle.containment.proofs.ChoiceLaws.{covers-alike, taken-within, kept-later}

@@ -46,12 +46,12 @@ module _ (t : List ℕ) (usable m : ℕ) (charges : List ℕ) (k : ℕ) where
 module _ {q : Given} (t : Query q) {counts : List ℕ} {k : ℕ} (v : ViewCounts counts k) (usable : ℕ) (charges : List ℕ) where
   pub wrong-charges : {r : Told} → (length charges ≡ k → ⊥) → r ≡ told 15 (length charges ∷ []) → Fulfils [] (cheapestFor charges (quotedAs t v usable)) r [] []
   unfolding cheapestFor
-  wrong-charges n h = refusal-answered [] (rw (views-many (v .views), ne-eqb (length charges) k n)) h
+  wrong-charges n h = refusal-answered [] (rw (views-many (v .views) (v .oneWay), ne-eqb (length charges) k n)) h
 
   pub cheapest-given : {table : List ℕ} {r : Told} → table ≡ tableOf (quotedAs t v usable) → length charges ≡ k
       → r ≡ toldOf [] (cheapestFrom table usable (q .edges) charges k) → Fulfils [] (cheapestFor charges (quotedAs t v usable)) r [] []
   unfolding cheapestFor
   cheapest-given {table} e n h =
       let b = eq-eqb (length charges) k n in
-      let a : cheapestFor charges (quotedAs t v usable) ≡ cheapestFrom table usable (q .edges) charges k = rw (e, views-many (v .views), b, ← t .holds .edges) in
+      let a : cheapestFor charges (quotedAs t v usable) ≡ cheapestFrom table usable (q .edges) charges k = rw (e, views-many (v .views) (v .oneWay), b, ← t .holds .edges) in
       record { result = rw a h; outputs = rw a (no-outputs table usable (q .edges) charges k) }

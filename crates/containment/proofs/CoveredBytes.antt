@@ -2,8 +2,8 @@
 use Prim.Native.Nat.{ℕ, _+_, _/_, _%_, _^_, _<_, _≤_}
 use mathlib.Core.Path.{_≡_, refl, sym, ap, ap₂, subst, _∙_}
 use mathlib.Core.Bool.{Bool, true, false}
-use mathlib.Core.List.{List, [], _∷_, map}
-use lib.ListN.{length, drop, getD, length-map, List·getD-map}
+use mathlib.Core.List.{List, [], _∷_}
+use lib.ListN.{length, drop, getD, length-map}
 use lib.Seq.{getD-drop}
 use lib.Dec.{T, eqb, ltb, ltb→lt, lt→ltb}
 use lib.Pow.{shr-shr}
@@ -16,21 +16,21 @@ use Rattle.packed.specs.Walks.{listsFirst}
 use Rattle.packed.specs.BookSheets.{listAt, sheetAt}
 use Rattle.packed.specs.Matches.{allOrNone}
 use Rattle.packed.specs.Plain.{PlainPattern}
-use Rattle.packed.specs.Calls.{give, refuse, accepted, judged, readSheet, pairsOf, withinPairsBy, fitFile}
+use Rattle.packed.specs.Calls.{Outcome, give, refuse, accepted, judged, readSheet, pairsOf, withinPairsBy, fitFile}
 use Rattle.packed.proofs.DistinctLaws.{member-distinct}
 use Rattle.packed.proofs.SheetLaws.{all-twice, sheet-encodes}
 use Rattle.packed.proofs.Accepted.{pattern-accepted, record-accepted, sheet-accepted, book-accepted, pattern-read, record-read, sheet-read, book-read}
 use Rattle.packed.proofs.AcceptedBounds.{catalogue-views}
 use Rattle.packed.proofs.WalkLaws.{book-pairs}
 use Rattle.packed.proofs.BookSheetLaws.{sheets-back, list-is, list-stands, list-small, list-in-book}
-use Rattle.packed.proofs.CallLaws.{overFile, overFile-no, fitFile-fits}
-use Rattle.matching.specs.Lists.{In, keep, each}
-use Rattle.matching.specs.Simulation.{bothWays, Pattern, Graph, bit, patternOf, graphOf, sound, matchSets, viewSheet}
+use Rattle.packed.proofs.CallLaws.{judged-accepted, overFile, overFile-no, fitFile-fits}
+use Rattle.engine.specs.Lists.{In, keep, each}
+use Rattle.engine.specs.Simulation.{bothWays, Pattern, Graph, bit, patternOf, graphOf, sound, matchSets, viewSheet}
 use Rattle.matching.specs.Join.{View, covered, answerSets}
 use Rattle.matching.proofs.ByEdge.{viewOf}
 use Rattle.matching.specs.Search.{sheetBytes, viewSheets, searchOutcome}
-use Rattle.matching.proofs.ListLaws.{keep-in, in-keep, keep-length, length-each}
-use Rattle.matching.proofs.CodeLaws.{in-member, member-in}
+use Rattle.engine.proofs.ListLaws.{keep-in, in-keep, keep-length, length-each}
+use Rattle.engine.proofs.CodeLaws.{in-member, member-in}
 use Rattle.matching.proofs.PatternLaws.{pattern-is, edges-in, edges-many, sound-of}
 use Rattle.matching.proofs.RecordLaws.{graph-narrow}
 use Rattle.matching.proofs.SheetBytes.{SheetFields, sheet-by, fit-by}
@@ -38,7 +38,8 @@ use Rattle.matching.proofs.BookBytes.{bookFields, counts-are, made-back, made-f
 use Rattle.matching.proofs.JoinLaws.{answer-each}
 use Rattle.matching.proofs.AnswerLaws.{AnswerStands, answer-all-or-none, answer-listable}
 use Rattle.matching.proofs.Covered.{covered-answer}
-use Rattle.matching.specs.Offered.{viewPatterns}
+use Rattle.matching.specs.Offered.{Brought, Offered, offers, viewPatterns, withSet, offered}
+use Rattle.matching.proofs.OfferedLaws.{views-number, set-judges}
 use Rattle.containment.specs.Choice.{everyView, coversIn}
 use Rattle.containment.specs.Quote.{mapping, quotedBy, viewsInSet}
 use Rattle.containment.specs.Answer.{viewsIn, answerBytes, Choose, answerIn, answerFor, answerBy}
@@ -50,15 +51,13 @@ use Rattle.containment.proofs.QuoteLaws.{place-of, set-covers-exactly}
 -- ---- the views in a set
 
 -- with their sheets on a graph
-pub sets-chosen : (set : ℕ) (G : Graph) (vs : List (List ℕ))
-    → viewsIn set (map patternOf vs) (map (λ v. viewSheet (patternOf v) G) vs) ≡ each (viewOf G) (viewsInSet set (map patternOf vs))
+pub sets-chosen : (set : ℕ) (G : Graph) (Ps : List Pattern) → viewsIn set Ps (each (λ P. viewSheet P G) Ps) ≡ each (viewOf G) (viewsInSet set Ps)
 unfolding viewsIn viewsInSet each viewOf
 sets-chosen set G [] = refl
-sets-chosen set G (v ∷ vs) = step (bit set 0) (viewsInSet (set / 2) (map patternOf vs)) (sets-chosen (set / 2) G vs)
+sets-chosen set G (P ∷ Ps) = step (bit set 0) (viewsInSet (set / 2) Ps) (sets-chosen (set / 2) G Ps)
   where
-    step : (b : Bool) {x : List View} (l : List Pattern) → x ≡ each (viewOf G) l
-        → pick b (viewOf G (patternOf v) ∷ x) x ≡ each (viewOf G) (pick b (patternOf v ∷ l) l)
-    step true l e = ap (λ (t : List View). viewOf G (patternOf v) ∷ t) e
+    step : (b : Bool) {x : List View} (l : List Pattern) → x ≡ each (viewOf G) l → pick b (viewOf G P ∷ x) x ≡ each (viewOf G) (pick b (P ∷ l) l)
+    step true l e = ap (λ (t : List View). viewOf G P ∷ t) e
     step false l e = e
 
 abbrev with-sheet : Pattern → List (List ℕ) → View
@@ -94,6 +93,16 @@ record-is r rs h = record-accepted r rs .1 (record-read r rs .0 h .1)
 pub book-is : (cs b bs : List ℕ) → Book cs b bs → decode (book (edgeCounts cs)) b ≡ ok bs
 book-is cs b bs h = book-accepted (edgeCounts cs) b bs .1 (book-read cs b bs .0 (h .read) .1)
 
+-- what a catalogue offers goes on: its set, and both
+module _ (c : Brought) (cs : Offered) (h : Catalogue c cs) (k : Offered → Outcome) where
+  pub set-goes-on : withSet (c .oneWay) (cs .content) k ≡ k cs
+  set-goes-on =
+      judged-accepted (λ _. k (offers (cs .content) (c .oneWay))) (set-judges (c .oneWay) (length (viewsOf (cs .content))) .right (h .named))
+      ∙ ap (λ (one : ℕ). k (offers (cs .content) one)) (sym (h .set))
+
+  pub offered-goes-on : offered c k ≡ k cs
+  offered-goes-on = judged-accepted (λ ws. withSet (c .oneWay) ws k) (h .paper) ∙ set-goes-on
+
 -- what a query keeps
 pub record QueryBounds (qs : List ℕ) : Type 0 where
   pub sound : T (sound (patternOf qs))
@@ -112,62 +121,60 @@ plain-bounds q = record {
 pub question-bounds : (q qs : List ℕ) → Question q qs → QueryBounds qs
 question-bounds q qs h = plain-bounds (pattern-read q qs .0 h .1 .laid)
 
-pub few-views : (c cs : List ℕ) → Catalogue c cs → length (viewPatterns cs) ≤ 16
-few-views c cs h = let v = catalogue-views c cs h in omega (arith, length-map (viewsOf cs) patternOf, v .many, v .most)
+pub few-views : (c : Brought) (cs : Offered) → Catalogue c cs → length (viewPatterns cs) ≤ 16
+few-views c cs h = let v = catalogue-views (c .file) (cs .content) (h .paper) in omega (arith, views-number cs, v .many, v .most)
 
--- a query is matched both ways, so that no view has a stronger rule
+-- a query is matched both ways, so that no view has a stronger rule, whether it is matched both ways or one-way
 pub query-rule : (qs : List ℕ) → patternOf qs .rule ≡ bothWays
 unfolding patternOf
 query-rule qs = refl
 
--- and so is each view
-pub views-rule : (cs : List ℕ) (P : Pattern) → In P (viewPatterns cs) → P .rule ≡ bothWays
-views-rule cs P i =
-    let o = place-of (patternOf []) i in
-    ap (λ (R : Pattern). R .rule) (o .holds ∙ List·getD-map patternOf (viewsOf cs) (o .at) []) ∙ query-rule (getD (viewsOf cs) (o .at) [])
-
 -- ---- the book that is made from a record
 
-module _ (c r cs rs : List ℕ) (d : Catalogue c cs) (f : Record r rs) where
+module _ (c : Brought) (r : List ℕ) (cs : Offered) (rs : List ℕ) (d : Catalogue c cs) (f : Record r rs) where
   -- its sheets are the views' match sets
-  pub made-sheets : sheetsIn (edgeCounts cs) (bookFields (viewSheets cs (graphOf rs))) ≡ viewSheets cs (graphOf rs)
-  made-sheets = rw (counts-are c r cs rs d (record-is r rs f)) (sheets-back (viewSheets cs (graphOf rs)))
+  pub made-sheets : sheetsIn (edgeCounts (cs .content)) (bookFields (viewSheets cs (graphOf rs))) ≡ viewSheets cs (graphOf rs)
+  made-sheets = rw (counts-are (c .file) r (cs .content) rs (cs .oneWay) (d .paper) (record-is r rs f)) (sheets-back (viewSheets cs (graphOf rs)))
 
   -- it is accepted, and not crowded
-  pub made-book : length (bookOf cs rs) ≤ 65536 → Book cs (bookOf cs rs) (bookFields (viewSheets cs (graphOf rs)))
+  pub made-book : length (bookOf cs rs) ≤ 65536 → Book (cs .content) (bookOf cs rs) (bookFields (viewSheets cs (graphOf rs)))
   made-book h = record {
-    read = made-back c r cs rs d (record-is r rs f) h;
-    few = made-few c r cs rs d (record-is r rs f);
+    read = made-back (c .file) r (cs .content) rs (cs .oneWay) (d .paper) (record-is r rs f) h;
+    few = made-few (c .file) r (cs .content) rs (cs .oneWay) (d .paper) (record-is r rs f);
   }
 
 -- ---- what is answered from an accepted book
 
 -- only the numbers of views count in a set
-pub answer-alike : (set set′ : ℕ) (qs cs bs : List ℕ) (room : ℕ) → ((a : ℕ) → a < length (viewPatterns cs) → bit set a ≡ bit set′ a)
+pub answer-alike : (set set′ : ℕ) (qs : List ℕ) (cs : Offered) (bs : List ℕ) (room : ℕ) → ((a : ℕ) → a < length (viewPatterns cs) → bit set a ≡ bit set′ a)
     → answerIn set (quotedBy qs cs) bs room ≡ answerIn set′ (quotedBy qs cs) bs room
 unfolding answerIn answerBytes
 answer-alike set set′ qs cs bs room f =
     let Ps = viewPatterns cs in
     let t = mapping (patternOf qs) Ps in
-    let sheets = sheetsIn (edgeCounts cs) bs in
+    let sheets = sheetsIn (edgeCounts (cs .content)) bs in
     rw (covers-alike t set set′ (length Ps) f (edgesOf qs), lowest-alike t set set′ (length Ps) f (edgesOf qs), views-same set set′ Ps sheets sheets f (λ a l _. refl))
 
 -- whether the views in a set cover the query, and whether all do
-abbrev pub coveredIn : ℕ → List ℕ → List ℕ → Bool
+abbrev pub coveredIn : ℕ → List ℕ → Offered → Bool
 coveredIn set qs cs = coversIn (mapping (patternOf qs) (viewPatterns cs)) set (length (viewPatterns cs)) (edgesOf qs)
 
-abbrev pub coveredBy : List ℕ → List ℕ → Bool
+abbrev pub coveredBy : List ℕ → Offered → Bool
 coveredBy qs cs = coveredIn everyView qs cs
 
-module _ (q c qs cs : List ℕ) (p : Question q qs) (d : Catalogue c cs) where
-  module _ (b bs : List ℕ) (k : Book cs b bs) (choose : Choose) (room : ℕ) where
+module _ (q : List ℕ) (c : Brought) (qs : List ℕ) (cs : Offered) (p : Question q qs) (d : Catalogue c cs) where
+  module _ (b bs : List ℕ) (k : Book (cs .content) b bs) (choose : Choose) (room : ℕ) where
     answer-by : answerBy choose q c b room
-        ≡ pick (coveredIn (choose (quotedBy qs cs)) qs cs) (fitFile room (answerBytes qs (choose (quotedBy qs cs)) (viewPatterns cs) (sheetsIn (edgeCounts cs) bs))) (refuse 11 (lackingIn (choose (quotedBy qs cs)) qs cs))
-    unfolding answerBy answerFor answerIn withinPairsBy judged
-    answer-by = rw (p, d, k .read, le-ltb 8192 (length (pairsOf (edgeCounts cs) bs)) (k .few))
+        ≡ pick (coveredIn (choose (quotedBy qs cs)) qs cs) (fitFile room (answerBytes qs (choose (quotedBy qs cs)) (viewPatterns cs) (sheetsIn (edgeCounts (cs .content)) bs))) (refuse 11 (lackingIn (choose (quotedBy qs cs)) qs cs))
+    unfolding answerBy answerFor answerIn withinPairsBy
+    answer-by =
+        judged-accepted (λ qs. offered c (λ o. answerFor choose b room (quotedBy qs o))) p
+        ∙ offered-goes-on c cs d (λ o. answerFor choose b room (quotedBy qs o))
+        ∙ judged-accepted (λ bs. answerIn (choose (quotedBy qs cs)) (quotedBy qs cs) bs room) (k .read)
+        ∙ rw (le-ltb 8192 (length (pairsOf (edgeCounts (cs .content)) bs)) (k .few))
 
     -- where the set covers the query it is the sheet, fitted
-    pub answer-covered : Covers (choose (quotedBy qs cs)) qs cs → answerBy choose q c b room ≡ fitFile room (answerBytes qs (choose (quotedBy qs cs)) (viewPatterns cs) (sheetsIn (edgeCounts cs) bs))
+    pub answer-covered : Covers (choose (quotedBy qs cs)) qs cs → answerBy choose q c b room ≡ fitFile room (answerBytes qs (choose (quotedBy qs cs)) (viewPatterns cs) (sheetsIn (edgeCounts (cs .content)) bs))
     answer-covered h = answer-by ∙ rw h
 
     -- else 11 with the lowest edge that it leaves unmatched
@@ -188,7 +195,7 @@ module _ (q c qs cs : List ℕ) (p : Question q qs) (d : Catalogue c cs) where
         let z = question-bounds q qs p in
         let k : T (covered Q (viewsInSet set (viewPatterns cs))) = set-covers-exactly Q (viewPatterns cs) set (few-views c cs d) (z .few-edges) .0 (rw (z .many) h) in
         ap sheetBytes
-        (ap (answerSets Q) (sets-chosen set (graphOf rs) (viewsOf cs))
+        (ap (answerSets Q) (sets-chosen set (graphOf rs) (viewPatterns cs))
         ∙ covered-answer Q (viewsInSet set (viewPatterns cs)) (z .sound) (z .few-nodes) (λ P i b. query-rule qs) k (graphOf rs) (graph-narrow r rs (record-is r rs f)))
 
     pub answer-search : (choose : Choose) → Covers (choose (quotedBy qs cs)) qs cs → length (bookOf cs rs) ≤ 65536 → (room : ℕ)
@@ -201,15 +208,15 @@ module _ (q c qs cs : List ℕ) (p : Question q qs) (d : Catalogue c cs) where
 
 -- ---- an answer from any accepted book is a sheet
 
-module _ (cs b bs : List ℕ) (k : Book cs b bs) where
+module _ (cs : Offered) (b bs : List ℕ) (k : Book (cs .content) b bs) where
   abbrev counts : List ℕ
-  counts = edgeCounts cs
+  counts = edgeCounts (cs .content)
 
   abbrev sheets : List (List (List ℕ))
   sheets = sheetsIn counts bs
 
   decoded : decode (book counts) b ≡ ok bs
-  decoded = book-is cs b bs k
+  decoded = book-is (cs .content) b bs k
 
   -- those pairs of the book that 24 bits hold, among them all that its lists have
   pool : List ℕ
@@ -230,7 +237,7 @@ module _ (cs b bs : List ℕ) (k : Book cs b bs) where
   stands-pool set x s =
       let v = views-say set (viewPatterns cs) sheets (s .given) in
       let sheet : s .view .sheet ≡ getD sheets (v .at) [] = ap (λ (w : View). w .sheet) (v .holds .1) in
-      let h : v .at < length counts = omega (arith, v .below, length-map (viewsOf cs) patternOf, length-map (viewsOf cs) edgesOf) in
+      let h : v .at < length counts = omega (arith, v .below, views-number cs, length-map (viewsOf (cs .content)) edgesOf) in
       let o = place-of [] (s .of-view) in
       list-pool (v .at) (o .at) x h
       (subst (λ l. In x l) (o .holds ∙ ap (λ (ls : List (List ℕ)). getD ls (o .at) []) sheet) (s .here))

@@ -8,19 +8,19 @@ use lib.ListN.{length}
 use lib.Dec.{ltb, eqb}
 use native.Mathlib.Omega.{arith}
 use Rattle.packed.specs.Format.{pick}
-use Rattle.packed.specs.Contents.{edgeCounts, sheetsIn}
-use Rattle.packed.specs.Calls.{Outcome, give, refuse, withWorkspace, Verdict, accepted, rejected, judged, readPattern, readCatalogue, pairsOf, withinPairsBy, fit, fitFile}
-use Rattle.matching.specs.Lists.{upTo}
-use Rattle.matching.specs.Index.{alike, ownIndex}
-use Rattle.matching.specs.Offered.{Offered}
-use Rattle.containment.specs.Quote.{Quoted, quotedBy, quoted, covering, quoteFor, quoteOutcome}
+use Rattle.packed.specs.Contents.{viewsOf, edgeCounts, sheetsIn}
+use Rattle.packed.specs.Calls.{Outcome, give, refuse, Verdict, accepted, rejected, judged, readPattern, readCatalogue, pairsOf, withinPairsBy, fit, fitFile, fitBoth}
+use Rattle.engine.specs.Lists.{upTo}
+use Rattle.engine.specs.Index.{alike, ownIndex}
+use Rattle.matching.specs.Offered.{Brought, Offered, offers, viewPatterns, judgeSet, withSet, offered}
+use Rattle.containment.specs.Quote.{Quoted, quotedBy, quoted, covering, quoteFor}
 use Rattle.containment.specs.Answer.{answerIn}
 use Rattle.containment.specs.Cheapest.{cheapestFrom, cheapestFor}
 use Rattle.containment.specs.Part.{withFirst, fitPart}
 use Rattle.containment.specs.Several.{allCovered, sheetsNeeded, answerAt, anyLong, fitSeveral, severalIn}
-use Rattle.containment.specs.Show.{fitBoth, showFor}
-use Rattle.containment.specs.Demands.{Files, no-more, first, FirstRejected, here, later, HandsUp, quotedFiles}
-use Rattle.containment.proofs.DemandRules.{number-same, detail-same, not-refused, enough-words, enough-for}
+use Rattle.containment.specs.Show.{showFor}
+use Rattle.containment.specs.Demands.{Files, no-more, first, FirstRejected, here, later, HandsUp, setFile, offeredFiles, quotedFiles}
+use Rattle.containment.proofs.DemandRules.{number-same, not-refused, enough-words, enough-for}
 
 -- with the workspace aside
 abbrev pub Says : Files → Outcome → Type 0
@@ -106,7 +106,7 @@ says-quote x = says-give _ _
 pub says-cheapest : (charges : List ℕ) (x : Quoted) → Says no-more (cheapestFor charges x)
 unfolding cheapestFor cheapestFrom
 says-cheapest charges x =
-    says-either (eqb (length charges) (length (x .offer .views))) (says-either (covering x (x .usable)) (says-give _ _) (says-late 11 _ (omega arith))) (says-late 15 _ (omega arith))
+    says-either (eqb (length charges) (length (viewPatterns (x .offer)))) (says-either (covering x (x .usable)) (says-give _ _) (says-late 11 _ (omega arith))) (says-late 15 _ (omega arith))
 
 pub says-answer : (set : ℕ) (x : Quoted) (bs : List ℕ) (room : ℕ) → Says no-more (answerIn set x bs room)
 unfolding answerIn
@@ -129,8 +129,14 @@ says-fit-several room needed o n = says-either (ltb room (length (flatten (upTo 
 pub says-several : (x : ℕ → Quoted) (n : ℕ) (o : Offered) (bs : List ℕ) (room : ℕ) → Says no-more (severalIn x n o bs room)
 unfolding severalIn
 says-several x n o bs room =
-    says-within-pairs _ bs (says-all-covered x n (says-fit-several room (sheetsNeeded x n (length (o .views))) (answerAt x (sheetsIn (edgeCounts (o .content)) bs)) n))
+    says-within-pairs _ bs (says-all-covered x n (says-fit-several room (sheetsNeeded x n (length (viewPatterns o))) (answerAt x (sheetsIn (edgeCounts (o .content)) bs)) n))
 
--- ---- with the two files that the calls that quote have
-pub says-quoted : (q c : List ℕ) {next : List ℕ → Files} (k : Quoted → Outcome) → ((qs cs : List ℕ) → Says (next cs) (k (quotedBy qs cs))) → Says (quotedFiles q c next) (quoted q c k)
-says-quoted q c k h = says-judged (readPattern q) (λ qs _. says-judged (readCatalogue c) (λ cs _. h qs cs))
+-- ---- with what the calls that match views are brought: a catalogue and its set, after a question
+pub says-set : (set : ℕ) (ws : List ℕ) (next : List ℕ → Files) (k : Offered → Outcome) → Says (next ws) (k (offers ws set)) → Says (setFile set ws next) (withSet set ws k)
+says-set set ws next k h = says-judged (judgeSet set (length (viewsOf ws))) (λ _ _. h)
+
+pub says-offered : (c : Brought) {next : List ℕ → Files} (k : Offered → Outcome) → ((o : Offered) → Says (next (o .content)) (k o)) → Says (offeredFiles c next) (offered c k)
+says-offered c {next} k h = says-judged (readCatalogue (c .file)) (λ ws _. says-set (c .oneWay) ws next k (h (offers ws (c .oneWay))))
+
+pub says-quoted : (q : List ℕ) (c : Brought) {next : List ℕ → Files} (k : Quoted → Outcome) → ((qs : List ℕ) (cs : Offered) → Says (next (cs .content)) (k (quotedBy qs cs))) → Says (quotedFiles q c next) (quoted q c k)
+says-quoted q c k h = says-judged (readPattern q) (λ qs _. says-offered c (λ o. k (quotedBy qs o)) (h qs))

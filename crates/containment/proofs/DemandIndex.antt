@@ -7,10 +7,11 @@ use lib.ListN.{length, getD}
 use native.Mathlib.Omega.{arith}
 use Rattle.packed.specs.Calls.{Outcome, give, refuse, withWorkspace, judged, readPattern, fit, fitFile}
 use Rattle.packed.proofs.OrderCases.{eq-or-ne}
-use Rattle.matching.specs.Simulation.{patternOf, graphOf, matchSets}
+use Rattle.engine.specs.Simulation.{patternOf, graphOf, matchSets}
+use Rattle.engine.specs.Index.{alike, ownIndex}
 use Rattle.matching.specs.Search.{sheetBytes, searchOutcome}
-use Rattle.matching.specs.Index.{alike, ownIndex, makeIndexOutcome, checkIndexOutcome, searchIndexedOutcome}
-use Rattle.matching.proofs.OwnIndex.{alike-at, alike-all, alike-say, own-accepted, own-number, own-position, own-differs}
+use Rattle.matching.specs.Index.{makeIndexOutcome, checkIndexOutcome, searchIndexedOutcome}
+use Rattle.engine.proofs.OwnIndex.{alike-at, alike-all, alike-say, own-accepted, own-number, own-position, own-differs}
 use Rattle.containment.specs.Demands.{Question, Record, ownOf, Way, without-index, with-own, searchBy, sheetOf, Full, FirstDiffers, NotOwn}
 use Rattle.containment.proofs.DemandRules.{number-same, detail-same, not-refused, judged-same, goes-on, enough-words, enough-for, full-words, full-judged, full-twice, file-number}
 use Rattle.containment.proofs.DemandSheets.{searched}

@@ -7,19 +7,19 @@ use lib.ListN.{length, getD}
 use native.Mathlib.Omega.{arith}
 use Rattle.packed.specs.Formats.{code}
 use Rattle.packed.specs.Contents.{edgeCounts, sheetsIn}
-use Rattle.matching.specs.Lists.{In}
-use Rattle.matching.specs.Simulation.{Pair, Edge, noEdge, Pattern, patternOf, ascending}
+use Rattle.engine.specs.Lists.{In}
+use Rattle.engine.specs.Simulation.{Pair, Edge, noEdge, Pattern, patternOf, ascending}
 use Rattle.matching.specs.Join.{View, pairOf, candidates, Offer, choice, join, answerSets}
+use Rattle.engine.proofs.ListLaws.{in-cast, getD-each}
+use Rattle.engine.proofs.CodeLaws.{code-same, ascending-say, ascending-by}
 use Rattle.matching.proofs.ByEdge.{answerTo}
-use Rattle.matching.proofs.ListLaws.{in-cast, getD-each}
-use Rattle.matching.proofs.CodeLaws.{code-same, ascending-say, ascending-by}
 use Rattle.matching.proofs.JoinLaws.{Supported, choice-candidate, choice-supported, choice-most, JoinedPair, join-candidate, complete-say, complete-by, answer-say, answer-by, answer-each, code-pair, pair-code}
-use Rattle.matching.specs.Offered.{viewPatterns}
+use Rattle.matching.specs.Offered.{Offered, viewPatterns}
 use Rattle.containment.specs.Quote.{noPattern}
 use Rattle.containment.specs.Answer.{viewsIn}
 use Rattle.containment.specs.Demands.{Candidate, SupportsItself, GreatestChoice, Joins}
 use Rattle.containment.proofs.DemandRules.{place-below, link-below}
-use Rattle.containment.proofs.CandidateLaws.{Offered, offered-say, offered-by}
+use Rattle.containment.proofs.CandidateLaws.{Offered as OfferedPair, offered-say, offered-by}
 
 -- the second number of the pair of a code has 12 bits
 pair-narrow : {f : Pair} (c : ℕ) → f ≡ pairOf c → f .1 < 4096
@@ -89,7 +89,7 @@ module _ (Q : Pattern) (Ps : List Pattern) (sheets : List (List (List ℕ))) (se
   candidate-by {e} {f} k =
       let m = k .by in
       let P : Pattern = getD Ps (m .extract) noPattern in
-      let o : Offered Q set Ps sheets e (code (f .0) (f .1)) = record {
+      let o : OfferedPair Q set Ps sheets e (code (f .0) (f .1)) = record {
         view = m .extract;
         given = m .given;
         chosen = m .in-set;
@@ -129,9 +129,9 @@ module _ (Q : Pattern) (Ps : List Pattern) (sheets : List (List (List ℕ))) (se
         λ m. subst (λ l. In (code (f .0) (f .1)) l) (sym at) (ascending-by (answer-by Q views (complete-by Q views (m .0)) (m .1))),
       )
 
-pub answer-joins : (set : ℕ) (qs cs bs : List ℕ) → Joins set qs cs bs
+pub answer-joins : (set : ℕ) (qs : List ℕ) (cs : Offered) (bs : List ℕ) → Joins set qs cs bs
 answer-joins set qs cs bs = record {
-  keeps = Keeps (patternOf qs) (viewPatterns cs) (sheetsIn (edgeCounts cs) bs) set;
-  is = greatest-choice (patternOf qs) (viewPatterns cs) (sheetsIn (edgeCounts cs) bs) set;
-  lists = answer-lists (patternOf qs) (viewPatterns cs) (sheetsIn (edgeCounts cs) bs) set;
+  keeps = Keeps (patternOf qs) (viewPatterns cs) (sheetsIn (edgeCounts (cs .content)) bs) set;
+  is = greatest-choice (patternOf qs) (viewPatterns cs) (sheetsIn (edgeCounts (cs .content)) bs) set;
+  lists = answer-lists (patternOf qs) (viewPatterns cs) (sheetsIn (edgeCounts (cs .content)) bs) set;
 }

@@ -9,32 +9,33 @@ use lib.Dec.{T, ltb}
 use borrow.Author.Tests.{lt-ltb, le-ltb}
 use native.Mathlib.Omega.{arith}
 use Rattle.packed.specs.Format.{Format, Result, ok, bad, pick, decode, encode}
-use Rattle.packed.specs.Contents.{edgesOf, edgeCounts, sheetsIn}
+use Rattle.packed.specs.Contents.{edgesOf, viewsOf, edgeCounts, sheetsIn}
 use Rattle.packed.specs.Plain.{Below, PatternFile, CatalogueFile, RecordFile, SheetFile, BookFile}
 use Rattle.packed.specs.Formats.{pattern, catalogue, record′, sheet, book}
-use Rattle.packed.specs.Calls.{Outcome, give, refuse, withWorkspace, Verdict, accepted, rejected, inFile, writeFile, judged, readPattern, readCatalogue, readRecord, readBook, pairsOf, withinPairsBy, fit, fitFile, patternRead, catalogueRead, recordRead, sheetRead, bookRead, patternWritten, catalogueWritten, recordWritten, sheetWritten, bookWritten}
+use Rattle.packed.specs.Calls.{Outcome, give, refuse, withWorkspace, Verdict, accepted, rejected, inFile, writeFile, judged, readPattern, readCatalogue, readRecord, readBook, pairsOf, withinPairsBy, fit, fitFile, patternRead, catalogueRead, recordRead, sheetRead, bookRead, patternWritten, catalogueWritten, recordWritten, sheetWritten, bookWritten, recordBytes, fitBoth}
 use Rattle.packed.proofs.OrderCases.{lt-or-ge}
 use Rattle.packed.proofs.CallLaws.{many-pairs, within-pairs-is}
 use Rattle.packed.proofs.CallRoundTrips.{fit-given, fitFile-given}
 use Rattle.packed.proofs.RoundTrip.{Bytes}
 use Rattle.packed.proofs.Accepted.{pattern-accepted, catalogue-accepted, record-accepted, sheet-accepted, book-accepted, written-accepted}
-use Rattle.matching.specs.Lists.{In}
-use Rattle.matching.specs.Simulation.{Edge, Pattern, bit, patternOf, asGraph, viewSheet}
+use Rattle.engine.specs.Lists.{In}
+use Rattle.engine.specs.Simulation.{Edge, Pattern, bit, patternOf, asGraph, viewSheet}
 use Rattle.matching.specs.Join.{matchedBy, matched}
 use Rattle.matching.specs.Search.{sheetBytes}
-use Rattle.matching.proofs.ListLaws.{not-in-none}
+use Rattle.engine.proofs.ListLaws.{not-in-none}
 use Rattle.matching.proofs.MatchSetLaws.{view-length}
 use Rattle.matching.proofs.JoinLaws.{some-match-say, some-match-by}
-use Rattle.matching.specs.Offered.{viewPatterns}
+use Rattle.matching.specs.Offered.{Brought, Offered, offers, viewPatterns, judgeSet, withSet, offered}
+use Rattle.matching.proofs.OfferedLaws.{judged-right, set-judges}
 use Rattle.containment.specs.Choice.{everyView}
 use Rattle.containment.specs.Quote.{mapping, quotedIn, quotedBy, usedBy}
 use Rattle.containment.specs.Answer.{answerBytes, Choose, answerIn, answerFor, answerBy}
-use Rattle.containment.specs.Show.{recordBytes, fitBoth, showFor}
-use Rattle.containment.specs.Demands.{Question, Catalogue, Record, Sheet, FewPairs, ManyPairs, Book, extractOf, linkOf, Covers, Leaves, Covered, Uncovered, lackingIn, chosenOf, answerOf, firstOf, Full, Over, OverFile, OverEither, FittedBeside, Fitted, Reads, Writes, Matched, MatchedIn, LowestUnmatched, chosenIn, secondIn}
+use Rattle.containment.specs.Show.{showFor}
+use Rattle.containment.specs.Demands.{Question, CataloguePaper, Catalogue, Record, Sheet, FewPairs, ManyPairs, Book, extractOf, linkOf, Covers, Leaves, Covered, Uncovered, lackingIn, chosenOf, answerOf, firstOf, Full, Over, OverFile, OverEither, FittedBeside, Fitted, Reads, Writes, Matched, MatchedIn, LowestUnmatched, chosenIn, secondIn}
 use Rattle.containment.proofs.SetBits.{test-cases, never, bit-lt}
 use Rattle.containment.proofs.ChoiceLaws.{MatchedBy, matched-say as matched-in-table, matched-by as matched-by-table, covers-exactly, chosen-covers, used-covered, used-uncovered, lowest-is, lowest-below, chosen-small, chosen-within}
 use Rattle.containment.proofs.QuoteLaws.{test-is, matched-exactly, ListedEdge, matched-say, matched-by, listed-whole}
-use Rattle.containment.proofs.CoveredBytes.{question-bounds, few-views, coveredIn, coveredBy, answer-covered, answer-uncovered}
+use Rattle.containment.proofs.CoveredBytes.{offered-goes-on, question-bounds, few-views, coveredIn, coveredBy, answer-covered, answer-uncovered}
 
 -- ---- answers are told apart
 
@@ -110,6 +111,19 @@ refused-judged (rejected m c) k e = inl (cc)
 pub full-twice : (v : Verdict) (w : List ℕ → Verdict) (k : List ℕ → List ℕ → Outcome) → Full (judged v (λ x. judged (w x) (k x)))
     → (x : List ℕ) × (y : List ℕ) × (v ≡ accepted x) × (w x ≡ accepted y) × Full (k x y)
 full-twice v w k f = let r = full-judged v (λ x. judged (w x) (k x)) f in let t = full-judged (w (r .0)) (k (r .0)) (r .2) in (r .0, t .0, r .1, t .1, t .2)
+
+-- and of a set that names views alone
+pub full-set : (c : Brought) (ws : List ℕ) → CataloguePaper (c .file) ws → (k : Offered → Outcome) → Full (withSet (c .oneWay) ws k)
+    → Catalogue c (offers ws (c .oneWay)) × Full (k (offers ws (c .oneWay)))
+full-set c ws e k f =
+    let t = full-judged (judgeSet (c .oneWay) (length (viewsOf ws))) _ f in
+    (record { paper = e; set = refl; named = judged-right (set-judges (c .oneWay) (length (viewsOf ws))) (t .1) }, t .2)
+
+pub full-offered : (c : Brought) (k : Offered → Outcome) → Full (offered c k) → (cs : Offered) × Catalogue c cs × Full (k cs)
+full-offered c k f =
+    let t = full-judged (readCatalogue (c .file)) _ f in
+    let u = full-set c (t .0) (t .1) k (t .2) in
+    (offers (t .0) (c .oneWay), u .0, u .1)
 
 pub full-within-pairs : (ms ws : List ℕ) (a : Outcome) → Full (withinPairsBy ms ws a) → length (pairsOf ms ws) ≤ 8192
 unfolding withinPairsBy
@@ -248,7 +262,7 @@ pub pattern-reads : Reads patternRead Question
 unfolding patternRead
 pattern-reads = lone-reads readPattern (λ s room. refl)
 
-pub catalogue-reads : Reads catalogueRead Catalogue
+pub catalogue-reads : Reads catalogueRead CataloguePaper
 unfolding catalogueRead
 catalogue-reads = lone-reads readCatalogue (λ s room. refl)
 
@@ -263,7 +277,7 @@ sheet-reads p = record {
   only = λ s room words f. let r = full-twice _ _ _ (full-words words _ f) in (r .1, (r .0, r .2, r .3));
 }
 
-pub book-reads : (c : List ℕ) → Reads (bookRead c) (λ s ws. (cs : List ℕ) × Catalogue c cs × Book cs s ws)
+pub book-reads : (c : List ℕ) → Reads (bookRead c) (λ s ws. (cs : List ℕ) × CataloguePaper c cs × Book cs s ws)
 unfolding bookRead
 book-reads c = record {
   gives = λ s ws e room words.
@@ -306,7 +320,7 @@ sheet-writes p = record {
       (r .1, w .0, (r .0, r .2, sheet-accepted (edgesOf (r .0)) (r .1) ws .0 (w .1)));
 }
 
-pub book-writes : (c : List ℕ) → Writes (bookWritten c) OverFile (λ s ws. (cs : List ℕ) × Catalogue c cs × BookFile (edgeCounts cs) s ws × FewPairs cs ws)
+pub book-writes : (c : List ℕ) → Writes (bookWritten c) OverFile (λ s ws. (cs : List ℕ) × CataloguePaper c cs × BookFile (edgeCounts cs) s ws × FewPairs cs ws)
 unfolding bookWritten
 book-writes c = record {
   gives = λ s ws y e room words.
@@ -347,13 +361,13 @@ file-number room o n d e =
     (lt-or-ge 65536 (length o)))
     (lt-or-ge room (length o))
 
-pub many-pairs-read : (c cs s ws : List ℕ) → Catalogue c cs → readBook cs s ≡ accepted ws → (room words d : ℕ)
+pub many-pairs-read : (c cs s ws : List ℕ) → CataloguePaper c cs → readBook cs s ≡ accepted ws → (room words d : ℕ)
     → (withWorkspace words (bookRead c s room) ≡ refuse 10 d) ↔ ((16384 ≤ words) × ManyPairs cs ws × (d ≡ 4))
 unfolding bookRead
 many-pairs-read c cs s ws e f room words d =
     many-pairs-exactly words _ (edgeCounts cs) ws (fit room ws) (goes-on _ e ∙ goes-on _ f) (λ _ k x. let z = fit-number room ws 10 k x in omega arith) d
 
-pub many-pairs-written : (c cs s ws : List ℕ) → Catalogue c cs → Below 256 s → BookFile (edgeCounts cs) s ws → (room words d : ℕ)
+pub many-pairs-written : (c cs s ws : List ℕ) → CataloguePaper c cs → Below 256 s → BookFile (edgeCounts cs) s ws → (room words d : ℕ)
     → (withWorkspace words (bookWritten c ws room) ≡ refuse 10 d) ↔ ((16384 ≤ words) × ManyPairs cs ws × (d ≡ 4))
 unfolding bookWritten
 many-pairs-written c cs s ws e y f room words d =
@@ -362,18 +376,18 @@ many-pairs-written c cs s ws e y f room words d =
     (λ _ k x. let z = file-number room s 10 k x in omega arith) d
 
 -- what is answered from a book that isn't crowded
-abbrev fewPairsAnswer : ℕ → List ℕ → List ℕ → List ℕ → ℕ → Outcome
-fewPairsAnswer set qs cs bs room = pick (coveredIn set qs cs) (fitFile room (answerBytes qs set (viewPatterns cs) (sheetsIn (edgeCounts cs) bs))) (refuse 11 (lackingIn set qs cs))
+abbrev fewPairsAnswer : ℕ → List ℕ → Offered → List ℕ → ℕ → Outcome
+fewPairsAnswer set qs cs bs room = pick (coveredIn set qs cs) (fitFile room (answerBytes qs set (viewPatterns cs) (sheetsIn (edgeCounts (cs .content)) bs))) (refuse 11 (lackingIn set qs cs))
 
 answer-number : (b : Bool) (room : ℕ) (o : List ℕ) (k d : ℕ) → pick b (fitFile room o) (refuse 11 k) ≡ refuse 10 d → ⊥
 answer-number true room o k d e = let z = file-number room o 10 d e in omega arith
 answer-number false room o k d e = let z = number-same e in omega arith
 
-pub many-pairs-answer : (choose : Choose) (q c b qs cs bs : List ℕ) → Question q qs → Catalogue c cs → readBook cs b ≡ accepted bs → (room words d : ℕ)
-    → (withWorkspace words (answerBy choose q c b room) ≡ refuse 10 d) ↔ ((16384 ≤ words) × ManyPairs cs bs × (d ≡ 4))
+pub many-pairs-answer : (choose : Choose) (q : List ℕ) (c : Brought) (b qs : List ℕ) (cs : Offered) (bs : List ℕ) → Question q qs → Catalogue c cs → readBook (cs .content) b ≡ accepted bs → (room words d : ℕ)
+    → (withWorkspace words (answerBy choose q c b room) ≡ refuse 10 d) ↔ ((16384 ≤ words) × ManyPairs (cs .content) bs × (d ≡ 4))
 unfolding answerBy answerFor answerIn
 many-pairs-answer choose q c b qs cs bs e f g room words d =
-    many-pairs-exactly words _ (edgeCounts cs) bs (fewPairsAnswer (choose (quotedBy qs cs)) qs cs bs room) (goes-on _ e ∙ goes-on _ f ∙ goes-on _ g)
+    many-pairs-exactly words _ (edgeCounts (cs .content)) bs (fewPairsAnswer (choose (quotedBy qs cs)) qs cs bs room) (goes-on _ e ∙ offered-goes-on c cs f (λ o. answerFor choose b room (quotedBy qs o)) ∙ goes-on _ g)
     (λ _ k x. answer-number (coveredIn (choose (quotedBy qs cs)) qs cs) room _ (lackingIn (choose (quotedBy qs cs)) qs cs) k x) d
 
 -- no other number
@@ -408,7 +422,7 @@ pub link-below : (Q P : Pattern) (f : ℕ) {c : ℕ} → In c (getD (viewSheet P
 link-below Q P f i = omega (arith, place-below (viewSheet P (asGraph Q)) f i, view-length P (asGraph Q))
 
 -- the extracts that answer a query: the chosen ones, or all
-module _ (qs cs : List ℕ) where
+module _ (qs : List ℕ) (cs : Offered) where
   abbrev table : List ℕ
   table = mapping (patternOf qs) (viewPatterns cs)
 
@@ -426,14 +440,14 @@ module _ (qs cs : List ℕ) where
   used-leaves n = ⊎-elim (λ h. never (sym (used-covers h) ∙ n)) (λ n′. n′) (test-cases (coveredBy qs cs))
 
 -- the chosen set has none but extracts that may be used
-pub choice-among : (set : ℕ) (qs cs : List ℕ) (a : ℕ) → bit (chosenIn set qs cs) a ≡ true → (a < length (viewPatterns cs)) × T (bit set a)
+pub choice-among : (set : ℕ) (qs : List ℕ) (cs : Offered) (a : ℕ) → bit (chosenIn set qs cs) a ≡ true → (a < length (viewPatterns cs)) × T (bit set a)
 choice-among set qs cs a h =
     let t = mapping (patternOf qs) (viewPatterns cs) in
     let k = length (viewPatterns cs) in
     (bit-lt (chosenIn set qs cs) a k h (chosen-small t set (edgesOf qs) k), test-is _ .0 (chosen-within t set (edgesOf qs) k a h))
 
 -- a showing, by the views in a set
-module _ (set : ℕ) (qs cs : List ℕ) (room room′ : ℕ) where
+module _ (set : ℕ) (qs : List ℕ) (cs : Offered) (room room′ : ℕ) where
   pub shows-both : Leaves set qs cs → showFor room room′ (quotedIn set qs cs) ≡ fitBoth room room′ (recordBytes (firstOf qs)) (recordBytes (secondIn set qs cs))
   unfolding showFor
   shows-both n = rw n
@@ -458,7 +472,7 @@ module _ (set : ℕ) (qs cs : List ℕ) (room room′ : ℕ) where
     λ x. enough-words words _ (x .0) ∙ is ∙ shows-none (x .1) ∙ ap (refuse 13) (sym (x .2)),
   )
 
-module _ (q c qs cs : List ℕ) (p : Question q qs) (d : Catalogue c cs) where
+module _ (q : List ℕ) (c : Brought) (qs : List ℕ) (cs : Offered) (p : Question q qs) (d : Catalogue c cs) where
   -- the table says of a set which edges its views match
   module _ (set : ℕ) where
     matched-plain : (i : ℕ) → i < edgesOf qs → MatchedBy (table qs cs) set i (length (viewPatterns cs)) ↔ MatchedIn (patternOf qs) (viewPatterns cs) set (linkOf qs i)
@@ -499,7 +513,7 @@ module _ (q c qs cs : List ℕ) (p : Question q qs) (d : Catalogue c cs) where
         }
 
   -- ---- accepted books, by a set of views
-  module _ (b bs : List ℕ) (k : Book cs b bs) (choose : Choose) (room : ℕ) where
+  module _ (b bs : List ℕ) (k : Book (cs .content) b bs) (choose : Choose) (room : ℕ) where
     pub given-by : Covers (choose (quotedBy qs cs)) qs cs → answerBy choose q c b room ≡ fitFile room (sheetBytes (answerOf (choose (quotedBy qs cs)) qs cs bs))
     unfolding answerBytes
     given-by h = answer-covered q c qs cs p d b bs k choose room h

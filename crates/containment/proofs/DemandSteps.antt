@@ -6,12 +6,12 @@ use mathlib.Core.List.{List}
 use lib.ListN.{length}
 use lib.Dec.{T}
 use Rattle.packed.specs.declared.by_value.Pattern.{Pattern as Given}
-use Rattle.matching.specs.Lists.{_or_, In}
-use Rattle.matching.specs.Simulation.{Pair, Edge, bit, oneWay, Pattern, ruled, givenEdge, patternIn, sound}
+use Rattle.engine.specs.Lists.{_or_, In}
+use Rattle.engine.specs.Simulation.{Pair, Edge, bit, oneWay, Pattern, ruled, givenEdge, patternIn, sound}
 use Rattle.matching.specs.Join.{Offer}
 use Rattle.matching.specs.Components.{Nodes, leavingOf, joinIn, stateAt, reaches, together, Shut, OneStep, StepsTo, Holds, Ran, Pruned}
-use Rattle.matching.proofs.ListLaws.{in-cast, keep-all}
-use Rattle.matching.proofs.MatchLaws.{sound-say}
+use Rattle.engine.proofs.ListLaws.{in-cast, keep-all}
+use Rattle.engine.proofs.MatchLaws.{sound-say}
 use Rattle.matching.proofs.ComponentLaws.{Ended, JoinedIn, join-in-candidate, state-say, state-candidate, state-old, state-new, choice-state, join-cut, join-grow, reaches-self, reaches-shut, reaches-least, together-say, together-by, ready-say, step-old, step-in, step-new, step-apart, ready-one, steps-shut, steps-few}
 use Rattle.matching.proofs.JoinLaws.{choice-candidate, kept-in, in-kept}
 use Rattle.matching.proofs.ReachLaws.{in-edges, edges-in, given-rule}

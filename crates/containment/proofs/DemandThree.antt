@@ -2,29 +2,28 @@
 use Prim.Native.Nat.{ℕ, _<_, _≤_}
 use mathlib.Core.Path.{_≡_, refl, sym, ap, _∙_}
 use mathlib.Core.Logic.{_↔_, ⊎-elim}
-use mathlib.Core.List.{List, [], _∷_, map}
+use mathlib.Core.List.{List, [], _∷_}
 use lib.ListN.{length, getD}
 use lib.Dec.{T}
 use native.Mathlib.Omega.{arith}
-use Rattle.packed.specs.Contents.{edgeCounts, viewsOf, sheetFields, sheetsIn}
-use Rattle.packed.specs.Calls.{give, refuse, withWorkspace, judged, readPattern, readSheet, readBook, fitFile}
-use Rattle.matching.specs.Lists.{In, each}
-use Rattle.matching.specs.Simulation.{Pattern, Graph, bit, patternOf, graphOf, asGraph, matchSets, viewSheet}
+use Rattle.packed.specs.Contents.{edgeCounts, sheetFields, sheetsIn}
+use Rattle.packed.specs.Calls.{give, refuse, withWorkspace, readPattern, readSheet, readBook, fitFile, recordBytes}
+use Rattle.engine.specs.Lists.{In, each}
+use Rattle.engine.specs.Simulation.{Pattern, Graph, bit, patternOf, graphOf, asGraph, matchSets, viewSheet}
 use Rattle.matching.specs.Join.{without, answerSets}
 use Rattle.matching.specs.Search.{sheetBytes, viewSheets}
-use Rattle.matching.proofs.ListLaws.{each-same}
+use Rattle.engine.proofs.ListLaws.{each-same}
 use Rattle.matching.proofs.BookBytes.{bookFields}
 use Rattle.matching.proofs.SortedGraphs.{alike-views, alike-without}
 use Rattle.matching.proofs.Uncovered.{uncovered-views}
-use Rattle.matching.specs.Offered.{viewPatterns}
+use Rattle.matching.specs.Offered.{Brought, Offered, viewPatterns}
 use Rattle.containment.specs.Choice.{everyView}
 use Rattle.containment.specs.Quote.{quotedBy, viewsInSet, usedBy}
 use Rattle.containment.specs.Answer.{answerBytes, Choose, answerFor, answerBy, answerFrom, answerOutcome}
-use Rattle.containment.specs.Show.{recordBytes}
 use Rattle.containment.specs.Demands.{Question, Catalogue, Record, Sheet, Book, Covers, Leaves, Uncovered, answerOf, lackingIn, lacking, extractOf, linkOf, firstOf, secondIn, listsIn, usableWhen, showWhen, Matched, LowestUnmatched, Showing, Demand3, Answering}
 use Rattle.containment.proofs.SetBits.{test-cases}
 use Rattle.containment.proofs.ShowLaws.{lowest-of, lowest-in, shows-in, shows-book}
-use Rattle.containment.proofs.CoveredBytes.{views-same, question-is, question-bounds, made-sheets, made-book, answer-alike, coveredIn, answer-search, answer-back, given-file, few-views}
+use Rattle.containment.proofs.CoveredBytes.{views-same, offered-goes-on, question-is, question-bounds, made-sheets, made-book, answer-alike, coveredIn, answer-search, answer-back, given-file, few-views}
 use Rattle.containment.proofs.DemandRules.{not-refused, judged-same, matched-whole, used-chosen, used-all, used-covers, used-leaves, lowest-plain, refused-by, given-by, refused-exactly, shows-both, shows-exactly}
 use Rattle.containment.proofs.QuoteLaws.{test-is, chosen-in, chosen-every}
 use Rattle.containment.proofs.WhenLaws.{show-goes-on}
@@ -32,12 +31,12 @@ use Rattle.containment.proofs.DemandSheets.{answer-size}
 use Rattle.containment.proofs.DemandIndex.{way-same}
 use Rattle.containment.proofs.DemandJoin.{answer-joins}
 
-module _ (q c qs cs : List ℕ) (p : Question q qs) (d : Catalogue c cs) where
+module _ (q : List ℕ) (c : Brought) (qs : List ℕ) (cs : Offered) (p : Question q qs) (d : Catalogue c cs) where
   -- ---- a query that the views in a set leave uncovered
   shown-by : (set : ℕ) → Leaves set qs cs → Showing set qs cs
   unfolding asGraph
   shown-by set n =
-      let s = shows-in q c qs cs (question-is q qs p) d set n in
+      let s = shows-in q (c .file) qs cs (question-is q qs p) (d .paper) set n in
       record {
         first-accepted = s .first-read;
         second-accepted = s .second-read;
@@ -47,7 +46,7 @@ module _ (q c qs cs : List ℕ) (p : Question q qs) (d : Catalogue c cs) where
         in-first = s .in-first;
         not-in-second = s .not-second;
         equal = λ a l t. s .same (extractOf cs a) (chosen-in set (viewPatterns cs) a l (test-is _ .1 t));
-        equal-books = λ all. shows-book q c qs cs (question-is q qs p) d set n (λ a l. test-is _ .1 (all a l));
+        equal-books = λ all. shows-book q (c .file) qs cs (question-is q qs p) (d .paper) set n (λ a l. test-is _ .1 (all a l));
         differ = s .differs;
       }
 
@@ -56,7 +55,7 @@ module _ (q c qs cs : List ℕ) (p : Question q qs) (d : Catalogue c cs) where
   lowest-whole n =
       let Q = patternOf qs in
       let Ps = viewPatterns cs in
-      let l = lowest-of q c qs cs (question-is q qs p) d n in
+      let l = lowest-of q (c .file) qs cs (question-is q qs p) (d .paper) n in
       record {
         below = omega (arith, l .below, question-bounds q qs p .many);
         unmatched = λ m. l .unmatched (matched-whole Q Ps (linkOf qs (lacking qs cs)) .1 m);
@@ -66,16 +65,16 @@ module _ (q c qs cs : List ℕ) (p : Question q qs) (d : Catalogue c cs) where
   -- the two shown records have the same lists
   same-lists : (set : ℕ) → Leaves set qs cs → (P : Pattern) → In P (viewsInSet set (viewPatterns cs)) → viewSheet P (graphOf (firstOf qs)) ≡ viewSheet P (graphOf (secondIn set qs cs))
   same-lists set n P i =
-      let s = shows-in q c qs cs (question-is q qs p) d set n in
+      let s = shows-in q (c .file) qs cs (question-is q qs p) (d .paper) set n in
       let e = linkOf qs (lackingIn set qs cs) in
       let G = graphOf (firstOf qs) in
       let H = asGraph (patternOf qs) in
       alike-views P G H (s .means)
-      ∙ uncovered-views (patternOf qs) (viewsInSet set (viewPatterns cs)) e (lowest-in q c qs cs (question-is q qs p) d set n .unmatched) P i
+      ∙ uncovered-views (patternOf qs) (viewsInSet set (viewPatterns cs)) e (lowest-in q (c .file) qs cs (question-is q qs p) (d .paper) set n .unmatched) P i
       ∙ sym (ap (viewSheet P) (s .lacks) ∙ alike-views P (without e G) (without e H) (alike-without e G H (s .means)))
 
   -- ---- accepted books
-  module _ (b bs : List ℕ) (k : Book cs b bs) where
+  module _ (b bs : List ℕ) (k : Book (cs .content) b bs) where
     read-back : (choose : Choose) (out : List ℕ) (room : ℕ) → answerBy choose q c b room ≡ give [] (out ∷ [])
         → Sheet qs out (sheetFields (answerOf (choose (quotedBy qs cs)) qs cs bs))
     unfolding answerBytes
@@ -97,25 +96,20 @@ module _ (q c qs cs : List ℕ) (p : Question q qs) (d : Catalogue c cs) where
         )
 
 -- the lists of all extracts
-lists-of : (G : Graph) (vs : List (List ℕ)) → each (λ P. viewSheet P G) (map patternOf vs) ≡ map (λ v. viewSheet (patternOf v) G) vs
-unfolding each
-lists-of G [] = refl
-lists-of G (v ∷ vs) = ap (λ (l : List (List (List ℕ))). viewSheet (patternOf v) G ∷ l) (lists-of G vs)
-
-all-lists : (c cs : List ℕ) → Catalogue c cs → (G : Graph) → listsIn everyView cs G ≡ viewSheets cs G
+all-lists : (c : Brought) (cs : Offered) → Catalogue c cs → (G : Graph) → listsIn everyView cs G ≡ viewSheets cs G
 unfolding viewSheets
-all-lists c cs d G = ap (each (λ P. viewSheet P G)) (chosen-every (viewPatterns cs) (few-views c cs d)) ∙ lists-of G (viewsOf cs)
+all-lists c cs d G = ap (each (λ P. viewSheet P G)) (chosen-every (viewPatterns cs) (few-views c cs d))
 
 -- an answer by a set is the same from sheets that agree on those of the set
-pub same-lists-in : (set : ℕ) (qs cs bs bs′ : List ℕ)
-    → ((a : ℕ) → a < length (viewPatterns cs) → T (bit set a) → getD (sheetsIn (edgeCounts cs) bs) a [] ≡ getD (sheetsIn (edgeCounts cs) bs′) a [])
+pub same-lists-in : (set : ℕ) (qs : List ℕ) (cs : Offered) (bs bs′ : List ℕ)
+    → ((a : ℕ) → a < length (viewPatterns cs) → T (bit set a) → getD (sheetsIn (edgeCounts (cs .content)) bs) a [] ≡ getD (sheetsIn (edgeCounts (cs .content)) bs′) a [])
     → answerOf set qs cs bs ≡ answerOf set qs cs bs′
 same-lists-in set qs cs bs bs′ s =
-    ap (answerSets (patternOf qs)) (views-same set set (viewPatterns cs) (sheetsIn (edgeCounts cs) bs) (sheetsIn (edgeCounts cs) bs′) (λ a l. refl) s)
+    ap (answerSets (patternOf qs)) (views-same set set (viewPatterns cs) (sheetsIn (edgeCounts (cs .content)) bs) (sheetsIn (edgeCounts (cs .content)) bs′) (λ a l. refl) s)
 
-same-answer : (choose : Choose) (q c qs cs b b′ bs bs′ : List ℕ) → Question q qs → Catalogue c cs → Book cs b bs → Book cs b′ bs′
+same-answer : (choose : Choose) (q : List ℕ) (c : Brought) (qs : List ℕ) (cs : Offered) (b b′ bs bs′ : List ℕ) → Question q qs → Catalogue c cs → Book (cs .content) b bs → Book (cs .content) b′ bs′
     → (Covers (choose (quotedBy qs cs)) qs cs → (a : ℕ) → a < length (viewPatterns cs) → T (bit (choose (quotedBy qs cs)) a)
-    → getD (sheetsIn (edgeCounts cs) bs) a [] ≡ getD (sheetsIn (edgeCounts cs) bs′) a [])
+    → getD (sheetsIn (edgeCounts (cs .content)) bs) a [] ≡ getD (sheetsIn (edgeCounts (cs .content)) bs′) a [])
     → (room : ℕ) → answerBy choose q c b room ≡ answerBy choose q c b′ room
 same-answer choose q c qs cs b b′ bs bs′ p d k k′ s room =
     let set = choose (quotedBy qs cs) in
@@ -128,12 +122,16 @@ same-answer choose q c qs cs b b′ bs bs′ p d k k′ s room =
     (test-cases (coveredIn set qs cs))
 
 -- bits that name no view count for nothing
-ignored : (c cs : List ℕ) → Catalogue c cs → (set set′ : ℕ) → ((a : ℕ) → a < length (viewPatterns cs) → bit set a ≡ bit set′ a) → (q b : List ℕ) (room : ℕ)
+ignored : (c : Brought) (cs : Offered) → Catalogue c cs → (set set′ : ℕ) → ((a : ℕ) → a < length (viewPatterns cs) → bit set a ≡ bit set′ a) → (q b : List ℕ) (room : ℕ)
     → answerFrom q c set b room ≡ answerFrom q c set′ b room
-unfolding answerBy answerFor judged
-ignored c cs d set set′ f q b room = rw d (judged-same (readPattern q) (λ qs _. judged-same (readBook cs b) (λ bs _. answer-alike set set′ qs cs bs room f)))
+unfolding answerBy answerFor
+ignored c cs d set set′ f q b room =
+    judged-same (readPattern q) (λ qs _.
+    offered-goes-on c cs d (λ o. answerFor (λ _. set) b room (quotedBy qs o))
+    ∙ judged-same (readBook (cs .content) b) (λ bs _. answer-alike set set′ qs cs bs room f)
+    ∙ sym (offered-goes-on c cs d (λ o. answerFor (λ _. set′) b room (quotedBy qs o))))
 
-pub no-function : (q c qs cs : List ℕ) → Question q qs → Catalogue c cs → (set : ℕ) → Leaves set qs cs → (F : List (List (List ℕ)) → List ℕ)
+pub no-function : (q : List ℕ) (c : Brought) (qs : List ℕ) (cs : Offered) → Question q qs → Catalogue c cs → (set : ℕ) → Leaves set qs cs → (F : List (List (List ℕ)) → List ℕ)
     → ((r rs : List ℕ) → Record r rs → F (listsIn set cs (graphOf rs)) ≡ sheetBytes (matchSets (patternOf qs) (graphOf rs))) → ⊥
 no-function q c qs cs p d set n F h =
     let s = shown-by q c qs cs p d set n in

@@ -10,51 +10,52 @@ use borrow.Author.Tests.{lt-ltb, le-ltb}
 use native.Mathlib.Omega.{arith}
 use Rattle.packed.specs.Format.{pick}
 use Rattle.packed.specs.Formats.{code}
-use Rattle.packed.specs.Contents.{edgesOf, edgeCounts, sheetsIn, ends, fieldsOf}
+use Rattle.packed.specs.Contents.{edgesOf, viewsOf, edgeCounts, sheetsIn, ends, fieldsOf}
 use Rattle.packed.specs.Plain.{BookFile}
 use Rattle.packed.specs.OldRecord.{sortedFields, recordSorted}
-use Rattle.packed.specs.Calls.{Outcome, give, refuse, toldOf, fronts, outputsOf, workOf, withWorkspace, judged, readPattern, readCatalogue, readRecord, readSheet, readBook, writeSheet, writeBook, patternRead, catalogueRead, recordRead, sheetRead, bookRead, patternWritten, catalogueWritten, recordWritten, sheetWritten, bookWritten}
+use Rattle.packed.specs.Calls.{Outcome, give, refuse, toldOf, fronts, outputsOf, workOf, withWorkspace, Verdict, accepted, rejected, judged, readPattern, readCatalogue, readRecord, readSheet, readBook, writeSheet, writeBook, patternRead, catalogueRead, recordRead, sheetRead, bookRead, patternWritten, catalogueWritten, recordWritten, sheetWritten, bookWritten}
 use Rattle.packed.proofs.SheetLaws.{fields-none, fields-some}
 use Rattle.packed.proofs.Accepted.{pattern-read, catalogue-read, record-read, sheet-read, book-read}
 use Rattle.packed.proofs.CallRoundTrips.{pattern-back, pattern-again, catalogue-back, catalogue-again, record-back, record-again, sheet-back, sheet-again, book-back, book-again}
-use Rattle.matching.specs.Lists.{In, some, upTo}
-use Rattle.matching.specs.Simulation.{Pair, Edge, noEdge, Pattern, bit, patternOf, graphOf, asGraph, matchSets, viewSheet}
+use Rattle.engine.specs.Lists.{In, some, upTo}
+use Rattle.engine.specs.Simulation.{Pair, Edge, noEdge, oneWay, bothWays, Pattern, ruled, bit, patternOf, graphOf, asGraph, fits, matchSets, viewSheet}
 use Rattle.matching.specs.Join.{matched}
-use Rattle.matching.specs.Search.{searchOutcome, makeBookOutcome}
+use Rattle.matching.specs.Search.{viewSheets, searchOutcome, bookFor, makeBookOutcome}
 use Rattle.matching.specs.Index.{makeIndexOutcome, checkIndexOutcome, searchIndexedOutcome}
-use Rattle.matching.proofs.SimLaws.{sim-is, sim-most}
-use Rattle.matching.proofs.MatchLaws.{sound-say}
+use Rattle.engine.proofs.ListLaws.{length-each, getD-each}
+use Rattle.engine.proofs.SimLaws.{not-both as rules-differ, sim-is, sim-most}
+use Rattle.engine.proofs.MatchLaws.{sound-say}
+use Rattle.engine.proofs.AllOrNone.{sets-even}
 use Rattle.matching.proofs.MatchSetLaws.{view-sheet}
 use Rattle.matching.proofs.Covered.{narrow-query}
 use Rattle.matching.proofs.SortedGraphs.{alike-sets}
 use Rattle.matching.proofs.Listed.{listed-exactly}
 use Rattle.matching.proofs.SheetBytes.{none-bytes}
-use Rattle.matching.proofs.AllOrNone.{sets-even}
 use Rattle.matching.proofs.RecordLaws.{graph-narrow}
-use Rattle.matching.specs.Offered.{viewPatterns, Offered, offeredBy}
+use Rattle.matching.specs.Offered.{Brought, Offered, offers, ruleIn, viewAt, viewPatterns, judgeSet, withSet, offered}
+use Rattle.matching.proofs.OfferedLaws.{views-number, view-is, not-both, judged-wrong, set-judges}
 use Rattle.containment.specs.Choice.{everyView, coversIn}
-use Rattle.containment.specs.Quote.{Quoted, quotedBy, usableViews, covering, usedBy, QuoteValues, flat, one, mapping, valuesFrom, quoteValues, quoteFor}
+use Rattle.containment.specs.Quote.{noPattern, Quoted, quotedIn, quotedBy, usableViews, covering, usedBy, QuoteValues, flat, one, mapping, valuesFrom, quoteValues, quoteFor}
 use Rattle.containment.specs.Answer.{Choose, answerIn, answerFor, answerBy}
 use Rattle.containment.specs.Cheapest.{cheapestFrom, cheapestFor}
 use Rattle.containment.specs.Show.{showFor}
 use Rattle.containment.specs.Part.{withFirst, fitPart, partFor, partQuoted}
 use Rattle.containment.specs.Several.{questionAt, counted, allCovered, sheetsNeeded, answerAt, anyLong, fitSeveral, severalIn, severalOutcome}
 use Rattle.containment.specs.Listing.{lineOf, lineOutcome}
-use Rattle.containment.specs.Demands.{Full, Settles, writePattern, writeCatalogue, writeRecord, Worked, Demand1, Question, Catalogue, Record, ownOf, FewPairs, Book, extractOf, linkOf, Covered, Matching, Matched, Demand2, first, thenNone, lackingIn, chosenIn, masksIn, When, always, on, usableWhen, Timely, quoteWhen}
-use Rattle.containment.proofs.Numbered.{numbered, pattern-faults, patterns-faults, catalogue-faults, record-faults, old-faults, sheet-faults, book-faults, gives, refuses, either, workspace-settles, within-pairs-settles, own-settles, fit-settles, fitFile-settles, fitBoth-settles, read-settles, write-settles, write-short}
+use Rattle.containment.specs.Demands.{Full, Settles, writePattern, writeCatalogue, writeRecord, Worked, Demand1, Question, Catalogue, Record, ownOf, FewPairs, Book, extractOf, linkOf, Covered, Matching, Matched, Demand2, first, thenNone, lackingIn, chosenIn, masksIn, forceOf, When, always, on, usableWhen, Timely, quoteWhen}
+use Rattle.containment.proofs.Numbered.{Numbered, numbered, pattern-faults, patterns-faults, catalogue-faults, record-faults, old-faults, sheet-faults, book-faults, gives, refuses, either, workspace-settles, within-pairs-settles, own-settles, fit-settles, fitFile-settles, fitBoth-settles, read-settles, write-settles, write-short}
 use Rattle.containment.proofs.SetBits.{never, test-cases, bit-zero, bit-every}
-use Rattle.containment.specs.Terms.{judgeTerms, onDay, firstDayFor, firstDay}
+use Rattle.containment.specs.Terms.{judgeTerms, firstDayFor, firstDay}
 use Rattle.containment.specs.declared.terms.Terms.{Terms}
 use Rattle.containment.proofs.ChoiceLaws.{chosen-none, chosen-covers, chosen-needed}
-use Rattle.containment.proofs.CoveredBytes.{coveredIn, question-bounds, query-rule, views-rule, few-views, record-is}
+use Rattle.containment.proofs.CoveredBytes.{coveredIn, question-bounds, query-rule, few-views, record-is}
 use Rattle.containment.proofs.ColumnLaws.{column-in, column-out}
-use Rattle.containment.proofs.AnswerLaws.{judged-rejected}
 use Rattle.containment.proofs.QuoteLaws.{test-is, mapping-exactly, quote-says-covered}
-use Rattle.containment.proofs.DemandRules.{number-same, not-refused, goes-on, bytes-by, few-words, enough-words, enough-for, full-words, full-judged, full-twice, full-within-pairs, fitted, fitted-file, fitted-both, pattern-reads, catalogue-reads, record-reads, sheet-reads, book-reads, pattern-writes, catalogue-writes, record-writes, sheet-writes, book-writes, many-pairs-read, many-pairs-written, many-pairs-answer, listed-matched, matched-listed, covers-plain, given-by, full-answered, full-same, choice-among, shows-both, shows-full}
-use Rattle.containment.proofs.DemandFiles.{hands-up, says-judged, says-quoted, says-give, says-fit, says-fit-file, says-within-pairs, says-own, says-quote, says-cheapest, says-answer, says-show, Says}
+use Rattle.containment.proofs.DemandRules.{number-same, not-refused, bytes-by, few-words, enough-words, enough-for, full-words, full-judged, full-twice, full-offered, full-within-pairs, fitted, fitted-file, fitted-both, pattern-reads, catalogue-reads, record-reads, sheet-reads, book-reads, pattern-writes, catalogue-writes, record-writes, sheet-writes, book-writes, many-pairs-read, many-pairs-written, many-pairs-answer, listed-matched, matched-listed, covers-plain, given-by, full-answered, full-same, choice-among, shows-both, shows-full}
+use Rattle.containment.proofs.DemandFiles.{hands-up, says-judged, says-offered, says-quoted, says-give, says-fit, says-fit-file, says-within-pairs, says-own, says-quote, says-cheapest, says-answer, says-show, Says}
 use Rattle.containment.proofs.Parts.{many-pairs-part}
-use Rattle.containment.proofs.Severals.{several-hands-up, several-reads-none, many-pairs-several}
-use Rattle.containment.proofs.WhenLaws.{right-or-wrong, right-judged, wrong-judged, byWhen, goes-on-when, quote-by, cheapest-by, part-by, show-by, show-goes-on, full-when, says-when, says-part, refused-when}
+use Rattle.containment.proofs.Severals.{several-hands-up, several-reads-none, many-pairs-several, several-19}
+use Rattle.containment.proofs.WhenLaws.{terms-judges, byWhen, goes-on-when, quote-by, cheapest-by, part-by, show-by, show-goes-on, full-when, says-when, says-part, refused-when, make-book-19, quote-19, cheapest-19, part-19, show-19, first-day-19, answer-19}
 use Rattle.containment.proofs.DemandIndex.{index-made, check-exactly, check-yes, search-exactly, check-whole, search-whole, way-same, way-searched}
 use Rattle.containment.proofs.DemandSheets.{pair-fields, searched-back, searched-length, book-made, views-sound}
 
@@ -69,6 +70,22 @@ unfolding readCatalogue judged
 catalogue-first [] h = h (0 ∷ [])
 catalogue-first (b ∷ s) h = read-settles 897 2 catalogue-faults (b ∷ s) h
 
+-- what is judged beside it: terms, and a set
+judged-first : (v : Verdict) {k : List ℕ → Outcome} → ((n d : ℕ) → v ≡ rejected n d → Numbered n) → ((ws : List ℕ) → Settles (k ws)) → Settles (judged v k)
+unfolding judged
+judged-first (accepted ws) f h = h ws
+judged-first (rejected n d) f h = refuses d (f n d refl)
+
+terms-first : (t : Terms) (k : ℕ) {a : Outcome} → Settles a → Settles (judged (judgeTerms t k) (λ _. a))
+terms-first t k h = judged-first (judgeTerms t k) (λ n d e. let z = judged-wrong (terms-judges t k) e in record { least = omega arith; most = omega arith }) (λ _. h)
+
+set-first : (set : ℕ) (ws : List ℕ) (k : Offered → Outcome) → Settles (k (offers ws set)) → Settles (withSet set ws k)
+set-first set ws k h =
+    judged-first (judgeSet set (length (viewsOf ws))) (λ n d e. let z = judged-wrong (set-judges set (length (viewsOf ws))) e in record { least = omega arith; most = omega arith }) (λ _. h)
+
+offered-first : (c : Brought) (k : Offered → Outcome) → ((o : Offered) → Settles (k o)) → Settles (offered c k)
+offered-first c k h = catalogue-first (c .file) (λ ws. set-first (c .oneWay) ws k (h (offers ws (c .oneWay))))
+
 record-first : (s : List ℕ) {k : List ℕ → Outcome} → ((ws : List ℕ) → Settles (k ws)) → Settles (judged (readRecord s) k)
 record-first s h = read-settles 44036 3 record-faults s h
 
@@ -76,10 +93,10 @@ answer-settles : (set : ℕ) (x : Quoted) (bs : List ℕ) (room : ℕ) → Settl
 unfolding answerIn
 answer-settles set x bs room = within-pairs-settles (edgeCounts (x .offer .content)) bs (either (covering x set) (fitFile-settles room _) (refuses _ (numbered 11 refl refl)))
 
-answered-settles : (choose : Choose) (q c b : List ℕ) (room : ℕ) → Settles (answerBy choose q c b room)
+answered-settles : (choose : Choose) (q : List ℕ) (c : Brought) (b : List ℕ) (room : ℕ) → Settles (answerBy choose q c b room)
 unfolding answerBy answerFor
 answered-settles choose q c b room =
-    pattern-first q (λ qs. catalogue-first c (λ cs. read-settles 65536 4 (book-faults (edgeCounts cs)) b (λ bs. answer-settles (choose (quotedBy qs cs)) (quotedBy qs cs) bs room)))
+    pattern-first q (λ qs. offered-first c _ (λ cs. read-settles 65536 4 (book-faults (edgeCounts (cs .content))) b (λ bs. answer-settles (choose (quotedBy qs cs)) (quotedBy qs cs) bs room)))
 
 -- an output before those of an outcome
 fit-part-settles : (room : ℕ) (o : List ℕ) {a : Outcome} → Settles a → Settles (fitPart room o a)
@@ -113,27 +130,21 @@ fit-several-settles room needed o n = either (ltb room (length (flatten (upTo o 
 several-settles : (x : ℕ → Quoted) (n : ℕ) (o : Offered) (bs : List ℕ) (room : ℕ) → Settles (severalIn x n o bs room)
 unfolding severalIn
 several-settles x n o bs room =
-    within-pairs-settles (edgeCounts (o .content)) bs (covered-settles x n (fit-several-settles room (sheetsNeeded x n (length (o .views))) (answerAt x (sheetsIn (edgeCounts (o .content)) bs)) n))
+    within-pairs-settles (edgeCounts (o .content)) bs (covered-settles x n (fit-several-settles room (sheetsNeeded x n (length (viewPatterns o))) (answerAt x (sheetsIn (edgeCounts (o .content)) bs)) n))
 
 cheapest-settles : (charges : List ℕ) (x : Quoted) → Settles (cheapestFor charges x)
 unfolding cheapestFor cheapestFrom
 cheapest-settles charges x =
-    either (eqb (length charges) (length (x .offer .views))) (either (covering x (x .usable)) (gives _ []) (refuses _ (numbered 11 refl refl))) (refuses _ (numbered 15 refl refl))
+    either (eqb (length charges) (length (viewPatterns (x .offer)))) (either (covering x (x .usable)) (gives _ []) (refuses _ (numbered 11 refl refl))) (refuses _ (numbered 15 refl refl))
 
 show-settles : (room room′ : ℕ) (x : Quoted) → Settles (showFor room room′ x)
 unfolding showFor
 show-settles room room′ x = either (covering x (x .usable)) (refuses 0 (numbered 13 refl refl)) (fitBoth-settles room room′ _ _)
 
--- terms are judged between
-terms-settles : (t : Terms) (k : ℕ) {a : Outcome} → Settles a → Settles (judged (judgeTerms t k) (λ _. a))
-terms-settles t k {a} h =
-    ⊎-elim (λ r. subst Settles (sym (goes-on _ (right-judged t k r))) h)
-    (λ x. subst Settles (sym (judged-rejected _ (wrong-judged t k (x .0) (x .1)))) (refuses (x .0) (numbered 18 refl refl)))
-    (right-or-wrong t k)
-
-when-settles : (w : When) (q c : List ℕ) (k : Quoted → Outcome) → ((x : Quoted) → Settles (k x)) → Settles (byWhen w q c k)
-when-settles always q c k h = pattern-first q (λ qs. catalogue-first c (λ cs. h (quotedBy qs cs)))
-when-settles (on t day) q c k h = pattern-first q (λ qs. catalogue-first c (λ cs. terms-settles t (length (viewPatterns cs)) (h (onDay t day (quotedBy qs cs)))))
+when-settles : (w : When) (q : List ℕ) (c : Brought) (k : Quoted → Outcome) → ((x : Quoted) → Settles (k x)) → Settles (byWhen w q c k)
+when-settles always q c k h = pattern-first q (λ qs. offered-first c _ (λ cs. h (quotedBy qs cs)))
+when-settles (on t day) q c k h =
+    pattern-first q (λ qs. catalogue-first (c .file) (λ ws. terms-first t (length (viewsOf ws)) (set-first (c .oneWay) ws (λ o. k (quotedIn (forceOf t day o) qs o)) (h _))))
 
 full-answer : (set : ℕ) (x : Quoted) (bs : List ℕ) (room : ℕ) → Full (answerIn set x bs room) → FewPairs (x .offer .content) bs
 unfolding answerIn
@@ -147,8 +158,8 @@ worked work work′ e = record {
   as-came = λ h. e ∙ rw (lt-ltb (length work) 16384 h);
 }
 
--- a quote refuses what a file or terms are refused with, and nothing else
-quote-few : (w : When) (q c : List ℕ) {d : ℕ} → quoteWhen w q c ≡ refuse 11 d → ⊥
+-- a quote refuses what a file, terms or a set are refused with, and nothing else
+quote-few : (w : When) (q : List ℕ) (c : Brought) {d : ℕ} → quoteWhen w q c ≡ refuse 11 d → ⊥
 unfolding quoteFor
 quote-few w q c e =
     ⊎-elim (λ l. omega arith) (λ x. ⊎-elim (λ z. omega arith) (λ y. not-refused (y .1)) x) (refused-when w q c quoteFor (sym (quote-by q c w) ∙ e))
@@ -182,7 +193,7 @@ demand-1 = record {
   make-index = λ r room words. workspace-settles words (record-first r (λ rs. fit-settles room (ownOf rs)));
   check-index = λ r index words. workspace-settles words (record-first r (λ rs. own-settles (ownOf rs) index (gives _ [])));
   search-indexed = λ p r index room words. workspace-settles words (pattern-first p (λ ps. record-first r (λ rs. own-settles (ownOf rs) index (fitFile-settles room _))));
-  make-book = λ c r room words. workspace-settles words (catalogue-first c (λ cs. record-first r (λ rs. fitFile-settles room _)));
+  make-book = λ c r room words. workspace-settles words (offered-first c (λ cs. bookFor cs r room) (λ cs. record-first r (λ rs. fitFile-settles room _)));
   quote = λ w q c words. workspace-settles words (subst Settles (sym (quote-by q c w)) (when-settles w q c quoteFor (λ x. gives _ [])));
   cheapest = λ w q c charges words. workspace-settles words (subst Settles (sym (cheapest-by q c w charges)) (when-settles w q c (cheapestFor charges) (cheapest-settles charges)));
   first-day = λ q c t day words. workspace-settles words (when-settles (on t day) q c (firstDayFor t day) (λ x. gives _ []));
@@ -192,8 +203,8 @@ demand-1 = record {
   several = λ q number c b room words.
       workspace-settles words
       (either (eqb number 0 || ltb 8 number) (refuses _ (numbered 17 refl refl))
-      (read-settles (56 * number) 1 (patterns-faults number) q (λ ws. catalogue-first c (λ cs. read-settles 65536 4 (book-faults (edgeCounts cs)) b (λ bs.
-      several-settles (questionAt number ws (offeredBy cs)) number (offeredBy cs) bs room)))));
+      (read-settles (56 * number) 1 (patterns-faults number) q (λ ws. offered-first c _ (λ cs. read-settles 65536 4 (book-faults (edgeCounts (cs .content))) b (λ bs.
+      several-settles (questionAt number ws cs) number cs bs room)))));
   line = λ q k room. fit-settles room (lineOf q k);
   read-pattern-files = λ s room. hands-up (says-judged (readPattern s) (λ ws _. says-fit room ws));
   read-catalogue-files = λ s room. hands-up (says-judged (readCatalogue s) (λ ws _. says-fit room ws));
@@ -209,18 +220,28 @@ demand-1 = record {
   make-index-files = λ r room. hands-up (says-judged (readRecord r) (λ rs _. says-fit room _));
   check-index-files = λ r index. hands-up (says-judged (readRecord r) (λ rs _. says-own (ownOf rs) index (says-give _ _)));
   search-indexed-files = λ p r index room. hands-up (says-judged (readPattern p) (λ ps _. says-judged (readRecord r) (λ rs _. says-own (ownOf rs) index (says-fit-file room _))));
-  make-book-files = λ c r room. hands-up (says-judged (readCatalogue c) (λ cs _. says-judged (readRecord r) (λ rs _. says-fit-file room _)));
+  make-book-files = λ c r room. hands-up (says-offered c (λ cs. bookFor cs r room) (λ cs. says-judged (readRecord r) (λ rs _. says-fit-file room _)));
   quote-files = λ w q c. hands-up (subst (Says _) (sym (quote-by q c w)) (says-when w q c thenNone quoteFor says-quote));
   cheapest-files = λ w q c charges. hands-up (subst (Says _) (sym (cheapest-by q c w charges)) (says-when w q c thenNone (cheapestFor charges) (says-cheapest charges)));
   first-day-files = λ q c t day. hands-up (says-when (on t day) q c thenNone (firstDayFor t day) (λ x. says-give _ _));
   answer-files = λ choose q c b room.
-      hands-up (says-quoted q c (answerFor choose b room) (λ qs cs. says-judged (readBook cs b) (λ bs _. says-answer (choose (quotedBy qs cs)) (quotedBy qs cs) bs room)));
+      hands-up (says-quoted q c (answerFor choose b room) (λ qs cs. says-judged (readBook (cs .content) b) (λ bs _. says-answer (choose (quotedBy qs cs)) (quotedBy qs cs) bs room)));
   show-files = λ w q c room room′. hands-up (subst (Says _) (sym (show-by q c w room room′)) (says-when w q c thenNone (showFor room room′) (says-show room room′)));
   part-files = λ w q c b room room′. hands-up (subst (Says _) (sym (part-by q c w b room room′)) (says-when w q c (λ cs. first (readBook cs b) thenNone) (partFor b room room′) (says-part b room room′)));
   several-files = several-hands-up;
   several-unread = several-reads-none;
   never-long = λ ws d. (write-short 1 pattern-faults ws d, write-short 2 catalogue-faults ws d, write-short 3 record-faults ws d);
   never-long-beside = λ cs ws d. (write-short 4 (sheet-faults (edgesOf cs)) ws d, write-short 4 (book-faults (edgeCounts cs)) ws d);
+  make-book-set = make-book-19;
+  quote-set = λ w q c qs cs p d y. quote-19 q c qs cs p d w y;
+  cheapest-set = λ w q c qs cs charges p d y. cheapest-19 q c qs cs p d w y charges;
+  first-day-set = λ q c qs cs t day p d y. first-day-19 q c qs cs p d t day y;
+  answer-set = λ choose q c b qs cs room p d. answer-19 q c qs cs p d choose b room;
+  show-set = λ w q c qs cs room room′ p d y. show-19 q c qs cs p d w y room room′;
+  part-set = λ w q c b qs cs room room′ p d y. part-19 q c qs cs p d w y b room room′;
+  several-set = several-19;
+  right-or-wrong-set = λ set k. set-judges set k .either;
+  not-both-sets = λ set k. not-both (set-judges set k);
   quote-never = λ w q c words d e. quote-few w q c (enough-for words _ (λ z. let y = number-same z in omega arith) e .1);
   small-workspace = λ a words. few-words words a;
   enough = λ a words. enough-words words a;
@@ -248,7 +269,7 @@ demand-1 = record {
   search-only = λ p r room words f. let t = full-twice _ _ _ (full-words words _ f) in (t .0, t .1, t .2, t .3);
   search-indexed-only = search-whole;
   make-book-gives = λ c r cs rs e f room words. fitted-file _ words room _ (book-made c r cs rs e f room);
-  make-book-only = λ c r room words f. let t = full-twice _ _ _ (full-words words _ f) in (t .0, t .1, t .2, t .3);
+  make-book-only = λ c r room words f. let t = full-offered c (λ cs. bookFor cs r room) (full-words words _ f) in let u = full-judged _ _ (t .2) in (t .0, u .0, t .1, u .1);
   make-index-gives = λ r rs f room words. fitted _ words room _ (index-made r rs f room);
   make-index-only = λ r room words f. let t = full-judged _ _ (full-words words _ f) in (t .0, t .1);
   check-accepts = λ r rs index f words. check-yes r rs f index words;
@@ -259,10 +280,11 @@ demand-1 = record {
   answer-gives = λ choose q c b qs cs bs e f k h room words. fitted-file _ words room _ (given-by q c qs cs e f b bs k choose room h);
   answer-only = λ choose q c b room words f.
       let w = full-words words (answerBy choose q c b room) f in
-      let t = full-twice _ _ _ w in
-      let z = full-judged _ _ (t .4) in
-      let k : Book (t .1) b (z .0) = record { read = z .1; few = full-answer _ (quotedBy (t .0) (t .1)) _ room (z .2) } in
-      (t .0, t .1, z .0, t .2, t .3, k, full-answered q c (t .0) (t .1) (t .2) (t .3) b (z .0) k choose room w);
+      let t = full-judged (readPattern q) _ w in
+      let u = full-offered c (λ o. answerFor choose b room (quotedBy (t .0) o)) (t .2) in
+      let z = full-judged _ _ (u .2) in
+      let k : Book (u .0 .content) b (z .0) = record { read = z .1; few = full-answer _ (quotedBy (t .0) (u .0)) _ room (z .2) } in
+      (t .0, u .0, z .0, t .1, u .1, k, full-answered q c (t .0) (u .0) (t .1) (u .1) b (z .0) k choose room w);
   show-gives = λ w q c qs cs e f y n room room′ words. fitted-both _ words room room′ _ _ (show-goes-on w q c qs cs e f y room room′ ∙ shows-both (usableWhen w cs) qs cs room room′ n);
   show-only = λ w q c room room′ words f.
       let t = full-when w q c (showFor room room′) (full-same (show-by q c w room room′) (full-words words _ f)) in
@@ -279,7 +301,7 @@ pub lists-exactly : (r rs : List ℕ) → Record r rs → (P : Pattern) (i : ℕ
     → In (code (f .0) (f .1)) (getD (matchSets P (graphOf rs)) i []) ↔ Matching P (graphOf rs) (getD (P .edges) i noEdge) f
 lists-exactly r rs e P i h f k = listed-exactly P (graphOf rs) (graph-narrow r rs (record-is r rs e)) i h f k
 
-quote-exactly : (q c qs cs : List ℕ) → Question q qs → Catalogue c cs → Covered qs cs ↔ ((e : Edge) → In e (patternOf qs .edges) → Matched (patternOf qs) (viewPatterns cs) e)
+quote-exactly : (q : List ℕ) (c : Brought) (qs : List ℕ) (cs : Offered) → Question q qs → Catalogue c cs → Covered qs cs ↔ ((e : Edge) → In e (patternOf qs .edges) → Matched (patternOf qs) (viewPatterns cs) e)
 quote-exactly q c qs cs eq ec =
     let x = quote-says-covered (patternOf qs) (viewPatterns cs) (few-views c cs ec) (question-bounds q qs eq .few-edges) in
     let m : length (patternOf qs .edges) ≡ edgesOf qs = question-bounds q qs eq .many in
@@ -289,7 +311,7 @@ quote-exactly q c qs cs eq ec =
     )
 
 -- the masks of a quote
-maps-exactly : (set : ℕ) (q c qs cs : List ℕ) → Question q qs → Catalogue c cs → (i a f : ℕ) → i < edgesOf qs → a < length (viewPatterns cs) → f < length (extractOf cs a .edges)
+maps-exactly : (set : ℕ) (q : List ℕ) (c : Brought) (qs : List ℕ) (cs : Offered) → Question q qs → Catalogue c cs → (i a f : ℕ) → i < edgesOf qs → a < length (viewPatterns cs) → f < length (extractOf cs a .edges)
     → T (bit (getD (masksIn set qs cs) (16 * i + a) 0) f)
     ↔ (T (bit set a) × (getD (extractOf cs a .edges) f noEdge .kind ≡ linkOf qs i .kind) × In (code (linkOf qs i .from) (linkOf qs i .to)) (getD (viewSheet (extractOf cs a) (asGraph (patternOf qs))) f []))
 maps-exactly set q c qs cs eq ec i a f h l k =
@@ -312,10 +334,10 @@ maps-exactly set q c qs cs eq ec i a f h l k =
     (test-cases (bit set a))
 
 -- the values of a quote
-abbrev valuesBy : ℕ → List ℕ → List ℕ → Bool → ℕ → QuoteValues
+abbrev valuesBy : ℕ → List ℕ → Offered → Bool → ℕ → QuoteValues
 valuesBy usable qs cs b set = record { covered = one b; mapping = masksIn usable qs cs; edges = edgesOf qs; chosen = set; lowest = pick b 0 (lackingIn usable qs cs) }
 
-quote-values : (w : When) (q c qs cs : List ℕ) → Question q qs → Catalogue c cs → Timely cs w → (b : Bool) → coveredIn (usableWhen w cs) qs cs ≡ b
+quote-values : (w : When) (q : List ℕ) (c : Brought) (qs : List ℕ) (cs : Offered) → Question q qs → Catalogue c cs → Timely cs w → (b : Bool) → coveredIn (usableWhen w cs) qs cs ≡ b
     → quoteWhen w q c ≡ give (flat (valuesBy (usableWhen w cs) qs cs b (chosenIn (usableWhen w cs) qs cs))) []
 unfolding quoteFor quoteValues valuesFrom
 quote-values w q c qs cs eq ec y b h = quote-by q c w ∙ goes-on-when w q c qs cs eq ec y quoteFor ∙ rw h
@@ -327,7 +349,7 @@ one-same false true e = absurd (omega arith)
 one-same false false e = refl
 
 -- which is all that it says of coverage
-quote-says : (w : When) (q c qs cs : List ℕ) → Question q qs → Catalogue c cs → Timely cs w → (b : Bool) (words : ℕ)
+quote-says : (w : When) (q : List ℕ) (c : Brought) (qs : List ℕ) (cs : Offered) → Question q qs → Catalogue c cs → Timely cs w → (b : Bool) (words : ℕ)
     → ((v : QuoteValues) × (withWorkspace words (quoteWhen w q c) ≡ give (flat v) []) × (v .covered ≡ one b)) ↔ ((16384 ≤ words) × (coveredIn (usableWhen w cs) qs cs ≡ b))
 unfolding flat
 quote-says w q c qs cs eq ec y b words = (
@@ -338,15 +360,37 @@ quote-says w q c qs cs eq ec y b words = (
   λ x. (valuesBy (usableWhen w cs) qs cs b (chosenIn (usableWhen w cs) qs cs), enough-words words (quoteWhen w q c) (x .0) ∙ quote-values w q c qs cs eq ec y b (x .1), refl),
 )
 
+-- the extract a: the pattern at its place, by the rule that the set says
+module _ (cs : Offered) (a : ℕ) (l : a < length (viewPatterns cs)) where
+  extract-at : extractOf cs a ≡ viewAt cs a
+  extract-at = view-is cs a noPattern (omega (arith, views-number cs))
+
+  one-way-in : T (bit (cs .oneWay) a) → extractOf cs a .rule ≡ oneWay
+  unfolding ruleIn
+  one-way-in t = ap (λ (P : Pattern). P .rule) extract-at ∙ rw (test-is (bit (cs .oneWay) a) .1 t)
+
+  both-ways-out : (T (bit (cs .oneWay) a) → ⊥) → extractOf cs a .rule ≡ bothWays
+  unfolding ruleIn
+  both-ways-out f = ap (λ (P : Pattern). P .rule) extract-at ∙ ⊎-elim (λ y. absurd (f (test-is _ .0 y))) (λ n. rw n) (test-cases (bit (cs .oneWay) a))
+
+  extract-ruled : extractOf cs a ≡ ruled (extractOf cs a .rule) (patternOf (getD (viewsOf (cs .content)) a []))
+  extract-ruled = extract-at ∙ sym (ap (λ (P : Pattern). ruled (P .rule) (patternOf (getD (viewsOf (cs .content)) a []))) extract-at)
+
 pub demand-2 : Demand2
-unfolding fieldsOf ends
+unfolding fits fieldsOf ends viewSheets
 demand-2 = record {
   both-ways = query-rule;
-  extracts-both-ways = views-rule;
+  extract-one-way = one-way-in;
+  extract-both-ways = both-ways-out;
+  extract-is = extract-ruled;
+  extracts-many = views-number;
   simulates = sim-is;
   greatest = sim-most;
+  one-way-too = λ P G R s. record { fit = s .fit; follow = s .follow; arrive = λ e. absurd (rules-differ e) };
   searches = way-searched;
   books = book-made;
+  sheets-many = λ cs G. length-each (λ P. viewSheet P G) (viewPatterns cs);
+  sheet-each = λ cs G a l. getD-each (λ P. viewSheet P G) (viewPatterns cs) a noPattern [] l;
   same-either-way = λ way p r rs f room words. ap (withWorkspace words) (way-same way p r rs f room);
   lists = lists-exactly;
   lists-in-question = λ q qs e P i h f k.

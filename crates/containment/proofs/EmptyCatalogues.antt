@@ -1,5 +1,5 @@
 -- What holds of the empty catalogue.
-use Prim.Native.Nat.{ℕ, zero, suc, _%_, _<_, _≤_}
+use Prim.Native.Nat.{ℕ, zero, suc, _%_, _^_, _<_, _≤_}
 use mathlib.Core.Path.{_≡_, refl, sym, ap, _∙_}
 use mathlib.Core.Logic.{_↔_}
 use mathlib.Core.List.{List, [], _∷_, flatten}
@@ -17,6 +17,10 @@ use Rattle.packed.proofs.AcceptedTurns.{no-turns}
 use Rattle.packed.proofs.Accepted.{catalogue-accepted, catalogue-some, zero-byte, read-alike, book-read}
 use Rattle.packed.proofs.CallLaws.{read-finds, catalogue-empty}
 use Rattle.packed.proofs.CallRoundTrips.{written-some}
+use Rattle.engine.specs.Lists.{each, upTo}
+use Rattle.engine.specs.Simulation.{bit}
+use Rattle.matching.specs.Offered.{brings, viewPatterns, RightSet}
+use Rattle.engine.proofs.MaskBits.{few-lt}
 use Rattle.matching.specs.Search.{bookBytes, viewSheets, makeBookOutcome}
 use Rattle.containment.specs.Quote.{Quoted, quoteFor}
 use Rattle.containment.specs.Cheapest.{cheapestFor}
@@ -26,6 +30,8 @@ use Rattle.containment.specs.Show.{showFor}
 use Rattle.containment.specs.Part.{partFor}
 use Rattle.containment.specs.Terms.{firstDayFor, firstDay}
 use Rattle.containment.specs.Demands.{Book, When, always, on, EmptyCatalogues}
+use Rattle.containment.proofs.SetBits.{never, bit-zero, bit-lt}
+use Rattle.containment.proofs.QuoteLaws.{test-is}
 use Rattle.containment.proofs.DemandRules.{goes-on, written}
 use Rattle.containment.proofs.WhenLaws.{byWhen, quote-by, cheapest-by, part-by, show-by}
 
@@ -75,33 +81,44 @@ after-none b h = let z : length (bits b) % 8 ≡ 0 = omega (arith, length-bits b
 byte-refused : (b : List ℕ) → 0 < length b → length b ≤ 65536 → readBook (0 ∷ []) b ≡ rejected 9 4
 byte-refused b h l = rw no-counts (read-finds 65536 4 (book []) b l .is ∙ ap (inFile 4) (after-none b h))
 
+-- ---- its set
+none-named : (one : ℕ) → one < 2 ^ 16 → RightSet one 0 ↔ (one ≡ 0)
+none-named one l = (
+  λ h. let z = few-lt 0 one (λ a t. h a (bit-lt one a 16 (test-is _ .1 t) l) t) in omega arith,
+  λ e a h t. never (sym (test-is _ .1 t) ∙ ap (λ (x : ℕ). bit x a) e ∙ bit-zero a),
+)
+
 -- a call that goes by all views or is for a day
-when-alike : (w : When) (q : List ℕ) (k : Quoted → Outcome) → byWhen w q [] k ≡ byWhen w q (0 ∷ []) k
-when-alike always q k = rw read-alike
-when-alike (on t day) q k = rw read-alike
+when-alike : (one : ℕ) (w : When) (q : List ℕ) (k : Quoted → Outcome) → byWhen w q (brings [] one) k ≡ byWhen w q (brings (0 ∷ []) one) k
+when-alike one always q k = rw read-alike
+when-alike one (on t day) q k = rw read-alike
 
 pub empty-catalogues : EmptyCatalogues
-unfolding viewsOf patternsIn viewSheets bookBytes catalogueRead bookRead bookWritten makeBookOutcome answerBy severalOutcome firstDay
+unfolding viewsOf patternsIn viewPatterns upTo viewSheets each bookBytes catalogueRead bookRead bookWritten makeBookOutcome answerBy severalOutcome firstDay
 empty-catalogues = record {
   empty = catalogue-empty [] refl;
   byte-00 = sym read-alike ∙ catalogue-empty [] refl;
-  no-extracts = refl;
+  no-extracts = λ one. refl;
+  empty-set = λ c one l e. (λ h. none-named one l .0 (h .named), λ z. record { paper = e; set = refl; named = none-named one l .1 z });
   read-catalogue = λ room words. rw read-alike;
   read-book = λ s room words. rw read-alike;
   write-book = λ ws room words. rw read-alike;
-  make-book = λ r room words. rw read-alike;
-  quote = λ w q words. ap (withWorkspace words) (quote-by q [] w ∙ when-alike w q quoteFor ∙ sym (quote-by q (0 ∷ []) w));
-  cheapest = λ w q charges words. ap (withWorkspace words) (cheapest-by q [] w charges ∙ when-alike w q (cheapestFor charges) ∙ sym (cheapest-by q (0 ∷ []) w charges));
-  first-day = λ q t day words. ap (withWorkspace words) (when-alike (on t day) q (firstDayFor t day));
-  answer = λ choose q b room words. rw read-alike;
-  several = λ q number b room words. rw read-alike;
-  show = λ w q room room′ words. ap (withWorkspace words) (show-by q [] w room room′ ∙ when-alike w q (showFor room room′) ∙ sym (show-by q (0 ∷ []) w room room′));
-  part = λ w q b room room′ words. ap (withWorkspace words) (part-by q [] w b room room′ ∙ when-alike w q (partFor b room room′) ∙ sym (part-by q (0 ∷ []) w b room room′));
+  make-book = λ one r room words. rw read-alike;
+  quote = λ one w q words. ap (withWorkspace words) (quote-by q (brings [] one) w ∙ when-alike one w q quoteFor ∙ sym (quote-by q (brings (0 ∷ []) one) w));
+  cheapest = λ one w q charges words.
+      ap (withWorkspace words) (cheapest-by q (brings [] one) w charges ∙ when-alike one w q (cheapestFor charges) ∙ sym (cheapest-by q (brings (0 ∷ []) one) w charges));
+  first-day = λ one q t day words. ap (withWorkspace words) (when-alike one (on t day) q (firstDayFor t day));
+  answer = λ one choose q b room words. rw read-alike;
+  several = λ one q number b room words. rw read-alike;
+  show = λ one w q room room′ words.
+      ap (withWorkspace words) (show-by q (brings [] one) w room room′ ∙ when-alike one w q (showFor room room′) ∙ sym (show-by q (brings (0 ∷ []) one) w room room′));
+  part = λ one w q b room room′ words.
+      ap (withWorkspace words) (part-by q (brings [] one) w b room room′ ∙ when-alike one w q (partFor b room room′) ∙ sym (part-by q (brings (0 ∷ []) one) w b room room′));
   written = written-00;
   has-none = λ ws q. let l = catalogue-some [] ws q in omega arith;
   never-written = λ ws room words e. let l = written-some [] ws room words e in omega arith;
   no-words = none-written;
   book = book-none;
   any-byte = byte-refused;
-  made = λ rs. refl;
+  made = λ one rs. refl;
 }

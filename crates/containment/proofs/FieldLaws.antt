@@ -19,9 +19,9 @@ use Rattle.packed.proofs.OrderCases.{lt-or-ge, eq-or-ne}
 use Rattle.packed.proofs.DistinctAbsorb.{sorted-front}
 use Rattle.packed.proofs.EdgePlaces.{each-length, each-at, each-more}
 use Rattle.packed.proofs.SortedEdges.{ranks-differ, ranks-length}
-use Rattle.matching.specs.Simulation.{Edge, between, noEdge}
-use Rattle.matching.specs.Loaded.{givenEdge as givenAt}
-use Rattle.matching.proofs.UpToLaws.{getD-upTo}
+use Rattle.engine.specs.Simulation.{Edge, between, noEdge}
+use Rattle.engine.specs.Loaded.{givenEdge as givenAt}
+use Rattle.engine.proofs.UpToLaws.{getD-upTo}
 use Rattle.matching.proofs.PatternLaws.{nodes-in, edges-in, edges-are, labels-same, edges-same}
 use Rattle.matching.proofs.EdgeLaws.{edgeAt, edge-at}
 use Rattle.containment.specs.Steps.{powers, edgesBut, RanksFront, labelFields, fieldsBut, Front, Extends, HoldsFields, shownFields}

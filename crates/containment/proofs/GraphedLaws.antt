@@ -8,11 +8,11 @@ use native.Mathlib.Omega.{arith}
 use native.Mathlib.Nat.{sub-zero}
 use Rattle.packed.specs.Format.{ok, decode}
 use Rattle.packed.specs.Formats.{record′}
-use Rattle.packed.specs.Calls.{rejected, readRecord}
+use Rattle.packed.specs.Calls.{rejected, readRecord, recordBytes}
 use Rattle.packed.specs.declared.by_value.Pattern.{Pattern as Given}
 use Rattle.packed.proofs.Sets.{sets-front}
 use Rattle.packed.proofs.CallLaws.{read-finds, accepted-by}
-use Rattle.containment.specs.Show.{graphFields, recordBytes}
+use Rattle.containment.specs.Show.{graphFields}
 use Rattle.containment.specs.Steps.{Query, Graphed, shownFields}
 use Rattle.containment.proofs.QueryLaws.{few-edges, shown-whole, shown-made}
 

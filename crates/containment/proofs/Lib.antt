@@ -1,6 +1,7 @@
 -- sets of views and what they cover
 pub mod SetBits
 pub mod ChoiceLaws
+pub mod MaskedLaws
 pub mod ColumnLaws
 pub mod CheapestLaws
 pub mod TriesLaws

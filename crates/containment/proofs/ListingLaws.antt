@@ -13,7 +13,7 @@ use Rattle.packed.specs.Format.{pick}
 use Rattle.packed.specs.Refusals.{numberOf, detailOf}
 use Rattle.packed.specs.declared.reply.Refusal.the-variants.{NoRoom}
 use Rattle.packed.proofs.OrderCases.{lt-or-ge}
-use Rattle.matching.specs.Simulation.{bit}
+use Rattle.engine.specs.Simulation.{bit}
 use Rattle.containment.specs.Listing.{digits, decimal, concat, edgeText, edgesText, viewsText, viewText, chosenText, orNone, bytes, firstLine, refusedLine, linkLine, chosenLine, linesAfter, lineOf}
 use Rattle.containment.specs.declared.quote_type.Coverage.{Coverage}
 use Rattle.containment.specs.declared.quote_type.Coverage.the-variants as coverage-is

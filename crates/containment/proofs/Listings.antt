@@ -8,8 +8,9 @@ use borrow.Author.Tests.{lt-ltb, le-ltb}
 use Rattle.packed.specs.Contents.{edgesOf}
 use Rattle.packed.specs.Refusals.{Told, told, numberOf}
 use Rattle.packed.specs.Calls.{give, toldOf, fronts, outputsOf, fit, Settled, FulfilsOne, withWorkspace}
-use Rattle.matching.specs.Simulation.{patternOf}
-use Rattle.matching.specs.Offered.{viewPatterns}
+use Rattle.packed.proofs.RefusalNumbers.{refusal-numbered}
+use Rattle.engine.specs.Simulation.{patternOf}
+use Rattle.matching.specs.Offered.{Brought, Offered, viewPatterns}
 use Rattle.containment.specs.Quote.{quotedIn, QuoteValues, flat, blank, one, mapping, valuesFrom, quoteValues, quoteFor, quoteTold}
 use Rattle.containment.specs.Listing.{linesAfter, chosenLine, lineOf, lineOutcome}
 use Rattle.containment.specs.Demands.{Question, Catalogue, Leaves, masksIn, When, usableWhen, Timely, quoteWhen, UncoveredListing, Listings}
@@ -18,7 +19,6 @@ use Rattle.containment.specs.declared.quote_type.Coverage.the-variants a
 use Rattle.containment.specs.declared.quote_type.Quote.{Quote}
 use Rattle.containment.proofs.ChoiceLaws.{chosen-none}
 use Rattle.containment.proofs.ListingLaws.{line-first, line-beyond, line-last, line-link, line-length}
-use Rattle.containment.proofs.Numbered.{refusal-numbered}
 use Rattle.containment.proofs.WhenLaws.{goes-on-when, quote-by}
 
 -- ---- a quote's values stand in what it tells
@@ -49,7 +49,7 @@ module _ (v : QuoteValues) (none : v .covered ≡ 0) where
   told-by (coverage-is.Refused x) t m set e h = absurd (let n = refusal-numbered x .least in let z : numberOf x ≡ 0 = cc in omega arith)
 
 -- ---- the listing
-module _ (w : When) (q c qs cs : List ℕ) (eq : Question q qs) (ec : Catalogue c cs) (y : Timely cs w) (no : Leaves (usableWhen w cs) qs cs) (r : Quote) where
+module _ (w : When) (q : List ℕ) (c : Brought) (qs : List ℕ) (cs : Offered) (eq : Question q qs) (ec : Catalogue c cs) (y : Timely cs w) (no : Leaves (usableWhen w cs) qs cs) (r : Quote) where
   abbrev values : QuoteValues
   values = quoteValues (quotedIn (usableWhen w cs) qs cs)
 

@@ -1,33 +1,31 @@
 -- The table of a quote: the masks of each view, column by column.
 use Prim.Native.Nat.{ℕ, zero, suc, _+_, _*_, _/_, _%_, _^_, _<_, _≤_}
 use mathlib.Core.Path.{_≡_, refl, sym, ap, subst, _∙_}
-use mathlib.Core.Bool.{Bool, true, false}
-use mathlib.Core.Logic.{_⊎_, inl, inr, ⊎-elim}
+use mathlib.Core.Bool.{false}
+use mathlib.Core.Logic.{_⊎_, ⊎-elim}
 use mathlib.Core.List.{List, [], _∷_, _++_}
-use lib.ListN.{length, take, drop, getD, set, replicate, length-append, length-set, length-map, length-replicate, getD-replicate, List·getD-append, List·getD-map, List·getD-eq-default}
-use lib.Seq.{getD-set-same, getD-set-other, getD-take, getD-drop, getD-at, drop-cons, length-take-le, ext-getD}
+use lib.ListN.{length, drop, getD, set, replicate, length-append, length-set, length-replicate, getD-replicate, List·getD-append, List·getD-eq-default}
+use lib.Seq.{getD-set-same, getD-set-other, getD-at, drop-cons, ext-getD}
 use lib.Dec.{T, ltb, eqb}
 use native.Mathlib.Omega.{arith}
-use native.Mathlib.Nat.{div-one, div-eq-of-lt, lt-irrefl}
+use native.Mathlib.Nat.{div-one, div-eq-of-lt}
 use lib.Pow.{shr-shr}
 use borrow.Author.Tests.{lt-ltb, le-ltb}
-use Rattle.packed.specs.Format.{pick}
-use Rattle.packed.specs.Formats.{code}
-use Rattle.packed.specs.Contents.{wordRank}
-use Rattle.packed.specs.Matches.{marks, marked, markedFrom, anyEmpty, emptied, allOrNone, pairIn, codesOf, masksOf, matchesOf, Marked, Listed}
+use Rattle.packed.specs.Matches.{marks, marked, markedFrom, anyEmpty, emptied, allOrNone, codesOf, masksOf, matchesOf, Marked, Listed}
 use Rattle.packed.specs.declared.by_value.Pattern.{Pattern as Given}
 use Rattle.packed.proofs.OrderCases.{lt-or-ge, trichotomy}
 use Rattle.packed.proofs.RoundTrip.{and-no}
-use Rattle.matching.specs.Lists.{In, here, there}
-use Rattle.matching.specs.Simulation.{Edge, noEdge, Pattern, bit}
+use Rattle.engine.specs.Simulation.{Edge, between, noEdge, Pattern, bit}
+use Rattle.engine.specs.Loaded.{givenEdge, edgeOfWord, patternIn, Fair}
+use Rattle.engine.specs.Masks.{OneOf}
+use Rattle.engine.specs.Matched.{Rises}
 use Rattle.matching.specs.Join.{isMatch}
-use Rattle.matching.specs.Loaded.{givenEdge, patternIn, Fair}
-use Rattle.matching.specs.Masks.{OneOf}
-use Rattle.matching.specs.Matched.{Rises}
-use Rattle.matching.proofs.ListLaws.{same-test, not-in-none, in-cases, in-cast}
-use Rattle.matching.proofs.UpToLaws.{length-upTo, getD-upTo}
-use Rattle.matching.proofs.MaskBits.{few-lt, has-say}
-use Rattle.matching.proofs.JoinLaws.{match-say, match-by}
+use Rattle.engine.proofs.ListLaws.{same-test, not-in-none}
+use Rattle.engine.proofs.UpToLaws.{length-upTo, getD-upTo}
+use Rattle.engine.proofs.MaskBits.{few-lt, has-say}
+use Rattle.engine.proofs.MatchedLaws.{marks-bit}
+use Rattle.matching.proofs.MarkedLaws.{given-long, given-at, match-test}
+use Rattle.matching.proofs.JoinLaws.{match-say}
 use Rattle.containment.specs.Quote.{one, maskIn, matchMask, noPattern, maskAt, mapping}
 use Rattle.containment.specs.Steps.{PlaceOf, Within, Column, MaskOf, wordAt}
 use Rattle.containment.proofs.SetBits.{test-cases, bit-by, bit-lt}
@@ -74,10 +72,6 @@ module _ {w : List ℕ} {m c : ℕ} (o : OneOf m (λ i. getD w i 0 ≡ c)) {r : 
   mask-found e s = record { at = r; below = place-below; word = p .here place-below; is = e; small = s }
 
 -- ---- lists and masks
-marks-bit : (f x : ℕ) → marks f x ≡ bit x f
-unfolding marks bit
-marks-bit f x = refl
-
 one-marks : (f x : ℕ) → one (marks f x) ≡ x / 2 ^ f % 2
 unfolding marks
 one-marks f x = by-test (x / 2 ^ f % 2) (omega arith)
@@ -86,56 +80,6 @@ one-marks f x = by-test (x / 2 ^ f % 2) (omega arith)
     by-test zero h = refl
     by-test (suc zero) h = refl
     by-test (suc (suc d)) h = absurd (omega arith)
-
-pub rest-at : {A : Type 0} (l : List A) (a : ℕ) (d : A) → getD (drop 1 l) a d ≡ getD l (suc a) d
-rest-at [] a d = refl
-rest-at (x ∷ l) a d = refl
-
--- one more in front, if b
-module _ {A : Type 0} (b : Bool) (x : A) (l : List A) where
-  pub pick-say : {y : A} → In y (pick b (x ∷ l) l) → (T b × (y ≡ x)) ⊎ In y l
-  pick-say {y} = by b
-    where
-      by : (c : Bool) → In y (pick c (x ∷ l) l) → (T c × (y ≡ x)) ⊎ In y l
-      by true i = ⊎-elim (λ e. inl (tt, e)) inr (in-cases i)
-      by false i = inr i
-
-  pub pick-first : T b → In x (pick b (x ∷ l) l)
-  pick-first = by b
-    where
-      by : (c : Bool) → T c → In x (pick c (x ∷ l) l)
-      by true t = here refl
-      by false t = absurd t
-
-  pub pick-rest : {y : A} → In y l → In y (pick b (x ∷ l) l)
-  pick-rest {y} i = by b
-    where
-      by : (c : Bool) → In y (pick c (x ∷ l) l)
-      by true = there i
-      by false = i
-
--- a code is listed under the edge f exactly if it stands with a mask that names f
-module _ (f : ℕ) where
-  marked-say : (ps qs : List ℕ) {c : ℕ} → In c (marked f ps qs) → OneOf (length ps) (λ i. T (marks f (getD qs i 0)) × (c ≡ getD ps i 0))
-  unfolding marked
-  marked-say [] qs i = absurd (not-in-none i)
-  marked-say (p ∷ ps) qs {c} i =
-      ⊎-elim
-      (λ x. record { at = 0; below = omega arith; holds = x })
-      (λ j. let r = marked-say ps (drop 1 qs) {c = c} j in record {
-        at = suc (r .at);
-        below = omega (arith, r .below);
-        holds = (subst (λ (x : ℕ). T (marks f x)) (rest-at qs (r .at) 0) (r .holds .0), r .holds .1);
-      })
-      (pick-say (marks f (getD qs 0 0)) p (marked f ps (drop 1 qs)) i)
-
-  marked-by : (ps qs : List ℕ) (i : ℕ) → i < length ps → T (marks f (getD qs i 0)) → In (getD ps i 0) (marked f ps qs)
-  unfolding marked
-  marked-by [] qs i h t = absurd (omega arith)
-  marked-by (p ∷ ps) qs zero h t = pick-first (marks f (getD qs 0 0)) p (marked f ps (drop 1 qs)) t
-  marked-by (p ∷ ps) qs (suc i) h t =
-      pick-rest (marks f (getD qs 0 0)) p (marked f ps (drop 1 qs))
-      (marked-by ps (drop 1 qs) i (omega arith) (subst (λ (x : ℕ). T (marks f x)) (sym (rest-at qs i 0)) t))
 
 -- ---- the edges that match, as a mask
 module _ (e : Edge) where
@@ -191,37 +135,6 @@ module _ (p : Given) {m : ℕ} {w : List ℕ} {r : ℕ} (g : Listed m (p .edges)
     abbrev masks : List ℕ
     masks = masksOf m w
 
-    codes-long : length codes ≡ m
-    codes-long = length-map (take m w) pairIn ∙ length-take-le m w (omega (arith, mk .most, mk .long))
-
-    code-at : (i : ℕ) → i < m → getD codes i 0 ≡ pairIn (getD w i 0)
-    code-at i h = List·getD-map pairIn (take m w) i 0 ∙ ap pairIn (getD-take m w i 0 h)
-
-    mask-at : (i : ℕ) → i < m → getD masks i 0 ≡ getD w (8192 + i) 0
-    mask-at i h = getD-take m (drop 8192 w) i 0 h ∙ getD-drop 8192 w i 0
-
-    -- each edge stands there once
-    alone : (i j : ℕ) → i < m → j < m → getD w j 0 ≡ getD w i 0 → j ≡ i
-    alone i j h l e =
-        let r = ap wordRank e in
-        trichotomy j i
-        (λ p. absurd (lt-irrefl _ (subst (λ (x : ℕ). x < wordRank (getD w i 0)) r (rises j i p h))))
-        (λ q. q)
-        (λ p. absurd (lt-irrefl _ (subst (λ (x : ℕ). wordRank (getD w i 0) < x) r (rises i j p l))))
-
-    edges-long : length edges ≡ p .edges
-    unfolding patternIn
-    edges-long = length-upTo (givenEdge p) (p .edges)
-
-    edge-kind : (f : ℕ) → f < p .edges → getD edges f noEdge .kind ≡ getD (p .kind) f 0
-    unfolding patternIn
-    edge-kind f h = ap (λ (g : Edge). g .kind) (getD-upTo (givenEdge p) (p .edges) f noEdge h)
-
-    -- an edge that is held for f has the kind of f
-    held-kind : (i f : ℕ) → i < m → f < 32 → T (marks f (getD masks i 0)) → (f < p .edges) × (getD (p .kind) f 0 ≡ getD w i 0 / 2 ^ 24)
-    unfolding Within
-    held-kind i f h l t = within i f h l (subst T (marks-bit f (getD w (8192 + i) 0)) (subst (λ (x : ℕ). T (marks f x)) (mask-at i h) t))
-
     -- the mask of the word of an edge of the query
     module _ (e : ℕ) (below : e < q .edges) {x : ℕ} (o : MaskOf w m (wordAt q e) x) where
       abbrev asked : Edge
@@ -230,45 +143,40 @@ module _ (p : Given) {m : ℕ} {w : List ℕ} {r : ℕ} (g : Listed m (p .edges)
       abbrev place : ℕ
       place = o .at
 
-      word-pair : pairIn (getD w place 0) ≡ code (getD (q .from) e 0) (getD (q .to) e 0)
-      word-pair = omega (arith, o .word, fair .nodes, fair .from e below, fair .to e below)
-
-      word-kind : getD w place 0 / 2 ^ 24 ≡ getD (q .kind) e 0
-      word-kind = omega (arith, o .word, fair .nodes, fair .from e below, fair .to e below)
-
-      mask-is : getD masks place 0 ≡ x
-      mask-is = mask-at place (o .below) ∙ sym (o .is)
+      word-edge : edgeOfWord (getD w place 0) ≡ asked
+      word-edge =
+          let r = o .word in
+          let n = fair .nodes in
+          let a = fair .from e below in
+          let b = fair .to e below in
+          let x : getD w place 0 / 4096 % 4096 ≡ getD (q .from) e 0 = omega (arith, r, n, a, b) in
+          let y : getD w place 0 % 4096 ≡ getD (q .to) e 0 = omega (arith, r, n, a, b) in
+          let z : getD w place 0 / 2 ^ 24 ≡ getD (q .kind) e 0 = omega (arith, r, n, a, b) in
+          λ i. between (x i) (y i) (z i)
 
       -- it names exactly the edges of the view that match
-      match-test : (f : ℕ) → f < length edges → isMatch asked (getD edges f noEdge) (marked f codes masks) ≡ marks f x
-      match-test f h =
-          let l : f < p .edges = omega (arith, edges-long) in
-          let k : f < 32 = omega (arith, view .edges) in
-          same-test _ _
-          (λ t.
-          let s = match-say asked (getD edges f noEdge) (marked f codes masks) t in
-          let c = marked-say f codes masks (s .1) in
-          let j : c .at < m = omega (arith, c .below, codes-long) in
-          let d = held-kind (c .at) f j k (c .holds .0) .1 in
-          let a : pairIn (getD w (c .at) 0) ≡ pairIn (getD w place 0) = sym (c .holds .1 ∙ code-at (c .at) j) ∙ sym word-pair in
-          let b : getD w (c .at) 0 / 2 ^ 24 ≡ getD w place 0 / 2 ^ 24 = sym d ∙ sym (edge-kind f l) ∙ s .0 ∙ sym word-kind in
-          subst (λ (y : ℕ). T (marks f y)) (ap (λ (n : ℕ). getD masks n 0) (alone place (c .at) (o .below) j (omega (arith, a, b))) ∙ mask-is) (c .holds .0))
-          (λ t.
-          let y : T (marks f (getD masks place 0)) = subst (λ (z : ℕ). T (marks f z)) (sym mask-is) t in
-          match-by asked (getD edges f noEdge) (edge-kind f l ∙ held-kind place f (o .below) k y .1 ∙ word-kind)
-          (in-cast (code-at place (o .below) ∙ word-pair) (marked-by f codes masks place (omega (arith, o .below, codes-long)) y)))
+      asked-test : (f : ℕ) → f < length edges → isMatch asked (getD edges f noEdge) (marked f codes masks) ≡ marks f x
+      unfolding Within
+      asked-test f h =
+          let l : f < p .edges = omega (arith, given-long p) in
+          ap (λ (g : Edge). isMatch asked g (marked f codes masks)) (given-at p f l)
+          ∙ ap (λ (d : Edge). isMatch d (givenEdge p f) (marked f codes masks)) (sym word-edge)
+          ∙ match-test view mk rises within place (o .below) f l
+          ∙ ap (λ (y : ℕ). bit y f) (sym (o .is))
+          ∙ sym (marks-bit f x)
 
       -- and no others
       mask-small : x < 2 ^ p .edges
+      unfolding Within
       mask-small =
           few-lt (p .edges) x
-          (λ f t. held-kind place f (o .below) (bit-lt x f 32 (bit-by x f (has-say x f t)) (o .small)) (subst T (sym (ap (marks f) mask-is ∙ marks-bit f x)) t) .0)
+          (λ f t. within place f (o .below) (bit-lt x f 32 (bit-by x f (has-say x f t)) (o .small)) (subst (λ (y : ℕ). T (bit y f)) (o .is) t) .0)
 
       pub listed-mask : r ≡ m → 0 < m → x ≡ maskIn (givenEdge q e) (patternIn p .edges) (matchesOf m (p .edges) w)
       listed-mask z h =
           let n : 0 + p .edges ≡ p .edges = omega arith in
           let d : x / 2 ^ 0 ≡ x = div-one x in
-          sym (ap (maskIn asked edges) (whole-listed z h) ∙ mask-from asked x edges codes masks match-test 0 (p .edges) (edges-long ∙ sym n) (rw n mask-small) ∙ d)
+          sym (ap (maskIn asked edges) (whole-listed z h) ∙ mask-from asked x edges codes masks asked-test 0 (p .edges) (given-long p ∙ sym n) (rw n mask-small) ∙ d)
 
 -- ---- the whole table
 module _ (Q : Pattern) where

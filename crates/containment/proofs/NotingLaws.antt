@@ -1,9 +1,9 @@
 -- The views of a catalogue noted one by one in the table of a quote.
 use Prim.Native.Nat.{ℕ, suc, _+_, _*_, _/_, _^_, _<_, _≤_}
-use mathlib.Core.Path.{_≡_, refl, sym, ap, ap₂, subst, _∙_}
-use mathlib.Core.List.{List, [], _∷_, _++_, map}
-use lib.ListN.{length, take, drop, getD, replicate, length-map, length-drop}
-use lib.Seq.{take-suc, take-all, drop-cons, getD-take, length-take-le}
+use mathlib.Core.Path.{_≡_, sym, ap, ap₂, subst, _∙_}
+use mathlib.Core.List.{List, []}
+use lib.ListN.{length, take, drop, getD, replicate, length-drop}
+use lib.Seq.{drop-cons, getD-take, length-take-le}
 use native.Mathlib.Omega.{arith}
 use native.Mathlib.Numerals.{add-one}
 use Rattle.packed.specs.Format.{ok, decode}
@@ -13,20 +13,21 @@ use Rattle.packed.specs.LoadedGraph.{Holds}
 use Rattle.packed.specs.Matches.{matchesOf}
 use Rattle.packed.specs.declared.by_value.Pattern.{Pattern as Given}
 use Rattle.packed.proofs.AcceptedBounds.{catalogue-views}
-use Rattle.matching.specs.Lists.{In, here, there}
-use Rattle.matching.specs.Simulation.{Edge, noEdge, Rule, bothWays, Pattern, patternOf, graphOf, asGraph, matchSets, viewSheet}
-use Rattle.matching.specs.Loaded.{givenEdge, patternIn, graphIn, Edges}
-use Rattle.matching.specs.Masks.{OneOf}
-use Rattle.matching.specs.Matched.{EdgesMatched, ViewAt}
-use Rattle.matching.specs.declared.views.View.{View}
-use Rattle.matching.proofs.ListLaws.{in-at, in-each}
+use Rattle.engine.specs.Lists.{In, here, there, upTo}
+use Rattle.engine.specs.Simulation.{Edge, noEdge, Rule, Pattern, ruled, patternOf, graphOf, asGraph, matchSets, viewSheet}
+use Rattle.engine.specs.Loaded.{givenEdge, patternIn, graphIn, Edges}
+use Rattle.engine.specs.Masks.{OneOf}
+use Rattle.engine.specs.Matched.{EdgesMatched, ViewAt}
+use Rattle.engine.specs.declared.views.View.{View}
+use Rattle.matching.specs.Offered.{Offered, offers, ruleIn, viewAt, viewPatterns}
+use Rattle.engine.proofs.ListLaws.{in-at, in-each}
+use Rattle.engine.proofs.UpToLaws.{length-upTo, upTo-more}
+use Rattle.engine.proofs.ViewLaws.{Ahead, Advanced, advance, all-ahead}
 use Rattle.matching.proofs.EdgeLaws.{made-each}
 use Rattle.matching.proofs.PatternLaws.{edges-in, pattern-same}
 use Rattle.matching.proofs.SortedGraphs.{alike-sets}
 use Rattle.matching.proofs.MatchSetLaws.{view-sheet}
 use Rattle.matching.proofs.RecordLaws.{sets-same, graph-again}
-use Rattle.matching.proofs.BookLaws.{own-rule}
-use Rattle.matching.proofs.ViewLaws.{Ahead, Advanced, advance, all-ahead}
 use Rattle.containment.specs.Quote.{maskIn, matchMask, mapping}
 use Rattle.containment.specs.Show.{graphFields}
 use Rattle.containment.specs.Steps.{Query, Views, Present, Within, Column, wordAt}
@@ -42,20 +43,22 @@ module _ {c : List ℕ} {k : ℕ} (v : Views c k) where
   pub views-few : k ≤ 16
   views-few = omega (arith, v .number, catalogue-views c (v .content) (v .is) .most)
 
--- the table after a views, of which the next begins on the byte
-pub record Noted (q : Given) (c : List ℕ) (k a byte : ℕ) (table : List ℕ) : Type 0 where
+-- the table after a views, of which the next begins on the byte; those in the set one are matched one-way
+pub record Noted (q : Given) (c : List ℕ) (one k a byte : ℕ) (table : List ℕ) : Type 0 where
   pub ahead : (v : Views c k) → Ahead c byte (drop a (viewsOf (v .content)))
-  pub is : (t : Query q) (v : Views c k) → table ≡ mapping (patternOf (t .content)) (map patternOf (take a (viewsOf (v .content))))
+  pub is : (t : Query q) (v : Views c k) → table ≡ mapping (patternOf (t .content)) (upTo (viewAt (offers (v .content) one)) a)
 
-pub noted-start : {q : Given} {c : List ℕ} {k : ℕ} {table : List ℕ} → table ≡ replicate 512 0 → Noted q c k 0 1 table
+pub noted-start : {q : Given} {c : List ℕ} {one k : ℕ} {table : List ℕ} → table ≡ replicate 512 0 → Noted q c one k 0 1 table
+unfolding upTo
 noted-start e = record { ahead = λ v. all-ahead _ _ (v .is); is = λ t v. mapping-none (patternOf (t .content)) e }
 
-pub noted-end : {q : Given} {c : List ℕ} {k a byte : ℕ} {table : List ℕ} → Noted q c k a byte table → a ≡ k
-    → (t : Query q) (v : Views c k) → table ≡ mapping (patternOf (t .content)) (map patternOf (viewsOf (v .content)))
-noted-end {a = a} h e t v =
-    h .is t v ∙ ap (λ (l : List (List ℕ)). mapping (patternOf (t .content)) (map patternOf l)) (take-all a (viewsOf (v .content)) (omega (arith, views-many v)))
+pub noted-end : {q : Given} {c : List ℕ} {one k a byte : ℕ} {table : List ℕ} → Noted q c one k a byte table → a ≡ k
+    → (t : Query q) (v : Views c k) → table ≡ mapping (patternOf (t .content)) (viewPatterns (offers (v .content) one))
+unfolding viewPatterns
+noted-end {one = one} h e t v =
+    h .is t v ∙ ap (λ (n : ℕ). mapping (patternOf (t .content)) (upTo (viewAt (offers (v .content) one)) n)) (e ∙ sym (views-many v))
 
-module _ {q : Given} {c : List ℕ} {k a byte : ℕ} {table : List ℕ} (h : Noted q c k a byte table) (l : a < k) where
+module _ {q : Given} {c : List ℕ} {one k a byte : ℕ} {table : List ℕ} (h : Noted q c one k a byte table) (l : a < k) where
   -- where the next view begins
   pub noted-inside : Views c k → byte ≤ length c
   noted-inside v = h .ahead v .inside (omega (arith, length-drop a (viewsOf (v .content)), views-many v))
@@ -65,21 +68,14 @@ module _ {q : Given} {c : List ℕ} {k a byte : ℕ} {table : List ℕ} (h : Not
   noted-next view v =
       advance (subst (Ahead c byte) (drop-cons (viewsOf (v .content)) a [] (omega (arith, views-many v))) (h .ahead v)) view
 
-  taken-long : (v : Views c k) → length (map patternOf (take a (viewsOf (v .content)))) ≡ a
-  taken-long v =
-      length-map (take a (viewsOf (v .content))) patternOf ∙ length-take-le a (viewsOf (v .content)) (omega (arith, views-many v))
-
   pub noted-long : Query q → Views c k → length table ≡ 512
-  noted-long t v = ap length (h .is t v) ∙ mapping-length (patternOf (t .content)) (map patternOf (take a (viewsOf (v .content))))
+  noted-long t v = ap length (h .is t v) ∙ mapping-length (patternOf (t .content)) (upTo (viewAt (offers (v .content) one)) a)
 
   -- its column is clear
   pub noted-clear : Query q → Views c k → (e : ℕ) → getD table (16 * e + a) 0 ≡ 0
   noted-clear t v e =
-      column-clear (patternOf (t .content)) (map patternOf (take a (viewsOf (v .content)))) table a e (omega (arith, taken-long v)) (omega (arith, views-few v)) (h .is t v)
-
-map-snoc : (us : List (List ℕ)) (x : List ℕ) → map patternOf us ++ (patternOf x ∷ []) ≡ map patternOf (us ++ (x ∷ []))
-map-snoc [] x = refl
-map-snoc (u ∷ us) x = ap (λ (m : List Pattern). patternOf u ∷ m) (map-snoc us x)
+      let past = viewAt (offers (v .content) one) in
+      column-clear (patternOf (t .content)) (upTo past a) table a e (omega (arith, length-upTo past a)) (omega (arith, views-few v)) (h .is t v)
 
 -- what the edges of a record are held for
 pub within-by : {way : Rule} {p : Given} {s : List ℕ} {n m : ℕ} {w w′ : List ℕ} → EdgesMatched way p s n m w w′ → m ≤ 8192 → Within p m w′
@@ -131,59 +127,53 @@ module _ {q : Given} {s : List ℕ} {n m : ℕ} {w : List ℕ} (t : Query q) (h 
       record { at = r .at; below = j; holds = g .same (r .at) (omega arith) ∙ sym (getD-take m w (r .at) 0 j) ∙ r .holds }
 
   -- ---- the next view's column
-  module _ {c : List ℕ} {k a byte : ℕ} {table table′ : List ℕ} (o : Noted q c k a byte table) (l : a < k) (v : Views c k) (r : View) (view : ViewAt c byte r)
-      {w₁ w₂ : List ℕ} (g : Edges w w₁) (d : EdgesMatched bothWays (r .pattern) s n m w₁ w₂)
+  module _ {c : List ℕ} {one k a byte : ℕ} {table table′ : List ℕ} (o : Noted q c one k a byte table) (l : a < k) (v : Views c k) (r : View) (view : ViewAt c byte r)
+      {w₁ w₂ : List ℕ} (g : Edges w w₁) {way : Rule} (own : way ≡ ruleIn one a) (d : EdgesMatched way (r .pattern) s n m w₁ w₂)
       (col : Column a (q .edges) (λ e x. x ≡ maskIn (givenEdge q e) (patternIn (r .pattern) .edges) (matchesOf m (r .pattern .edges) w₂)) table table′) where
     abbrev Q : Pattern
     Q = patternOf (t .content)
 
-    abbrev vs : List (List ℕ)
-    vs = viewsOf (v .content)
-
-    abbrev here′ : List ℕ
-    here′ = getD vs a []
+    abbrev offer : Offered
+    offer = offers (v .content) one
 
     abbrev Ps : List Pattern
-    Ps = map patternOf (take a vs)
+    Ps = upTo (viewAt offer) a
 
-    view-same : patternIn (r .pattern) ≡ patternOf here′
-    view-same = let adv = noted-next o l {r = r} view v in pattern-same (adv .plain) (adv .holds)
+    view-same : ruled way (patternIn (r .pattern)) ≡ viewAt offer a
+    view-same = let adv = noted-next o l {r = r} view v in ap₂ ruled own (pattern-same (adv .plain) (adv .holds))
 
-    sets-view : matchesOf m (r .pattern .edges) w₂ ≡ viewSheet (patternOf here′) (asGraph Q)
+    sets-view : matchesOf m (r .pattern .edges) w₂ ≡ viewSheet (viewAt offer a) (asGraph Q)
     sets-view =
         let b = number-few in
         d .sets
-        ∙ ap₂ matchSets (own-rule (r .pattern) ∙ view-same) (graph-again g s n (omega arith))
-        ∙ sets-query (patternOf here′)
-        ∙ sym (view-sheet (patternOf here′) (asGraph Q))
+        ∙ ap₂ matchSets view-same (graph-again g s n (omega arith))
+        ∙ sets-query (viewAt offer a)
+        ∙ sym (view-sheet (viewAt offer a) (asGraph Q))
 
     mask-view : (e : ℕ) → e < q .edges
-        → maskIn (givenEdge q e) (patternIn (r .pattern) .edges) (matchesOf m (r .pattern .edges) w₂) ≡ matchMask Q (getD (Q .edges) e noEdge) (patternOf here′)
+        → maskIn (givenEdge q e) (patternIn (r .pattern) .edges) (matchesOf m (r .pattern .edges) w₂) ≡ matchMask Q (getD (Q .edges) e noEdge) (viewAt offer a)
     unfolding matchMask
     mask-view e j =
         ap (λ (f : Edge). maskIn f (patternIn (r .pattern) .edges) (matchesOf m (r .pattern .edges) w₂)) (sym (query-edge t e j))
         ∙ ap₂ (λ (P : Pattern) (ls : List (List ℕ)). maskIn (getD (Q .edges) e noEdge) (P .edges) ls) view-same sets-view
 
-    column-view : Column (length Ps) (length (Q .edges)) (λ e x. x ≡ matchMask Q (getD (Q .edges) e noEdge) (patternOf here′)) table table′
+    column-view : Column (length Ps) (length (Q .edges)) (λ e x. x ≡ matchMask Q (getD (Q .edges) e noEdge) (viewAt offer a)) table table′
     column-view =
-        subst (λ (i : ℕ). Column i (length (Q .edges)) (λ e x. x ≡ matchMask Q (getD (Q .edges) e noEdge) (patternOf here′)) table table′) (sym (taken-long o l v))
-        (subst (λ (i : ℕ). Column a i (λ e x. x ≡ matchMask Q (getD (Q .edges) e noEdge) (patternOf here′)) table table′) (sym (query-number t))
+        subst (λ (i : ℕ). Column i (length (Q .edges)) (λ e x. x ≡ matchMask Q (getD (Q .edges) e noEdge) (viewAt offer a)) table table′) (sym (length-upTo (viewAt offer) a))
+        (subst (λ (i : ℕ). Column a i (λ e x. x ≡ matchMask Q (getD (Q .edges) e noEdge) (viewAt offer a)) table table′) (sym (query-number t))
         (column-map (λ e x j y. y ∙ mask-view e j) col))
 
-    table-more : table′ ≡ mapping Q (map patternOf (take (a + 1) vs))
+    table-more : table′ ≡ mapping Q (upTo (viewAt offer) (a + 1))
     table-more =
         let few = views-few v in
-        let one : take (a + 1) vs ≡ take a vs ++ (here′ ∷ []) = rw (add-one a) (take-suc vs a [] (omega (arith, views-many v))) in
-        mapping-more Q Ps (patternOf here′) (omega (arith, taken-long o l v)) (o .is t v) column-view
-        ∙ ap (mapping Q) (map-snoc (take a vs) here′)
-        ∙ ap (λ (us : List (List ℕ)). mapping Q (map patternOf us)) (sym one)
+        rw (add-one a) (mapping-more Q Ps (viewAt offer a) (omega (arith, length-upTo (viewAt offer) a)) (o .is t v) column-view ∙ ap (mapping Q) (sym (upTo-more (viewAt offer) a)))
 
 pub noted-more : {q : Given} {s : List ℕ} {n m : ℕ} {w : List ℕ} → Holds s n m w → ((t : Query q) → decode record′ s ≡ ok (graphFields (t .content)))
-    → {c : List ℕ} {k a byte : ℕ} {table table′ : List ℕ} → Noted q c k a byte table → a < k → (r : View) → ViewAt c byte r
-    → {w₁ w₂ : List ℕ} → Edges w w₁ → EdgesMatched bothWays (r .pattern) s n m w₁ w₂
-    → Column a (q .edges) (λ e x. x ≡ maskIn (givenEdge q e) (patternIn (r .pattern) .edges) (matchesOf m (r .pattern .edges) w₂)) table table′ → Noted q c k (a + 1) (r .next) table′
-noted-more h reads {c} {a = a} o l r view g d col =
+    → {c : List ℕ} {one k a byte : ℕ} {table table′ : List ℕ} → Noted q c one k a byte table → a < k → (r : View) → ViewAt c byte r
+    → {w₁ w₂ : List ℕ} → Edges w w₁ → {way : Rule} → way ≡ ruleIn one a → EdgesMatched way (r .pattern) s n m w₁ w₂
+    → Column a (q .edges) (λ e x. x ≡ maskIn (givenEdge q e) (patternIn (r .pattern) .edges) (matchesOf m (r .pattern .edges) w₂)) table table′ → Noted q c one k (a + 1) (r .next) table′
+noted-more h reads {c} {a = a} o l r view g own d col =
     record {
       ahead = λ v. subst (λ (i : ℕ). Ahead c (r .next) (drop i (viewsOf (v .content)))) (sym (add-one a)) (noted-next o l {r = r} view v .ahead);
-      is = λ t v. table-more t h (reads t) o l v r view g d col;
+      is = λ t v. table-more t h (reads t) o l v r view g own d col;
     }

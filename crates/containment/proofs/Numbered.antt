@@ -1,4 +1,4 @@
--- Every refusal has a number from 1 to 18: a file's by its format, and the others by the calls that give them.
+-- Every refusal has a number from 1 to 19: a file's by its format, and the others by the calls that give them.
 use Prim.Native.Nat.{ℕ, zero, suc, _+_, _%_, _^_, _≤_}
 use mathlib.Core.Path.{_≡_, refl}
 use mathlib.Core.Logic.{inl, inr}
@@ -12,47 +12,17 @@ use Rattle.packed.specs.Bits.{bitsOf, num, bits, zeros, gap}
 use Rattle.packed.specs.Format.{Format, done, ask, test, pad, then, times, whole, Got, got, fault, pick, push, within, scan, lay, Result, ok, bad, ended, inBytes, decode, encode}
 use Rattle.packed.specs.OldRecord.{oldRecord}
 use Rattle.packed.specs.Formats.{code, rank, edges, label, joined, pattern, patterns, catalogue, labels, rising, record′, pairs, lists, standing, sheet, book}
-use Rattle.packed.specs.Refusals.{numberOf}
-use Rattle.packed.specs.declared.reply.Refusal.{Refusal}
-use Rattle.packed.specs.declared.reply.Refusal.the-variants.{TooLong, Truncated, OutOfRange, NoSuchNode, DuplicateEdge, NotAscending, IsolatedNode, ZeroCount, Trailing, TooManyPairs, NotContained, NoRoom, Contained, SmallWorkspace, WrongCharges, WrongIndex, WrongQuestions, WrongTerms}
-use Rattle.packed.specs.Calls.{Outcome, give, refuse, withWorkspace, rejected, inFile, readFile, writeFile, judged, readCatalogue, pairsOf, withinPairsBy, fit, fitFile}
-use Rattle.matching.specs.Index.{alike, ownIndex}
-use Rattle.containment.specs.Show.{fitBoth}
+use Rattle.packed.specs.declared.reply.Refusal.the-variants.{WrongSet}
+use Rattle.packed.specs.Calls.{Outcome, give, refuse, withWorkspace, rejected, inFile, readFile, writeFile, judged, readCatalogue, pairsOf, withinPairsBy, fit, fitFile, fitBoth}
+use Rattle.engine.specs.Index.{alike, ownIndex}
 use Rattle.containment.specs.Demands.{Settles}
 
 pub record Numbered (n : ℕ) : Type 0 where
   pub least : 1 ≤ n
-  pub most : n ≤ 18
+  pub most : n ≤ 19
 
-pub numbered : (n : ℕ) → leb 1 n ≡ true → leb n 18 ≡ true → Numbered n
-numbered n p q = record { least = leb-true 1 n p; most = leb-true n 18 q }
-
--- a refusal has a number, which 0, success, is not
-pub record Positive (n : ℕ) : Type 0 where
-  pub least : 1 ≤ n
-
-positive : (n : ℕ) → leb 1 n ≡ true → Positive n
-positive n p = record { least = leb-true 1 n p }
-
-pub refusal-numbered : (x : Refusal) → Positive (numberOf x)
-refusal-numbered (TooLong d) = positive 1 refl
-refusal-numbered (Truncated d) = positive 2 refl
-refusal-numbered (OutOfRange d) = positive 3 refl
-refusal-numbered (NoSuchNode d) = positive 4 refl
-refusal-numbered (DuplicateEdge d) = positive 5 refl
-refusal-numbered (NotAscending d) = positive 6 refl
-refusal-numbered (IsolatedNode d) = positive 7 refl
-refusal-numbered (ZeroCount d) = positive 8 refl
-refusal-numbered (Trailing d) = positive 9 refl
-refusal-numbered (TooManyPairs d) = positive 10 refl
-refusal-numbered (NotContained d) = positive 11 refl
-refusal-numbered (NoRoom d) = positive 12 refl
-refusal-numbered Contained = positive 13 refl
-refusal-numbered SmallWorkspace = positive 14 refl
-refusal-numbered (WrongCharges d) = positive 15 refl
-refusal-numbered (WrongIndex d) = positive 16 refl
-refusal-numbered (WrongQuestions d) = positive 17 refl
-refusal-numbered (WrongTerms d) = positive 18 refl
+pub numbered : (n : ℕ) → leb 1 n ≡ true → leb n 19 ≡ true → Numbered n
+numbered n p q = record { least = leb-true 1 n p; most = leb-true n 19 q }
 
 -- the numbers that fall to what stands in a file, or in content
 pub record FileFault (n : ℕ) : Type 0 where

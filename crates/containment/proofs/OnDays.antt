@@ -10,13 +10,14 @@ use lib.Dec.{T}
 use native.Mathlib.Omega.{arith}
 use borrow.Author.Tests.{lt-ltb, le-ltb}
 use Rattle.packed.specs.Format.{pick}
-use Rattle.packed.specs.Contents.{edgesOf, edgeCounts}
+use Rattle.packed.specs.Contents.{edgesOf, viewsOf, edgeCounts}
 use Rattle.packed.specs.Calls.{Outcome, give, refuse, judged, readPattern, readBook, withinPairsBy}
 use Rattle.packed.proofs.OrderCases.{lt-or-ge}
-use Rattle.matching.specs.Lists.{some}
-use Rattle.matching.specs.Simulation.{Pattern, bit, patternOf}
+use Rattle.engine.specs.Lists.{some}
+use Rattle.engine.specs.Simulation.{Pattern, bit, patternOf}
 use Rattle.matching.specs.Join.{matched}
-use Rattle.matching.specs.Offered.{viewPatterns}
+use Rattle.matching.specs.Offered.{Brought, Offered, viewPatterns}
+use Rattle.matching.proofs.OfferedLaws.{not-both}
 use Rattle.matching.specs.Part.{partOf, patternFields, patternBytes}
 use Rattle.containment.specs.Choice.{coversIn, columnsIn, everyView, chosen, lowestUnmatched}
 use Rattle.containment.specs.Quote.{Quoted, quoted, quotedIn, viewsInSet, usedBy, mapping, valuesFrom, quoteValues, quoteFor, quoteOutcome}
@@ -34,9 +35,9 @@ use Rattle.containment.proofs.ColumnLaws.{column-in, column-out, column
 use Rattle.containment.proofs.MappingLaws.{mask-beyond, mapping-length, mapping-at}
 use Rattle.containment.proofs.QuoteLaws.{test-is, chosen-whole}
 use Rattle.containment.proofs.TermsLaws.{force-small, force-exactly, Begins, covered-begins, earliest-fair, earliest-given, earliest-from}
-use Rattle.containment.proofs.CoveredBytes.{few-views, coveredIn, answer-alike}
+use Rattle.containment.proofs.CoveredBytes.{set-goes-on, offered-goes-on, few-views, coveredIn, answer-alike}
 use Rattle.containment.proofs.DemandRules.{full-words, judged-same, goes-on, choice-among, covers-plain}
-use Rattle.containment.proofs.WhenLaws.{right-or-wrong, right-judged, not-both, goes-on-when, full-when, quote-18, cheapest-18, part-18, show-18, first-day-18}
+use Rattle.containment.proofs.WhenLaws.{terms-judges, goes-on-when, full-when, quote-18, cheapest-18, part-18, show-18, first-day-18}
 use Rattle.containment.proofs.DemandThree.{demand-3}
 
 -- ---- what a list of terms is handed on as
@@ -80,7 +81,7 @@ copies l =
     }
 
 -- ---- the extracts in force
-module _ (t : Terms) (day : ℕ) (cs : List ℕ) where
+module _ (t : Terms) (day : ℕ) (cs : Offered) where
   abbrev force : ℕ
   force = forceOf t day cs
 
@@ -108,7 +109,7 @@ module _ (t : Terms) (day : ℕ) (cs : List ℕ) where
       ⊎-elim (λ y. absurd (f (in-force-say a y .1))) (λ n. column-out force (mapping (patternOf qs) (viewPatterns cs)) (16 * i + a) (ap (bit force) z ∙ n)) (test-cases (bit force a))
 
 -- covered exactly if each link is matched by one of them
-covered-exactly : (q c qs cs : List ℕ) → Question q qs → Catalogue c cs → (t : Terms) (day : ℕ)
+covered-exactly : (q : List ℕ) (c : Brought) (qs : List ℕ) (cs : Offered) → Question q qs → Catalogue c cs → (t : Terms) (day : ℕ)
     → Covers (forceOf t day cs) qs cs ↔ ((i : ℕ) → i < edgesOf qs → MatchedOn t day qs cs (linkOf qs i))
 covered-exactly q c qs cs p d t day =
     let x = covers-plain q c qs cs p d (forceOf t day cs) in
@@ -118,7 +119,7 @@ covered-exactly q c qs cs p d t day =
     )
 
 -- ---- the first day
-module _ (q c qs cs : List ℕ) (p : Question q qs) (d : Catalogue c cs) (t : Terms) (day : ℕ) (r : RightTerms t (length (viewPatterns cs))) where
+module _ (q : List ℕ) (c : Brought) (qs : List ℕ) (cs : Offered) (p : Question q qs) (d : Catalogue c cs) (t : Terms) (day : ℕ) (r : RightTerms t (length (viewsOf (cs .content)))) where
   abbrev k : ℕ
   k = length (viewPatterns cs)
 
@@ -158,7 +159,7 @@ module _ (q c qs cs : List ℕ) (p : Question q qs) (d : Catalogue c cs) (t : Te
       (earliest-fair covered t day k)
 
 -- ---- on a day on which all are in force
-module _ (c cs : List ℕ) (d : Catalogue c cs) (t : Terms) (day : ℕ) (r : RightTerms t (length (viewPatterns cs))) (all : AllInForce t day cs) where
+module _ (c : Brought) (cs : Offered) (d : Catalogue c cs) (t : Terms) (day : ℕ) (r : RightTerms t (length (viewsOf (cs .content)))) (all : AllInForce t day cs) where
   abbrev n : ℕ
   n = length (viewPatterns cs)
 
@@ -218,29 +219,34 @@ module _ (c cs : List ℕ) (d : Catalogue c cs) (t : Terms) (day : ℕ) (r : Rig
 
     answer-same : (b : List ℕ) (room : ℕ) → answerFor usedBy b room (quotedIn now-in qs cs) ≡ answerFor usedBy b room (quotedIn everyView qs cs)
     unfolding answerFor answerIn
-    answer-same b room = judged-same (readBook cs b) (λ bs _. answer-alike (usedBy (quotedIn now-in qs cs)) (usedBy (quotedIn everyView qs cs)) qs cs bs room used-same)
+    answer-same b room = judged-same (readBook (cs .content) b) (λ bs _. answer-alike (usedBy (quotedIn now-in qs cs)) (usedBy (quotedIn everyView qs cs)) qs cs bs room used-same)
 
   part-same : (qs b : List ℕ) (room room′ : ℕ) → partFor b room room′ (quotedIn now-in qs cs) ≡ partFor b room room′ (quotedIn everyView qs cs)
   unfolding partFor partFrom
   part-same qs b room room′ =
       ap (λ (Us : List Pattern). made Us now-in) views-alike
-      ∙ judged-same (readBook cs b) (λ bs _. ap (within bs) (answer-same (patternFields (partOf (matched (patternOf qs) (viewsInSet everyView (viewPatterns cs))) (patternOf qs))) b room′))
+      ∙ judged-same (readBook (cs .content) b) (λ bs _. ap (within bs) (answer-same (patternFields (partOf (matched (patternOf qs) (viewsInSet everyView (viewPatterns cs))) (patternOf qs))) b room′))
     where
       within : List ℕ → Outcome → Outcome
       within bs a =
-          withinPairsBy (edgeCounts cs) bs
+          withinPairsBy (edgeCounts (cs .content)) bs
           (pick (some (matched (patternOf qs) (viewsInSet everyView (viewPatterns cs))) (patternOf qs .edges))
           (fitPart room (patternBytes (partOf (matched (patternOf qs) (viewsInSet everyView (viewPatterns cs))) (patternOf qs))) a) (refuse 11 0))
 
       made : List Pattern → ℕ → Outcome
       made Us s =
-          judged (readBook cs b) (λ bs. withinPairsBy (edgeCounts cs) bs
+          judged (readBook (cs .content) b) (λ bs. withinPairsBy (edgeCounts (cs .content)) bs
           (pick (some (matched (patternOf qs) Us) (patternOf qs .edges))
           (fitPart room (patternBytes (partOf (matched (patternOf qs) Us) (patternOf qs))) (answerFor usedBy b room′ (quotedIn s (patternFields (partOf (matched (patternOf qs) Us) (patternOf qs))) cs))) (refuse 11 0)))
 
   -- whatever the question is
   same-call : (q : List ℕ) (k : Quoted → Outcome) → ((qs : List ℕ) → k (quotedIn now-in qs cs) ≡ k (quotedIn everyView qs cs)) → quotedOn q c t day k ≡ quoted q c k
-  same-call q k h = judged-same (readPattern q) (λ qs _. goes-on _ d ∙ goes-on _ (right-judged t n r) ∙ h qs ∙ sym (goes-on _ d))
+  same-call q k h = judged-same (readPattern q) (λ qs _.
+      goes-on _ (d .paper)
+      ∙ goes-on _ (terms-judges t (length (viewsOf (cs .content))) .right r)
+      ∙ set-goes-on c cs d (λ o. k (quotedIn (forceOf t day o) qs o))
+      ∙ h qs
+      ∙ sym (offered-goes-on c cs d (λ o. k (quotedIn everyView qs o))))
 
 pub on-days : OnDays
 unfolding firstDay quoteOn cheapestOn partOn showOn quoteOutcome cheapestOutcome partOutcome showOutcome
@@ -251,8 +257,8 @@ on-days = record {
   part-terms = λ q c b qs cs p d t day room room′. part-18 q c qs cs p d t day b room room′;
   show-terms = λ q c qs cs p d t day room room′. show-18 q c qs cs p d t day room room′;
   first-day-terms = first-day-18;
-  right-or-wrong = right-or-wrong;
-  not-both = not-both;
+  right-or-wrong = λ t k. terms-judges t k .either;
+  not-both = λ t k. not-both (terms-judges t k);
   in-force = in-force-exactly;
   covers = covered-exactly;
   masks-in = λ qs cs t day i a l few f. masked-in t day cs qs i a l few f;

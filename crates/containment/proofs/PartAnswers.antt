@@ -15,7 +15,7 @@ use Rattle.packed.specs.Format.{ok, pick, encode}
 use Rattle.packed.specs.Formats.{pattern}
 use Rattle.packed.specs.Contents.{nodesOf, edgesOf, patternSize, edgeCounts, sheetsIn}
 use Rattle.packed.specs.ByValue.{HoldsPattern}
-use Rattle.packed.specs.Refusals.{told, numberOf, replyTold}
+use Rattle.packed.specs.Refusals.{told, numberOf, replyTold, bothTold}
 use Rattle.packed.specs.Calls.{Outcome, give, refuse, toldOf, fronts, outputsOf, Fulfils, FulfilsOne, judged, readBook, withinPairs, fitFile}
 use Rattle.packed.specs.declared.reply.Refusal.{Refusal}
 use Rattle.packed.specs.declared.reply.Reply.the-variants as reply-is
@@ -24,38 +24,37 @@ use Rattle.packed.proofs.OrderCases.{lt-or-ge}
 use Rattle.packed.proofs.Sets.{sets-front}
 use Rattle.packed.proofs.AcceptedBounds.{pattern-bounds}
 use Rattle.packed.proofs.CallLaws.{judged-accepted, overFile, fitFile-fits}
-use Rattle.matching.specs.Lists.{In, some}
-use Rattle.matching.specs.Simulation.{Edge, noEdge, Pattern, bit, patternOf}
-use Rattle.matching.specs.Masks.{Has, Mask}
+use Rattle.packed.proofs.RefusalNumbers.{refusal-numbered}
+use Rattle.engine.specs.Lists.{In, some}
+use Rattle.engine.specs.Simulation.{Edge, noEdge, Pattern, bit, patternOf}
+use Rattle.engine.specs.Masks.{Has, Mask}
+use Rattle.engine.specs.Loaded.{patternIn}
 use Rattle.matching.specs.Join.{matched, covered, answerSets}
 use Rattle.matching.specs.Joining.{Agrees}
 use Rattle.matching.specs.Search.{sheetBytes}
-use Rattle.matching.specs.Loaded.{patternIn}
 use Rattle.matching.specs.Offered.{viewPatterns}
 use Rattle.matching.specs.Part.{partOf, patternFields, patternBytes}
-use Rattle.matching.proofs.ListLaws.{same-test, in-at, some-in, in-some}
-use Rattle.matching.proofs.MaskBits.{none-has, lowest-has, few-lt}
-use Rattle.matching.proofs.MatchLaws.{SoundPattern, sound-say}
+use Rattle.engine.proofs.ListLaws.{same-test, in-at, some-in, in-some}
+use Rattle.engine.proofs.MaskBits.{none-has, lowest-has, few-lt}
+use Rattle.engine.proofs.MatchLaws.{SoundPattern, sound-say}
 use Rattle.matching.proofs.PatternLaws.{pattern-same}
 use Rattle.matching.proofs.PartLaws.{had-covered}
 use Rattle.matching.proofs.PatternBytes.{WellFormed, PatternFile, formed-of, formed-file, formed-means, part-formed}
 use Rattle.containment.specs.Choice.{Passing, matches, matchedIn, coversIn, columnsIn, chosen, lowestUnmatched, used}
 use Rattle.containment.specs.Quote.{Quoted, mapping, usableViews, tableOf, usedBy}
 use Rattle.containment.specs.Answer.{viewsIn, answerIn, answerFor}
-use Rattle.containment.specs.Both.{bothTold}
 use Rattle.containment.specs.Part.{partFrom, partBytes, partQuoted, withFirst, fitPart, partFor}
 use Rattle.containment.specs.Parting.{Takes, Picked, inRows, Partable}
-use Rattle.containment.specs.Steps.{Query, ViewCounts, quotedAs, Handed, HoldsFields, Loaded}
+use Rattle.containment.specs.Steps.{Query, ViewCounts, quotedAs, Handed, HoldsFields, Loaded, offerOf}
 use Rattle.containment.specs.declared.query.Fields.{Fields}
 use Rattle.containment.specs.declared.judging.Judged.{Judged}
-use Rattle.containment.specs.declared.both.Both.the-variants as both-is
+use Rattle.packed.specs.declared.reply.Both.the-variants as both-is
 use Rattle.containment.proofs.ChoiceLaws.{matched-say, matched-by, chosen-within, used-covered, lowest-whole}
 use Rattle.containment.proofs.ColumnLaws.{column-in, columns-agree, covers-same, chosen-same}
 use Rattle.containment.proofs.QuoteLaws.{test-is, place-of, matched-places, set-covers-exactly}
 use Rattle.containment.proofs.QueryLaws.{plain, query-number, query-edge}
 use Rattle.containment.proofs.AnswerLaws.{query-few, views-few, views-many, views-sound}
 use Rattle.containment.proofs.AnsweringLaws.{used-is, used-lowest, book-agrees, covered-is}
-use Rattle.containment.proofs.Numbered.{refusal-numbered}
 use Rattle.containment.proofs.PartTable.{usable-sound, part-table}
 
 -- ---- which edges are taken
@@ -68,19 +67,19 @@ module _ {q : Given} (t : Query q) {counts : List ℕ} {k : ℕ} (v : ViewCounts
   Q = patternOf (t .content)
 
   abbrev Ps : List Pattern
-  Ps = viewPatterns (v .views .content)
+  Ps = viewPatterns (offerOf v)
 
   few-links : length (Q .edges) ≤ 32
   few-links = omega (arith, query-number t, query-few t)
 
   few-views : length Ps ≤ 16
-  few-views = omega (arith, views-many (v .views), views-few (v .views))
+  few-views = omega (arith, views-many (v .views) (v .oneWay), views-few (v .views))
 
   -- those that a usable view matches
   taken-places : (e : ℕ) → e < q .edges → matched Q (usableViews x) (getD (Q .edges) e noEdge) ≡ bit taken e
   taken-places e l =
       let m = matched-places Q Ps few-links few-views usable e (omega (arith, query-number t)) in
-      let z : matchedIn table usable e k ≡ matchedIn (mapping Q Ps) usable e (length Ps) = ap₂ (λ (r : List ℕ) (n : ℕ). matchedIn r usable e n) is (sym (views-many (v .views))) in
+      let z : matchedIn table usable e k ≡ matchedIn (mapping Q Ps) usable e (length Ps) = ap₂ (λ (r : List ℕ) (n : ℕ). matchedIn r usable e n) is (sym (views-many (v .views) (v .oneWay))) in
       same-test _ _
       (λ h. mask .hit e (l, z ∙ matched-by (mapping Q Ps) usable e (length Ps) (m .0 h)))
       (λ h. m .1 (matched-say (mapping Q Ps) usable e (length Ps) (sym z ∙ mask .why e h .1)))
@@ -124,7 +123,7 @@ module _ {q : Given} {counts : List ℕ} {k : ℕ} {table : List ℕ} {usable ta
   whole = patternOf (x .query .content)
 
   abbrev views : List Pattern
-  views = viewPatterns (x .views .views .content)
+  views = viewPatterns (offerOf (x .views))
 
   abbrev part : Pattern
   part = partFrom (quotedAs (x .query) (x .views) usable)
@@ -140,7 +139,7 @@ module _ {q : Given} {counts : List ℕ} {k : ℕ} {table : List ℕ} {usable ta
   means = formed-means part formed (x .query .content) refl
 
   each-sound : (P : Pattern) → In P views → SoundPattern P
-  each-sound P i = sound-say P (views-sound (x .views .views) P i)
+  each-sound P i = sound-say P (views-sound (x .views .views) (x .views .oneWay) P i)
 
   few-nodes : length (whole .labels) ≤ 4096
   few-nodes = omega (arith, formed-of (plain (x .query)) .few-nodes)
@@ -201,7 +200,7 @@ module _ {q : Given} {counts : List ℕ} {k : ℕ} {table : List ℕ} {usable ta
             let few : length (P .edges) ≤ 32 = omega (arith, query-number part-query, query-few part-query) in
             let c : T (covered P us) = subst (λ R. T (covered R us)) (sym means)
             (had-covered whole (formed-of (plain (x .query)) .sound) few-nodes us (usable-sound whole (formed-of (plain (x .query)) .sound) few-nodes (few-links (x .query) (x .views) usable (x .table-is) (x .matched)) views each-sound usable)) in
-            ap₂ (λ (n m : ℕ). coversIn (mapping P views) usable n m) (sym (views-many (x .views .views))) (sym (query-number part-query))
+            ap₂ (λ (n m : ℕ). coversIn (mapping P views) usable n m) (sym (views-many (x .views .views) (x .views .oneWay))) (sym (query-number part-query))
             ∙ set-covers-exactly P views usable (few-views (x .query) (x .views) usable (x .table-is) (x .matched)) few .1 c
 
         pub part-covers : coversIn rows usable k (p .edges) ≡ true
@@ -225,11 +224,11 @@ module _ {q : Given} {counts : List ℕ} {k : ℕ} {table : List ℕ} {usable ta
               let z : (16 * i + a) % 16 ≡ a = omega (arith, few-k) in
               ap (λ (t : List ℕ). getD t (16 * i + a) 0) part-rows-are ∙ column-in usable (tableOf part-of) (16 * i + a) (ap (bit usable) z ∙ y)
 
-          pub part-agrees : Agrees p rows set s counts k (viewsIn set (viewPatterns (x .views .views .content)) (sheetsIn (edgeCounts (x .views .views .content)) (x .book .fields)))
+          pub part-agrees : Agrees p rows set s counts k (viewsIn set (viewPatterns (offerOf (x .views))) (sheetsIn (edgeCounts (x .views .views .content)) (x .book .fields)))
           part-agrees = book-agrees part-query (x .views) s usable refl set answer (x .book) none-left rows rows-have
 
           pub part-answer-is : answerFor usedBy s (length answer) (partQuoted (quotedAs (x .query) (x .views) usable))
-              ≡ fitFile (length answer) (sheetBytes (answerSets (patternIn p) (viewsIn set (viewPatterns (x .views .views .content)) (sheetsIn (edgeCounts (x .views .views .content)) (x .book .fields)))))
+              ≡ fitFile (length answer) (sheetBytes (answerSets (patternIn p) (viewsIn set (viewPatterns (offerOf (x .views))) (sheetsIn (edgeCounts (x .views .views .content)) (x .book .fields)))))
           unfolding answerFor
           part-answer-is =
               ap (λ (n : ℕ). judged (readBook (x .views .views .content) s) (λ bs. answerIn n (quotedAs part-query (x .views) usable) bs (length answer))) (sym (used-is part-query (x .views) usable refl used-all))

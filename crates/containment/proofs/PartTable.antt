@@ -12,14 +12,14 @@ use borrow.Author.Tests.{lt-ltb, le-ltb}
 use Rattle.packed.specs.Bits.{one}
 use Rattle.packed.specs.Format.{pick}
 use Rattle.packed.proofs.OrderCases.{lt-or-ge}
-use Rattle.matching.specs.Lists.{In, here, there, keep, each, upTo}
-use Rattle.matching.specs.Simulation.{Edge, noEdge, Pattern, bit, asGraph, ascending}
+use Rattle.engine.specs.Lists.{In, here, there, keep, each, upTo}
+use Rattle.engine.specs.Simulation.{Edge, noEdge, Pattern, bit, asGraph, ascending}
 use Rattle.matching.specs.Join.{isMatch, matched}
 use Rattle.matching.specs.Part.{rank, moved, number, partOf}
-use Rattle.matching.proofs.ByEdge.{rowOf}
-use Rattle.matching.proofs.ListLaws.{in-at}
-use Rattle.matching.proofs.UpToLaws.{length-upTo, getD-upTo}
-use Rattle.matching.proofs.MatchLaws.{SoundPattern}
+use Rattle.engine.proofs.ByEdge.{rowOf}
+use Rattle.engine.proofs.ListLaws.{in-at}
+use Rattle.engine.proofs.UpToLaws.{length-upTo, getD-upTo}
+use Rattle.engine.proofs.MatchLaws.{SoundPattern}
 use Rattle.matching.proofs.MatchSetLaws.{view-each}
 use Rattle.matching.proofs.PlaceLaws.{one-of, rank-more, rank-same}
 use Rattle.matching.proofs.PartLaws.{part-number, part-edge, had-is-match}

@@ -14,14 +14,14 @@ use Rattle.packed.specs.Bits.{one}
 use Rattle.packed.specs.declared.by_value.Pattern.{Pattern as Given}
 use Rattle.packed.proofs.OrderCases.{lt-or-ge}
 use Rattle.packed.proofs.ByValueLaws.{nothing-at}
-use Rattle.matching.specs.Lists.{In, put, keep, gather, each, upTo}
-use Rattle.matching.specs.Simulation.{Edge, noEdge, bit}
-use Rattle.matching.specs.Masks.{Has, Mask, OneOf}
-use Rattle.matching.specs.Loaded.{givenEdge, patternIn, Fair}
+use Rattle.engine.specs.Lists.{In, put, keep, gather, each, upTo}
+use Rattle.engine.specs.Simulation.{Edge, noEdge, bit}
+use Rattle.engine.specs.Masks.{Has, Mask, OneOf}
+use Rattle.engine.specs.Loaded.{givenEdge, patternIn, Fair}
 use Rattle.matching.specs.Part.{rank, atPlaces, touches, moved, partOf, edgeFields, patternFields}
-use Rattle.matching.proofs.ListLaws.{same-test, keep-in, in-keep, each-append, length-each}
-use Rattle.matching.proofs.UpToLaws.{length-upTo, getD-upTo, in-upTo, upTo-in, upTo-more}
-use Rattle.matching.proofs.MaskBits.{mask-cast, mask-or, mask-one, one-more, one-cases, union-more}
+use Rattle.engine.proofs.ListLaws.{same-test, keep-in, in-keep, each-append, length-each}
+use Rattle.engine.proofs.UpToLaws.{length-upTo, getD-upTo, in-upTo, upTo-in, upTo-more}
+use Rattle.engine.proofs.MaskBits.{mask-cast, mask-or, mask-one, one-more, one-cases, union-more}
 use Rattle.matching.proofs.PlaceLaws.{rank-more, rank-most, rank-rises, places-length, places-same, places-more, keep-places}
 use Rattle.matching.proofs.PartLaws.{touches-say, touches-at}
 use Rattle.matching.proofs.PatternBytes.{fields-append}

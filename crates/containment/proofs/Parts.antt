@@ -12,22 +12,22 @@ use Rattle.packed.specs.Format.{pick, encode}
 use Rattle.packed.specs.Formats.{pattern}
 use Rattle.packed.specs.Contents.{edgesOf, edgeCounts}
 use Rattle.packed.specs.Plain.{Below, PlainPattern}
-use Rattle.packed.specs.Calls.{Outcome, give, refuse, withWorkspace, accepted, readBook, withinPairsBy, fitFile}
+use Rattle.packed.specs.Calls.{Outcome, give, refuse, withWorkspace, accepted, readBook, withinPairsBy, fitFile, bytesIn}
 use Rattle.packed.proofs.OrderCases.{lt-or-ge}
 use Rattle.packed.proofs.CallLaws.{within-pairs-is}
 use Rattle.packed.proofs.CallRoundTrips.{fitFile-given}
 use Rattle.packed.proofs.RoundTrip.{decode-encode}
 use Rattle.packed.proofs.Accepted.{pattern-read}
-use Rattle.matching.specs.Lists.{In, some, keep}
-use Rattle.matching.specs.Simulation.{Edge, noEdge, Pattern, bit, patternOf, graphOf, ascending, matchSets}
+use Rattle.engine.specs.Lists.{In, some, keep}
+use Rattle.engine.specs.Simulation.{Edge, noEdge, Pattern, bit, patternOf, graphOf, ascending, matchSets}
 use Rattle.matching.specs.Join.{covered}
-use Rattle.matching.specs.Offered.{viewPatterns}
-use Rattle.matching.specs.Search.{sheetBytes, bytesIn}
+use Rattle.matching.specs.Offered.{Brought, Offered, viewPatterns}
+use Rattle.matching.specs.Search.{sheetBytes}
 use Rattle.matching.specs.Part.{rank, number, moved, partOf, patternFields, patternBytes, touches}
-use Rattle.matching.proofs.ByEdge.{rowOf}
-use Rattle.matching.proofs.ListLaws.{in-at, some-in, in-some, in-keep}
-use Rattle.matching.proofs.UpToLaws.{getD-upTo}
-use Rattle.matching.proofs.MatchLaws.{SoundPattern, sound-say}
+use Rattle.engine.proofs.ByEdge.{rowOf}
+use Rattle.engine.proofs.ListLaws.{in-at, some-in, in-some, in-keep}
+use Rattle.engine.proofs.UpToLaws.{getD-upTo}
+use Rattle.engine.proofs.MatchLaws.{SoundPattern, sound-say}
 use Rattle.matching.proofs.MatchSetLaws.{set-at}
 use Rattle.matching.proofs.PlaceLaws.{rank-most, rank-rises, rank-apart}
 use Rattle.matching.proofs.PartLaws.{touches-at, part-number, part-edge, part-labels, part-lists-more, covered-inside, had-covered, had-whole}
@@ -197,17 +197,17 @@ module _ (room : ℕ) (o : List ℕ) where
 
 -- ---- accepted files are handed on
 -- what is answered by a set of views, from an accepted book, once question and catalogue are accepted
-answer-for : (set : ℕ) (qs cs b bs : List ℕ) → Book cs b bs → (room : ℕ) → Covers (usedBy (quotedIn set qs cs)) qs cs
+answer-for : (set : ℕ) (qs : List ℕ) (cs : Offered) (b bs : List ℕ) → Book (cs .content) b bs → (room : ℕ) → Covers (usedBy (quotedIn set qs cs)) qs cs
     → answerFor usedBy b room (quotedIn set qs cs) ≡ fitFile room (sheetBytes (answerOf (usedBy (quotedIn set qs cs)) qs cs bs))
 unfolding answerFor answerIn answerBytes
-answer-for set qs cs b bs k room h = goes-on _ (k .read) ∙ within-pairs-is (edgeCounts cs) bs _ (k .few) ∙ rw h
+answer-for set qs cs b bs k room h = goes-on _ (k .read) ∙ within-pairs-is (edgeCounts (cs .content)) bs _ (k .few) ∙ rw h
 
-part-goes-on : (w : When) (q c qs cs : List ℕ) → Question q qs → Catalogue c cs → Timely cs w → (b : List ℕ) (room room′ : ℕ)
+part-goes-on : (w : When) (q : List ℕ) (c : Brought) (qs : List ℕ) (cs : Offered) → Question q qs → Catalogue c cs → Timely cs w → (b : List ℕ) (room room′ : ℕ)
     → partWhen w q c b room room′ ≡ partFor b room room′ (quotedIn (usableWhen w cs) qs cs)
 part-goes-on w q c qs cs p d y b room room′ = part-by q c w b room room′ ∙ goes-on-when w q c qs cs p d y (partFor b room room′)
 
 -- ---- the part
-module _ (q c qs cs : List ℕ) (p : Question q qs) (d : Catalogue c cs) (set : ℕ) where
+module _ (q : List ℕ) (c : Brought) (qs : List ℕ) (cs : Offered) (p : Question q qs) (d : Catalogue c cs) (set : ℕ) where
   abbrev Ps : List Pattern
   Ps = viewPatterns cs
 
@@ -295,7 +295,7 @@ module _ (q c qs cs : List ℕ) (p : Question q qs) (d : Catalogue c cs) (set : 
   after b room room′ =
       pick (some takes (patternOf qs .edges)) (fitPart room (partBytes (quotedIn set qs cs)) (answerFor usedBy b room′ (partQuoted (quotedIn set qs cs)))) (refuse 11 0)
 
-  part-after : (b bs : List ℕ) → readBook cs b ≡ accepted bs → (room room′ : ℕ) → partFor b room room′ (quotedIn set qs cs) ≡ withinPairsBy (edgeCounts cs) bs (after b room room′)
+  part-after : (b bs : List ℕ) → readBook (cs .content) b ≡ accepted bs → (room room′ : ℕ) → partFor b room room′ (quotedIn set qs cs) ≡ withinPairsBy (edgeCounts (cs .content)) bs (after b room room′)
   unfolding partFor
   part-after b bs k room room′ = goes-on _ k
 
@@ -322,23 +322,23 @@ module _ (q c qs cs : List ℕ) (p : Question q qs) (d : Catalogue c cs) (set : 
     unfolding partFrom
     after-some b room room′ = rw (some-by s)
 
-    part-answered : (b bs : List ℕ) → Book cs b bs → (room : ℕ) → answerFor usedBy b room (quotedIn set partly cs) ≡ fitFile room (partAnswer set qs cs bs)
+    part-answered : (b bs : List ℕ) → Book (cs .content) b bs → (room : ℕ) → answerFor usedBy b room (quotedIn set partly cs) ≡ fitFile room (partAnswer set qs cs bs)
     part-answered b bs k room =
         answer-for set partly cs b bs k room (subst (λ (n : ℕ). Covers n partly cs) (sym used-partly) chosen-partly)
         ∙ ap (λ (n : ℕ). fitFile room (sheetBytes (answerOf n partly cs bs))) used-partly
 
-    part-given : (b bs : List ℕ) → Book cs b bs → (room room′ : ℕ) → partFor b room room′ (quotedIn set qs cs) ≡ fitPart room (partFile set qs cs) (fitFile room′ (partAnswer set qs cs bs))
+    part-given : (b bs : List ℕ) → Book (cs .content) b bs → (room room′ : ℕ) → partFor b room room′ (quotedIn set qs cs) ≡ fitPart room (partFile set qs cs) (fitFile room′ (partAnswer set qs cs bs))
     part-given b bs k room room′ =
         part-after b bs (k .read) room room′
-        ∙ within-pairs-is (edgeCounts cs) bs _ (k .few)
+        ∙ within-pairs-is (edgeCounts (cs .content)) bs _ (k .few)
         ∙ after-some b room room′
         ∙ ap (fitPart room (partFile set qs cs)) (part-answered b bs k room′)
 
-  part-none : NoneMatched set qs cs → (b bs : List ℕ) → Book cs b bs → (room room′ : ℕ) → partFor b room room′ (quotedIn set qs cs) ≡ refuse 11 0
-  part-none n b bs k room room′ = part-after b bs (k .read) room room′ ∙ within-pairs-is (edgeCounts cs) bs _ (k .few) ∙ after-none n b room room′
+  part-none : NoneMatched set qs cs → (b bs : List ℕ) → Book (cs .content) b bs → (room room′ : ℕ) → partFor b room room′ (quotedIn set qs cs) ≡ refuse 11 0
+  part-none n b bs k room room′ = part-after b bs (k .read) room room′ ∙ within-pairs-is (edgeCounts (cs .content)) bs _ (k .few) ∙ after-none n b room room′
 
   -- 11 falls exactly where none is matched
-  none-exactly : (b bs : List ℕ) → Book cs b bs → (room room′ : ℕ) (a : Outcome) → a ≡ partFor b room room′ (quotedIn set qs cs) → (words e : ℕ)
+  none-exactly : (b bs : List ℕ) → Book (cs .content) b bs → (room room′ : ℕ) (a : Outcome) → a ≡ partFor b room room′ (quotedIn set qs cs) → (words e : ℕ)
       → (withWorkspace words a ≡ refuse 11 e) ↔ ((16384 ≤ words) × NoneMatched set qs cs × (e ≡ 0))
   none-exactly b bs k room room′ a is words e = (
     λ x.
@@ -351,13 +351,13 @@ module _ (q c qs cs : List ℕ) (p : Question q qs) (d : Catalogue c cs) (set : 
   )
 
   -- and 10 exactly to a crowded book
-  many-exactly : (b bs : List ℕ) → readBook cs b ≡ accepted bs → (room room′ : ℕ) (a : Outcome) → a ≡ partFor b room room′ (quotedIn set qs cs) → (words e : ℕ)
-      → (withWorkspace words a ≡ refuse 10 e) ↔ ((16384 ≤ words) × ManyPairs cs bs × (e ≡ 4))
+  many-exactly : (b bs : List ℕ) → readBook (cs .content) b ≡ accepted bs → (room room′ : ℕ) (a : Outcome) → a ≡ partFor b room room′ (quotedIn set qs cs) → (words e : ℕ)
+      → (withWorkspace words a ≡ refuse 10 e) ↔ ((16384 ≤ words) × ManyPairs (cs .content) bs × (e ≡ 4))
   many-exactly b bs k room room′ a is words e =
-      many-pairs-exactly words a (edgeCounts cs) bs (after b room room′) (is ∙ part-after b bs k room room′)
+      many-pairs-exactly words a (edgeCounts (cs .content)) bs (after b room room′) (is ∙ part-after b bs k room room′)
       (λ h j x.
       ⊎-elim
-      (λ s. let z : Book cs b bs = record { read = k; few = h } in let y = part-refuses room (partFile set qs cs) room′ (partAnswer set qs cs bs) (sym (after-some s b room room′ ∙ ap (fitPart room (partFile set qs cs)) (part-answered s b bs z room′)) ∙ x) in omega arith)
+      (λ s. let z : Book (cs .content) b bs = record { read = k; few = h } in let y = part-refuses room (partFile set qs cs) room′ (partAnswer set qs cs bs) (sym (after-some s b room room′ ∙ ap (fitPart room (partFile set qs cs)) (part-answered s b bs z room′)) ∙ x) in omega arith)
       (λ n. let y = number-same (sym (after-none n b room room′) ∙ x) in omega arith)
       either-matched) e
 
@@ -373,27 +373,27 @@ module _ (q c qs cs : List ℕ) (p : Question q qs) (d : Catalogue c cs) (set : 
     unfolding patternBytes
     whole-file y = ap (λ ws. bytesIn (encode pattern ws)) whole-content ∙ ap bytesIn (decode-encode pattern q qs (bytes-by q y) (question-is q qs p))
 
-    whole-answered : (b bs : List ℕ) → Book cs b bs → (room : ℕ) → answerFrom q c (chosenIn set qs cs) b room ≡ fitFile room (partAnswer set qs cs bs)
+    whole-answered : (b bs : List ℕ) → Book (cs .content) b bs → (room : ℕ) → answerFrom q c (chosenIn set qs cs) b room ≡ fitFile room (partAnswer set qs cs bs)
     whole-answered b bs k room =
         given-by q c qs cs p d b bs k (λ _. chosenIn set qs cs) room (chosen-covers (mapping (patternOf qs) Ps) set (edgesOf qs) (length Ps) h)
         ∙ ap (λ ws. fitFile room (sheetBytes (answerOf (chosenIn set ws cs) ws cs bs))) (sym whole-content)
 
   -- what is given comes of an accepted book
-  full-for : (b : List ℕ) (room room′ : ℕ) → Full (partFor b room room′ (quotedIn set qs cs)) → (bs : List ℕ) × Book cs b bs × SomeMatched set qs cs
+  full-for : (b : List ℕ) (room room′ : ℕ) → Full (partFor b room room′ (quotedIn set qs cs)) → (bs : List ℕ) × Book (cs .content) b bs × SomeMatched set qs cs
   unfolding partFor
   full-for b room room′ f =
       let z = full-judged _ _ f in
-      let k : Book cs b (z .0) = record { read = z .1; few = full-within-pairs _ _ _ (z .2) } in
+      let k : Book (cs .content) b (z .0) = record { read = z .1; few = full-within-pairs _ _ _ (z .2) } in
       (z .0, k, ⊎-elim (λ s. s) (λ n. absurd (not-refused (sym (f .is) ∙ part-none n b (z .0) k room room′))) either-matched)
 
-pub many-pairs-part : (w : When) (q c qs cs : List ℕ) → Question q qs → Catalogue c cs → Timely cs w → (b bs : List ℕ) → readBook cs b ≡ accepted bs → (room room′ words e : ℕ)
-    → (withWorkspace words (partWhen w q c b room room′) ≡ refuse 10 e) ↔ ((16384 ≤ words) × ManyPairs cs bs × (e ≡ 4))
+pub many-pairs-part : (w : When) (q : List ℕ) (c : Brought) (qs : List ℕ) (cs : Offered) → Question q qs → Catalogue c cs → Timely cs w → (b bs : List ℕ) → readBook (cs .content) b ≡ accepted bs → (room room′ words e : ℕ)
+    → (withWorkspace words (partWhen w q c b room room′) ≡ refuse 10 e) ↔ ((16384 ≤ words) × ManyPairs (cs .content) bs × (e ≡ 4))
 many-pairs-part w q c qs cs p d y b bs k room room′ words e =
     many-exactly q c qs cs p d (usableWhen w cs) b bs k room room′ (partWhen w q c b room room′) (part-goes-on w q c qs cs p d y b room room′) words e
 
 -- a full result comes of accepted files
-full-part : (w : When) (q c b : List ℕ) (room room′ : ℕ) → Full (partWhen w q c b room room′)
-    → (qs : List ℕ) × (cs : List ℕ) × (bs : List ℕ) × Question q qs × Catalogue c cs × Timely cs w × Book cs b bs × SomeMatched (usableWhen w cs) qs cs
+full-part : (w : When) (q : List ℕ) (c : Brought) (b : List ℕ) (room room′ : ℕ) → Full (partWhen w q c b room room′)
+    → (qs : List ℕ) × (cs : Offered) × (bs : List ℕ) × Question q qs × Catalogue c cs × Timely cs w × Book (cs .content) b bs × SomeMatched (usableWhen w cs) qs cs
 full-part w q c b room room′ f =
     let t = full-when w q c (partFor b room room′) (full-same (part-by q c w b room room′) f) in
     let z = full-for q c (t .0) (t .1) (t .2) (t .3) (usableWhen w (t .1)) b room room′ (t .5) in

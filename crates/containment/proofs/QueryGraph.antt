@@ -9,83 +9,22 @@ use lib.Seq.{take-at, drop-at, drop-drop, getD-take, getD-drop, getD-append-add,
 use lib.Pow.{pow-lt}
 use lib.Dec.{T}
 use native.Mathlib.Omega.{arith}
-use Rattle.packed.specs.Bits.{bitsOf}
-use Rattle.packed.specs.Format.{ok, whole, decode, encode}
-use Rattle.packed.specs.Formats.{record′}
+use Rattle.packed.specs.Format.{whole}
 use Rattle.packed.specs.Contents.{nodesOf, sortedEdges}
-use Rattle.packed.specs.Plain.{Below, fieldBits, edgeBits, fromAt, toAt, kindAt, Same, PlainEdges, PlainRising, PlainPattern, PlainRecord}
+use Rattle.packed.specs.Plain.{Below, fromAt, toAt, kindAt, Same, PlainEdges, PlainPattern}
 use Rattle.packed.proofs.OrderCases.{lt-or-ge, trichotomy}
-use Rattle.packed.proofs.BitsLaws.{length-bitsOf}
-use Rattle.packed.proofs.GraphLaws.{fields-length, edges-length}
-use Rattle.packed.proofs.RoundTrip.{Bytes}
-use Rattle.packed.proofs.AcceptedGraphs.{accepts-record}
-use Rattle.packed.proofs.Accepted.{written-accepted, plain-written}
-use Rattle.matching.specs.Lists.{each, keep, put}
-use Rattle.matching.specs.Simulation.{Edge, sameEdge, between, noEdge, edgesIn, patternOf, Graph, graphOf, asGraph}
+use Rattle.engine.specs.Lists.{each, keep, put}
+use Rattle.engine.specs.Simulation.{Edge, sameEdge, between, noEdge, edgesIn, patternOf, Graph, graphOf, asGraph}
 use Rattle.matching.specs.Join.{without}
-use Rattle.matching.specs.Search.{bytesIn}
-use Rattle.matching.proofs.ListLaws.{getD-each}
-use Rattle.matching.proofs.SimLaws.{same-edge, same-edge-refl}
+use Rattle.engine.proofs.ListLaws.{getD-each}
+use Rattle.engine.proofs.SimLaws.{same-edge, same-edge-refl}
 use Rattle.matching.proofs.PatternLaws.{nodes-in, pattern-is}
 use Rattle.matching.proofs.EdgeLaws.{edgeAt, edge-at, edgesIn-length}
 use Rattle.matching.proofs.SortedGraphs.{Alike, NarrowEdges, ends-narrow, sorted-in, sorted-but}
 use Rattle.packed.proofs.SortedEdges.{sorted-plain}
-use Rattle.containment.specs.Show.{asRecord, graphFields, fewerFields, recordBytes}
+use Rattle.packed.proofs.MadeRecords.{Made, record-made, made-within}
+use Rattle.containment.specs.Show.{asRecord, graphFields, fewerFields}
 use Rattle.containment.specs.Steps.{powers}
-
--- ---- a record with given parts
-
--- a content that is written and read back
-pub record Made (most : ℕ) (fs : List ℕ) : Type 0 where
-  pub is : encode record′ fs ≡ ok (recordBytes fs)
-  pub back : decode record′ (recordBytes fs) ≡ ok fs
-  pub small : Bytes (recordBytes fs)
-  pub size : length (recordBytes fs) ≤ most
-
-bytes-are : (fs bytes : List ℕ) → encode record′ fs ≡ ok bytes → recordBytes fs ≡ bytes
-unfolding recordBytes
-bytes-are fs bytes e = ap bytesIn e
-
-module _ (nodes number : ℕ) (labels es : List ℕ) (few : nodes ≤ 4096) (few-edges : number ≤ 8192) (each : length labels ≡ nodes) (are : Below (2 ^ 32) labels)
-    (edges : PlainRising 8 nodes number es) where
-  abbrev all : List ℕ
-  all = nodes ∷ number ∷ (labels ++ es)
-
-  abbrev body : List Bool
-  body = bitsOf 13 nodes ++ (bitsOf 14 number ++ (fieldBits 32 labels ++ edgeBits 12 3 es))
-
-  body-length : length body ≡ 27 + 32 * nodes + 27 * number
-  body-length =
-      let a = length-append (bitsOf 13 nodes) (bitsOf 14 number ++ (fieldBits 32 labels ++ edgeBits 12 3 es)) in
-      let b = length-append (bitsOf 14 number) (fieldBits 32 labels ++ edgeBits 12 3 es) in
-      let c = length-append (fieldBits 32 labels) (edgeBits 12 3 es) in
-      omega (arith, length-bitsOf 13 nodes, length-bitsOf 14 number, fields-length 32 labels, edges-length 12 3 27 refl number es (edges .among .three-each))
-
-  plain : PlainRecord all body
-  plain =
-      record {
-        nodes = nodes;
-        number = number;
-        labels = labels;
-        es = es;
-        content = refl;
-        layout = refl;
-        most-nodes = omega arith;
-        most-edges = omega arith;
-        labels-each = each;
-        are-labels = are;
-        edges = edges;
-      }
-
-  pub record-made : Made ((34 + 32 * nodes + 27 * number) / 8) all
-  record-made =
-      let s = plain-written record′ (accepts-record 0) all body plain in
-      let q : recordBytes all ≡ s .0 = bytes-are all (s .0) (s .1) in
-      let w = written-accepted record′ all (s .0) .0 (s .1) in
-      record { is = rw q (s .1); back = rw q (w .1); small = subst Bytes (sym q) (w .0); size = rw q (omega (arith, s .2, body-length)) }
-
-pub made-within : {a b : ℕ} {fs : List ℕ} → a ≤ b → Made a fs → Made b fs
-made-within h m = record { is = m .is; back = m .back; small = m .small; size = omega (arith, m .size) }
 
 -- ---- edges without one
 module _ (es : List ℕ) (nodes number e : ℕ) (p : PlainEdges 8 nodes number es) (h : e < number) where

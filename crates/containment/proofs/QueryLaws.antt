@@ -17,14 +17,16 @@ use Rattle.packed.specs.Reading.{Content}
 use Rattle.packed.specs.declared.by_value.Pattern.{Pattern as Given}
 use Rattle.packed.proofs.OrderCases.{lt-or-ge}
 use Rattle.packed.proofs.Accepted.{pattern-accepted}
-use Rattle.matching.specs.Simulation.{noEdge, Pattern, patternOf}
-use Rattle.matching.specs.Loaded.{givenEdge, patternIn, Fair}
-use Rattle.matching.proofs.UpToLaws.{length-upTo, getD-upTo}
+use Rattle.packed.specs.Calls.{recordBytes}
+use Rattle.packed.proofs.MadeRecords.{Made}
+use Rattle.engine.specs.Simulation.{noEdge, Pattern, patternOf}
+use Rattle.engine.specs.Loaded.{givenEdge, patternIn, Fair}
+use Rattle.engine.proofs.UpToLaws.{length-upTo, getD-upTo}
 use Rattle.matching.proofs.PatternLaws.{edges-in, fair-by, pattern-same}
-use Rattle.containment.specs.Show.{graphFields, recordBytes}
+use Rattle.containment.specs.Show.{graphFields}
 use Rattle.containment.specs.Steps.{Query, fieldsBut, HoldsFields, Graphed, shownFields}
 use Rattle.containment.specs.declared.query.Fields.{Fields}
-use Rattle.containment.proofs.QueryGraph.{Made, graph-made, fewer-made}
+use Rattle.containment.proofs.QueryGraph.{graph-made, fewer-made}
 use Rattle.containment.proofs.FieldLaws.{fields-are}
 
 module _ {p : Given} (t : Query p) where

@@ -12,14 +12,14 @@ use native.Mathlib.Nat.{div-one}
 use native.Mathlib.Omega.{arith}
 use Rattle.packed.specs.Format.{pick}
 use Rattle.packed.specs.Formats.{code}
-use Rattle.matching.specs.Lists.{_or_, In, here, there}
-use Rattle.matching.specs.Simulation.{Edge, noEdge, Pattern, bit, asGraph, viewSheet}
+use Rattle.engine.specs.Lists.{_or_, In, here, there}
+use Rattle.engine.specs.Simulation.{Edge, noEdge, Pattern, bit, asGraph, viewSheet}
+use Rattle.engine.specs.Masks.{OneOf}
 use Rattle.matching.specs.Join.{isMatch, someMatch, matchedBy, matched, covered}
-use Rattle.matching.specs.Masks.{OneOf}
-use Rattle.matching.proofs.ListLaws.{not-in-none, in-cases, in-at, every-in, in-every, some-in, in-some}
-use Rattle.matching.proofs.UpToLaws.{getD-upTo}
+use Rattle.engine.proofs.ListLaws.{not-in-none, in-cases, in-at, every-in, in-every, some-in, in-some}
+use Rattle.engine.proofs.UpToLaws.{getD-upTo}
+use Rattle.engine.proofs.MatchLaws.{Sim, Total}
 use Rattle.matching.proofs.JoinLaws.{match-say, match-by, some-match-say, some-match-by}
-use Rattle.matching.proofs.MatchLaws.{Sim, Total}
 use Rattle.matching.proofs.MatchSetLaws.{view-sheet, view-length}
 use Rattle.matching.proofs.Listed.{listed-matches}
 use Rattle.containment.specs.Choice.{matches, coversIn, everyView, lowestUnmatched}

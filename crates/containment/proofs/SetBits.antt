@@ -10,9 +10,9 @@ use lib.Bits.{bitOr}
 use lib.Pow.{pow-pos, pow-mono, shr-shr}
 use borrow.Author.Tests.{eqb-true, eq-eqb, ne-eqb}
 use Rattle.packed.proofs.OrderCases.{lt-or-ge}
-use Rattle.matching.specs.Simulation.{bit}
-use Rattle.matching.specs.Masks.{Mask}
-use Rattle.matching.proofs.MaskBits.{has-say, not-by, none-has, mask-cast, mask-or, mask-one, mask-none}
+use Rattle.engine.specs.Simulation.{bit}
+use Rattle.engine.specs.Masks.{Mask}
+use Rattle.engine.proofs.MaskBits.{has-say, not-by, none-has, mask-cast, mask-or, mask-one, mask-none}
 use Rattle.containment.specs.Choice.{Passing}
 
 -- a test is true or false

@@ -23,21 +23,21 @@ use Rattle.packed.specs.declared.by_value.Pattern.{Pattern as Given}
 use Rattle.packed.proofs.OrderCases.{lt-or-ge}
 use Rattle.packed.proofs.Sets.{sets-append, sets-front, sets-swap}
 use Rattle.packed.proofs.CallLaws.{many-pairs, refusal-answered}
-use Rattle.matching.specs.Lists.{upTo}
-use Rattle.matching.specs.Simulation.{Pattern, patternOf}
+use Rattle.engine.specs.Lists.{upTo}
+use Rattle.engine.specs.Simulation.{Pattern, patternOf}
+use Rattle.engine.specs.Loaded.{Fair, patternIn, Edges}
+use Rattle.engine.specs.Matched.{ViewAt}
+use Rattle.engine.specs.declared.views.View.{View as Read}
 use Rattle.matching.specs.Search.{sheetBytes}
 use Rattle.matching.specs.Join.{View, answerSets}
-use Rattle.matching.specs.Loaded.{Fair, patternIn, Edges}
-use Rattle.matching.specs.Matched.{ViewAt}
 use Rattle.matching.specs.Books.{sheetSize}
 use Rattle.matching.specs.Candidates.{Pool, Booked}
 use Rattle.matching.specs.Joining.{Agrees, Joined}
 use Rattle.matching.specs.Offered.{viewPatterns}
-use Rattle.matching.specs.declared.views.View.{View as Read}
-use Rattle.matching.proofs.UpToLaws.{length-upTo, upTo-more}
-use Rattle.matching.proofs.ListLaws.{length-each}
+use Rattle.engine.proofs.UpToLaws.{length-upTo, upTo-more}
+use Rattle.engine.proofs.ListLaws.{length-each}
+use Rattle.engine.proofs.MatchedLaws.{edges-twice}
 use Rattle.matching.proofs.JoinLaws.{answer-each}
-use Rattle.matching.proofs.MatchedLaws.{edges-twice}
 use Rattle.matching.proofs.PatternLaws.{pattern-same}
 use Rattle.matching.proofs.TakingSheets.{booked-keep}
 use Rattle.matching.proofs.BookLaws.{size-at-most, made-size, made-bytes, nothing-made, rest-written}
@@ -45,7 +45,7 @@ use Rattle.containment.specs.Choice.{everyView}
 use Rattle.containment.specs.Quote.{tableOf}
 use Rattle.containment.specs.Answer.{viewsIn, answerBytes}
 use Rattle.containment.specs.Several.{questionAt, answerAt, anyLong, fitSeveral, severalTold}
-use Rattle.containment.specs.Steps.{Query, quotedAs}
+use Rattle.containment.specs.Steps.{Query, quotedAs, offerOf}
 use Rattle.containment.specs.SeveralSteps.{TableFrom, Answerable, answersOf, Held, Makes, Measured, Writable, Written}
 use Rattle.containment.specs.Demands.{Book}
 use Rattle.containment.specs.declared.several.Several.the-variants as several-is
@@ -138,7 +138,7 @@ module _ {s : List ℕ} {number : ℕ} {tables used book counts : List ℕ} {k d
 
   -- the views that answer the query i, with their sheets
   abbrev pub views-for : ℕ → List View
-  views-for i = viewsIn (getD used i 0) (viewPatterns (x .views .views .content)) (sheetsIn (edgeCounts (x .views .views .content)) (x .loaded .fields))
+  views-for i = viewsIn (getD used i 0) (viewPatterns (offerOf (x .views))) (sheetsIn (edgeCounts (x .views .views .content)) (x .loaded .fields))
 
   -- the answers of the first i were counted; the next query begins on the byte
   pub record Counted (total byte i : ℕ) (w′ : List ℕ) : Type 0 where
@@ -177,20 +177,20 @@ module _ {s : List ℕ} {number : ℕ} {tables used book counts : List ℕ} {k d
       turn-answer : answersOf x i ≡ sheetBytes (answerSets (patternIn (v .pattern)) (views-for i))
       unfolding answerAt answerBytes questionAt
       turn-answer =
-          ap₂ (λ (P : Pattern) (set : ℕ). sheetBytes (answerSets P (viewsIn set (viewPatterns content) (sheetsIn (edgeCounts content) (x .loaded .fields)))))
+          ap₂ (λ (P : Pattern) (set : ℕ). sheetBytes (answerSets P (viewsIn set (viewPatterns (offerOf (x .views))) (sheetsIn (edgeCounts content) (x .loaded .fields)))))
           (sym (pattern-same (plain query) (query .holds))) (sym (x .used-is i l))
 
       -- and how long that is
       pub turn-size : {n : ℕ} → n ≡ length (answersOf x i) → n ≡ sheetSize (answerSets (patternIn (v .pattern)) (views-for i))
       turn-size e =
           let b : Book content book (x .loaded .fields) = record { read = x .loaded .is; few = few-pairs content (x .loaded .fields) (x .loaded .few) } in
-          e ∙ ap length turn-answer ∙ answer-sheet content book (x .loaded .fields) b (patternIn (v .pattern)) (getD used i 0) .size
+          e ∙ ap length turn-answer ∙ answer-sheet (offerOf (x .views)) book (x .loaded .fields) b (patternIn (v .pattern)) (getD used i 0) .size
 
       table-is : {table : List ℕ} → TableFrom i tables table → table ≡ tableOf (quotedAs query (x .views) everyView)
       unfolding questionAt
       table-is {table} h =
           let n = h .long in
-          ext-getD 0 table (tableOf (quotedAs query (x .views) everyView)) (n ∙ sym (mapping-length (patternOf (query .content)) (viewPatterns content)))
+          ext-getD 0 table (tableOf (quotedAs query (x .views) everyView)) (n ∙ sym (mapping-length (patternOf (query .content)) (viewPatterns (offerOf (x .views)))))
           (λ j b. h .each j (omega arith) ∙ x .table i j l (omega arith))
 
       pub turn-agrees : {table : List ℕ} → TableFrom i tables table → Agrees (v .pattern) table (getD used i 0) book counts k (views-for i)

@@ -3,7 +3,7 @@ use Prim.Native.Nat.{ℕ, zero, suc, _+_, _*_, _/_, _%_, _^_, max, _<_, _≤_}
 use mathlib.Core.Path.{_≡_, refl, sym, ap, ap₂, subst, _∙_}
 use mathlib.Core.Bool.{Bool, true, false, _||_}
 use mathlib.Core.Logic.{⊎-elim}
-use mathlib.Core.List.{List, [], map}
+use mathlib.Core.List.{List, []}
 use lib.ListN.{length, drop, getD, replicate, set, length-set, length-drop}
 use lib.Seq.{drop-cons, getD-set-same, getD-set-other}
 use lib.Dec.{eqb, ltb}
@@ -14,12 +14,12 @@ use native.Mathlib.Numerals.{add-one}
 use borrow.Author.Tests.{lt-ltb, le-ltb, ltb-false, eq-eqb}
 use Rattle.packed.specs.Format.{pick}
 use Rattle.packed.specs.Formats.{pattern, patterns}
-use Rattle.packed.specs.Contents.{edgesOf, edgeCounts, sheetsIn, patternsIn, viewsOf}
+use Rattle.packed.specs.Contents.{edgesOf, edgeCounts, sheetsIn, patternsIn}
 use Rattle.packed.specs.Plain.{PlainPattern}
 use Rattle.packed.specs.ByValue.{HoldsPattern}
 use Rattle.packed.specs.Accepting.{ContentTaken}
 use Rattle.packed.specs.Refusals.{Told}
-use Rattle.packed.specs.Calls.{Outcome, refuse, Fulfils, accepted, rejected, judged, readQuestions, readCatalogue, readBook, withinPairs}
+use Rattle.packed.specs.Calls.{Outcome, refuse, Fulfils, accepted, rejected, judged, readQuestions, readBook, withinPairs}
 use Rattle.packed.specs.declared.by_value.Pattern.{Pattern as Given}
 use Rattle.packed.proofs.OrderCases.{lt-or-ge}
 use Rattle.packed.proofs.NotedLaws.{bit-or}
@@ -27,21 +27,22 @@ use Rattle.packed.proofs.AcceptedGraphs.{accepts-pattern}
 use Rattle.packed.proofs.Accepted.{written-accepted, plain-written}
 use Rattle.packed.proofs.AcceptedBounds.{length-patternsIn}
 use Rattle.packed.proofs.CallLaws.{read-says, judged-accepted}
-use Rattle.matching.specs.Simulation.{bit, patternOf}
-use Rattle.matching.specs.Matched.{ViewAt}
-use Rattle.matching.specs.Offered.{offeredBy, viewPatterns}
+use Rattle.engine.specs.Simulation.{bit, patternOf}
+use Rattle.engine.specs.Matched.{ViewAt}
+use Rattle.engine.specs.declared.views.View.{View}
+use Rattle.matching.specs.Offered.{Brought, Offered, offers, viewPatterns, offered}
 use Rattle.matching.specs.Part.{rank}
-use Rattle.matching.specs.declared.views.View.{View}
+use Rattle.engine.proofs.ViewLaws.{Ahead, Advanced, advance, questions-ahead}
 use Rattle.matching.proofs.PlaceLaws.{rank-same}
-use Rattle.matching.proofs.ViewLaws.{Ahead, Advanced, advance, questions-ahead}
+use Rattle.matching.proofs.OfferedLaws.{judged-rejected}
 use Rattle.containment.specs.Choice.{lowestUnmatched, used}
 use Rattle.containment.specs.Quote.{Quoted, mapping, tableOf, covering, lowestLeft, usedBy}
 use Rattle.containment.specs.Several.{questionAt, counted, allCovered, isNeeded, sheetsNeeded, answerAt, fitSeveral, severalIn, severalOutcome}
-use Rattle.containment.specs.Steps.{Query, Views, ViewCounts, Loaded}
+use Rattle.containment.specs.Steps.{Query, Views, ViewCounts, Loaded, offerOf}
 use Rattle.containment.specs.SeveralSteps.{Asked, askedAt, TablePut, TableFrom, firstLowest, Mapped, Answerable}
 use Rattle.containment.proofs.SetBits.{never, bit-zero}
 use Rattle.containment.proofs.ChoiceLaws.{lowest-leaves, lowest-covers}
-use Rattle.containment.proofs.AnswerLaws.{views-many, judged-rejected}
+use Rattle.containment.proofs.AnswerLaws.{views-many}
 
 -- ---- the queries one after the other
 
@@ -159,10 +160,10 @@ covers-more x n lowest low m h e d few a = h _ ∙ go (ltb lowest 32) refl
     go false p =
         ⊎-elim
         (λ (l : low < m).
-        let c = lowest-leaves (tableOf (x n)) (x n .usable) (length (x n .offer .views)) (edgesOf (x n .content)) e (omega (arith, d)) in
+        let c = lowest-leaves (tableOf (x n)) (x n .usable) (length (viewPatterns (x n .offer))) (edgesOf (x n .content)) e (omega (arith, d)) in
         rw (c, lt-ltb low m l, lt-ltb low 32 (omega arith)) (ap (refuse 11) (sym e)))
         (λ (l : m ≤ low).
-        let c = lowest-covers (tableOf (x n)) (x n .usable) (length (x n .offer .views)) (edgesOf (x n .content)) e (omega (arith, d)) in
+        let c = lowest-covers (tableOf (x n)) (x n .usable) (length (viewPatterns (x n .offer))) (edgesOf (x n .content)) e (omega (arith, d)) in
         rw (c, le-ltb low m l))
         (lt-or-ge low m)
 
@@ -205,14 +206,14 @@ mapped-more {x} {i} {tables} {used} {needed} {lowest} h l {table} {views} {low} 
 }
 
 -- the i-th of the accepted queries, whose table was made
-module _ {s : List ℕ} {number : ℕ} (a : Asked s number) {c : List ℕ} {k : ℕ} (v : Views c k) (i : ℕ) {q : Given} (holds : HoldsPattern (getD (patternsIn number (a .content)) i []) q)
-    {table : List ℕ} (is : table ≡ mapping (patternOf (getD (patternsIn number (a .content)) i [])) (map patternOf (viewsOf (v .content)))) where
-  pub asked-found : {views low : ℕ} → q .edges ≤ 32 → low ≡ lowestUnmatched table 65535 k (q .edges) → views ≡ used table 65535 (q .edges) k → Found (askedAt a v i) table views low (q .edges)
+module _ {s : List ℕ} {number : ℕ} (a : Asked s number) {c : List ℕ} {k : ℕ} (v : Views c k) (one i : ℕ) {q : Given} (holds : HoldsPattern (getD (patternsIn number (a .content)) i []) q)
+    {table : List ℕ} (is : table ≡ mapping (patternOf (getD (patternsIn number (a .content)) i [])) (viewPatterns (offers (v .content) one))) where
+  pub asked-found : {views low : ℕ} → q .edges ≤ 32 → low ≡ lowestUnmatched table 65535 k (q .edges) → views ≡ used table 65535 (q .edges) k → Found (askedAt a v one i) table views low (q .edges)
   unfolding questionAt
   asked-found few l u = record {
     table-is = is;
-    used-is = u ∙ rw (is, views-many v, ← holds .edges);
-    lowest-is = l ∙ rw (is, views-many v, ← holds .edges);
+    used-is = u ∙ rw (is, views-many v one, ← holds .edges);
+    lowest-is = l ∙ rw (is, views-many v one, ← holds .edges);
     edges-is = holds .edges;
     few = few;
   }
@@ -223,29 +224,29 @@ module _ {s : List ℕ} {number : ℕ} (a : Asked s number) {counts : List ℕ} 
   content = v .views .content
 
   abbrev asked : ℕ → Quoted
-  asked = askedAt a (v .views)
+  asked = askedAt a (v .views) (v .oneWay)
 
   pub several-unloaded : {n d : ℕ} → ((f : List ℕ → Outcome) → judged (readBook (v .views .content) b) (λ bs. withinPairs (v .views .content) bs (f bs)) ≡ refuse n d)
-      → judged (readBook (v .views .content) b) (λ bs. severalIn (askedAt a (v .views)) number (offeredBy (v .views .content)) bs room) ≡ refuse n d
+      → judged (readBook (v .views .content) b) (λ bs. severalIn (askedAt a (v .views) (v .oneWay)) number (offerOf v) bs room) ≡ refuse n d
   unfolding severalIn
   several-unloaded e = e _
 
-  module _ {d : ℕ} {w : List ℕ} (l : Loaded (v .views .content) b counts k d w) {tables used : List ℕ} {needed lowest : ℕ} (m : Mapped (askedAt a (v .views)) number tables used needed lowest) where
-    loaded-is : judged (readBook content b) (λ bs. severalIn asked number (offeredBy content) bs room)
+  module _ {d : ℕ} {w : List ℕ} (l : Loaded (v .views .content) b counts k d w) {tables used : List ℕ} {needed lowest : ℕ} (m : Mapped (askedAt a (v .views) (v .oneWay)) number tables used needed lowest) where
+    loaded-is : judged (readBook content b) (λ bs. severalIn asked number (offerOf v) bs room)
         ≡ pick (ltb lowest 32) (refuse 11 lowest)
-        (fitSeveral room (sheetsNeeded asked number (length (viewPatterns content))) (answerAt asked (sheetsIn (edgeCounts content) (l .fields))) number)
+        (fitSeveral room (sheetsNeeded asked number (length (viewPatterns (offerOf v)))) (answerAt asked (sheetsIn (edgeCounts content) (l .fields))) number)
     unfolding severalIn
     loaded-is = judged-accepted _ (l .is) ∙ l .few _ ∙ m .covers _
 
-    pub several-uncovered : lowest < 32 → judged (readBook (v .views .content) b) (λ bs. severalIn (askedAt a (v .views)) number (offeredBy (v .views .content)) bs room) ≡ refuse 11 lowest
+    pub several-uncovered : lowest < 32 → judged (readBook (v .views .content) b) (λ bs. severalIn (askedAt a (v .views) (v .oneWay)) number (offerOf v) bs room) ≡ refuse 11 lowest
     several-uncovered h = loaded-is ∙ rw (lt-ltb lowest 32 h)
 
     several-covered : {sheets : ℕ} → 32 ≤ lowest → sheets ≡ rank (bit needed) k
-        → judged (readBook content b) (λ bs. severalIn asked number (offeredBy content) bs room) ≡ fitSeveral room sheets (answerAt asked (sheetsIn (edgeCounts content) (l .fields))) number
+        → judged (readBook content b) (λ bs. severalIn asked number (offerOf v) bs room) ≡ fitSeveral room sheets (answerAt asked (sheetsIn (edgeCounts content) (l .fields))) number
     unfolding sheetsNeeded
     several-covered {sheets} h e =
-        let n : rank (λ i. isNeeded asked number i) (length (viewPatterns content)) ≡ sheets =
-        ap (rank (isNeeded asked number)) (views-many (v .views)) ∙ sym (e ∙ rank-same (bit needed) (isNeeded asked number) k (λ i q. m .needs i)) in
+        let n : rank (λ i. isNeeded asked number i) (length (viewPatterns (offerOf v))) ≡ sheets =
+        ap (rank (isNeeded asked number)) (views-many (v .views) (v .oneWay)) ∙ sym (e ∙ rank-same (bit needed) (isNeeded asked number) k (λ i q. m .needs i)) in
         loaded-is ∙ rw (le-ltb lowest 32 h) (ap (λ (t : ℕ). fitSeveral room t (answerAt asked (sheetsIn (edgeCounts content) (l .fields))) number) n)
 
     -- the pairs that were loaded are enough to answer from
@@ -253,8 +254,8 @@ module _ {s : List ℕ} {number : ℕ} (a : Asked s number) {counts : List ℕ} 
     answerable = record { asked = a; views = v; long = m .long; eight = m .eight; table = m .table; used-is = m .used-is; loaded = l }
 
     pub several-answered : {sheets : ℕ} {r : Told} {outs outs′ : List (List ℕ)} → 32 ≤ lowest → sheets ≡ rank (bit needed) k
-        → Fulfils [] (fitSeveral room sheets (answerAt (askedAt a (v .views)) (sheetsIn (edgeCounts (v .views .content)) (l .fields))) number) r outs outs′
-        → Fulfils [] (judged (readBook (v .views .content) b) (λ bs. severalIn (askedAt a (v .views)) number (offeredBy (v .views .content)) bs room)) r outs outs′
+        → Fulfils [] (fitSeveral room sheets (answerAt (askedAt a (v .views) (v .oneWay)) (sheetsIn (edgeCounts (v .views .content)) (l .fields))) number) r outs outs′
+        → Fulfils [] (judged (readBook (v .views .content) b) (λ bs. severalIn (askedAt a (v .views) (v .oneWay)) number (offerOf v) bs room)) r outs outs′
     several-answered {r = r} {outs} {outs′} h e f = subst (λ y. Fulfils [] y r outs outs′) (sym (several-covered h e)) f
 
 -- ---- what the call answers, from what is judged
@@ -275,7 +276,7 @@ asked-by s number t few =
     let r = read-says (56 * number) 1 (patterns number) s (t .fields) (t .is) in
     record { content = t .fields; is = r .0; few = few; short = omega (arith, r .1) }
 
-module _ (q c b : List ℕ) (number room : ℕ) where
+module _ (q : List ℕ) (c : Brought) (b : List ℕ) (number room : ℕ) where
   pub miscounted : (eqb number 0 || ltb 8 number) ≡ true → severalOutcome q number c b room ≡ refuse 17 number
   unfolding severalOutcome counted
   miscounted e = rw e
@@ -286,16 +287,18 @@ module _ (q c b : List ℕ) (number room : ℕ) where
     questions-refused h = rw e (judged-rejected _ h)
 
     module _ {ws : List ℕ} (is : readQuestions number q ≡ accepted ws) where
-      pub catalogue-refused : {n d : ℕ} → readCatalogue c ≡ rejected n d → severalOutcome q number c b room ≡ refuse n d
-      unfolding severalOutcome counted
-      catalogue-refused h = rw e (judged-accepted _ is ∙ judged-rejected _ h)
+      abbrev from-book : Offered → Outcome
+      from-book o = judged (readBook (o .content) b) (λ bs. severalIn (questionAt number ws o) number o bs room)
 
-      on : {cs : List ℕ} → readCatalogue c ≡ accepted cs
-          → severalOutcome q number c b room ≡ judged (readBook cs b) (λ bs. severalIn (questionAt number ws (offeredBy cs)) number (offeredBy cs) bs room)
+      pub offer-refused : {n d : ℕ} → ((f : Offered → Outcome) → offered c f ≡ refuse n d) → severalOutcome q number c b room ≡ refuse n d
       unfolding severalOutcome counted
-      on h = rw e (judged-accepted _ is ∙ judged-accepted _ h)
+      offer-refused h = rw e (judged-accepted _ is ∙ h from-book)
 
-      pub several-on : {cs : List ℕ} → readCatalogue c ≡ accepted cs → {r : Told} {outs outs′ : List (List ℕ)}
-          → Fulfils [] (judged (readBook cs b) (λ bs. severalIn (questionAt number ws (offeredBy cs)) number (offeredBy cs) bs room)) r outs outs′
+      on : {o : Offered} → ((f : Offered → Outcome) → offered c f ≡ f o) → severalOutcome q number c b room ≡ from-book o
+      unfolding severalOutcome counted
+      on h = rw e (judged-accepted _ is ∙ h from-book)
+
+      pub several-on : {o : Offered} → ((f : Offered → Outcome) → offered c f ≡ f o) → {r : Told} {outs outs′ : List (List ℕ)}
+          → Fulfils [] (judged (readBook (o .content) b) (λ bs. severalIn (questionAt number ws o) number o bs room)) r outs outs′
           → Fulfils [] (severalOutcome q number c b room) r outs outs′
       several-on h {r} {outs} {outs′} f = subst (λ y. Fulfils [] y r outs outs′) (sym (on h)) f

@@ -9,29 +9,30 @@ use lib.Dec.{T, eqb, ltb}
 use native.Mathlib.Omega.{arith}
 use borrow.Author.Tests.{lt-ltb, le-ltb, ltb-true, eq-eqb, ne-eqb}
 use Rattle.packed.specs.Contents.{edgeCounts, sheetsIn}
-use Rattle.packed.specs.Calls.{Outcome, give, refuse, withWorkspace, accepted, readQuestions, QuestionFiles, readCatalogue, readBook, pairsOf, withinPairsBy, fitFile}
+use Rattle.packed.specs.Calls.{Outcome, give, refuse, withWorkspace, accepted, judged, readQuestions, QuestionFiles, readBook, withinPairsBy, fitFile}
 use Rattle.packed.proofs.OrderCases.{lt-or-ge, or-cases}
-use Rattle.packed.proofs.CallLaws.{many-pairs, within-pairs-is}
+use Rattle.packed.proofs.CallLaws.{within-pairs-is}
 use Rattle.packed.proofs.Accepted.{book-read}
 use Rattle.packed.proofs.Questions.{questions-apart, questions-contents}
-use Rattle.matching.specs.Lists.{upTo}
-use Rattle.matching.specs.Simulation.{bit, patternOf, graphOf}
-use Rattle.matching.specs.Masks.{OneOf}
-use Rattle.matching.specs.Offered.{viewPatterns, offeredBy}
+use Rattle.engine.specs.Lists.{upTo}
+use Rattle.engine.specs.Simulation.{bit, patternOf, graphOf}
+use Rattle.engine.specs.Masks.{OneOf}
+use Rattle.matching.specs.Offered.{Brought, Offered, viewPatterns}
 use Rattle.matching.specs.Search.{sheetBytes, viewSheets}
-use Rattle.matching.proofs.ListLaws.{same-test, in-at, some-in, in-some}
-use Rattle.matching.proofs.UpToLaws.{getD-upTo, in-upTo, upTo-in, upTo-same}
+use Rattle.engine.proofs.ListLaws.{same-test, in-at, some-in, in-some}
+use Rattle.engine.proofs.UpToLaws.{getD-upTo, in-upTo, upTo-in, upTo-same}
 use Rattle.matching.proofs.PlaceLaws.{rank-same}
 use Rattle.containment.specs.Quote.{Quoted, quotedBy, covering, lowestLeft, usedBy}
 use Rattle.containment.specs.Answer.{answerBytes, answerOutcome}
 use Rattle.containment.specs.Several.{questionAt, counted, allCovered, isNeeded, sheetsNeeded, answerAt, anyLong, fitSeveral, severalIn, severalOutcome}
-use Rattle.containment.specs.Demands.{Questions, Catalogue, Record, ManyPairs, Book, Covered, lacking, chosenOf, answerOf, bookOf, sheetOf, Full, no-more, HandsUp, severalFiles, WrongNumber, RightNumber, FittedBeside, AllCovered, FirstUncovered, ownAnswer, ownAnswers, ChosenForOne, isChosenForOne, sheetsFor, OverSum, Severals}
+use Rattle.containment.specs.Demands.{Questions, CataloguePaper, Catalogue, Record, ManyPairs, Book, Covered, lacking, chosenOf, answerOf, bookOf, sheetOf, Full, no-more, HandsUp, severalFiles, Refuses19, WrongNumber, RightNumber, FittedBeside, AllCovered, FirstUncovered, ownAnswer, ownAnswers, ChosenForOne, isChosenForOne, sheetsFor, OverSum, Severals}
 use Rattle.containment.proofs.SetBits.{test-cases, never}
 use Rattle.containment.proofs.QuoteLaws.{test-is, place-of}
-use Rattle.containment.proofs.CoveredBytes.{coveredIn, coveredBy, covered-bytes}
-use Rattle.containment.proofs.Numbered.{patterns-faults, book-faults, read-few, catalogue-few}
-use Rattle.containment.proofs.DemandRules.{number-same, detail-same, not-refused, goes-on, enough-words, enough-for, full-words, full-judged, full-twice, full-within-pairs, refused-judged, fitted-by, many-pairs-exactly, used-chosen, used-covers, given-by}
-use Rattle.containment.proofs.DemandFiles.{Says, content-same, hands-up, says-judged, says-late, says-several}
+use Rattle.containment.proofs.CoveredBytes.{offered-goes-on, coveredIn, coveredBy, covered-bytes}
+use Rattle.containment.proofs.Numbered.{patterns-faults, book-faults, read-few}
+use Rattle.containment.proofs.DemandRules.{number-same, detail-same, not-refused, goes-on, enough-words, enough-for, full-words, full-judged, full-offered, full-within-pairs, refused-judged, fitted-by, many-pairs-exactly, used-chosen, used-covers, given-by}
+use Rattle.containment.proofs.DemandFiles.{Says, content-same, hands-up, says-judged, says-late, says-several, says-offered}
+use Rattle.containment.proofs.WhenLaws.{Lower, lower-give, lower-by, lower-either, lower-read, lower-pairs, refused-offered, refused-19}
 use Rattle.containment.proofs.DemandThree.{demand-3, same-lists-in}
 
 -- ---- the number of questions
@@ -139,7 +140,7 @@ unfolding fitSeveral
 fit-same room needed o o′ n h = rw (upTo-same o o′ n h, long-same o o′ n h)
 
 -- ---- extracts chosen for at least one question
-chosen-exactly : (contents : List (List ℕ)) (cs : List ℕ) (a : ℕ) → T (isChosenForOne contents cs a) ↔ ChosenForOne contents cs a
+chosen-exactly : (contents : List (List ℕ)) (cs : Offered) (a : ℕ) → T (isChosenForOne contents cs a) ↔ ChosenForOne contents cs a
 chosen-exactly contents cs a = (
   λ t.
       let r = some-in _ contents t in
@@ -149,7 +150,7 @@ chosen-exactly contents cs a = (
 )
 
 -- ---- the questions x, whose contents are given, beside a catalogue
-module _ (x : ℕ → Quoted) (contents : List (List ℕ)) (cs : List ℕ) (is : (i : ℕ) → x i ≡ quotedBy (getD contents i []) cs) where
+module _ (x : ℕ → Quoted) (contents : List (List ℕ)) (cs : Offered) (is : (i : ℕ) → x i ≡ quotedBy (getD contents i []) cs) where
   covered-at : (i : ℕ) → covering (x i) (x i .usable) ≡ coveredBy (getD contents i []) cs
   covered-at i = ap (λ (y : Quoted). covering y (y .usable)) (is i)
 
@@ -204,37 +205,41 @@ module _ (x : ℕ → Quoted) (contents : List (List ℕ)) (cs : List ℕ) (is :
     unfolding sheetsNeeded
     sheets-same = rank-same _ _ (length (viewPatterns cs)) (λ a l. needed-same a)
 
-    answer-is : (bs : List ℕ) (i : ℕ) → i < length contents → answerAt x (sheetsIn (edgeCounts cs) bs) i ≡ ownAnswer cs bs (getD contents i [])
+    answer-is : (bs : List ℕ) (i : ℕ) → i < length contents → answerAt x (sheetsIn (edgeCounts (cs .content)) bs) i ≡ ownAnswer cs bs (getD contents i [])
     unfolding answerAt answerBytes
     answer-is bs i l =
-        ap (λ (y : Quoted). answerBytes (y .content) (usedBy y) (y .offer .views) (sheetsIn (edgeCounts cs) bs)) (is i)
+        ap (λ (y : Quoted). answerBytes (y .content) (usedBy y) (viewPatterns (y .offer)) (sheetsIn (edgeCounts (cs .content)) bs)) (is i)
         ∙ ap (λ (set : ℕ). sheetBytes (answerOf set (getD contents i []) cs bs)) (used-chosen (getD contents i []) cs (h i l))
 
-    answers-are : (bs : List ℕ) → upTo (answerAt x (sheetsIn (edgeCounts cs) bs)) (length contents) ≡ ownAnswers contents cs bs
+    answers-are : (bs : List ℕ) → upTo (answerAt x (sheetsIn (edgeCounts (cs .content)) bs)) (length contents) ≡ ownAnswers contents cs bs
     answers-are bs = upTo-same _ _ (length contents) (answer-is bs) ∙ upTo-list (ownAnswer cs bs) contents
 
 -- ---- accepted files are handed on
 
 -- what is answered of so many queries where all are covered
-abbrev fittedAnswers : (ℕ → Quoted) → ℕ → List ℕ → List ℕ → ℕ → Outcome
-fittedAnswers x number cs bs room = fitSeveral room (sheetsNeeded x number (length (viewPatterns cs))) (answerAt x (sheetsIn (edgeCounts cs) bs)) number
+abbrev fittedAnswers : (ℕ → Quoted) → ℕ → Offered → List ℕ → ℕ → Outcome
+fittedAnswers x number cs bs room = fitSeveral room (sheetsNeeded x number (length (viewPatterns cs))) (answerAt x (sheetsIn (edgeCounts (cs .content)) bs)) number
+
+-- what follows the catalogue
+abbrev afterBook : ℕ → List ℕ → List ℕ → ℕ → Offered → Outcome
+afterBook number ws b room o = judged (readBook (o .content) b) (λ bs. severalIn (questionAt number ws o) number o bs room)
 
 -- what follows the files and 10
-abbrev after : ℕ → List ℕ → List ℕ → List ℕ → ℕ → Outcome
-after number ws cs bs room = allCovered (questionAt number ws (offeredBy cs)) number (fittedAnswers (questionAt number ws (offeredBy cs)) number cs bs room)
+abbrev after : ℕ → List ℕ → Offered → List ℕ → ℕ → Outcome
+after number ws cs bs room = allCovered (questionAt number ws cs) number (fittedAnswers (questionAt number ws cs) number cs bs room)
 
-module _ (number : ℕ) (q c b ws cs bs : List ℕ) (right : RightNumber number) (p : Questions number q ws) (d : Catalogue c cs) (k : readBook cs b ≡ accepted bs) (room : ℕ) where
-  several-after : severalOutcome q number c b room ≡ withinPairsBy (edgeCounts cs) bs (after number ws cs bs room)
+module _ (number : ℕ) (q : List ℕ) (c : Brought) (b ws : List ℕ) (cs : Offered) (bs : List ℕ) (right : RightNumber number) (p : Questions number q ws) (d : Catalogue c cs) (k : readBook (cs .content) b ≡ accepted bs) (room : ℕ) where
+  several-after : severalOutcome q number c b room ≡ withinPairsBy (edgeCounts (cs .content)) bs (after number ws cs bs room)
   unfolding severalOutcome severalIn
-  several-after = counted-right number _ right ∙ goes-on _ p ∙ goes-on _ d ∙ goes-on _ k
+  several-after = counted-right number _ right ∙ goes-on _ p ∙ offered-goes-on c cs d (afterBook number ws b room) ∙ goes-on _ k
 
 -- ---- accepted questions
-module _ (number : ℕ) (q c ws cs : List ℕ) (f : QuestionFiles number q ws) (d : Catalogue c cs) where
+module _ (number : ℕ) (q : List ℕ) (c : Brought) (ws : List ℕ) (cs : Offered) (f : QuestionFiles number q ws) (d : Catalogue c cs) where
   abbrev contents : List (List ℕ)
   contents = f .contents
 
   abbrev x : ℕ → Quoted
-  x = questionAt number ws (offeredBy cs)
+  x = questionAt number ws cs
 
   many : length contents ≡ number
   many = f .many-contents
@@ -248,7 +253,7 @@ module _ (number : ℕ) (q c ws cs : List ℕ) (f : QuestionFiles number q ws) (
 
   -- each by itself
   module _ (i : ℕ) (l : i < number) (h : Covered (getD contents i []) cs) where
-    own-answered : (b bs : List ℕ) → Book cs b bs → (room : ℕ) → answerOutcome (getD (f .files) i []) c b room ≡ fitFile room (getD (ownAnswers contents cs bs) i [])
+    own-answered : (b bs : List ℕ) → Book (cs .content) b bs → (room : ℕ) → answerOutcome (getD (f .files) i []) c b room ≡ fitFile room (getD (ownAnswers contents cs bs) i [])
     own-answered b bs k room =
         given-by (getD (f .files) i []) c (getD contents i []) cs (f .each i l) d b bs k usedBy room (used-covers (getD contents i []) cs h)
         ∙ ap (λ (set : ℕ). fitFile room (sheetBytes (answerOf set (getD contents i []) cs bs))) (used-chosen (getD contents i []) cs h)
@@ -272,9 +277,9 @@ module _ (number : ℕ) (q c ws cs : List ℕ) (f : QuestionFiles number q ws) (
         (λ r. inl (number-same (sym y ∙ after-first (r .0) (r .1))))
         all-or-first
 
-  module _ (right : RightNumber number) (b bs : List ℕ) (k : Book cs b bs) (room : ℕ) where
+  module _ (right : RightNumber number) (b bs : List ℕ) (k : Book (cs .content) b bs) (room : ℕ) where
     given-after : severalOutcome q number c b room ≡ after number ws cs bs room
-    given-after = several-after number q c b ws cs bs right paper d (k .read) room ∙ within-pairs-is (edgeCounts cs) bs _ (k .few)
+    given-after = several-after number q c b ws cs bs right paper d (k .read) room ∙ within-pairs-is (edgeCounts (cs .content)) bs _ (k .few)
 
     several-given : AllCovered contents cs → severalOutcome q number c b room ≡ fittedAnswers x number cs bs room
     several-given h = given-after ∙ after-covered room bs h
@@ -287,8 +292,8 @@ module _ (number : ℕ) (q c ws cs : List ℕ) (f : QuestionFiles number q ws) (
     several-fitted h words =
         subst₂ (λ (n : ℕ) (os : List (List ℕ)). FittedBeside (n ∷ []) words (OverSum room os) (flatten os ∷ []) (withWorkspace words (severalOutcome q number c b room)))
         (ap (λ (n : ℕ). sheetsNeeded x n (length (viewPatterns cs))) (sym many) ∙ sheets-same x contents cs x-is h)
-        (ap (upTo (answerAt x (sheetsIn (edgeCounts cs) bs))) (sym many) ∙ answers-are x contents cs x-is h bs)
-        (fitted-several room _ (answerAt x (sheetsIn (edgeCounts cs) bs)) number (severalOutcome q number c b room) words (several-given h))
+        (ap (upTo (answerAt x (sheetsIn (edgeCounts (cs .content)) bs))) (sym many) ∙ answers-are x contents cs x-is h bs)
+        (fitted-several room _ (answerAt x (sheetsIn (edgeCounts (cs .content)) bs)) number (severalOutcome q number c b room) words (several-given h))
 
     -- 11 falls exactly to the first that isn't covered
     first-exactly : (words e : ℕ) → (withWorkspace words (severalOutcome q number c b room) ≡ refuse 11 e)
@@ -304,8 +309,8 @@ module _ (number : ℕ) (q c ws cs : List ℕ) (f : QuestionFiles number q ws) (
     )
 
   -- from two books that agree on the sheets that are needed
-  several-same : (b b′ bs bs′ : List ℕ) → Book cs b bs → Book cs b′ bs′
-      → (AllCovered contents cs → (a : ℕ) → a < length (viewPatterns cs) → ChosenForOne contents cs a → getD (sheetsIn (edgeCounts cs) bs) a [] ≡ getD (sheetsIn (edgeCounts cs) bs′) a [])
+  several-same : (b b′ bs bs′ : List ℕ) → Book (cs .content) b bs → Book (cs .content) b′ bs′
+      → (AllCovered contents cs → (a : ℕ) → a < length (viewPatterns cs) → ChosenForOne contents cs a → getD (sheetsIn (edgeCounts (cs .content)) bs) a [] ≡ getD (sheetsIn (edgeCounts (cs .content)) bs′) a [])
       → (room : ℕ) → severalOutcome q number c b room ≡ severalOutcome q number c b′ room
   unfolding severalOutcome
   several-same b b′ bs bs′ k k′ s room =
@@ -326,11 +331,11 @@ module _ (number : ℕ) (q c ws cs : List ℕ) (f : QuestionFiles number q ws) (
       (wrong-or-right number)
 
   -- from the book of a record: the questions' sheets
-  record-sheets : (r rs bs : List ℕ) → Record r rs → AllCovered contents cs → Book cs (bookOf cs rs) bs → ownAnswers contents cs bs ≡ map (λ qs. sheetOf (patternOf qs) rs) contents
+  record-sheets : (r rs bs : List ℕ) → Record r rs → AllCovered contents cs → Book (cs .content) (bookOf cs rs) bs → ownAnswers contents cs bs ≡ map (λ qs. sheetOf (patternOf qs) rs) contents
   unfolding answerBytes
   record-sheets r rs bs e h k =
-      let o = demand-3 .fits c r cs rs d e (book-read cs (bookOf cs rs) bs .0 (k .read) .0) in
-      let same : sheetsIn (edgeCounts cs) bs ≡ viewSheets cs (graphOf rs) = ap (sheetsIn (edgeCounts cs)) (content-same (sym (k .read) ∙ o .1 .read)) ∙ o .2 in
+      let o = demand-3 .fits c r cs rs d e (book-read (cs .content) (bookOf cs rs) bs .0 (k .read) .0) in
+      let same : sheetsIn (edgeCounts (cs .content)) bs ≡ viewSheets cs (graphOf rs) = ap (sheetsIn (edgeCounts (cs .content))) (content-same (sym (k .read) ∙ o .1 .read)) ∙ o .2 in
       map-same _ _ contents
       (λ i l.
       let qs = getD contents i [] in
@@ -340,42 +345,58 @@ module _ (number : ℕ) (q c ws cs : List ℕ) (f : QuestionFiles number q ws) (
 -- ---- the calls whatever they are sent
 
 -- 1 to 9 are those of the files
-pub several-hands-up : (q : List ℕ) (number : ℕ) (c b : List ℕ) (room : ℕ) → RightNumber number → HandsUp (severalFiles number q c b) (severalOutcome q number c b room)
+pub several-hands-up : (q : List ℕ) (number : ℕ) (c : Brought) (b : List ℕ) (room : ℕ) → RightNumber number → HandsUp (severalFiles number q c b) (severalOutcome q number c b room)
 unfolding severalOutcome
 several-hands-up q number c b room right =
     hands-up
     (subst (Says (severalFiles number q c b)) (sym (counted-right number _ right))
-    (says-judged (readQuestions number q) (λ ws _. says-judged (readCatalogue c) (λ cs _. says-judged (readBook cs b) (λ bs _.
-    says-several (questionAt number ws (offeredBy cs)) number (offeredBy cs) bs room)))))
+    (says-judged (readQuestions number q) (λ ws _. says-offered c _ (λ cs. says-judged (readBook (cs .content) b) (λ bs _.
+    says-several (questionAt number ws cs) number cs bs room)))))
 
-pub several-reads-none : (q : List ℕ) (number : ℕ) (c b : List ℕ) (room : ℕ) → WrongNumber number → HandsUp no-more (severalOutcome q number c b room)
+pub several-reads-none : (q : List ℕ) (number : ℕ) (c : Brought) (b : List ℕ) (room : ℕ) → WrongNumber number → HandsUp no-more (severalOutcome q number c b room)
 unfolding severalOutcome
 several-reads-none q number c b room wrong = hands-up (subst (Says no-more) (sym (counted-wrong number _ wrong)) (says-late 17 number (omega arith)))
 
 -- 10 falls exactly to a crowded book
-pub many-pairs-several : (number : ℕ) (q c b ws cs bs : List ℕ) → RightNumber number → Questions number q ws → Catalogue c cs → readBook cs b ≡ accepted bs → (room words d : ℕ)
-    → (withWorkspace words (severalOutcome q number c b room) ≡ refuse 10 d) ↔ ((16384 ≤ words) × ManyPairs cs bs × (d ≡ 4))
+pub many-pairs-several : (number : ℕ) (q : List ℕ) (c : Brought) (b ws : List ℕ) (cs : Offered) (bs : List ℕ) → RightNumber number → Questions number q ws → Catalogue c cs → readBook (cs .content) b ≡ accepted bs → (room words d : ℕ)
+    → (withWorkspace words (severalOutcome q number c b room) ≡ refuse 10 d) ↔ ((16384 ≤ words) × ManyPairs (cs .content) bs × (d ≡ 4))
 many-pairs-several number q c b ws cs bs right p d k room words e =
-    many-pairs-exactly words (severalOutcome q number c b room) (edgeCounts cs) bs (after number ws cs bs room) (several-after number q c b ws cs bs right p d k room)
+    many-pairs-exactly words (severalOutcome q number c b room) (edgeCounts (cs .content)) bs (after number ws cs bs room) (several-after number q c b ws cs bs right p d k room)
     (λ _ j y. ⊎-elim (λ z. omega arith) (λ z. omega arith) (after-number number q c ws cs (questions-apart number q ws .0 p) d room bs y)) e
 
--- with a right number no refusal is over 12
-several-most : (q : List ℕ) (number : ℕ) (c b : List ℕ) (room : ℕ) {n d : ℕ} → RightNumber number → severalOutcome q number c b room ≡ refuse n d → n ≤ 12
-unfolding severalOutcome severalIn
-several-most q number c b room right e =
-    ⊎-elim (λ v. let l = read-few (56 * number) 1 (patterns-faults number) q v in omega arith)
-    (λ t. ⊎-elim (λ v. let l = catalogue-few c v in omega arith)
-    (λ u. ⊎-elim (λ v. let l = read-few 65536 4 (book-faults (edgeCounts (u .0))) b v in omega arith)
-    (λ z. ⊎-elim
-    (λ h. let m = number-same (sym (z .2) ∙ many-pairs _ (z .0) _ h) in omega arith)
-    (λ h. ⊎-elim (λ m. omega arith) (λ m. omega arith) (after-number number q c (t .0) (u .0) (questions-apart number q (t .0) .0 (t .1)) (u .1) room (z .0) (sym (within-pairs-is (edgeCounts (u .0)) (z .0) _ h) ∙ z .2)))
-    (lt-or-ge 8192 (length (pairsOf (edgeCounts (u .0)) (z .0)))))
-    (refused-judged (readBook (u .0) b) _ (u .2)))
-    (refused-judged (readCatalogue c) _ (t .2)))
+-- what follows the catalogue refuses with lower numbers than 17
+lower-covered : (x : ℕ → Quoted) (n : ℕ) {a : Outcome} → Lower a → Lower (allCovered x n a)
+unfolding allCovered
+lower-covered x zero h = h
+lower-covered x (suc n) h = lower-covered x n (lower-either (covering (x n) (x n .usable)) h (lower-by 11 _ (omega arith)))
+
+lower-after : (number : ℕ) (ws b : List ℕ) (room : ℕ) (o : Offered) → Lower (afterBook number ws b room o)
+unfolding severalIn fitSeveral
+lower-after number ws b room o =
+    lower-read 65536 4 (book-faults (edgeCounts (o .content))) b (λ bs.
+    lower-pairs (edgeCounts (o .content)) bs
+    (lower-covered (questionAt number ws o) number
+    (lower-either (over room 0 (answerAt (questionAt number ws o) (sheetsIn (edgeCounts (o .content)) bs)) number) (lower-by 12 _ (omega arith)) (lower-give _ _))))
+
+-- 19 falls exactly to a set that names an extract that there isn't
+pub several-19 : (number : ℕ) (q : List ℕ) (c : Brought) (b ws cs : List ℕ) (room : ℕ) → RightNumber number → Questions number q ws → CataloguePaper (c .file) cs → Refuses19 c cs (severalOutcome q number c b room)
+unfolding severalOutcome
+several-19 number q c b ws cs room right p d = refused-19 c cs _ (afterBook number ws b room) (counted-right number _ right ∙ goes-on _ p ∙ goes-on _ d) (lower-after number ws b room)
+
+-- with a right number no refusal is 17
+several-other : (q : List ℕ) (number : ℕ) (c : Brought) (b : List ℕ) (room : ℕ) {d : ℕ} → RightNumber number → severalOutcome q number c b room ≡ refuse 17 d → ⊥
+unfolding severalOutcome
+several-other q number c b room {d} right e =
+    ⊎-elim
+    (λ v. let l = read-few (56 * number) 1 (patterns-faults number) q v in omega arith)
+    (λ t. ⊎-elim
+    (λ l. omega arith)
+    (⊎-elim (λ l. omega arith) (λ o. let l = lower-after number (t .0) b room (o .0) 17 d (o .1) in omega arith))
+    (refused-offered c (afterBook number (t .0) b room) (t .2)))
     (refused-judged (readQuestions number q) _ (sym (counted-right number _ right) ∙ e))
 
 -- 17 falls exactly to a wrong number
-wrong-exactly : (q : List ℕ) (number : ℕ) (c b : List ℕ) (room words d : ℕ)
+wrong-exactly : (q : List ℕ) (number : ℕ) (c : Brought) (b : List ℕ) (room words d : ℕ)
     → (withWorkspace words (severalOutcome q number c b room) ≡ refuse 17 d) ↔ ((16384 ≤ words) × WrongNumber number × (d ≡ number))
 unfolding severalOutcome
 wrong-exactly q number c b room words d = (
@@ -383,7 +404,7 @@ wrong-exactly q number c b room words d = (
       let w = enough-for words (severalOutcome q number c b room) (λ z. let m = number-same z in omega arith) y in
       ⊎-elim
       (λ h. (w .0, h, sym (detail-same (sym (wrong-refused h) ∙ w .1))))
-      (λ h. absurd (let m = several-most q number c b room h (w .1) in omega arith))
+      (λ h. absurd (several-other q number c b room h (w .1)))
       (wrong-or-right number),
   λ y. enough-words words _ (y .0) ∙ wrong-refused (y .1) ∙ ap (refuse 17) (sym (y .2)),
 )
@@ -392,20 +413,21 @@ wrong-exactly q number c b room words d = (
     wrong-refused h = counted-wrong number _ h
 
 -- a full result comes of accepted files, whose questions are covered
-full-several : (q : List ℕ) (number : ℕ) (c b : List ℕ) (room : ℕ) → Full (severalOutcome q number c b room)
-    → RightNumber number × ((ws : List ℕ) × (cs : List ℕ) × (bs : List ℕ) × (f : QuestionFiles number q ws) × Catalogue c cs × Book cs b bs × AllCovered (f .contents) cs)
+full-several : (q : List ℕ) (number : ℕ) (c : Brought) (b : List ℕ) (room : ℕ) → Full (severalOutcome q number c b room)
+    → RightNumber number × ((ws : List ℕ) × (cs : Offered) × (bs : List ℕ) × (f : QuestionFiles number q ws) × Catalogue c cs × Book (cs .content) b bs × AllCovered (f .contents) cs)
 unfolding severalOutcome severalIn
 full-several q number c b room g =
     ⊎-elim
     (λ h. absurd (not-refused (sym (g .is) ∙ counted-wrong number _ h)))
     (λ h.
-    let t = full-twice _ _ _ (record { values = g .values; outputs = g .outputs; is = sym (counted-right number _ h) ∙ g .is }) in
-    let z = full-judged _ _ (t .4) in
-    let k : Book (t .1) b (z .0) = record { read = z .1; few = full-within-pairs _ _ _ (z .2) } in
-    let f = questions-apart number q (t .0) .0 (t .2) in
-    let none : (i : ℕ) → FirstUncovered (f .contents) (t .1) i → ⊥ =
-    λ i u. not-refused (sym (g .is) ∙ several-refused number q c (t .0) (t .1) f (t .3) h b (z .0) k room i u) in
-    (h, (t .0, t .1, z .0, f, t .3, k, ⊎-elim (λ y. y) (λ r. absurd (none (r .0) (r .1))) (all-or-first number q c (t .0) (t .1) f (t .3)))))
+    let t = full-judged (readQuestions number q) _ (record { values = g .values; outputs = g .outputs; is = sym (counted-right number _ h) ∙ g .is }) in
+    let u = full-offered c (afterBook number (t .0) b room) (t .2) in
+    let z = full-judged _ _ (u .2) in
+    let k : Book (u .0 .content) b (z .0) = record { read = z .1; few = full-within-pairs _ _ _ (z .2) } in
+    let f = questions-apart number q (t .0) .0 (t .1) in
+    let none : (i : ℕ) → FirstUncovered (f .contents) (u .0) i → ⊥ =
+    λ i v. not-refused (sym (g .is) ∙ several-refused number q c (t .0) (u .0) f (u .1) h b (z .0) k room i v) in
+    (h, (t .0, u .0, z .0, f, u .1, k, ⊎-elim (λ y. y) (λ r. absurd (none (r .0) (r .1))) (all-or-first number q c (t .0) (u .0) f (u .1)))))
     (wrong-or-right number)
 
 pub severals : Severals

@@ -2,24 +2,25 @@
 use Prim.Native.Nat.{ℕ, _<_, _≤_}
 use mathlib.Core.Path.{_≡_, refl, sym, ap, ap₂, subst, _∙_}
 use mathlib.Core.Bool.{Bool, true, not}
-use mathlib.Core.List.{List, [], _∷_, _++_, map}
-use lib.ListN.{length, getD, length-map}
+use mathlib.Core.List.{List, [], _∷_, _++_}
+use lib.ListN.{length, getD}
 use lib.Dec.{T, T-not}
 use native.Mathlib.Omega.{arith}
 use Rattle.packed.specs.Format.{ok, decode}
 use Rattle.packed.specs.Formats.{pattern}
-use Rattle.packed.specs.Contents.{viewsOf, sheetFields}
-use Rattle.packed.specs.Calls.{accepted, readCatalogue, readRecord}
+use Rattle.packed.specs.Contents.{sheetFields}
+use Rattle.packed.specs.Calls.{accepted, readCatalogue, readRecord, recordBytes}
 use Rattle.packed.specs.Plain.{PlainPattern}
 use Rattle.packed.proofs.Accepted.{pattern-accepted, record-accepted, record-read}
 use Rattle.packed.proofs.AcceptedBounds.{catalogue-views}
 use Rattle.packed.proofs.BookSheetLaws.{sheet-injective}
-use Rattle.matching.specs.Lists.{In, here, there}
-use Rattle.matching.specs.Simulation.{Edge, sameEdge, noEdge, Pattern, Graph, patternOf, graphOf, asGraph, matchSets, viewSheet, bit}
+use Rattle.engine.specs.Lists.{In, here, there, each}
+use Rattle.packed.proofs.MadeRecords.{Made}
+use Rattle.engine.specs.Simulation.{Edge, sameEdge, noEdge, Pattern, Graph, patternOf, graphOf, asGraph, matchSets, viewSheet, bit}
 use Rattle.matching.specs.Join.{matched, without}
 use Rattle.matching.specs.Search.{sheetBytes, bookBytes, viewSheets}
-use Rattle.matching.proofs.ListLaws.{in-at, keep-in}
-use Rattle.matching.proofs.SimLaws.{same-edge-refl}
+use Rattle.engine.proofs.ListLaws.{in-at, keep-in}
+use Rattle.engine.proofs.SimLaws.{same-edge-refl}
 use Rattle.matching.proofs.MatchSetLaws.{sets-length}
 use Rattle.matching.proofs.EdgeLaws.{edgeAt, edge-at}
 use Rattle.matching.proofs.SortedGraphs.{Alike, alike-sets, alike-views, alike-without}
@@ -27,12 +28,13 @@ use Rattle.matching.proofs.PatternLaws.{pattern-is, edges-in, edges-many, sound
 use Rattle.matching.proofs.RecordLaws.{graph-narrow, graph-few}
 use Rattle.matching.proofs.SheetBytes.{SheetFields, sets-sheet}
 use Rattle.matching.proofs.Uncovered.{uncovered-views, uncovered-query}
-use Rattle.matching.specs.Offered.{viewPatterns}
+use Rattle.matching.specs.Offered.{Offered, viewPatterns}
+use Rattle.matching.proofs.OfferedLaws.{views-number}
 use Rattle.containment.specs.Choice.{everyView, lowestUnmatched}
 use Rattle.containment.specs.Quote.{mapping, viewsInSet}
-use Rattle.containment.specs.Show.{graphFields, fewerFields, recordBytes}
+use Rattle.containment.specs.Show.{graphFields, fewerFields}
 use Rattle.containment.specs.Demands.{Leaves, lackingIn}
-use Rattle.containment.proofs.QueryGraph.{Made, graph-made, fewer-made, graph-means, fewer-means}
+use Rattle.containment.proofs.QueryGraph.{graph-made, fewer-made, graph-means, fewer-means}
 use Rattle.containment.proofs.QuoteLaws.{chosen-every, LowestEdge, lowest-edge, chosen-whole}
 
 -- ---- sheets that differ as lists differ as bytes
@@ -126,9 +128,9 @@ module _ {qs : List ℕ} {bs : List Bool} (q : PlainPattern qs bs) where
         }
 
 -- ---- of an accepted question and an accepted catalogue
-module _ (s c qs cs : List ℕ) (p : decode pattern s ≡ ok qs) (d : readCatalogue c ≡ accepted cs) where
+module _ (s c qs : List ℕ) (cs : Offered) (p : decode pattern s ≡ ok qs) (d : readCatalogue c ≡ accepted (cs .content)) where
   few-views : length (viewPatterns cs) ≤ 16
-  few-views = let v = catalogue-views c cs d in omega (arith, length-map (viewsOf cs) patternOf, v .many, v .most)
+  few-views = let v = catalogue-views c (cs .content) d in omega (arith, views-number cs, v .many, v .most)
 
   -- the lowest edge that no view in a set matches
   pub lowest-in : (set : ℕ) → Leaves set qs cs → LowestEdge (patternOf qs) (viewsInSet set (viewPatterns cs)) (lackingIn set qs cs)
@@ -151,20 +153,16 @@ module _ (s c qs cs : List ℕ) (p : decode pattern s ≡ ok qs) (d : readCatalo
 
 -- ---- how long the sheets and the book are on these records
 
-in-map : {A B : Type 0} (f : A → B) {l : List A} {x : A} → In x l → In (f x) (map f l)
-in-map f (here e) = here (ap f e)
-in-map f (there i) = there (in-map f i)
-
-book-same : (f g : List ℕ → List (List ℕ)) (vs : List (List ℕ)) → ((v : List ℕ) → In v vs → sheetBytes (f v) ≡ sheetBytes (g v)) → bookBytes (map f vs) ≡ bookBytes (map g vs)
-unfolding bookBytes
+book-same : {A : Type 0} (f g : A → List (List ℕ)) (l : List A) → ((x : A) → In x l → sheetBytes (f x) ≡ sheetBytes (g x)) → bookBytes (each f l) ≡ bookBytes (each g l)
+unfolding bookBytes each
 book-same f g [] h = refl
-book-same f g (v ∷ vs) h = ap₂ (λ (x y : List ℕ). x ++ y) (h v (here refl)) (book-same f g vs (λ w i. h w (there i)))
+book-same f g (x ∷ l) h = ap₂ (λ (a b : List ℕ). a ++ b) (h x (here refl)) (book-same f g l (λ y i. h y (there i)))
 
-module _ (s c qs cs : List ℕ) (p : decode pattern s ≡ ok qs) (d : readCatalogue c ≡ accepted cs) where
+module _ (s c qs : List ℕ) (cs : Offered) (p : decode pattern s ≡ ok qs) (d : readCatalogue c ≡ accepted (cs .content)) where
   module _ (set : ℕ) (n : Leaves set qs cs) (all : (a : ℕ) → a < length (viewPatterns cs) → bit set a ≡ true) where
     -- the two records have the same book, where all views are in the set
     pub shows-book : bookBytes (viewSheets cs (graphOf (graphFields qs))) ≡ bookBytes (viewSheets cs (graphOf (fewerFields qs (lackingIn set qs cs))))
     unfolding viewSheets
     shows-book =
-        book-same (λ v. viewSheet (patternOf v) (graphOf (graphFields qs))) (λ v. viewSheet (patternOf v) (graphOf (fewerFields qs (lackingIn set qs cs)))) (viewsOf cs)
-        (λ v i. shows-in s c qs cs p d set n .same (patternOf v) (subst (λ l. In (patternOf v) l) (sym (chosen-whole set (viewPatterns cs) all)) (in-map patternOf i)))
+        book-same (λ P. viewSheet P (graphOf (graphFields qs))) (λ P. viewSheet P (graphOf (fewerFields qs (lackingIn set qs cs)))) (viewPatterns cs)
+        (λ P i. shows-in s c qs cs p d set n .same P (subst (λ l. In P l) (sym (chosen-whole set (viewPatterns cs) all)) i))

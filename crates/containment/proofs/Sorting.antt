@@ -11,19 +11,19 @@ use Rattle.packed.specs.Formats.{code, record′}
 use Rattle.packed.specs.Contents.{sortedEdges}
 use Rattle.packed.specs.Plain.{PlainEdges, PlainGraph}
 use Rattle.packed.specs.OldRecord.{oldRecord, readOldRecord, sortedFields, recordSorted}
-use Rattle.packed.specs.Calls.{accepted, readRecord, recordWritten, fit}
+use Rattle.packed.specs.Calls.{accepted, readRecord, recordWritten, fit, recordBytes}
 use Rattle.packed.proofs.CallLaws.{read-says, read-finds, write-finds, accepted-by, judged-accepted}
 use Rattle.packed.proofs.Accepted.{old-accepted, record-accepted, record-read}
 use Rattle.packed.proofs.SortedEdges.{sorted-plain}
-use Rattle.matching.specs.Lists.{In}
-use Rattle.matching.specs.Simulation.{Pair, Edge, noEdge, Pattern, Graph, edgesIn, graphOf, IsSim, matchSets}
+use Rattle.packed.proofs.MadeRecords.{Made, record-made, made-within}
+use Rattle.engine.specs.Lists.{In}
+use Rattle.engine.specs.Simulation.{Pair, Edge, noEdge, Pattern, Graph, edgesIn, graphOf, IsSim, matchSets}
 use Rattle.matching.specs.Search.{sheetBytes}
+use Rattle.engine.proofs.ListLaws.{in-at}
 use Rattle.matching.proofs.EdgeLaws.{edgesIn-at}
-use Rattle.matching.proofs.ListLaws.{in-at}
 use Rattle.matching.proofs.SortedGraphs.{Alike, ends-narrow, sorted-in, alike-sets, alike-views}
-use Rattle.containment.specs.Show.{recordBytes}
 use Rattle.containment.specs.Demands.{no-more, Matching, OldFile, EndsSim, EndsMatching, AllKind0, Sorting}
-use Rattle.containment.proofs.QueryGraph.{Made, record-made, made-within, graph, graph-is}
+use Rattle.containment.proofs.QueryGraph.{graph, graph-is}
 use Rattle.containment.proofs.DemandRules.{full-words, full-judged}
 use Rattle.containment.proofs.DemandFiles.{Says, hands-up, says-judged, says-fit}
 use Rattle.containment.proofs.DemandsOneTwo.{lists-exactly}

@@ -17,19 +17,21 @@ use Rattle.packed.specs.Calls.{Outcome, give, refuse, toldOf, fronts, outputsOf
 use Rattle.packed.specs.Refusals.{told}
 use Rattle.packed.proofs.CallLaws.{judged-accepted}
 use Rattle.packed.proofs.OrderCases.{lt-or-ge, eq-or-ne, trichotomy, and-both}
-use Rattle.matching.specs.Simulation.{bit}
-use Rattle.matching.specs.Masks.{OneOf}
+use Rattle.engine.specs.Simulation.{bit}
+use Rattle.engine.specs.Masks.{OneOf}
+use Rattle.matching.specs.Offered.{Brought, offers, viewPatterns, judgeSet, withSet}
+use Rattle.matching.proofs.OfferedLaws.{judged-rejected}
 use Rattle.containment.specs.Choice.{coversIn}
-use Rattle.containment.specs.Quote.{Quoted, tableOf}
-use Rattle.containment.specs.Steps.{Query, ViewCounts, quotedAs, Handed}
-use Rattle.containment.specs.Terms.{fromDay, toDay, firstTurned, judgeTerms, isInForce, inForce, withTerms, sooner, earliest, dayValues, firstDayFor}
+use Rattle.containment.specs.Quote.{Quoted, quotedIn, tableOf}
+use Rattle.containment.specs.Steps.{Query, Views, ViewCounts, quotedAs}
+use Rattle.containment.specs.Terms.{fromDay, toDay, firstTurned, judgeTerms, isInForce, inForce, offeredOn, sooner, earliest, dayValues, firstDayFor}
 use Rattle.containment.specs.Demands.{InForce}
-use Rattle.containment.specs.declared.judging.Judged.{Judged}
 use Rattle.containment.specs.declared.terms.Terms.{Terms}
 use Rattle.packed.specs.declared.by_value.Pattern.{Pattern as Given}
 use Rattle.containment.proofs.SetBits.{test-cases, never, bit-over, more-self, more-other}
 use Rattle.containment.proofs.ChoiceLaws.{pick-cases, covers-say, covers-by}
-use Rattle.containment.proofs.AnswerLaws.{judged-rejected, views-many}
+use Rattle.containment.proofs.NotingLaws.{views-many as contents-many}
+use Rattle.containment.proofs.AnswerLaws.{views-many}
 
 -- ---- the first entry that is turned round
 -- r is the first of k entries whose from-day isn't below its to-day, or k
@@ -82,18 +84,23 @@ module _ (t : Terms) (k : ℕ) where
   unfolding judgeTerms
   terms-right e l = rw (eq-eqb (t .number) k e, le-ltb (firstTurned t k) k l)
 
--- what is handed on for a day, or refused
-module _ {g : (Quoted → Outcome) → Outcome} {f : Judged} (h : Handed g f) (t : Terms) (day : ℕ) where
-  verdict-same : judgeTerms t (length (quotedAs (h .query) (h .views) (f .usable) .offer .views)) ≡ judgeTerms t (f .views)
-  verdict-same = ap (judgeTerms t) (views-many (h .views .views))
+-- what is handed on for a day beside k accepted views, or refused
+module _ (qs : List ℕ) (c : Brought) (t : Terms) (day : ℕ) {k : ℕ} (v : Views (c .file) k) where
+  pub terms-refused : {n d : ℕ} → judgeTerms t k ≡ rejected n d → (f : Quoted → Outcome) → offeredOn qs c t day f ≡ refuse n d
+  terms-refused e f = judged-accepted _ (v .is) ∙ judged-rejected _ (ap (judgeTerms t) (contents-many v) ∙ e)
 
-  pub terms-refused : {n d : ℕ} → judgeTerms t (f .views) ≡ rejected n d → (k : Quoted → Outcome) → g (withTerms t day k) ≡ refuse n d
-  terms-refused e k = h .on (withTerms t day k) ∙ judged-rejected _ (verdict-same ∙ e)
+  module _ (right : judgeTerms t k ≡ accepted []) where
+    to-set : (f : Quoted → Outcome) → offeredOn qs c t day f ≡ withSet (c .oneWay) (v .content) (λ o. f (quotedIn (inForce t day (length (viewPatterns o))) qs o))
+    to-set f = judged-accepted _ (v .is) ∙ judged-accepted _ (ap (judgeTerms t) (contents-many v) ∙ right)
 
-  pub terms-handed : judgeTerms t (f .views) ≡ accepted [] → (k : Quoted → Outcome) → g (withTerms t day k) ≡ k (quotedAs (h .query) (h .views) (inForce t day (f .views)))
-  terms-handed e k =
-      h .on (withTerms t day k) ∙ judged-accepted _ (verdict-same ∙ e)
-      ∙ ap (λ (n : ℕ). k (quotedAs (h .query) (h .views) (inForce t day n))) (views-many (h .views .views))
+    pub set-refused : {n d : ℕ} → judgeSet (c .oneWay) k ≡ rejected n d → (f : Quoted → Outcome) → offeredOn qs c t day f ≡ refuse n d
+    set-refused e f = to-set f ∙ judged-rejected _ (ap (judgeSet (c .oneWay)) (contents-many v) ∙ e)
+
+    pub terms-handed : judgeSet (c .oneWay) k ≡ accepted []
+        → (f : Quoted → Outcome) → offeredOn qs c t day f ≡ f (quotedIn (inForce t day k) qs (offers (v .content) (c .oneWay)))
+    terms-handed e f =
+        to-set f ∙ judged-accepted _ (ap (judgeSet (c .oneWay)) (contents-many v) ∙ e)
+        ∙ ap (λ (n : ℕ). f (quotedIn (inForce t day n) qs (offers (v .content) (c .oneWay)))) (views-many v (c .oneWay))
 
 -- ---- the views in force
 -- one number more: its bit, and the bits below
@@ -274,7 +281,7 @@ module _ {q : Given} (x : Query q) {counts : List ℕ} {k : ℕ} (v : ViewCounts
       (found
       ∙ ap (λ (t : List ℕ). earliest (λ i. coversIn t (inForce T i k) k (q .edges)) T day k) is
       ∙ ap (λ (m : ℕ). earliest (λ i. coversIn (tableOf (quotedAs x v usable)) (inForce T i k) k m) T day k) (x .holds .edges)
-      ∙ ap (λ (n : ℕ). earliest (λ i. coversIn (tableOf (quotedAs x v usable)) (inForce T i n) n (edgesOf (x .content))) T day n) (sym (views-many (v .views)))))
+      ∙ ap (λ (n : ℕ). earliest (λ i. coversIn (tableOf (quotedAs x v usable)) (inForce T i n) n (edgesOf (x .content))) T day n) (sym (views-many (v .views) (v .oneWay)))))
 
   pub day-told : d < 65536 → Fulfils [] (firstDayFor T day (quotedAs x v usable)) (told 0 (1 ∷ d ∷ [])) [] []
   unfolding dayValues toldOf outputsOf fronts

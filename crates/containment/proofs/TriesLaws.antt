@@ -4,47 +4,27 @@ use mathlib.Core.Path.{_≡_, refl, ap, sym, subst, _∙_}
 use mathlib.Core.Bool.{Bool, true, false, not, _&&_, _||_}
 use mathlib.Core.List.{List}
 use mathlib.Core.Logic.{_⊎_, inl, inr, ⊎-elim}
-use Prim.Native.Nat.{ℕ, zero, suc, _+_, _-_, _*_, _^_, _<_, _≤_}
-use native.Mathlib.Nat.{le-antisymm}
+use Prim.Native.Nat.{ℕ, zero, suc, _+_, _-_, _^_, _<_, _≤_}
 use native.Mathlib.Omega.{arith}
-use lib.ListN.{length, getD, set}
-use lib.Seq.{getD-set-same, getD-set-other}
-use lib.Pow.{pow-pos, pow-mono}
+use lib.ListN.{getD}
+use lib.Pow.{pow-mono}
 use lib.Dec.{ltb, eqb}
-use borrow.Author.Tests.{eq-eqb, ne-eqb}
 use Rattle.packed.specs.Format.{pick}
 use Rattle.packed.proofs.OrderCases.{lt-or-ge, eq-or-ne}
-use Rattle.matching.specs.Simulation.{bit}
-use Rattle.matching.specs.Masks.{Mask, Has}
-use Rattle.matching.proofs.MaskBits.{mask-cast, mask-or, mask-none, part-le, has-lt, not-by, none-has}
+use Rattle.engine.specs.Simulation.{bit}
+use Rattle.engine.proofs.MaskBits.{mask-cast, mask-or, mask-none}
 use Rattle.containment.specs.Choice.{matches, matchedIn, coversIn}
 use Rattle.containment.specs.Cheapest.{weigh, cost, size, turned, lesser, better, misses, ahead, foremost, cheapest}
-use Rattle.containment.specs.Tries.{EdgeMatchedBy, TriedRoom, taking, isFirst, foremostTried, settled, Tries}
+use Rattle.containment.specs.Masked.{Masked}
+use Rattle.containment.specs.Tries.{TriedRoom, taking, isFirst, foremostTried, settled, Tries}
 use Rattle.containment.specs.declared.costing.Tried.{Tried}
-use Rattle.containment.proofs.SetBits.{test-cases, never, bit-zero, more-self, more-has, more-other}
-use Rattle.containment.proofs.ChoiceLaws.{matched-say, matched-by, covers-say, covers-by}
+use Rattle.containment.proofs.SetBits.{never, bit-zero, more-self, more-has, more-other}
+use Rattle.containment.proofs.ChoiceLaws.{matched-say, matched-by}
+use Rattle.containment.proofs.MaskedLaws.{union-covers}
 
 -- ---- powers
 pub power-small : (a : ℕ) → a < 16 → 2 ^ a ≤ 32768
 power-small a l = pow-mono {j = 15} (omega arith)
-
--- ---- the edges that a view matches
-module _ (t : List ℕ) (a : ℕ) where
-  pub matches-yes : (e : ℕ) → (getD t (16 * e + a) 0 ≡ 0 → ⊥) → matches t e a ≡ true
-  unfolding matches
-  matches-yes e n = rw (ne-eqb _ _ n)
-
-  pub matches-no : (e : ℕ) → getD t (16 * e + a) 0 ≡ 0 → matches t e a ≡ false
-  unfolding matches
-  matches-no e q = rw (eq-eqb _ _ q)
-
--- the same of one view more
-pub masks-more : (P : ℕ → ℕ → Type 0) (masks : List ℕ) (a x : ℕ) → a < length masks → ((b : ℕ) → b < a → P b (getD masks b 0)) → P a x
-    → (b : ℕ) → b < a + 1 → P b (getD (set masks a x) b 0)
-masks-more P masks a x l f p b h =
-    ⊎-elim (λ (q : b < a). subst (P b) (sym (getD-set-other masks a b x 0 (λ e. omega arith))) (f b q))
-    (λ (q : a ≤ b). let e : a ≡ b = omega arith in subst (λ (z : ℕ). P z (getD (set masks a x) z 0)) e (subst (P a) (sym (getD-set-same masks a x 0 l)) p))
-    (lt-or-ge b a)
 
 -- ---- room for what is taken, where u views are undecided
 module _ (u : ℕ) (x : Tried) (n : u ≡ 0 → ⊥) where
@@ -128,7 +108,7 @@ module _ (t : List ℕ) (x a : ℕ) (out : bit x a ≡ false) (e k : ℕ) (l : a
 abbrev pub none : Tried
 none = record { set = 0; sum = 0; number = 0; turned = 0; matched = 0 }
 
-module _ (t : List ℕ) (m : ℕ) (charges : List ℕ) (k : ℕ) (masks : List ℕ) (each : (a : ℕ) → a < k → Mask (EdgeMatchedBy t a m) (getD masks a 0)) where
+module _ (t : List ℕ) (m : ℕ) (charges : List ℕ) (k : ℕ) (masks : List ℕ) (each : Masked t k m masks) where
   tries-taking : (a set : ℕ) (x : Tried) → a < k → bit set a ≡ false → Tries t m charges k set x → Tries t m charges k (set + 2 ^ a) (taking a (getD charges a 0) (getD masks a 0) x)
   unfolding taking
   tries-taking a set x l out h =
@@ -146,25 +126,7 @@ module _ (t : List ℕ) (m : ℕ) (charges : List ℕ) (k : ℕ) (masks : List �
 
   -- all edges are matched exactly if the mask is that of all edges
   tries-covers : (set : ℕ) (x : Tried) → Tries t m charges k set x → eqb (x .matched) (2 ^ m - 1) ≡ coversIn t set k m
-  tries-covers set x h = ⊎-elim covered uncovered (test-cases (coversIn t set k m))
-    where
-      in-all : (e : ℕ) → e < m → Has (2 ^ m - 1) e
-      in-all e l = subst (λ (y : ℕ). Has y e) (omega arith) (not-by m 0 e (pow-pos m) l (none-has e))
-
-      covered : coversIn t set k m ≡ true → eqb (x .matched) (2 ^ m - 1) ≡ coversIn t set k m
-      covered c =
-          eq-eqb _ _
-          (le-antisymm
-          (part-le (x .matched) (2 ^ m - 1) (λ e i. in-all e (h .edges .why e i .0)))
-          (part-le (2 ^ m - 1) (x .matched)
-          (λ e i. let l = has-lt m (2 ^ m - 1) e (let p = pow-pos m in omega arith) i in h .edges .hit e (l, matched-by t set e k (covers-say t set k m c e l)))))
-          ∙ sym c
-
-      uncovered : coversIn t set k m ≡ false → eqb (x .matched) (2 ^ m - 1) ≡ coversIn t set k m
-      uncovered c =
-          ne-eqb _ _
-          (λ q. never (sym (covers-by t set k m (λ e l. matched-say t set e k (h .edges .why e (subst (λ (y : ℕ). Has y e) (sym q) (in-all e l)) .1))) ∙ c))
-          ∙ sym c
+  tries-covers set x h = union-covers t m set k (h .edges)
 
   by-misses : (p q r : Bool) → ((p && not q) || ((p || not q) && r)) ≡ lesser (pick p 0 1) (pick q 0 1) r
   unfolding lesser

@@ -5,8 +5,9 @@ use lib.ListN.{drop, getD}
 use Rattle.packed.specs.Format.{pick}
 use Rattle.packed.specs.Contents.{edgeCounts, sheetsIn}
 use Rattle.packed.specs.Calls.{Outcome, refuse, judged, readBook, withinPairs, fitFile}
-use Rattle.matching.specs.Simulation.{Pattern, bit, patternOf}
+use Rattle.engine.specs.Simulation.{Pattern, bit, patternOf}
 use Rattle.matching.specs.Join.{View, answerSets}
+use Rattle.matching.specs.Offered.{Brought, viewPatterns}
 use Rattle.matching.specs.Search.{sheetBytes}
 use Rattle.containment.specs.Quote.{Quoted, quoted, covering, lowestLeft, usedBy}
 
@@ -25,7 +26,7 @@ unfoldable pub answerIn : ℕ → Quoted → List ℕ → ℕ → Outcome
 answerIn set x bs room =
     withinPairs (x .offer .content) bs
     (pick (covering x set)
-    (fitFile room (answerBytes (x .content) set (x .offer .views) (sheetsIn (edgeCounts (x .offer .content)) bs)))
+    (fitFile room (answerBytes (x .content) set (viewPatterns (x .offer)) (sheetsIn (edgeCounts (x .offer .content)) bs)))
     (refuse 11 (lowestLeft x set)))
 
 -- a set of views, from what was judged
@@ -36,13 +37,13 @@ Choose = Quoted → ℕ
 unfoldable pub answerFor : Choose → List ℕ → ℕ → Quoted → Outcome
 answerFor choose b room x = judged (readBook (x .offer .content) b) (λ bs. answerIn (choose x) x bs room)
 
-unfoldable pub answerBy : Choose → List ℕ → List ℕ → List ℕ → ℕ → Outcome
+unfoldable pub answerBy : Choose → List ℕ → Brought → List ℕ → ℕ → Outcome
 answerBy choose q c b room = quoted q c (answerFor choose b room)
 
 -- answering by a set that the client names: all of it gives the candidates
-abbrev pub answerFrom : List ℕ → List ℕ → ℕ → List ℕ → ℕ → Outcome
+abbrev pub answerFrom : List ℕ → Brought → ℕ → List ℕ → ℕ → Outcome
 answerFrom q c set b room = answerBy (λ x. set) q c b room
 
 -- answering by those chosen from all views
-abbrev pub answerOutcome : List ℕ → List ℕ → List ℕ → ℕ → Outcome
+abbrev pub answerOutcome : List ℕ → Brought → List ℕ → ℕ → Outcome
 answerOutcome q c b room = answerBy usedBy q c b room

@@ -10,7 +10,8 @@ use Rattle.packed.specs.Format.{pick}
 use Rattle.packed.specs.Contents.{edgesOf}
 use Rattle.packed.specs.Calls.{Outcome, give, refuse}
 use Rattle.packed.specs.Refusals.{Told, told, numberOf, detailOf}
-use Rattle.matching.specs.Simulation.{bit}
+use Rattle.engine.specs.Simulation.{bit}
+use Rattle.matching.specs.Offered.{Brought, viewPatterns}
 use Rattle.containment.specs.Choice.{coversIn, columnsIn, lowestUnmatched, chosen}
 use Rattle.containment.specs.Quote.{Quoted, quoted, tableOf}
 use Rattle.containment.specs.declared.costing.Cheapest.{Cheapest}
@@ -97,10 +98,10 @@ cheapestFrom t usable m charges k =
 -- "15 when the number of charges differs from the number of extracts, after all papers are read and before 11, detail the number of charges"
 unfoldable pub cheapestFor : List ℕ → Quoted → Outcome
 cheapestFor charges x =
-    pick (eqb (length charges) (length (x .offer .views))) (cheapestFrom (tableOf x) (x .usable) (edgesOf (x .content)) charges (length (x .offer .views)))
+    pick (eqb (length charges) (length (viewPatterns (x .offer)))) (cheapestFrom (tableOf x) (x .usable) (edgesOf (x .content)) charges (length (viewPatterns (x .offer))))
     (refuse 15 (length charges))
 
-unfoldable pub cheapestOutcome : List ℕ → List ℕ → List ℕ → Outcome
+unfoldable pub cheapestOutcome : List ℕ → Brought → List ℕ → Outcome
 cheapestOutcome q c charges = quoted q c (cheapestFor charges)
 
 -- what its result tells

@@ -7,7 +7,7 @@ use mathlib.Core.Bool.{Bool, true, false, not, _&&_, _||_}
 use lib.ListN.{getD}
 use lib.Dec.{eqb, ltb}
 use Rattle.packed.specs.Format.{pick}
-use Rattle.matching.specs.Simulation.{bit}
+use Rattle.engine.specs.Simulation.{bit}
 
 -- whether the view a matches the edge e: some edge of it does
 unfoldable pub matches : List ℕ → ℕ → ℕ → Bool

@@ -2,11 +2,11 @@
 --
 -- The contract of each client call is `Settled` (packed/specs/Calls.antt) over one of the answers named here: it says of the result, of every
 -- lent byte and of every word of the workspace what they are once that answer is known. So what is said here of answers holds of the programs.
--- An answer is a function of the bytes and fields that are lent, of the length of each output (`room`) and of the workspace (`words`).
+-- An answer is a function of the bytes, fields and sets that are lent, of the length of each output (`room`) and of the workspace (`words`).
 -- Proofs: proofs/DemandsOneTwo.antt and proofs/DemandThree.antt, by proofs/DemandRules.antt, DemandSheets.antt, DemandIndex.antt and DemandJoin.antt; of the
 -- join by steps, proofs/DemandSteps.antt; of the empty catalogue, proofs/EmptyCatalogues.antt; of the part, proofs/Parts.antt; of several
--- questions, proofs/Severals.antt; of the cheapest set, proofs/CheapestSets.antt; of calls for a day, proofs/OnDays.antt, by proofs/WhenLaws.antt; of the listing,
--- proofs/Listings.antt.
+-- questions, proofs/Severals.antt; of the cheapest set, proofs/CheapestSets.antt; of calls for a day, proofs/OnDays.antt, by proofs/WhenLaws.antt; of the
+-- listing, proofs/Listings.antt.
 use Prim.Native.Nat.{ℕ, _+_, _-_, _*_, _^_, _<_, _≤_, _/_}
 use mathlib.Core.Path.{_≡_}
 use mathlib.Core.Logic.{_⊎_, _↔_}
@@ -14,27 +14,28 @@ use mathlib.Core.Bool.{Bool, true, false}
 use mathlib.Core.List.{List, [], _∷_, _++_, map, flatten}
 use lib.ListN.{length, getD, drop, replicate}
 use lib.Dec.{T}
-use Rattle.packed.specs.Limits.{patternMost, questionsMost, catalogueMost, recordMost, oldRecordMost, bookMost, pairsMost, workspace}
+use Rattle.packed.specs.Limits.{patternMost, questionsMost, catalogueMost, recordMost, edgesMost, oldRecordMost, bookMost, pairsMost, workspace}
 use Rattle.packed.specs.Formats.{code, pattern, catalogue, record′}
 use Rattle.packed.specs.Plain.{Below, PatternFile, CatalogueFile, EmptyCatalogue, RecordFile, SheetFile, BookFile}
-use Rattle.packed.specs.Contents.{edgesOf, edgeCounts, sheetsIn, ends, fieldsOf, pairCount, sheetFields, sheetLength}
+use Rattle.packed.specs.Contents.{edgesOf, viewsOf, edgeCounts, sheetsIn, ends, fieldsOf, pairCount, sheetFields, sheetLength, nodesOf}
 use Rattle.packed.specs.Refusals.{Told, told}
 use Rattle.packed.specs.declared.by_value.Pattern.{Pattern as Given}
 use Rattle.packed.specs.OldRecord.{readOldRecord, OldRecordFile, sortedFields, recordSorted}
-use Rattle.packed.specs.Calls.{Outcome, give, refuse, fronts, Settled, FulfilsOne, withWorkspace, Verdict, accepted, rejected, readPattern, readQuestions, QuestionFiles, readCatalogue, readRecord, readSheet, readBook, writeFile, writeSheet, writeBook, pairsOf, fit, fitFile, patternRead, catalogueRead, recordRead, sheetRead, bookRead, patternWritten, catalogueWritten, recordWritten, sheetWritten, bookWritten}
-use Rattle.matching.specs.Lists.{In, some, keep, each}
-use Rattle.matching.specs.Simulation.{Pair, Edge, between, noEdge, oneWay, bothWays, Pattern, ruled, Graph, patternOf, graphOf, givenEdge, patternIn, asGraph, bit, fits, IsSim, MatchingBy, sim, sound, matchSets, viewSheet, asPair}
+use Rattle.packed.specs.Calls.{Outcome, give, refuse, fronts, Settled, FulfilsOne, withWorkspace, Verdict, accepted, rejected, readPattern, readQuestions, QuestionFiles, readCatalogue, readRecord, readSheet, readBook, writeFile, writeSheet, writeBook, pairsOf, fit, fitFile, patternRead, catalogueRead, recordRead, sheetRead, bookRead, patternWritten, catalogueWritten, recordWritten, sheetWritten, bookWritten, recordBytes, fitBoth}
+use Rattle.engine.specs.Lists.{In, some, keep, each}
+use Rattle.engine.specs.Simulation.{Pair, Edge, between, noEdge, oneWay, bothWays, Pattern, ruled, Graph, patternOf, graphOf, givenEdge, patternIn, asGraph, bit, fits, IsSim, MatchingBy, sim, sound, matchSets, viewSheet, asPair}
+use Rattle.engine.specs.Index.{indexOf}
 use Rattle.matching.specs.Join.{without, Offer, answerSets, matched}
 use Rattle.matching.specs.Components.{reaches, Nodes, leavingOf, stateAt, Shut, OneStep, StepsTo, pairAt, IsHeld, Holds, Ran, Pruned}
 use Rattle.matching.specs.Part.{rank, number, partOf, patternFields, patternBytes}
-use Rattle.matching.specs.Offered.{viewPatterns}
+use Rattle.matching.specs.Offered.{Brought, brings, Offered, offers, viewPatterns, judgeSet, RightSet, WrongSet}
 use Rattle.matching.specs.Search.{sheetBytes, bookBytes, viewSheets, searchOutcome, makeBookOutcome}
-use Rattle.matching.specs.Index.{indexOf, makeIndexOutcome, checkIndexOutcome, searchIndexedOutcome}
+use Rattle.matching.specs.Index.{makeIndexOutcome, checkIndexOutcome, searchIndexedOutcome}
 use Rattle.containment.specs.Choice.{everyView, coversIn, columnsIn, lowestUnmatched, chosen}
 use Rattle.containment.specs.Quote.{noPattern, mapping, quotedBy, viewsInSet, usedBy, QuoteValues, flat, blank, quoteOutcome, quoteTold}
 use Rattle.containment.specs.Answer.{viewsIn, Choose, answerBy, answerFrom, answerOutcome}
 use Rattle.containment.specs.Cheapest.{cost, Better, cheapestOutcome}
-use Rattle.containment.specs.Show.{graphFields, fewerFields, recordBytes, fitBoth, showOutcome}
+use Rattle.containment.specs.Show.{graphFields, fewerFields, showOutcome}
 use Rattle.containment.specs.Part.{partOutcome}
 use Rattle.containment.specs.Several.{severalOutcome}
 use Rattle.containment.specs.Terms.{noTerm, spreadOf, fromDay, toDay, judgeTerms, inForce, quoteOn, cheapestOn, partOn, showOn, firstDay}
@@ -54,8 +55,8 @@ Question q qs = readPattern q ≡ accepted qs
 abbrev pub Questions : ℕ → List ℕ → List ℕ → Type 0
 Questions number q ws = readQuestions number q ≡ accepted ws
 
-abbrev pub Catalogue : List ℕ → List ℕ → Type 0
-Catalogue c cs = readCatalogue c ≡ accepted cs
+abbrev pub CataloguePaper : List ℕ → List ℕ → Type 0
+CataloguePaper c cs = readCatalogue c ≡ accepted cs
 
 abbrev pub Record : List ℕ → List ℕ → Type 0
 Record r rs = readRecord r ≡ accepted rs
@@ -73,54 +74,64 @@ pub record Book (cs b bs : List ℕ) : Type 0 where
   pub read : readBook cs b ≡ accepted bs
   pub few : FewPairs cs bs
 
-abbrev pub extractOf : List ℕ → ℕ → Pattern
+-- "A catalogue comes with a 16-bit set naming the extracts .. whose sheets follow 01's one-way matching." A client brings both (c), the paper and the set. They are
+-- accepted, and offer the content of the paper with the set (cs), if the paper is accepted and the set names none but extracts of it. "Where these papers say
+-- the same catalogue, the set is the same too": so all that is said below of a catalogue c, of what it offers, of its books and of its extracts is said of one set
+pub record Catalogue (c : Brought) (cs : Offered) : Type 0 where
+  pub paper : CataloguePaper (c .file) (cs .content)
+  pub set : cs .oneWay ≡ c .oneWay
+  pub named : RightSet (c .oneWay) (length (viewsOf (cs .content)))
+
+-- the extract a, with the rule by which it is matched; the link e of the question
+abbrev pub extractOf : Offered → ℕ → Pattern
 extractOf cs a = getD (viewPatterns cs) a noPattern
 
 abbrev pub linkOf : List ℕ → ℕ → Edge
 linkOf qs e = getD (patternOf qs .edges) e noEdge
 
 -- the extracts in a set match every link of the question, or leave one unmatched
-abbrev pub Covers : ℕ → List ℕ → List ℕ → Type 0
+abbrev pub Covers : ℕ → List ℕ → Offered → Type 0
 Covers set qs cs = coversIn (mapping (patternOf qs) (viewPatterns cs)) set (length (viewPatterns cs)) (edgesOf qs) ≡ true
 
-abbrev pub Leaves : ℕ → List ℕ → List ℕ → Type 0
+abbrev pub Leaves : ℕ → List ℕ → Offered → Type 0
 Leaves set qs cs = coversIn (mapping (patternOf qs) (viewPatterns cs)) set (length (viewPatterns cs)) (edgesOf qs) ≡ false
 
 -- the lowest link of the question that no extract of a set matches
-abbrev pub lackingIn : ℕ → List ℕ → List ℕ → ℕ
+abbrev pub lackingIn : ℕ → List ℕ → Offered → ℕ
 lackingIn set qs cs = lowestUnmatched (mapping (patternOf qs) (viewPatterns cs)) set (length (viewPatterns cs)) (edgesOf qs)
 
 -- what a quote says, by all extracts: covered or uncovered
-abbrev pub Covered : List ℕ → List ℕ → Type 0
+abbrev pub Covered : List ℕ → Offered → Type 0
 Covered qs cs = Covers everyView qs cs
 
-abbrev pub Uncovered : List ℕ → List ℕ → Type 0
+abbrev pub Uncovered : List ℕ → Offered → Type 0
 Uncovered qs cs = Leaves everyView qs cs
 
 -- the lowest link of the question that no extract matches
-abbrev pub lacking : List ℕ → List ℕ → ℕ
+abbrev pub lacking : List ℕ → Offered → ℕ
 lacking qs cs = lackingIn everyView qs cs
 
 -- the set that a quote chooses, from the extracts in a set; from all of them
-abbrev pub chosenIn : ℕ → List ℕ → List ℕ → ℕ
+abbrev pub chosenIn : ℕ → List ℕ → Offered → ℕ
 chosenIn set qs cs = chosen (mapping (patternOf qs) (viewPatterns cs)) set (edgesOf qs) (length (viewPatterns cs))
 
-abbrev pub chosenOf : List ℕ → List ℕ → ℕ
+abbrev pub chosenOf : List ℕ → Offered → ℕ
 chosenOf qs cs = chosenIn everyView qs cs
 
 -- the masks of a quote: those of the extracts in a set; the others' are zero
-abbrev pub masksIn : ℕ → List ℕ → List ℕ → List ℕ
+abbrev pub masksIn : ℕ → List ℕ → Offered → List ℕ
 masksIn set qs cs = columnsIn set (mapping (patternOf qs) (viewPatterns cs))
 
 -- a pattern's sheet from a record
 abbrev pub sheetOf : Pattern → List ℕ → List ℕ
 sheetOf P rs = sheetBytes (matchSets P (graphOf rs))
 
--- an extract's, and "the extract lists made from the record": the sheets of all extracts, laid out as a book
+-- an extract's, "by that rule" which is its own, and "the extract lists made from the record": the sheets of all extracts, "each sheet made under its own rule",
+-- laid out as a book
 abbrev pub extractSheetOf : Pattern → List ℕ → List ℕ
 extractSheetOf P rs = sheetBytes (viewSheet P (graphOf rs))
 
-abbrev pub bookOf : List ℕ → List ℕ → List ℕ
+abbrev pub bookOf : Offered → List ℕ → List ℕ
 bookOf cs rs = bookBytes (viewSheets cs (graphOf rs))
 
 -- "the record's own" index
@@ -137,25 +148,25 @@ searchBy without-index q r rs room = searchOutcome q r room
 searchBy with-own q r rs room = searchIndexedOutcome q r (ownOf rs) room
 
 -- the lists of the answer from a book by the extracts in a set
-abbrev pub answerOf : ℕ → List ℕ → List ℕ → List ℕ → List (List ℕ)
-answerOf set qs cs bs = answerSets (patternOf qs) (viewsIn set (viewPatterns cs) (sheetsIn (edgeCounts cs) bs))
+abbrev pub answerOf : ℕ → List ℕ → Offered → List ℕ → List (List ℕ)
+answerOf set qs cs bs = answerSets (patternOf qs) (viewsIn set (viewPatterns cs) (sheetsIn (edgeCounts (cs .content)) bs))
 
 -- the same by the set that the question's quote chooses, in bytes
-abbrev pub ownAnswerIn : ℕ → List ℕ → List ℕ → List ℕ → List ℕ
+abbrev pub ownAnswerIn : ℕ → Offered → List ℕ → List ℕ → List ℕ
 ownAnswerIn set cs bs qs = sheetBytes (answerOf (chosenIn set qs cs) qs cs bs)
 
-abbrev pub ownAnswer : List ℕ → List ℕ → List ℕ → List ℕ
+abbrev pub ownAnswer : Offered → List ℕ → List ℕ → List ℕ
 ownAnswer cs bs qs = ownAnswerIn everyView cs bs qs
 
 -- the content of "the two shown records": the question read as a record, and the same without its lowest link that no extract of a set matches
 abbrev pub firstOf : List ℕ → List ℕ
 firstOf qs = graphFields qs
 
-abbrev pub secondIn : ℕ → List ℕ → List ℕ → List ℕ
+abbrev pub secondIn : ℕ → List ℕ → Offered → List ℕ
 secondIn set qs cs = fewerFields qs (lackingIn set qs cs)
 
 -- the lists of the extracts in a set
-abbrev pub listsIn : ℕ → List ℕ → Graph → List (List (List ℕ))
+abbrev pub listsIn : ℕ → Offered → Graph → List (List (List ℕ))
 listsIn set cs G = each (λ P. viewSheet P G) (viewsInSet set (viewPatterns cs))
 
 -- ---- Terms. "Beside the catalogue comes a list of entries, each a from-day and a to-day, one per extract, as 16-bit day numbers"; a call is handed the list in
@@ -166,7 +177,7 @@ abbrev pub InForce : Terms → ℕ → ℕ → Type 0
 InForce t day a = (fromDay t a ≤ day) × (day < toDay t a)
 
 -- the extracts in force on a day, as a set
-abbrev pub forceOf : Terms → ℕ → List ℕ → ℕ
+abbrev pub forceOf : Terms → ℕ → Offered → ℕ
 forceOf t day cs = inForce t day (length (viewPatterns cs))
 
 -- a list for k extracts: "one per extract", each with its from-day below its to-day
@@ -190,28 +201,31 @@ pub data When : Type 0 where
   always : When
   on : Terms → ℕ → When
 
-abbrev pub usableWhen : When → List ℕ → ℕ
+abbrev pub usableWhen : When → Offered → ℕ
 usableWhen always cs = everyView
 usableWhen (on t day) cs = forceOf t day cs
 
-pub data Timely (cs : List ℕ) : When → Type 0 where
-  any-time : Timely cs always
-  right : {t : Terms} {day : ℕ} → RightTerms t (length (viewPatterns cs)) → Timely cs (on t day)
+pub data RightWhen (cs : List ℕ) : When → Type 0 where
+  any-time : RightWhen cs always
+  right : {t : Terms} {day : ℕ} → RightTerms t (length (viewsOf cs)) → RightWhen cs (on t day)
+
+abbrev pub Timely : Offered → When → Type 0
+Timely cs w = RightWhen (cs .content) w
 
 -- the calls that there are both ways, by all extracts and for a day
-abbrev pub quoteWhen : When → List ℕ → List ℕ → Outcome
+abbrev pub quoteWhen : When → List ℕ → Brought → Outcome
 quoteWhen always q c = quoteOutcome q c
 quoteWhen (on t day) q c = quoteOn q c t day
 
-abbrev pub cheapestWhen : When → List ℕ → List ℕ → List ℕ → Outcome
+abbrev pub cheapestWhen : When → List ℕ → Brought → List ℕ → Outcome
 cheapestWhen always q c charges = cheapestOutcome q c charges
 cheapestWhen (on t day) q c charges = cheapestOn q c t day charges
 
-abbrev pub partWhen : When → List ℕ → List ℕ → List ℕ → ℕ → ℕ → Outcome
+abbrev pub partWhen : When → List ℕ → Brought → List ℕ → ℕ → ℕ → Outcome
 partWhen always q c b room room′ = partOutcome q c b room room′
 partWhen (on t day) q c b room room′ = partOn q c t day b room room′
 
-abbrev pub showWhen : When → List ℕ → List ℕ → ℕ → ℕ → Outcome
+abbrev pub showWhen : When → List ℕ → Brought → ℕ → ℕ → Outcome
 showWhen always q c room room′ = showOutcome q c room room′
 showWhen (on t day) q c room room′ = showOn q c t day room room′
 
@@ -224,13 +238,13 @@ pub record Full (a : Outcome) : Type 0 where
   pub outputs : List (List ℕ)
   pub is : a ≡ give values outputs
 
--- a refusal with a number from 1 to 18
+-- a refusal with a number from 1 to 19
 pub record Refused (a : Outcome) : Type 0 where
   pub number : ℕ
   pub detail : ℕ
   pub is : a ≡ refuse number detail
   pub least : 1 ≤ number
-  pub most : number ≤ 18
+  pub most : number ≤ 19
 
 abbrev pub Settles : Outcome → Type 0
 Settles a = Full a ⊎ Refused a
@@ -260,21 +274,33 @@ writeCatalogue ws = writeFile 2 catalogue ws
 abbrev pub writeRecord : List ℕ → Verdict
 writeRecord ws = writeFile 3 record′ ws
 
--- no file follows; the two files of the calls that quote, and what follows them
+-- no file follows
 abbrev pub thenNone : List ℕ → Files
 thenNone ws = no-more
 
-abbrev pub quotedFiles : List ℕ → List ℕ → (List ℕ → Files) → Files
-quotedFiles q c next = first (readPattern q) (λ qs. first (readCatalogue c) next)
+-- the files of the calls that match the extracts of a catalogue, and what follows them: its set is judged with it, "right after the catalogue is read, after
+-- 18"
+abbrev pub setFile : ℕ → List ℕ → (List ℕ → Files) → Files
+setFile set cs next = first (judgeSet set (length (viewsOf cs))) (λ _. next cs)
 
--- the same for a day: the terms are judged with them, "right after the catalogue is read", and before what follows
-abbrev pub filesWhen : When → List ℕ → List ℕ → (List ℕ → Files) → Files
+abbrev pub offeredFiles : Brought → (List ℕ → Files) → Files
+offeredFiles c next = first (readCatalogue (c .file)) (λ cs. setFile (c .oneWay) cs next)
+
+abbrev pub quotedFiles : List ℕ → Brought → (List ℕ → Files) → Files
+quotedFiles q c next = first (readPattern q) (λ qs. offeredFiles c next)
+
+-- the same for a day: the terms are judged with them, "right after the catalogue is read"
+abbrev pub filesWhen : When → List ℕ → Brought → (List ℕ → Files) → Files
 filesWhen always q c next = quotedFiles q c next
-filesWhen (on t day) q c next = quotedFiles q c (λ cs. first (judgeTerms t (length (viewPatterns cs))) (λ _. next cs))
+filesWhen (on t day) q c next =
+    first (readPattern q) (λ qs.
+    first (readCatalogue (c .file)) (λ cs.
+    first (judgeTerms t (length (viewsOf cs))) (λ _.
+    setFile (c .oneWay) cs next)))
 
 -- the files of the call that answers several questions: "its first fault decides the refusal, .., then catalogue, book"
-abbrev pub severalFiles : ℕ → List ℕ → List ℕ → List ℕ → Files
-severalFiles number q c b = first (readQuestions number q) (λ ws. first (readCatalogue c) (λ cs. first (readBook cs b) thenNone))
+abbrev pub severalFiles : ℕ → List ℕ → Brought → List ℕ → Files
+severalFiles number q c b = first (readQuestions number q) (λ ws. offeredFiles c (λ cs. first (readBook cs b) thenNone))
 
 -- 17: "when no question or more than eight are sent", and else
 abbrev pub WrongNumber : ℕ → Type 0
@@ -335,6 +361,10 @@ pub record Worked (work work′ : List ℕ) : Type 0 where
   -- "except 14, which leaves them as they came"
   pub as-came : length work < workspace → work′ ≡ work
 
+-- 19 is given exactly where the set names an extract that there isn't, with the lowest such number
+abbrev pub Refuses19 : Brought → List ℕ → Outcome → Type 0
+Refuses19 c cs a = (words d : ℕ) → (withWorkspace words a ≡ refuse 19 d) ↔ ((workspace ≤ words) × WrongSet (c .oneWay) (length (viewsOf cs)) d)
+
 pub record Demand1 : Type 0 where
   -- "every call", "for all bytes and buffers of every length"
   pub read-pattern : (s : List ℕ) (room words : ℕ) → Settles (withWorkspace words (patternRead s room))
@@ -352,16 +382,16 @@ pub record Demand1 : Type 0 where
   pub make-index : (r : List ℕ) (room words : ℕ) → Settles (withWorkspace words (makeIndexOutcome r room))
   pub check-index : (r index : List ℕ) (words : ℕ) → Settles (withWorkspace words (checkIndexOutcome r index))
   pub search-indexed : (p r index : List ℕ) (room words : ℕ) → Settles (withWorkspace words (searchIndexedOutcome p r index room))
-  pub make-book : (c r : List ℕ) (room words : ℕ) → Settles (withWorkspace words (makeBookOutcome c r room))
+  pub make-book : (c : Brought) (r : List ℕ) (room words : ℕ) → Settles (withWorkspace words (makeBookOutcome c r room))
   -- a call that there is for a day too is meant both ways
-  pub quote : (w : When) (q c : List ℕ) (words : ℕ) → Settles (withWorkspace words (quoteWhen w q c))
+  pub quote : (w : When) (q : List ℕ) (c : Brought) (words : ℕ) → Settles (withWorkspace words (quoteWhen w q c))
   -- both calls that answer: `answerFrom` and `answerOutcome` are `answerBy` with the set that the client names and with the one that is used else
-  pub answer : (choose : Choose) (q c b : List ℕ) (room words : ℕ) → Settles (withWorkspace words (answerBy choose q c b room))
-  pub show : (w : When) (q c : List ℕ) (room room′ words : ℕ) → Settles (withWorkspace words (showWhen w q c room room′))
-  pub part : (w : When) (q c b : List ℕ) (room room′ words : ℕ) → Settles (withWorkspace words (partWhen w q c b room room′))
-  pub several : (q : List ℕ) (number : ℕ) (c b : List ℕ) (room words : ℕ) → Settles (withWorkspace words (severalOutcome q number c b room))
-  pub cheapest : (w : When) (q c charges : List ℕ) (words : ℕ) → Settles (withWorkspace words (cheapestWhen w q c charges))
-  pub first-day : (q c : List ℕ) (t : Terms) (day words : ℕ) → Settles (withWorkspace words (firstDay q c t day))
+  pub answer : (choose : Choose) (q : List ℕ) (c : Brought) (b : List ℕ) (room words : ℕ) → Settles (withWorkspace words (answerBy choose q c b room))
+  pub show : (w : When) (q : List ℕ) (c : Brought) (room room′ words : ℕ) → Settles (withWorkspace words (showWhen w q c room room′))
+  pub part : (w : When) (q : List ℕ) (c : Brought) (b : List ℕ) (room room′ words : ℕ) → Settles (withWorkspace words (partWhen w q c b room room′))
+  pub several : (q : List ℕ) (number : ℕ) (c : Brought) (b : List ℕ) (room words : ℕ) → Settles (withWorkspace words (severalOutcome q number c b room))
+  pub cheapest : (w : When) (q : List ℕ) (c : Brought) (charges : List ℕ) (words : ℕ) → Settles (withWorkspace words (cheapestWhen w q c charges))
+  pub first-day : (q : List ℕ) (c : Brought) (t : Terms) (day words : ℕ) → Settles (withWorkspace words (firstDay q c t day))
   pub line : (q : Quote) (k room : ℕ) → Settles (lineOutcome q k room)
   -- "within a paper: 1, then front to back": what falls to each file is in packed/specs/Formats.antt; here, that it is handed up
   pub read-pattern-files : (s : List ℕ) (room : ℕ) → HandsUp (first (readPattern s) thenNone) (patternRead s room)
@@ -378,55 +408,76 @@ pub record Demand1 : Type 0 where
   pub make-index-files : (r : List ℕ) (room : ℕ) → HandsUp (first (readRecord r) thenNone) (makeIndexOutcome r room)
   pub check-index-files : (r index : List ℕ) → HandsUp (first (readRecord r) thenNone) (checkIndexOutcome r index)
   pub search-indexed-files : (p r index : List ℕ) (room : ℕ) → HandsUp (first (readPattern p) (λ ps. first (readRecord r) thenNone)) (searchIndexedOutcome p r index room)
-  pub make-book-files : (c r : List ℕ) (room : ℕ) → HandsUp (first (readCatalogue c) (λ cs. first (readRecord r) thenNone)) (makeBookOutcome c r room)
-  pub quote-files : (w : When) (q c : List ℕ) → HandsUp (filesWhen w q c thenNone) (quoteWhen w q c)
-  pub cheapest-files : (w : When) (q c charges : List ℕ) → HandsUp (filesWhen w q c thenNone) (cheapestWhen w q c charges)
-  pub first-day-files : (q c : List ℕ) (t : Terms) (day : ℕ) → HandsUp (filesWhen (on t day) q c thenNone) (firstDay q c t day)
-  pub answer-files : (choose : Choose) (q c b : List ℕ) (room : ℕ) → HandsUp (quotedFiles q c (λ cs. first (readBook cs b) thenNone)) (answerBy choose q c b room)
-  pub show-files : (w : When) (q c : List ℕ) (room room′ : ℕ) → HandsUp (filesWhen w q c thenNone) (showWhen w q c room room′)
-  -- for a day the book is judged once the terms are right: where 18 falls to these nothing is said of it
-  pub part-files : (w : When) (q c b : List ℕ) (room room′ : ℕ) → HandsUp (filesWhen w q c (λ cs. first (readBook cs b) thenNone)) (partWhen w q c b room room′)
+  pub make-book-files : (c : Brought) (r : List ℕ) (room : ℕ) → HandsUp (offeredFiles c (λ cs. first (readRecord r) thenNone)) (makeBookOutcome c r room)
+  pub quote-files : (w : When) (q : List ℕ) (c : Brought) → HandsUp (filesWhen w q c thenNone) (quoteWhen w q c)
+  pub cheapest-files : (w : When) (q : List ℕ) (c : Brought) (charges : List ℕ) → HandsUp (filesWhen w q c thenNone) (cheapestWhen w q c charges)
+  pub first-day-files : (q : List ℕ) (c : Brought) (t : Terms) (day : ℕ) → HandsUp (filesWhen (on t day) q c thenNone) (firstDay q c t day)
+  pub answer-files : (choose : Choose) (q : List ℕ) (c : Brought) (b : List ℕ) (room : ℕ) → HandsUp (quotedFiles q c (λ cs. first (readBook cs b) thenNone)) (answerBy choose q c b room)
+  pub show-files : (w : When) (q : List ℕ) (c : Brought) (room room′ : ℕ) → HandsUp (filesWhen w q c thenNone) (showWhen w q c room room′)
+  -- for a day the book is judged once the terms are right and the set names extracts alone: where 18 or 19 falls to these nothing is said of it
+  pub part-files : (w : When) (q : List ℕ) (c : Brought) (b : List ℕ) (room room′ : ℕ) → HandsUp (filesWhen w q c (λ cs. first (readBook cs b) thenNone)) (partWhen w q c b room room′)
   -- 17 stands before the files: where the number is wrong none is judged
-  pub several-files : (q : List ℕ) (number : ℕ) (c b : List ℕ) (room : ℕ) → RightNumber number → HandsUp (severalFiles number q c b) (severalOutcome q number c b room)
-  pub several-unread : (q : List ℕ) (number : ℕ) (c b : List ℕ) (room : ℕ) → WrongNumber number → HandsUp no-more (severalOutcome q number c b room)
+  pub several-files : (q : List ℕ) (number : ℕ) (c : Brought) (b : List ℕ) (room : ℕ) → RightNumber number → HandsUp (severalFiles number q c b) (severalOutcome q number c b room)
+  pub several-unread : (q : List ℕ) (number : ℕ) (c : Brought) (b : List ℕ) (room : ℕ) → WrongNumber number → HandsUp no-more (severalOutcome q number c b room)
   -- "a writer never gives 1" of the content that it is handed
   pub never-long : (ws : List ℕ) (d : ℕ) → (writePattern ws ≡ rejected 1 d → ⊥) × (writeCatalogue ws ≡ rejected 1 d → ⊥) × (writeRecord ws ≡ rejected 1 d → ⊥)
   pub never-long-beside : (cs ws : List ℕ) (d : ℕ) → (writeSheet cs ws ≡ rejected 1 d → ⊥) × (writeBook cs ws ≡ rejected 1 d → ⊥)
+  -- 19, "when the set names an extract not in the catalogue, right after the catalogue is read, after 18 and before 15, detail the lowest such number": exactly
+  -- then, in each call, once the question, the paper of the catalogue and the terms are accepted
+  pub make-book-set : (c : Brought) (r cs : List ℕ) (room : ℕ) → CataloguePaper (c .file) cs → Refuses19 c cs (makeBookOutcome c r room)
+  pub quote-set : (w : When) (q : List ℕ) (c : Brought) (qs cs : List ℕ) → Question q qs → CataloguePaper (c .file) cs → RightWhen cs w → Refuses19 c cs (quoteWhen w q c)
+  pub cheapest-set : (w : When) (q : List ℕ) (c : Brought) (qs cs charges : List ℕ) → Question q qs → CataloguePaper (c .file) cs → RightWhen cs w
+      → Refuses19 c cs (cheapestWhen w q c charges)
+  pub first-day-set : (q : List ℕ) (c : Brought) (qs cs : List ℕ) (t : Terms) (day : ℕ) → Question q qs → CataloguePaper (c .file) cs → RightWhen cs (on t day)
+      → Refuses19 c cs (firstDay q c t day)
+  pub answer-set : (choose : Choose) (q : List ℕ) (c : Brought) (b qs cs : List ℕ) (room : ℕ) → Question q qs → CataloguePaper (c .file) cs → Refuses19 c cs (answerBy choose q c b room)
+  pub show-set : (w : When) (q : List ℕ) (c : Brought) (qs cs : List ℕ) (room room′ : ℕ) → Question q qs → CataloguePaper (c .file) cs → RightWhen cs w
+      → Refuses19 c cs (showWhen w q c room room′)
+  pub part-set : (w : When) (q : List ℕ) (c : Brought) (b qs cs : List ℕ) (room room′ : ℕ) → Question q qs → CataloguePaper (c .file) cs → RightWhen cs w
+      → Refuses19 c cs (partWhen w q c b room room′)
+  pub several-set : (number : ℕ) (q : List ℕ) (c : Brought) (b ws cs : List ℕ) (room : ℕ) → RightNumber number → Questions number q ws → CataloguePaper (c .file) cs
+      → Refuses19 c cs (severalOutcome q number c b room)
+  -- a set names extracts alone, or there is a lowest number that is none
+  pub right-or-wrong-set : (set k : ℕ) → RightSet set k ⊎ ((d : ℕ) × WrongSet set k d)
+  pub not-both-sets : (set k d : ℕ) → RightSet set k → WrongSet set k d → ⊥
   -- "a quote never gives 11: uncovered is one of its results"
-  pub quote-never : (w : When) (q c : List ℕ) (words d : ℕ) → withWorkspace words (quoteWhen w q c) ≡ refuse 11 d → ⊥
+  pub quote-never : (w : When) (q : List ℕ) (c : Brought) (words d : ℕ) → withWorkspace words (quoteWhen w q c) ≡ refuse 11 d → ⊥
   -- "under a fixed rule": 14, "fewer than 16,384 work words were lent", stands before all else
   pub small-workspace : (a : Outcome) (words : ℕ) → words < workspace → withWorkspace words a ≡ refuse 14 0
   pub enough : (a : Outcome) (words : ℕ) → workspace ≤ words → withWorkspace words a ≡ a
   -- a file is accepted, with its content, exactly when the plain conditions of its format hold (packed/specs/Plain.antt:
   -- counts in range, ends that are items, no repeat, each item at a link, ascending, no zero count after a 1, padding zero and nothing after it)
   pub accepts-pattern : (s ws : List ℕ) → Question s ws ↔ ((length s ≤ patternMost) × PatternFile s ws)
-  pub accepts-catalogue : (s ws : List ℕ) → Catalogue s ws ↔ ((length s ≤ catalogueMost) × (EmptyCatalogue s ws ⊎ CatalogueFile s ws))
+  pub accepts-catalogue : (s ws : List ℕ) → CataloguePaper s ws ↔ ((length s ≤ catalogueMost) × (EmptyCatalogue s ws ⊎ CatalogueFile s ws))
   pub accepts-record : (s ws : List ℕ) → Record s ws ↔ ((length s ≤ recordMost) × RecordFile s ws)
   pub accepts-sheet : (ps s ws : List ℕ) → Sheet ps s ws ↔ ((length s ≤ bookMost) × SheetFile (edgesOf ps) s ws)
   pub accepts-book : (cs s ws : List ℕ) → Book cs s ws ↔ ((length s ≤ bookMost) × BookFile (edgeCounts cs) s ws × FewPairs cs ws)
   -- a reader gives the content of an accepted file and of no other; a writer the file that has the content by the same conditions, so that no catalogue is
   -- written as the empty file
   pub reads-pattern : Reads patternRead Question
-  pub reads-catalogue : Reads catalogueRead Catalogue
+  pub reads-catalogue : Reads catalogueRead CataloguePaper
   pub reads-record : Reads recordRead Record
   pub reads-sheet : (p : List ℕ) → Reads (sheetRead p) (λ s ws. (ps : List ℕ) × Question p ps × Sheet ps s ws)
-  pub reads-book : (c : List ℕ) → Reads (bookRead c) (λ s ws. (cs : List ℕ) × Catalogue c cs × Book cs s ws)
+  pub reads-book : (c : List ℕ) → Reads (bookRead c) (λ s ws. (cs : List ℕ) × CataloguePaper c cs × Book cs s ws)
   pub writes-pattern : Writes patternWritten Over PatternFile
   pub writes-catalogue : Writes catalogueWritten Over CatalogueFile
   pub writes-record : Writes recordWritten Over RecordFile
   pub writes-sheet : (p : List ℕ) → Writes (sheetWritten p) OverFile (λ s ws. (ps : List ℕ) × Question p ps × SheetFile (edgesOf ps) s ws)
-  pub writes-book : (c : List ℕ) → Writes (bookWritten c) OverFile (λ s ws. (cs : List ℕ) × Catalogue c cs × BookFile (edgeCounts cs) s ws × FewPairs cs ws)
+  pub writes-book : (c : List ℕ) → Writes (bookWritten c) OverFile (λ s ws. (cs : List ℕ) × CataloguePaper c cs × BookFile (edgeCounts cs) s ws × FewPairs cs ws)
   -- 10, "over 8,192 different pairs stand in a book", falls to a book exactly then, with the detail 4, "book or lone sheet"
-  pub read-many-pairs : (c cs s ws : List ℕ) → Catalogue c cs → readBook cs s ≡ accepted ws → (room words d : ℕ)
+  pub read-many-pairs : (c cs s ws : List ℕ) → CataloguePaper c cs → readBook cs s ≡ accepted ws → (room words d : ℕ)
       → (withWorkspace words (bookRead c s room) ≡ refuse 10 d) ↔ ((workspace ≤ words) × ManyPairs cs ws × (d ≡ 4))
-  pub write-many-pairs : (c cs s ws : List ℕ) → Catalogue c cs → Below 256 s → BookFile (edgeCounts cs) s ws → (room words d : ℕ)
+  pub write-many-pairs : (c cs s ws : List ℕ) → CataloguePaper c cs → Below 256 s → BookFile (edgeCounts cs) s ws → (room words d : ℕ)
       → (withWorkspace words (bookWritten c ws room) ≡ refuse 10 d) ↔ ((workspace ≤ words) × ManyPairs cs ws × (d ≡ 4))
-  pub answer-many-pairs : (choose : Choose) (q c b qs cs bs : List ℕ) → Question q qs → Catalogue c cs → readBook cs b ≡ accepted bs → (room words d : ℕ)
-      → (withWorkspace words (answerBy choose q c b room) ≡ refuse 10 d) ↔ ((workspace ≤ words) × ManyPairs cs bs × (d ≡ 4))
-  pub part-many-pairs : (w : When) (q c b qs cs bs : List ℕ) → Question q qs → Catalogue c cs → Timely cs w → readBook cs b ≡ accepted bs → (room room′ words d : ℕ)
-      → (withWorkspace words (partWhen w q c b room room′) ≡ refuse 10 d) ↔ ((workspace ≤ words) × ManyPairs cs bs × (d ≡ 4))
-  pub several-many-pairs : (number : ℕ) (q c b ws cs bs : List ℕ) → RightNumber number → Questions number q ws → Catalogue c cs → readBook cs b ≡ accepted bs → (room words d : ℕ)
-      → (withWorkspace words (severalOutcome q number c b room) ≡ refuse 10 d) ↔ ((workspace ≤ words) × ManyPairs cs bs × (d ≡ 4))
+  pub answer-many-pairs : (choose : Choose) (q : List ℕ) (c : Brought) (b qs : List ℕ) (cs : Offered) (bs : List ℕ) → Question q qs → Catalogue c cs
+      → readBook (cs .content) b ≡ accepted bs → (room words d : ℕ)
+      → (withWorkspace words (answerBy choose q c b room) ≡ refuse 10 d) ↔ ((workspace ≤ words) × ManyPairs (cs .content) bs × (d ≡ 4))
+  pub part-many-pairs : (w : When) (q : List ℕ) (c : Brought) (b qs : List ℕ) (cs : Offered) (bs : List ℕ) → Question q qs → Catalogue c cs → Timely cs w
+      → readBook (cs .content) b ≡ accepted bs → (room room′ words d : ℕ)
+      → (withWorkspace words (partWhen w q c b room room′) ≡ refuse 10 d) ↔ ((workspace ≤ words) × ManyPairs (cs .content) bs × (d ≡ 4))
+  pub several-many-pairs : (number : ℕ) (q : List ℕ) (c : Brought) (b ws : List ℕ) (cs : Offered) (bs : List ℕ) → RightNumber number → Questions number q ws
+      → Catalogue c cs → readBook (cs .content) b ≡ accepted bs → (room words d : ℕ)
+      → (withWorkspace words (severalOutcome q number c b room) ≡ refuse 10 d) ↔ ((workspace ≤ words) × ManyPairs (cs .content) bs × (d ≡ 4))
   -- a search gives the sheet of accepted files, making a book the book, and neither anything of others, nor with another index than the record's own
   pub search-gives : (way : Way) (p r ps rs : List ℕ) → Question p ps → Record r rs → (room words : ℕ)
       → Fitted words (OverFile room (sheetOf (patternOf ps) rs)) (sheetOf (patternOf ps) rs ∷ []) (withWorkspace words (searchBy way p r rs room))
@@ -434,10 +485,10 @@ pub record Demand1 : Type 0 where
       → (ps : List ℕ) × (rs : List ℕ) × Question p ps × Record r rs
   pub search-indexed-only : (p r index : List ℕ) (room words : ℕ) → Full (withWorkspace words (searchIndexedOutcome p r index room))
       → (ps : List ℕ) × (rs : List ℕ) × Question p ps × Record r rs × (index ≡ ownOf rs)
-  pub make-book-gives : (c r cs rs : List ℕ) → Catalogue c cs → Record r rs → (room words : ℕ)
+  pub make-book-gives : (c : Brought) (r : List ℕ) (cs : Offered) (rs : List ℕ) → Catalogue c cs → Record r rs → (room words : ℕ)
       → Fitted words (OverFile room (bookOf cs rs)) (bookOf cs rs ∷ []) (withWorkspace words (makeBookOutcome c r room))
-  pub make-book-only : (c r : List ℕ) (room words : ℕ) → Full (withWorkspace words (makeBookOutcome c r room))
-      → (cs : List ℕ) × (rs : List ℕ) × Catalogue c cs × Record r rs
+  pub make-book-only : (c : Brought) (r : List ℕ) (room words : ℕ) → Full (withWorkspace words (makeBookOutcome c r room))
+      → (cs : Offered) × (rs : List ℕ) × Catalogue c cs × Record r rs
   -- an index is made of an accepted record; it is accepted by the check, and no other is
   pub make-index-gives : (r rs : List ℕ) → Record r rs → (room words : ℕ) → Fitted words (Over room (ownOf rs)) (ownOf rs ∷ []) (withWorkspace words (makeIndexOutcome r room))
   pub make-index-only : (r : List ℕ) (room words : ℕ) → Full (withWorkspace words (makeIndexOutcome r room)) → (rs : List ℕ) × Record r rs
@@ -450,18 +501,21 @@ pub record Demand1 : Type 0 where
   pub search-refuses : (p r ps rs index : List ℕ) → Question p ps → Record r rs → (room words d : ℕ)
       → (withWorkspace words (searchIndexedOutcome p r index room) ≡ refuse 16 d) ↔ ((workspace ≤ words) × NotOwn (ownOf rs) index d)
   -- a quote is given of accepted files alone (what it says is in demand 2); it has no output to fit
-  pub quote-only : (w : When) (q c : List ℕ) (words : ℕ) → Full (withWorkspace words (quoteWhen w q c)) → (qs : List ℕ) × (cs : List ℕ) × Question q qs × Catalogue c cs × Timely cs w
+  pub quote-only : (w : When) (q : List ℕ) (c : Brought) (words : ℕ) → Full (withWorkspace words (quoteWhen w q c))
+      → (qs : List ℕ) × (cs : Offered) × Question q qs × Catalogue c cs × Timely cs w
   -- answering gives the answer from the book by a set that covers the question, showing the two records of an uncovered one
-  pub answer-gives : (choose : Choose) (q c b qs cs bs : List ℕ) → Question q qs → Catalogue c cs → Book cs b bs → Covers (choose (quotedBy qs cs)) qs cs → (room words : ℕ)
+  pub answer-gives : (choose : Choose) (q : List ℕ) (c : Brought) (b qs : List ℕ) (cs : Offered) (bs : List ℕ) → Question q qs → Catalogue c cs → Book (cs .content) b bs
+      → Covers (choose (quotedBy qs cs)) qs cs → (room words : ℕ)
       → Fitted words (OverFile room (sheetBytes (answerOf (choose (quotedBy qs cs)) qs cs bs))) (sheetBytes (answerOf (choose (quotedBy qs cs)) qs cs bs) ∷ [])
       (withWorkspace words (answerBy choose q c b room))
-  pub answer-only : (choose : Choose) (q c b : List ℕ) (room words : ℕ) → Full (withWorkspace words (answerBy choose q c b room))
-      → (qs : List ℕ) × (cs : List ℕ) × (bs : List ℕ) × Question q qs × Catalogue c cs × Book cs b bs × Covers (choose (quotedBy qs cs)) qs cs
-  pub show-gives : (w : When) (q c qs cs : List ℕ) → Question q qs → Catalogue c cs → Timely cs w → Leaves (usableWhen w cs) qs cs → (room room′ words : ℕ)
+  pub answer-only : (choose : Choose) (q : List ℕ) (c : Brought) (b : List ℕ) (room words : ℕ) → Full (withWorkspace words (answerBy choose q c b room))
+      → (qs : List ℕ) × (cs : Offered) × (bs : List ℕ) × Question q qs × Catalogue c cs × Book (cs .content) b bs × Covers (choose (quotedBy qs cs)) qs cs
+  pub show-gives : (w : When) (q : List ℕ) (c : Brought) (qs : List ℕ) (cs : Offered) → Question q qs → Catalogue c cs → Timely cs w → Leaves (usableWhen w cs) qs cs
+      → (room room′ words : ℕ)
       → Fitted words (OverEither room room′ (recordBytes (firstOf qs)) (recordBytes (secondIn (usableWhen w cs) qs cs))) (recordBytes (firstOf qs) ∷ recordBytes (secondIn (usableWhen w cs) qs cs) ∷ [])
       (withWorkspace words (showWhen w q c room room′))
-  pub show-only : (w : When) (q c : List ℕ) (room room′ words : ℕ) → Full (withWorkspace words (showWhen w q c room room′))
-      → (qs : List ℕ) × (cs : List ℕ) × Question q qs × Catalogue c cs × Timely cs w × Leaves (usableWhen w cs) qs cs
+  pub show-only : (w : When) (q : List ℕ) (c : Brought) (room room′ words : ℕ) → Full (withWorkspace words (showWhen w q c room room′))
+      → (qs : List ℕ) × (cs : Offered) × Question q qs × Catalogue c cs × Timely cs w × Leaves (usableWhen w cs) qs cs
   -- a full result tells 0, the length of each output and the values; it stands at the front of each output, and the rest is as it was
   pub full : (blank : List ℕ) (r : Told) (outs outs′ : List (List ℕ)) (work work′ values : List ℕ) (outputs : List (List ℕ))
       → Settled blank (give values outputs) r outs outs′ work work′ → (outs′ ≡ fronts outputs outs) × (r ≡ told 0 (map length outputs ++ values)) × Worked work work′
@@ -518,16 +572,24 @@ pub record RoundTrip (Such : List ℕ → Type 0) (read : List ℕ → ℕ → O
       → withWorkspace words (read s room′) ≡ give [] (ws ∷ [])
 
 pub record Demand2 : Type 1 where
-  -- a pattern, a question or an extract, is matched both ways: by the links that leave an item, and "for each pattern link from u'' to u there is a record link
-  -- from some v'' to v with (u'', v'') in the relation"
+  -- "the question itself always both ways": by the links that leave an item, and "for each pattern link from u'' to u there is a record link from some v'' to v
+  -- with (u'', v'') in the relation"; an extract in the set one-way, by the links that leave alone, "the others both ways", on a record as on a question
   pub both-ways : (ps : List ℕ) → patternOf ps .rule ≡ bothWays
-  pub extracts-both-ways : (cs : List ℕ) (P : Pattern) → In P (viewPatterns cs) → P .rule ≡ bothWays
-  -- "the greatest simulation": sim is one, and every simulation lies in it
+  pub extract-one-way : (cs : Offered) (a : ℕ) → a < length (viewPatterns cs) → T (bit (cs .oneWay) a) → extractOf cs a .rule ≡ oneWay
+  pub extract-both-ways : (cs : Offered) (a : ℕ) → a < length (viewPatterns cs) → (T (bit (cs .oneWay) a) → ⊥) → extractOf cs a .rule ≡ bothWays
+  -- and else it is the pattern that stands at its place in the catalogue
+  pub extract-is : (cs : Offered) (a : ℕ) → a < length (viewPatterns cs) → extractOf cs a ≡ ruled (extractOf cs a .rule) (patternOf (getD (viewsOf (cs .content)) a []))
+  pub extracts-many : (cs : Offered) → length (viewPatterns cs) ≡ length (viewsOf (cs .content))
+  -- "the greatest simulation": sim is one, and every simulation lies in it; what a simulation is, by either rule, is said in matching/specs/Simulation.antt
   pub simulates : (P : Pattern) (G : Graph) → IsSim P G (λ u v. In (u, v) (sim P G))
   pub greatest : (P : Pattern) (G : Graph) (R : ℕ → ℕ → Type 0) → IsSim P G R → (u v : ℕ) → R u v → In (u, v) (sim P G)
-  -- a search gives the match sets as a sheet, and a book has a sheet of them for each extract
+  -- a simulation both ways is one one-way: so an extract matched one-way goes with a question, which is matched both ways
+  pub one-way-too : (P : Pattern) (G : Graph) (R : ℕ → ℕ → Type 0) → IsSim P G R → IsSim (ruled oneWay P) G R
+  -- a search gives the match sets as a sheet, and a book has a sheet of them for each extract: "an extract's lists are its sheet by that rule"
   pub searches : (way : Way) (p r ps rs : List ℕ) → Question p ps → Record r rs → (room : ℕ) → searchBy way p r rs room ≡ fitFile room (sheetOf (patternOf ps) rs)
-  pub books : (c r cs rs : List ℕ) → Catalogue c cs → Record r rs → (room : ℕ) → makeBookOutcome c r room ≡ fitFile room (bookOf cs rs)
+  pub books : (c : Brought) (r : List ℕ) (cs : Offered) (rs : List ℕ) → Catalogue c cs → Record r rs → (room : ℕ) → makeBookOutcome c r room ≡ fitFile room (bookOf cs rs)
+  pub sheets-many : (cs : Offered) (G : Graph) → length (viewSheets cs G) ≡ length (viewPatterns cs)
+  pub sheet-each : (cs : Offered) (G : Graph) (a : ℕ) → a < length (viewPatterns cs) → getD (viewSheets cs G) a [] ≡ viewSheet (extractOf cs a) G
   -- "with index or without, sheets are equal on every accepted record", and so are refusals, 16 left aside
   pub same-either-way : (way : Way) (p r rs : List ℕ) → Record r rs → (room words : ℕ) → withWorkspace words (searchBy way p r rs room) ≡ withWorkspace words (searchOutcome p r room)
   -- "matches": the match sets list exactly what the greatest simulation matches
@@ -557,32 +619,34 @@ pub record Demand2 : Type 1 where
   -- "all links or none", of a lone pattern and of each extract of a catalogue: each link lists a pair, or nothing is found
   pub all-or-none : (P : Pattern) (G : Graph) → T (sound P) → ((l : List ℕ) → In l (matchSets P G) → 0 < length l) ⊎ (pairCount (matchSets P G) ≡ 0)
   pub patterns-sound : (p ps : List ℕ) → Question p ps → T (sound (patternOf ps))
-  pub extracts-sound : (c cs : List ℕ) → Catalogue c cs → (P : Pattern) → In P (viewPatterns cs) → T (sound P)
+  pub extracts-sound : (c : Brought) (cs : Offered) → Catalogue c cs → (P : Pattern) → In P (viewPatterns cs) → T (sound P)
   -- "a quote says covered exactly when .."
-  pub quotes : (q c qs cs : List ℕ) → Question q qs → Catalogue c cs → Covered qs cs ↔ ((e : Edge) → In e (patternOf qs .edges) → Matched (patternOf qs) (viewPatterns cs) e)
-  pub covers : (q c qs cs : List ℕ) → Question q qs → Catalogue c cs → (set : ℕ)
+  pub quotes : (q : List ℕ) (c : Brought) (qs : List ℕ) (cs : Offered) → Question q qs → Catalogue c cs
+      → Covered qs cs ↔ ((e : Edge) → In e (patternOf qs .edges) → Matched (patternOf qs) (viewPatterns cs) e)
+  pub covers : (q : List ℕ) (c : Brought) (qs : List ℕ) (cs : Offered) → Question q qs → Catalogue c cs → (set : ℕ)
       → Covers set qs cs ↔ ((i : ℕ) → i < edgesOf qs → MatchedIn (patternOf qs) (viewPatterns cs) set (linkOf qs i))
   -- which, of the extracts that may be used, is the first value that the call gives, where enough words are lent: 1, or 0 for an uncovered question
-  pub says-covered : (w : When) (q c qs cs : List ℕ) → Question q qs → Catalogue c cs → Timely cs w → (words : ℕ)
+  pub says-covered : (w : When) (q : List ℕ) (c : Brought) (qs : List ℕ) (cs : Offered) → Question q qs → Catalogue c cs → Timely cs w → (words : ℕ)
       → ((v : QuoteValues) × (withWorkspace words (quoteWhen w q c) ≡ give (flat v) []) × (v .covered ≡ 1)) ↔ ((workspace ≤ words) × Covers (usableWhen w cs) qs cs)
-  pub says-uncovered : (w : When) (q c qs cs : List ℕ) → Question q qs → Catalogue c cs → Timely cs w → (words : ℕ)
+  pub says-uncovered : (w : When) (q : List ℕ) (c : Brought) (qs : List ℕ) (cs : Offered) → Question q qs → Catalogue c cs → Timely cs w → (words : ℕ)
       → ((v : QuoteValues) × (withWorkspace words (quoteWhen w q c) ≡ give (flat v) []) × (v .covered ≡ 0)) ↔ ((workspace ≤ words) × Leaves (usableWhen w cs) qs cs)
   -- the other values: the masks of what matches each link, the number of links, the chosen set, the lowest unmatched link; what has no meaning is 0
-  pub values-covered : (w : When) (q c qs cs : List ℕ) → Question q qs → Catalogue c cs → Timely cs w → Covers (usableWhen w cs) qs cs
+  pub values-covered : (w : When) (q : List ℕ) (c : Brought) (qs : List ℕ) (cs : Offered) → Question q qs → Catalogue c cs → Timely cs w → Covers (usableWhen w cs) qs cs
       → quoteWhen w q c ≡ give (flat (record { covered = 1; mapping = masksIn (usableWhen w cs) qs cs; edges = edgesOf qs; chosen = chosenIn (usableWhen w cs) qs cs; lowest = 0 })) []
-  pub values-uncovered : (w : When) (q c qs cs : List ℕ) → Question q qs → Catalogue c cs → Timely cs w → Leaves (usableWhen w cs) qs cs
+  pub values-uncovered : (w : When) (q : List ℕ) (c : Brought) (qs : List ℕ) (cs : Offered) → Question q qs → Catalogue c cs → Timely cs w → Leaves (usableWhen w cs) qs cs
       → quoteWhen w q c ≡ give (flat (record { covered = 0; mapping = masksIn (usableWhen w cs) qs cs; edges = edgesOf qs; chosen = 0; lowest = lackingIn (usableWhen w cs) qs cs })) []
   -- "for each question link, the extract links that match it": bit f in the mask of link i and extract a says that a may be used, and that link f of a has the
   -- kind of i and lists i
-  pub maps : (set : ℕ) (q c qs cs : List ℕ) → Question q qs → Catalogue c cs → (i a f : ℕ) → i < edgesOf qs → a < length (viewPatterns cs) → f < length (extractOf cs a .edges)
+  pub maps : (set : ℕ) (q : List ℕ) (c : Brought) (qs : List ℕ) (cs : Offered) → Question q qs → Catalogue c cs → (i a f : ℕ) → i < edgesOf qs
+      → a < length (viewPatterns cs) → f < length (extractOf cs a .edges)
       → T (bit (getD (masksIn set qs cs) (16 * i + a) 0) f)
       ↔ (T (bit set a) × (getD (extractOf cs a .edges) f noEdge .kind ≡ linkOf qs i .kind) × In (code (linkOf qs i .from) (linkOf qs i .to)) (getD (viewSheet (extractOf cs a) (asGraph (patternOf qs))) f []))
   -- by all extracts each may be used
-  pub all-usable : (c cs : List ℕ) → Catalogue c cs → (a : ℕ) → a < length (viewPatterns cs) → T (bit everyView a)
+  pub all-usable : (c : Brought) (cs : Offered) → Catalogue c cs → (a : ℕ) → a < length (viewPatterns cs) → T (bit everyView a)
   -- the chosen set has none but these, covers the question, and "drop an extract if those still kept cover the question without it" has left none to drop
-  pub choice-within : (set : ℕ) (qs cs : List ℕ) (a : ℕ) → T (bit (chosenIn set qs cs) a) → (a < length (viewPatterns cs)) × T (bit set a)
-  pub choice-covers : (set : ℕ) (qs cs : List ℕ) → Covers set qs cs → Covers (chosenIn set qs cs) qs cs
-  pub choice-needs : (set : ℕ) (qs cs : List ℕ) (a : ℕ) → T (bit (chosenIn set qs cs) a) → Covers (chosenIn set qs cs - 2 ^ a) qs cs → ⊥
+  pub choice-within : (set : ℕ) (qs : List ℕ) (cs : Offered) (a : ℕ) → T (bit (chosenIn set qs cs) a) → (a < length (viewPatterns cs)) × T (bit set a)
+  pub choice-covers : (set : ℕ) (qs : List ℕ) (cs : Offered) → Covers set qs cs → Covers (chosenIn set qs cs) qs cs
+  pub choice-needs : (set : ℕ) (qs : List ℕ) (cs : Offered) (a : ℕ) → T (bit (chosenIn set qs cs) a) → Covers (chosenIn set qs cs - 2 ^ a) qs cs → ⊥
   -- "files read are written back as the same bytes; files written are read back as the same content"
   pub patterns : RoundTrip AnyFile patternRead patternWritten
   pub catalogues : RoundTrip NotEmpty catalogueRead catalogueWritten
@@ -594,22 +658,30 @@ pub record Demand2 : Type 1 where
 
 pub record EmptyCatalogues : Type 0 where
   -- both are accepted with the content 0, which has no extracts
-  pub empty : Catalogue [] (0 ∷ [])
-  pub byte-00 : Catalogue (0 ∷ []) (0 ∷ [])
-  pub no-extracts : viewPatterns (0 ∷ []) ≡ []
+  pub empty : CataloguePaper [] (0 ∷ [])
+  pub byte-00 : CataloguePaper (0 ∷ []) (0 ∷ [])
+  pub no-extracts : (one : ℕ) → viewPatterns (offers (0 ∷ []) one) ≡ []
+  -- no set but the empty one, of those of 16 bits, goes with such a catalogue
+  pub empty-set : (c : List ℕ) (one : ℕ) → one < 2 ^ 16 → CataloguePaper c (0 ∷ []) → Catalogue (brings c one) (offers (0 ∷ []) one) ↔ (one ≡ 0)
   -- "like the byte 00": every call that takes a catalogue answers the same to both, whatever is lent
   pub read-catalogue : (room words : ℕ) → withWorkspace words (catalogueRead [] room) ≡ withWorkspace words (catalogueRead (0 ∷ []) room)
   pub read-book : (s : List ℕ) (room words : ℕ) → withWorkspace words (bookRead [] s room) ≡ withWorkspace words (bookRead (0 ∷ []) s room)
   pub write-book : (ws : List ℕ) (room words : ℕ) → withWorkspace words (bookWritten [] ws room) ≡ withWorkspace words (bookWritten (0 ∷ []) ws room)
-  pub make-book : (r : List ℕ) (room words : ℕ) → withWorkspace words (makeBookOutcome [] r room) ≡ withWorkspace words (makeBookOutcome (0 ∷ []) r room)
-  pub quote : (w : When) (q : List ℕ) (words : ℕ) → withWorkspace words (quoteWhen w q []) ≡ withWorkspace words (quoteWhen w q (0 ∷ []))
-  pub cheapest : (w : When) (q charges : List ℕ) (words : ℕ) → withWorkspace words (cheapestWhen w q [] charges) ≡ withWorkspace words (cheapestWhen w q (0 ∷ []) charges)
-  pub first-day : (q : List ℕ) (t : Terms) (day words : ℕ) → withWorkspace words (firstDay q [] t day) ≡ withWorkspace words (firstDay q (0 ∷ []) t day)
-  pub answer : (choose : Choose) (q b : List ℕ) (room words : ℕ) → withWorkspace words (answerBy choose q [] b room) ≡ withWorkspace words (answerBy choose q (0 ∷ []) b room)
-  pub several : (q : List ℕ) (number : ℕ) (b : List ℕ) (room words : ℕ)
-      → withWorkspace words (severalOutcome q number [] b room) ≡ withWorkspace words (severalOutcome q number (0 ∷ []) b room)
-  pub show : (w : When) (q : List ℕ) (room room′ words : ℕ) → withWorkspace words (showWhen w q [] room room′) ≡ withWorkspace words (showWhen w q (0 ∷ []) room room′)
-  pub part : (w : When) (q b : List ℕ) (room room′ words : ℕ) → withWorkspace words (partWhen w q [] b room room′) ≡ withWorkspace words (partWhen w q (0 ∷ []) b room room′)
+  pub make-book : (one : ℕ) (r : List ℕ) (room words : ℕ)
+      → withWorkspace words (makeBookOutcome (brings [] one) r room) ≡ withWorkspace words (makeBookOutcome (brings (0 ∷ []) one) r room)
+  pub quote : (one : ℕ) (w : When) (q : List ℕ) (words : ℕ) → withWorkspace words (quoteWhen w q (brings [] one)) ≡ withWorkspace words (quoteWhen w q (brings (0 ∷ []) one))
+  pub cheapest : (one : ℕ) (w : When) (q charges : List ℕ) (words : ℕ)
+      → withWorkspace words (cheapestWhen w q (brings [] one) charges) ≡ withWorkspace words (cheapestWhen w q (brings (0 ∷ []) one) charges)
+  pub first-day : (one : ℕ) (q : List ℕ) (t : Terms) (day words : ℕ)
+      → withWorkspace words (firstDay q (brings [] one) t day) ≡ withWorkspace words (firstDay q (brings (0 ∷ []) one) t day)
+  pub answer : (one : ℕ) (choose : Choose) (q b : List ℕ) (room words : ℕ)
+      → withWorkspace words (answerBy choose q (brings [] one) b room) ≡ withWorkspace words (answerBy choose q (brings (0 ∷ []) one) b room)
+  pub several : (one : ℕ) (q : List ℕ) (number : ℕ) (b : List ℕ) (room words : ℕ)
+      → withWorkspace words (severalOutcome q number (brings [] one) b room) ≡ withWorkspace words (severalOutcome q number (brings (0 ∷ []) one) b room)
+  pub show : (one : ℕ) (w : When) (q : List ℕ) (room room′ words : ℕ)
+      → withWorkspace words (showWhen w q (brings [] one) room room′) ≡ withWorkspace words (showWhen w q (brings (0 ∷ []) one) room room′)
+  pub part : (one : ℕ) (w : When) (q b : List ℕ) (room room′ words : ℕ)
+      → withWorkspace words (partWhen w q (brings [] one) b room room′) ≡ withWorkspace words (partWhen w q (brings (0 ∷ []) one) b room room′)
   -- "the writer still writes 00": so the content 0 is written. The empty file is not among those that have a content, nothing is written as it, and no words
   -- are no content
   pub written : (room : ℕ) → catalogueWritten (0 ∷ []) room ≡ fit room (0 ∷ [])
@@ -619,7 +691,7 @@ pub record EmptyCatalogues : Type 0 where
   -- "a book for it has zero bytes": that one is accepted and no other, any byte is 9, and that one is made from every record
   pub book : (b bs : List ℕ) → Book (0 ∷ []) b bs ↔ ((b ≡ []) × (bs ≡ []))
   pub any-byte : (b : List ℕ) → 0 < length b → length b ≤ bookMost → readBook (0 ∷ []) b ≡ rejected 9 4
-  pub made : (rs : List ℕ) → bookOf (0 ∷ []) rs ≡ []
+  pub made : (one : ℕ) (rs : List ℕ) → bookOf (offers (0 ∷ []) one) rs ≡ []
 
 -- ---- Records that were stored before their links had kinds, or even an order. "A converter sorts the files already stored, read by the old rules: the sorted
 -- record has the same links and the same sheets."
@@ -669,7 +741,8 @@ pub record Sorting : Type 1 where
 -- ---- Demand 3. "For every accepted question and catalogue and every accepted record: if covered, and the extract lists made from the record
 -- fit in a book, answering from that book alone equals, byte for byte, searching the record, refusals included, alike in number and detail. If
 -- uncovered, the two shown records are accepted, the second lacks just one link of the first, every extract's lists are byte for byte equal on
--- both, and the question's sheets differ."
+-- both, and the question's sheets differ." With a set beside the catalogue: "a client with a mixed book is to get the bytes that a two-way search of the record
+-- gives, and an uncovered quote still comes with its two records, each sheet made under its own rule."
 
 -- i is the lowest link of the question that isn't matched
 pub record LowestUnmatched (qs : List ℕ) (IsMatched : Edge → Type 0) (i : ℕ) : Type 0 where
@@ -678,7 +751,7 @@ pub record LowestUnmatched (qs : List ℕ) (IsMatched : Edge → Type 0) (i : �
   pub lower : (e : ℕ) → e < i → IsMatched (linkOf qs e)
 
 -- what is shown of a question that the extracts in a set leave uncovered
-pub record Showing (set : ℕ) (qs cs : List ℕ) : Type 0 where
+pub record Showing (set : ℕ) (qs : List ℕ) (cs : Offered) : Type 0 where
   -- "the two shown records are accepted"
   pub first-accepted : Record (recordBytes (firstOf qs)) (firstOf qs)
   pub second-accepted : Record (recordBytes (secondIn set qs cs)) (secondIn set qs cs)
@@ -689,40 +762,43 @@ pub record Showing (set : ℕ) (qs cs : List ℕ) : Type 0 where
   pub lacks : graphOf (secondIn set qs cs) ≡ without (linkOf qs (lackingIn set qs cs)) (graphOf (firstOf qs))
   pub in-first : In (linkOf qs (lackingIn set qs cs)) (graphOf (firstOf qs) .edges)
   pub not-in-second : In (linkOf qs (lackingIn set qs cs)) (graphOf (secondIn set qs cs) .edges) → ⊥
-  -- "every extract's lists are byte for byte equal on both", of those in the set; so are the books, where all are in it
+  -- "every extract's lists are byte for byte equal on both", of those in the set, "each sheet made under its own rule"; so are the books, where all are in it
   pub equal : (a : ℕ) → a < length (viewPatterns cs) → T (bit set a) → extractSheetOf (extractOf cs a) (firstOf qs) ≡ extractSheetOf (extractOf cs a) (secondIn set qs cs)
   pub equal-books : ((a : ℕ) → a < length (viewPatterns cs) → T (bit set a)) → bookOf cs (firstOf qs) ≡ bookOf cs (secondIn set qs cs)
-  -- "the question's sheets differ"
+  -- "the question's sheets differ", which are two-way
   pub differ : sheetOf (patternOf qs) (firstOf qs) ≡ sheetOf (patternOf qs) (secondIn set qs cs) → ⊥
 
 pub record Demand3 : Type 0 where
   -- "for every accepted question and catalogue and every accepted record: if covered" by the extracts in a set, whichever, "and the extract
-  -- lists made from the record fit in a book, answering from that book alone" by that set "equals searching the record", "without" an index "or
-  -- with the record's own": the same answer, for all lengths of output and workspace lent to both
-  pub covered-by : (way : Way) (q c r qs cs rs : List ℕ) → Question q qs → Catalogue c cs → Record r rs → (set : ℕ) → Covers set qs cs → length (bookOf cs rs) ≤ bookMost
+  -- lists made from the record fit in a book", each by its extract's own rule, "answering from that book alone" by that set "equals searching the record", which
+  -- is two-way, "without" an index "or with the record's own": the same answer, for all lengths of output and workspace lent to both
+  pub covered-by : (way : Way) (q : List ℕ) (c : Brought) (r qs : List ℕ) (cs : Offered) (rs : List ℕ) → Question q qs → Catalogue c cs → Record r rs → (set : ℕ)
+      → Covers set qs cs → length (bookOf cs rs) ≤ bookMost
       → (room words : ℕ) → withWorkspace words (answerFrom q c set (bookOf cs rs) room) ≡ withWorkspace words (searchBy way q r rs room)
   -- and by no other set: 11 is given exactly to one that leaves a link unmatched, with the lowest such link
-  pub refused-by : (q c b qs cs bs : List ℕ) → Question q qs → Catalogue c cs → Book cs b bs → (set room words d : ℕ)
+  pub refused-by : (q : List ℕ) (c : Brought) (b qs : List ℕ) (cs : Offered) (bs : List ℕ) → Question q qs → Catalogue c cs → Book (cs .content) b bs → (set room words d : ℕ)
       → (withWorkspace words (answerFrom q c set b room) ≡ refuse 11 d) ↔ ((workspace ≤ words) × Leaves set qs cs × (d ≡ lackingIn set qs cs))
-  pub lowest-by : (q c qs cs : List ℕ) → Question q qs → Catalogue c cs → (set : ℕ) → Leaves set qs cs
+  pub lowest-by : (q : List ℕ) (c : Brought) (qs : List ℕ) (cs : Offered) → Question q qs → Catalogue c cs → (set : ℕ) → Leaves set qs cs
       → LowestUnmatched qs (MatchedIn (patternOf qs) (viewPatterns cs) set) (lackingIn set qs cs)
   -- the same by the chosen set, which answers where the client names none
-  pub covered : (way : Way) (q c r qs cs rs : List ℕ) → Question q qs → Catalogue c cs → Record r rs → Covered qs cs → length (bookOf cs rs) ≤ bookMost
+  pub covered : (way : Way) (q : List ℕ) (c : Brought) (r qs : List ℕ) (cs : Offered) (rs : List ℕ) → Question q qs → Catalogue c cs → Record r rs → Covered qs cs
+      → length (bookOf cs rs) ≤ bookMost
       → (room words : ℕ) → withWorkspace words (answerOutcome q c (bookOf cs rs) room) ≡ withWorkspace words (searchBy way q r rs room)
   -- that book is an accepted one, whose sheets are the extracts' lists
-  pub fits : (c r cs rs : List ℕ) → Catalogue c cs → Record r rs → length (bookOf cs rs) ≤ bookMost
-      → (bs : List ℕ) × Book cs (bookOf cs rs) bs × (sheetsIn (edgeCounts cs) bs ≡ viewSheets cs (graphOf rs))
+  pub fits : (c : Brought) (r : List ℕ) (cs : Offered) (rs : List ℕ) → Catalogue c cs → Record r rs → length (bookOf cs rs) ≤ bookMost
+      → (bs : List ℕ) × Book (cs .content) (bookOf cs rs) bs × (sheetsIn (edgeCounts (cs .content)) bs ≡ viewSheets cs (graphOf rs))
   -- "if uncovered": showing gives these two records, or 12, or 14
-  pub shows : (w : When) (q c qs cs : List ℕ) → Question q qs → Catalogue c cs → Timely cs w → Leaves (usableWhen w cs) qs cs → (room room′ words : ℕ)
+  pub shows : (w : When) (q : List ℕ) (c : Brought) (qs : List ℕ) (cs : Offered) → Question q qs → Catalogue c cs → Timely cs w → Leaves (usableWhen w cs) qs cs → (room room′ words : ℕ)
       → withWorkspace words (showWhen w q c room room′) ≡ withWorkspace words (fitBoth room room′ (recordBytes (firstOf qs)) (recordBytes (secondIn (usableWhen w cs) qs cs)))
-  pub uncovered : (q c qs cs : List ℕ) → Question q qs → Catalogue c cs → (set : ℕ) → Leaves set qs cs → Showing set qs cs
+  pub uncovered : (q : List ℕ) (c : Brought) (qs : List ℕ) (cs : Offered) → Question q qs → Catalogue c cs → (set : ℕ) → Leaves set qs cs → Showing set qs cs
   -- "its lowest unmatched link", which the second record lacks
-  pub lowest : (q c qs cs : List ℕ) → Question q qs → Catalogue c cs → Uncovered qs cs → LowestUnmatched qs (Matched (patternOf qs) (viewPatterns cs)) (lacking qs cs)
+  pub lowest : (q : List ℕ) (c : Brought) (qs : List ℕ) (cs : Offered) → Question q qs → Catalogue c cs → Uncovered qs cs
+      → LowestUnmatched qs (Matched (patternOf qs) (viewPatterns cs)) (lacking qs cs)
   -- 13, "a showing was wanted for a covered question", exactly then
-  pub shows-covered : (w : When) (q c qs cs : List ℕ) → Question q qs → Catalogue c cs → Timely cs w → (room room′ words d : ℕ)
+  pub shows-covered : (w : When) (q : List ℕ) (c : Brought) (qs : List ℕ) (cs : Offered) → Question q qs → Catalogue c cs → Timely cs w → (room room′ words d : ℕ)
       → (withWorkspace words (showWhen w q c room room′) ≡ refuse 13 d) ↔ ((workspace ≤ words) × Covers (usableWhen w cs) qs cs × (d ≡ 0))
   -- 11, "an answer was wanted and the question isn't covered", exactly then, with "the lowest unmatched link": where the client names no set
-  pub refused : (q c b qs cs bs : List ℕ) → Question q qs → Catalogue c cs → Book cs b bs → (room words d : ℕ)
+  pub refused : (q : List ℕ) (c : Brought) (b qs : List ℕ) (cs : Offered) (bs : List ℕ) → Question q qs → Catalogue c cs → Book (cs .content) b bs → (room words d : ℕ)
       → (withWorkspace words (answerOutcome q c b room) ≡ refuse 11 d) ↔ ((workspace ≤ words) × Uncovered qs cs × (d ≡ lacking qs cs))
 
 -- ---- what else holds of answers
@@ -754,36 +830,38 @@ pub record GreatestChoice (Q : Pattern) (Candidates K : Edge → Pair → Type 0
   pub greatest : (L : Edge → Pair → Type 0) → Chooses Q Candidates L → SupportsItself Q L → (e : Edge) (f : Pair) → L e f → K e f
 
 -- the answer lists, for each link, what the greatest choice keeps; "if any link keeps none", nothing is found
-pub record Joins (set : ℕ) (qs cs bs : List ℕ) : Type 1 where
+pub record Joins (set : ℕ) (qs : List ℕ) (cs : Offered) (bs : List ℕ) : Type 1 where
   pub keeps : Edge → Pair → Type 0
-  pub is : GreatestChoice (patternOf qs) (Candidate (patternOf qs) (viewPatterns cs) (sheetsIn (edgeCounts cs) bs) set) keeps
+  pub is : GreatestChoice (patternOf qs) (Candidate (patternOf qs) (viewPatterns cs) (sheetsIn (edgeCounts (cs .content)) bs) set) keeps
   pub lists : (i : ℕ) → i < length (patternOf qs .edges) → (f : Pair) → f .1 < 4096
       → In (code (f .0) (f .1)) (getD (answerOf set qs cs bs) i []) ↔ (((e : Edge) → In e (patternOf qs .edges) → (h : Pair) × keeps e h) × keeps (linkOf qs i) f)
 
 pub record Answering : Type 1 where
   -- "the answer is the greatest choice ..", from any book, also one "that belongs to no record"
-  pub joins : (set : ℕ) (qs cs bs : List ℕ) → Joins set qs cs bs
-  -- "two accepted books that agree on the chosen sheets give the same answer": on those of the set that answers, where it covers the question
-  pub same : (choose : Choose) (q c qs cs b b′ bs bs′ : List ℕ) → Question q qs → Catalogue c cs → Book cs b bs → Book cs b′ bs′
+  pub joins : (set : ℕ) (qs : List ℕ) (cs : Offered) (bs : List ℕ) → Joins set qs cs bs
+  -- "two accepted books that agree on the chosen sheets give the same answer": on those of the set that answers, where it covers the question. Whatever rule the
+  -- sheets were made by: what else is promised of a book is said of one that was made with the same set
+  pub same : (choose : Choose) (q : List ℕ) (c : Brought) (qs : List ℕ) (cs : Offered) (b b′ bs bs′ : List ℕ) → Question q qs → Catalogue c cs → Book (cs .content) b bs
+      → Book (cs .content) b′ bs′
       → (Covers (choose (quotedBy qs cs)) qs cs → (a : ℕ) → a < length (viewPatterns cs) → T (bit (choose (quotedBy qs cs)) a)
-      → getD (sheetsIn (edgeCounts cs) bs) a [] ≡ getD (sheetsIn (edgeCounts cs) bs′) a [])
+      → getD (sheetsIn (edgeCounts (cs .content)) bs) a [] ≡ getD (sheetsIn (edgeCounts (cs .content)) bs′) a [])
       → (room : ℕ) → answerBy choose q c b room ≡ answerBy choose q c b′ room
   -- the set that answers where the client names none: the chosen one, or all extracts for an uncovered question
-  pub chooses : (qs cs : List ℕ) → Covered qs cs → usedBy (quotedBy qs cs) ≡ chosenOf qs cs
-  pub chooses-all : (qs cs : List ℕ) → Uncovered qs cs → usedBy (quotedBy qs cs) ≡ everyView
+  pub chooses : (qs : List ℕ) (cs : Offered) → Covered qs cs → usedBy (quotedBy qs cs) ≡ chosenOf qs cs
+  pub chooses-all : (qs : List ℕ) (cs : Offered) → Uncovered qs cs → usedBy (quotedBy qs cs) ≡ everyView
   -- of a set that the client names, "bits that name no extract are ignored"
-  pub ignores : (c cs : List ℕ) → Catalogue c cs → (set set′ : ℕ) → ((a : ℕ) → a < length (viewPatterns cs) → bit set a ≡ bit set′ a) → (q b : List ℕ) (room : ℕ)
+  pub ignores : (c : Brought) (cs : Offered) → Catalogue c cs → (set set′ : ℕ) → ((a : ℕ) → a < length (viewPatterns cs) → bit set a ≡ bit set′ a) → (q b : List ℕ) (room : ℕ)
       → answerFrom q c set b room ≡ answerFrom q c set′ b room
   -- an answer, also from a book of no record, is read back as its content, and is as long as such a sheet
-  pub back : (choose : Choose) (q c b qs cs bs out : List ℕ) → Question q qs → Catalogue c cs → Book cs b bs → (room : ℕ)
+  pub back : (choose : Choose) (q : List ℕ) (c : Brought) (b qs : List ℕ) (cs : Offered) (bs out : List ℕ) → Question q qs → Catalogue c cs → Book (cs .content) b bs → (room : ℕ)
       → answerBy choose q c b room ≡ give [] (out ∷ []) → Sheet qs out (sheetFields (answerOf (choose (quotedBy qs cs)) qs cs bs))
-  pub answer-length : (q qs cs b bs : List ℕ) → Question q qs → Book cs b bs → (set : ℕ)
+  pub answer-length : (q qs : List ℕ) (cs : Offered) (b bs : List ℕ) → Question q qs → Book (cs .content) b bs → (set : ℕ)
       → length (sheetBytes (answerOf set qs cs bs)) ≡ sheetLength (edgesOf qs) (pairCount (answerOf set qs cs bs))
   -- for a question that the extracts in a set leave uncovered no function whatsoever of their lists gives the question's sheet on every record; for an
   -- uncovered one no function of all extracts' lists does
-  pub no-other-way-in : (q c qs cs : List ℕ) → Question q qs → Catalogue c cs → (set : ℕ) → Leaves set qs cs → (F : List (List (List ℕ)) → List ℕ)
+  pub no-other-way-in : (q : List ℕ) (c : Brought) (qs : List ℕ) (cs : Offered) → Question q qs → Catalogue c cs → (set : ℕ) → Leaves set qs cs → (F : List (List (List ℕ)) → List ℕ)
       → ((r rs : List ℕ) → Record r rs → F (listsIn set cs (graphOf rs)) ≡ sheetOf (patternOf qs) rs) → ⊥
-  pub no-other-way : (q c qs cs : List ℕ) → Question q qs → Catalogue c cs → Uncovered qs cs → (F : List (List (List ℕ)) → List ℕ)
+  pub no-other-way : (q : List ℕ) (c : Brought) (qs : List ℕ) (cs : Offered) → Question q qs → Catalogue c cs → Uncovered qs cs → (F : List (List (List ℕ)) → List ℕ)
       → ((r rs : List ℕ) → Record r rs → F (viewSheets cs (graphOf rs)) ≡ sheetOf (patternOf qs) rs) → ⊥
 
 -- ---- the join by steps. "The links leaving an item are settled together, after those of the items it leads to, and items that lead to each other, directly or
@@ -862,17 +940,17 @@ abbrev pub choiceFile : (Edge → Bool) → List ℕ → List ℕ
 choiceFile takes qs = patternBytes (partOf takes (patternOf qs))
 
 -- the part: the links that some extract in a set matches, which is that of the extracts that may be used
-abbrev pub matchedLink : ℕ → List ℕ → List ℕ → Edge → Bool
+abbrev pub matchedLink : ℕ → List ℕ → Offered → Edge → Bool
 matchedLink set qs cs = matched (patternOf qs) (viewsInSet set (viewPatterns cs))
 
-abbrev pub partOfQuestion : ℕ → List ℕ → List ℕ → List ℕ
+abbrev pub partOfQuestion : ℕ → List ℕ → Offered → List ℕ
 partOfQuestion set qs cs = choiceOf (matchedLink set qs cs) qs
 
-abbrev pub partFile : ℕ → List ℕ → List ℕ → List ℕ
+abbrev pub partFile : ℕ → List ℕ → Offered → List ℕ
 partFile set qs cs = choiceFile (matchedLink set qs cs) qs
 
 -- its answer, "from the book by the part's own quote"
-abbrev pub partAnswer : ℕ → List ℕ → List ℕ → List ℕ → List ℕ
+abbrev pub partAnswer : ℕ → List ℕ → Offered → List ℕ → List ℕ
 partAnswer set qs cs bs = ownAnswerIn set cs bs (partOfQuestion set qs cs)
 
 -- link i of a choice is link v of the question, which is taken: as many of those before it are
@@ -897,10 +975,10 @@ pub record SameLink (takes : Edge → Bool) (qs : List ℕ) (e f : Edge) : Type 
   pub to-kind : itemKind (choiceOf takes qs) (e .to) ≡ itemKind qs (f .to)
 
 -- some link of the question is matched by an extract in a set, or none is
-abbrev pub SomeMatched : ℕ → List ℕ → List ℕ → Type 0
+abbrev pub SomeMatched : ℕ → List ℕ → Offered → Type 0
 SomeMatched set qs cs = (v : ℕ) × (v < edgesOf qs) × Matched (patternOf qs) (viewsInSet set (viewPatterns cs)) (linkOf qs v)
 
-abbrev pub NoneMatched : ℕ → List ℕ → List ℕ → Type 0
+abbrev pub NoneMatched : ℕ → List ℕ → Offered → Type 0
 NoneMatched set qs cs = (v : ℕ) → v < edgesOf qs → Matched (patternOf qs) (viewsInSet set (viewPatterns cs)) (linkOf qs v) → ⊥
 
 -- 12, "the bytes needed, of the first output that doesn't fit": the answer alone is also at most 65,536 bytes long
@@ -911,75 +989,83 @@ pub record Parts : Type 0 where
   -- a choice of links is an accepted pattern; its links are those taken, in their order, each once, with its kind and its ends' kinds
   pub is-pattern : (q qs : List ℕ) → Question q qs → (takes : Edge → Bool) (v : ℕ) → v < edgesOf qs → T (takes (linkOf qs v)) → Question (choiceFile takes qs) (choiceOf takes qs)
   pub comes-from : (q qs : List ℕ) → Question q qs → (takes : Edge → Bool) (i : ℕ) → i < edgesOf (choiceOf takes qs) → (v : ℕ) × LinkFrom takes qs i v
-  pub goes-to : (q qs : List ℕ) → Question q qs → (takes : Edge → Bool) (v : ℕ) → v < edgesOf qs → T (takes (linkOf qs v)) → (i : ℕ) × (i < edgesOf (choiceOf takes qs)) × LinkFrom takes qs i v
+  pub goes-to : (q qs : List ℕ) → Question q qs → (takes : Edge → Bool) (v : ℕ) → v < edgesOf qs → T (takes (linkOf qs v))
+      → (i : ℕ) × (i < edgesOf (choiceOf takes qs)) × LinkFrom takes qs i v
   pub is-link : (q qs : List ℕ) → Question q qs → (takes : Edge → Bool) (i v : ℕ) → LinkFrom takes qs i v → SameLink takes qs (linkOf (choiceOf takes qs) i) (linkOf qs v)
   -- "with their items renumbered upward"
   pub upward : (takes : Edge → Bool) (qs : List ℕ) (e : Edge) → In e (patternOf qs .edges) → T (takes e) → (u w : ℕ) → (e .from ≡ u) ⊎ (e .to ≡ u) → u < w
       → itemNumber takes qs u < itemNumber takes qs w
   -- the links of the part are the matched ones: the test says exactly that
-  pub takes-matched : (set : ℕ) (qs cs : List ℕ) (e : Edge) → T (matchedLink set qs cs e) ↔ Matched (patternOf qs) (viewsInSet set (viewPatterns cs)) e
+  pub takes-matched : (set : ℕ) (qs : List ℕ) (cs : Offered) (e : Edge) → T (matchedLink set qs cs e) ↔ Matched (patternOf qs) (viewsInSet set (viewPatterns cs)) e
   -- it is covered, and "the largest, meaning that every answerable choice of the question's links lies inside it": every choice that is covered, and
   -- every choice whose sheet any function whatsoever of the extracts' lists gives on every record
-  pub covered : (set : ℕ) (q c qs cs : List ℕ) → Question q qs → Catalogue c cs → Covers set (partOfQuestion set qs cs) cs
-  pub largest : (set : ℕ) (q c qs cs : List ℕ) → Question q qs → Catalogue c cs → (takes : Edge → Bool) → Covers set (choiceOf takes qs) cs
+  pub covered : (set : ℕ) (q : List ℕ) (c : Brought) (qs : List ℕ) (cs : Offered) → Question q qs → Catalogue c cs → Covers set (partOfQuestion set qs cs) cs
+  pub largest : (set : ℕ) (q : List ℕ) (c : Brought) (qs : List ℕ) (cs : Offered) → Question q qs → Catalogue c cs → (takes : Edge → Bool) → Covers set (choiceOf takes qs) cs
       → (v : ℕ) → v < edgesOf qs → T (takes (linkOf qs v)) → Matched (patternOf qs) (viewsInSet set (viewPatterns cs)) (linkOf qs v)
-  pub no-other-way : (set : ℕ) (q c qs cs : List ℕ) → Question q qs → Catalogue c cs → (takes : Edge → Bool) → (F : List (List (List ℕ)) → List ℕ)
+  pub no-other-way : (set : ℕ) (q : List ℕ) (c : Brought) (qs : List ℕ) (cs : Offered) → Question q qs → Catalogue c cs → (takes : Edge → Bool) → (F : List (List (List ℕ)) → List ℕ)
       → ((r rs : List ℕ) → Record r rs → F (listsIn set cs (graphOf rs)) ≡ sheetOf (patternOf (choiceOf takes qs)) rs)
       → (v : ℕ) → v < edgesOf qs → T (takes (linkOf qs v)) → Matched (patternOf qs) (viewsInSet set (viewPatterns cs)) (linkOf qs v)
   -- its masks, of extracts in the set, are the question's, of the links that they came from
-  pub masks : (set : ℕ) (q c qs cs : List ℕ) → Question q qs → Catalogue c cs → (i v a : ℕ) → LinkFrom (matchedLink set qs cs) qs i v → a < 16 → T (bit set a)
+  pub masks : (set : ℕ) (q : List ℕ) (c : Brought) (qs : List ℕ) (cs : Offered) → Question q qs → Catalogue c cs → (i v a : ℕ) → LinkFrom (matchedLink set qs cs) qs i v
+      → a < 16 → T (bit set a)
       → getD (mapping (patternOf (partOfQuestion set qs cs)) (viewPatterns cs)) (16 * i + a) 0 ≡ getD (mapping (patternOf qs) (viewPatterns cs)) (16 * v + a) 0
   -- the call gives the part and its answer, or 12, or 14, where some link is matched; its answer is the one that the part gets by itself, by the set that its
   -- own quote chooses, and, by all extracts, where the client names no set
-  pub gives : (w : When) (q c b qs cs bs : List ℕ) → Question q qs → Catalogue c cs → Timely cs w → Book cs b bs → SomeMatched (usableWhen w cs) qs cs → (room room′ words : ℕ)
+  pub gives : (w : When) (q : List ℕ) (c : Brought) (b qs : List ℕ) (cs : Offered) (bs : List ℕ) → Question q qs → Catalogue c cs → Timely cs w → Book (cs .content) b bs
+      → SomeMatched (usableWhen w cs) qs cs → (room room′ words : ℕ)
       → Fitted words (OverPart room room′ (partFile (usableWhen w cs) qs cs) (partAnswer (usableWhen w cs) qs cs bs)) (partFile (usableWhen w cs) qs cs ∷ partAnswer (usableWhen w cs) qs cs bs ∷ [])
       (withWorkspace words (partWhen w q c b room room′))
-  pub answers : (set : ℕ) (q c b qs cs bs : List ℕ) → Question q qs → Catalogue c cs → Book cs b bs → SomeMatched set qs cs → (room : ℕ)
+  pub answers : (set : ℕ) (q : List ℕ) (c : Brought) (b qs : List ℕ) (cs : Offered) (bs : List ℕ) → Question q qs → Catalogue c cs → Book (cs .content) b bs
+      → SomeMatched set qs cs → (room : ℕ)
       → answerFrom (partFile set qs cs) c (chosenIn set (partOfQuestion set qs cs) cs) b room ≡ fitFile room (partAnswer set qs cs bs)
-  pub answers-by-all : (q c b qs cs bs : List ℕ) → Question q qs → Catalogue c cs → Book cs b bs → SomeMatched everyView qs cs → (room : ℕ)
+  pub answers-by-all : (q : List ℕ) (c : Brought) (b qs : List ℕ) (cs : Offered) (bs : List ℕ) → Question q qs → Catalogue c cs → Book (cs .content) b bs
+      → SomeMatched everyView qs cs → (room : ℕ)
       → answerOutcome (partFile everyView qs cs) c b room ≡ fitFile room (partAnswer everyView qs cs bs)
   -- "in this call 11 is given only when no link is matched", and then always
-  pub refused : (w : When) (q c b qs cs bs : List ℕ) → Question q qs → Catalogue c cs → Timely cs w → Book cs b bs → (room room′ words d : ℕ)
+  pub refused : (w : When) (q : List ℕ) (c : Brought) (b qs : List ℕ) (cs : Offered) (bs : List ℕ) → Question q qs → Catalogue c cs → Timely cs w
+      → Book (cs .content) b bs → (room room′ words d : ℕ)
       → (withWorkspace words (partWhen w q c b room room′) ≡ refuse 11 d) ↔ ((workspace ≤ words) × NoneMatched (usableWhen w cs) qs cs × (d ≡ 0))
   -- nothing is given of other files
-  pub only : (w : When) (q c b : List ℕ) (room room′ words : ℕ) → Full (withWorkspace words (partWhen w q c b room room′))
-      → (qs : List ℕ) × (cs : List ℕ) × (bs : List ℕ) × Question q qs × Catalogue c cs × Timely cs w × Book cs b bs × SomeMatched (usableWhen w cs) qs cs
+  pub only : (w : When) (q : List ℕ) (c : Brought) (b : List ℕ) (room room′ words : ℕ) → Full (withWorkspace words (partWhen w q c b room room′))
+      → (qs : List ℕ) × (cs : Offered) × (bs : List ℕ) × Question q qs × Catalogue c cs × Timely cs w × Book (cs .content) b bs × SomeMatched (usableWhen w cs) qs cs
   -- "for a covered question the part is the whole", byte for byte, and its answer that of the question
-  pub whole : (set : ℕ) (q c qs cs : List ℕ) → Below 256 q → Question q qs → Catalogue c cs → Covers set qs cs → partFile set qs cs ≡ q
-  pub whole-answer : (set : ℕ) (q c b qs cs bs : List ℕ) → Question q qs → Catalogue c cs → Book cs b bs → Covers set qs cs → (room : ℕ)
+  pub whole : (set : ℕ) (q : List ℕ) (c : Brought) (qs : List ℕ) (cs : Offered) → Below 256 q → Question q qs → Catalogue c cs → Covers set qs cs → partFile set qs cs ≡ q
+  pub whole-answer : (set : ℕ) (q : List ℕ) (c : Brought) (b qs : List ℕ) (cs : Offered) (bs : List ℕ) → Question q qs → Catalogue c cs → Book (cs .content) b bs
+      → Covers set qs cs → (room : ℕ)
       → answerFrom q c (chosenIn set qs cs) b room ≡ fitFile room (partAnswer set qs cs bs)
   -- "where the full question has matches in the record that the book was made from, each of the part's links lists at least those": where it has
   -- none there is nothing to list
-  pub lists-more : (set : ℕ) (q c qs cs : List ℕ) → Question q qs → Catalogue c cs → (rs : List ℕ) (i v : ℕ) → LinkFrom (matchedLink set qs cs) qs i v
+  pub lists-more : (set : ℕ) (q : List ℕ) (c : Brought) (qs : List ℕ) (cs : Offered) → Question q qs → Catalogue c cs → (rs : List ℕ) (i v : ℕ) → LinkFrom (matchedLink set qs cs) qs i v
       → (x : ℕ) → In x (getD (matchSets (patternOf qs) (graphOf rs)) v []) → In x (getD (matchSets (patternOf (partOfQuestion set qs cs)) (graphOf rs)) i [])
   -- demand 3 of it: its answer from the book of a record is what searching the record for it gives, in either way
-  pub equals : (way : Way) (set : ℕ) (q c r qs cs rs : List ℕ) → Question q qs → Catalogue c cs → Record r rs → SomeMatched set qs cs → length (bookOf cs rs) ≤ bookMost → (room words : ℕ)
+  pub equals : (way : Way) (set : ℕ) (q : List ℕ) (c : Brought) (r qs : List ℕ) (cs : Offered) (rs : List ℕ) → Question q qs → Catalogue c cs → Record r rs
+      → SomeMatched set qs cs → length (bookOf cs rs) ≤ bookMost → (room words : ℕ)
       → withWorkspace words (answerFrom (partFile set qs cs) c (chosenIn set (partOfQuestion set qs cs) cs) (bookOf cs rs) room) ≡ withWorkspace words (searchBy way (partFile set qs cs) r rs room)
 
 -- ---- what holds of several questions in one call. Their contents stand in a list: a paper of them is taken apart by `QuestionFiles`
 -- (packed/specs/Calls.antt), which has the file and the content of each, in order.
 
 -- each is covered, or i is the first that isn't
-abbrev pub AllCovered : List (List ℕ) → List ℕ → Type 0
+abbrev pub AllCovered : List (List ℕ) → Offered → Type 0
 AllCovered contents cs = (i : ℕ) → i < length contents → Covered (getD contents i []) cs
 
-pub record FirstUncovered (contents : List (List ℕ)) (cs : List ℕ) (i : ℕ) : Type 0 where
+pub record FirstUncovered (contents : List (List ℕ)) (cs : Offered) (i : ℕ) : Type 0 where
   pub below : i < length contents
   pub uncovered : Uncovered (getD contents i []) cs
   pub before : (j : ℕ) → j < i → Covered (getD contents j []) cs
 
 -- what each gets by itself
-abbrev pub ownAnswers : List (List ℕ) → List ℕ → List ℕ → List (List ℕ)
+abbrev pub ownAnswers : List (List ℕ) → Offered → List ℕ → List (List ℕ)
 ownAnswers contents cs bs = map (ownAnswer cs bs) contents
 
 -- "the extracts chosen for at least one question": the extract a is one of them; the test for it; and how many of the extracts pass the test
-abbrev pub ChosenForOne : List (List ℕ) → List ℕ → ℕ → Type 0
+abbrev pub ChosenForOne : List (List ℕ) → Offered → ℕ → Type 0
 ChosenForOne contents cs a = (i : ℕ) × (i < length contents) × T (bit (chosenOf (getD contents i []) cs) a)
 
-abbrev pub isChosenForOne : List (List ℕ) → List ℕ → ℕ → Bool
+abbrev pub isChosenForOne : List (List ℕ) → Offered → ℕ → Bool
 isChosenForOne contents cs a = some (λ qs. bit (chosenOf qs cs) a) contents
 
-abbrev pub sheetsFor : List (List ℕ) → List ℕ → ℕ
+abbrev pub sheetsFor : List (List ℕ) → Offered → ℕ
 sheetsFor contents cs = rank (isChosenForOne contents cs) (length (viewPatterns cs))
 
 -- "12 if an answer is over 65,536 bytes or the sum over those lent, detail the sum"
@@ -992,80 +1078,91 @@ pub record Severals : Type 0 where
   pub accepts : (number : ℕ) (q ws : List ℕ) → Questions number q ws ↔ QuestionFiles number q ws
   -- "they are to be answered in one call from one book; the result says how many of its sheets they needed": where each is covered the call gives
   -- the answers, one after the other, and that number, or 12, or 14
-  pub gives : (number : ℕ) (q c b ws cs bs : List ℕ) → RightNumber number → (f : QuestionFiles number q ws) → Catalogue c cs → Book cs b bs → AllCovered (f .contents) cs → (room words : ℕ)
+  pub gives : (number : ℕ) (q : List ℕ) (c : Brought) (b ws : List ℕ) (cs : Offered) (bs : List ℕ) → RightNumber number → (f : QuestionFiles number q ws) → Catalogue c cs
+      → Book (cs .content) b bs → AllCovered (f .contents) cs → (room words : ℕ)
       → FittedBeside (sheetsFor (f .contents) cs ∷ []) words (OverSum room (ownAnswers (f .contents) cs bs)) (flatten (ownAnswers (f .contents) cs bs) ∷ [])
       (withWorkspace words (severalOutcome q number c b room))
   -- "each equal to what its question gets by itself"
-  pub answers : (number : ℕ) (q c b ws cs bs : List ℕ) (f : QuestionFiles number q ws) → Catalogue c cs → Book cs b bs → (i : ℕ) → i < number → Covered (getD (f .contents) i []) cs
+  pub answers : (number : ℕ) (q : List ℕ) (c : Brought) (b ws : List ℕ) (cs : Offered) (bs : List ℕ) (f : QuestionFiles number q ws) → Catalogue c cs
+      → Book (cs .content) b bs → (i : ℕ) → i < number → Covered (getD (f .contents) i []) cs
       → (room : ℕ) → answerOutcome (getD (f .files) i []) c b room ≡ fitFile room (getD (ownAnswers (f .contents) cs bs) i [])
   -- "namely those of the extracts chosen for at least one question": the test says exactly that
-  pub chosen : (contents : List (List ℕ)) (cs : List ℕ) (a : ℕ) → T (isChosenForOne contents cs a) ↔ ChosenForOne contents cs a
+  pub chosen : (contents : List (List ℕ)) (cs : Offered) (a : ℕ) → T (isChosenForOne contents cs a) ↔ ChosenForOne contents cs a
   -- no other sheet is needed: two accepted books that agree on these give the same
-  pub same : (number : ℕ) (q c b b′ ws cs bs bs′ : List ℕ) (f : QuestionFiles number q ws) → Catalogue c cs → Book cs b bs → Book cs b′ bs′
+  pub same : (number : ℕ) (q : List ℕ) (c : Brought) (b b′ ws : List ℕ) (cs : Offered) (bs bs′ : List ℕ) (f : QuestionFiles number q ws) → Catalogue c cs
+      → Book (cs .content) b bs → Book (cs .content) b′ bs′
       → (AllCovered (f .contents) cs → (a : ℕ) → a < length (viewPatterns cs) → ChosenForOne (f .contents) cs a
-      → getD (sheetsIn (edgeCounts cs) bs) a [] ≡ getD (sheetsIn (edgeCounts cs) bs′) a [])
+      → getD (sheetsIn (edgeCounts (cs .content)) bs) a [] ≡ getD (sheetsIn (edgeCounts (cs .content)) bs′) a [])
       → (room : ℕ) → severalOutcome q number c b room ≡ severalOutcome q number c b′ room
   -- demand 3 of each: its answer from the book of a record is what searching the record for it gives, in either way; and so the output has the
   -- sheets of the questions on the record, one after the other
-  pub equals : (way : Way) (number : ℕ) (q c r ws cs rs : List ℕ) (f : QuestionFiles number q ws) → Catalogue c cs → Record r rs → (i : ℕ) → i < number → Covered (getD (f .contents) i []) cs
+  pub equals : (way : Way) (number : ℕ) (q : List ℕ) (c : Brought) (r ws : List ℕ) (cs : Offered) (rs : List ℕ) (f : QuestionFiles number q ws) → Catalogue c cs
+      → Record r rs → (i : ℕ) → i < number → Covered (getD (f .contents) i []) cs
       → length (bookOf cs rs) ≤ bookMost → (room words : ℕ)
       → withWorkspace words (answerOutcome (getD (f .files) i []) c (bookOf cs rs) room) ≡ withWorkspace words (searchBy way (getD (f .files) i []) r rs room)
-  pub sheets : (number : ℕ) (q c r ws cs rs bs : List ℕ) (f : QuestionFiles number q ws) → Catalogue c cs → Record r rs → AllCovered (f .contents) cs → Book cs (bookOf cs rs) bs
+  pub sheets : (number : ℕ) (q : List ℕ) (c : Brought) (r ws : List ℕ) (cs : Offered) (rs bs : List ℕ) (f : QuestionFiles number q ws) → Catalogue c cs → Record r rs
+      → AllCovered (f .contents) cs → Book (cs .content) (bookOf cs rs) bs
       → ownAnswers (f .contents) cs bs ≡ map (λ qs. sheetOf (patternOf qs) rs) (f .contents)
   -- 17, "when no question or more than eight are sent, after 14, detail the number sent", exactly then
-  pub wrong-number : (q : List ℕ) (number : ℕ) (c b : List ℕ) (room words d : ℕ)
+  pub wrong-number : (q : List ℕ) (number : ℕ) (c : Brought) (b : List ℕ) (room words d : ℕ)
       → (withWorkspace words (severalOutcome q number c b room) ≡ refuse 17 d) ↔ ((workspace ≤ words) × WrongNumber number × (d ≡ number))
   -- 11, "for the first uncovered question", exactly then, with its lowest unmatched link
-  pub refused : (number : ℕ) (q c b ws cs bs : List ℕ) → RightNumber number → (f : QuestionFiles number q ws) → Catalogue c cs → Book cs b bs → (room words d : ℕ)
+  pub refused : (number : ℕ) (q : List ℕ) (c : Brought) (b ws : List ℕ) (cs : Offered) (bs : List ℕ) → RightNumber number → (f : QuestionFiles number q ws)
+      → Catalogue c cs → Book (cs .content) b bs → (room words d : ℕ)
       → (withWorkspace words (severalOutcome q number c b room) ≡ refuse 11 d)
       ↔ ((workspace ≤ words) × ((i : ℕ) × FirstUncovered (f .contents) cs i × (d ≡ lacking (getD (f .contents) i []) cs)))
   -- nothing is given of other files, nor of other numbers
-  pub only : (q : List ℕ) (number : ℕ) (c b : List ℕ) (room words : ℕ) → Full (withWorkspace words (severalOutcome q number c b room))
-      → RightNumber number × ((ws : List ℕ) × (cs : List ℕ) × (bs : List ℕ) × (f : QuestionFiles number q ws) × Catalogue c cs × Book cs b bs × AllCovered (f .contents) cs)
+  pub only : (q : List ℕ) (number : ℕ) (c : Brought) (b : List ℕ) (room words : ℕ) → Full (withWorkspace words (severalOutcome q number c b room))
+      → RightNumber number × ((ws : List ℕ) × (cs : Offered) × (bs : List ℕ) × (f : QuestionFiles number q ws) × Catalogue c cs × Book (cs .content) b bs × AllCovered (f .contents) cs)
 
 -- ---- what holds of the cheapest set
 
 -- one charge for each extract
-abbrev pub Charged : List ℕ → List ℕ → Type 0
+abbrev pub Charged : List ℕ → Offered → Type 0
 Charged charges cs = length charges ≡ length (viewPatterns cs)
 
 -- the sum of the charges of a set of extracts
-abbrev pub costOf : List ℕ → List ℕ → ℕ → ℕ
+abbrev pub costOf : List ℕ → Offered → ℕ → ℕ
 costOf charges cs set = cost charges set (length (viewPatterns cs))
 
 -- a set of extracts that may be used
-abbrev pub Among : ℕ → List ℕ → ℕ → Type 0
+abbrev pub Among : ℕ → Offered → ℕ → Type 0
 Among usable cs set = (a : ℕ) → T (bit set a) → (a < length (viewPatterns cs)) × T (bit usable a)
 
 -- "the covering set whose charges sum to the least", with the ties (specs/Cheapest.antt): it covers, and no set of extracts that may be used covers and is
 -- better
-pub record CheapestIn (usable : ℕ) (qs cs charges : List ℕ) (set : ℕ) : Type 0 where
+pub record CheapestIn (usable : ℕ) (qs : List ℕ) (cs : Offered) (charges : List ℕ) (set : ℕ) : Type 0 where
   pub among : Among usable cs set
   pub covers : Covers set qs cs
   pub least : (other : ℕ) → Among usable cs other → Covers other qs cs → Better charges (length (viewPatterns cs)) other set → ⊥
 
 pub record Cheapests : Type 0 where
   -- for a covered question the call gives that set, its sum, and beside them "the chosen set of the ordinary quote"
-  pub gives : (w : When) (q c qs cs charges : List ℕ) → Question q qs → Catalogue c cs → Timely cs w → Charged charges cs → Covers (usableWhen w cs) qs cs → (words : ℕ) → workspace ≤ words
+  pub gives : (w : When) (q : List ℕ) (c : Brought) (qs : List ℕ) (cs : Offered) (charges : List ℕ) → Question q qs → Catalogue c cs → Timely cs w → Charged charges cs
+      → Covers (usableWhen w cs) qs cs → (words : ℕ) → workspace ≤ words
       → (set : ℕ) × CheapestIn (usableWhen w cs) qs cs charges set
       × (withWorkspace words (cheapestWhen w q c charges) ≡ give (set ∷ costOf charges cs set ∷ chosenIn (usableWhen w cs) qs cs ∷ []) [])
   -- one set at most is so
-  pub one : (c qs cs charges : List ℕ) → Catalogue c cs → (usable a b : ℕ) → CheapestIn usable qs cs charges a → CheapestIn usable qs cs charges b → a ≡ b
+  pub one : (c : Brought) (qs : List ℕ) (cs : Offered) (charges : List ℕ) → Catalogue c cs → (usable a b : ℕ) → CheapestIn usable qs cs charges a
+      → CheapestIn usable qs cs charges b → a ≡ b
   -- "no covering set may cost less than the one returned", the chosen set among them
-  pub least : (usable : ℕ) (qs cs charges : List ℕ) (set other : ℕ) → CheapestIn usable qs cs charges set → Among usable cs other → Covers other qs cs
+  pub least : (usable : ℕ) (qs : List ℕ) (cs : Offered) (charges : List ℕ) (set other : ℕ) → CheapestIn usable qs cs charges set → Among usable cs other → Covers other qs cs
       → costOf charges cs set ≤ costOf charges cs other
-  pub chosen : (usable : ℕ) (qs cs charges : List ℕ) (set : ℕ) → CheapestIn usable qs cs charges set → Covers usable qs cs → costOf charges cs set ≤ costOf charges cs (chosenIn usable qs cs)
+  pub chosen : (usable : ℕ) (qs : List ℕ) (cs : Offered) (charges : List ℕ) (set : ℕ) → CheapestIn usable qs cs charges set → Covers usable qs cs
+      → costOf charges cs set ≤ costOf charges cs (chosenIn usable qs cs)
   -- 15, "when the number of charges differs from the number of extracts", of all, exactly then
-  pub wrong-charges : (w : When) (q c qs cs charges : List ℕ) → Question q qs → Catalogue c cs → Timely cs w → (words d : ℕ)
+  pub wrong-charges : (w : When) (q : List ℕ) (c : Brought) (qs : List ℕ) (cs : Offered) (charges : List ℕ) → Question q qs → Catalogue c cs → Timely cs w → (words d : ℕ)
       → (withWorkspace words (cheapestWhen w q c charges) ≡ refuse 15 d) ↔ ((workspace ≤ words) × (Charged charges cs → ⊥) × (d ≡ length charges))
   -- 11, for an uncovered question, exactly then
-  pub refused : (w : When) (q c qs cs charges : List ℕ) → Question q qs → Catalogue c cs → Timely cs w → (words d : ℕ)
+  pub refused : (w : When) (q : List ℕ) (c : Brought) (qs : List ℕ) (cs : Offered) (charges : List ℕ) → Question q qs → Catalogue c cs → Timely cs w → (words d : ℕ)
       → (withWorkspace words (cheapestWhen w q c charges) ≡ refuse 11 d) ↔ ((workspace ≤ words) × Charged charges cs × Leaves (usableWhen w cs) qs cs × (d ≡ lackingIn (usableWhen w cs) qs cs))
   -- demand 3 by that set: "for sheets truly made from one record, all covering sets are to give the same bytes", the cheapest included
-  pub answers : (way : Way) (usable : ℕ) (q c r qs cs rs charges : List ℕ) → Question q qs → Catalogue c cs → Record r rs → (set : ℕ) → CheapestIn usable qs cs charges set
+  pub answers : (way : Way) (usable : ℕ) (q : List ℕ) (c : Brought) (r qs : List ℕ) (cs : Offered) (rs charges : List ℕ) → Question q qs → Catalogue c cs → Record r rs
+      → (set : ℕ) → CheapestIn usable qs cs charges set
       → length (bookOf cs rs) ≤ bookMost → (room words : ℕ) → withWorkspace words (answerFrom q c set (bookOf cs rs) room) ≡ withWorkspace words (searchBy way q r rs room)
   -- nothing is given of other files
-  pub only : (w : When) (q c charges : List ℕ) (words : ℕ) → Full (withWorkspace words (cheapestWhen w q c charges)) → (qs : List ℕ) × (cs : List ℕ) × Question q qs × Catalogue c cs × Timely cs w
+  pub only : (w : When) (q : List ℕ) (c : Brought) (charges : List ℕ) (words : ℕ) → Full (withWorkspace words (cheapestWhen w q c charges))
+      → (qs : List ℕ) × (cs : Offered) × Question q qs × Catalogue c cs × Timely cs w
 
 -- ---- what holds of calls for a day alone. "A quote for a day uses only extracts in force, and `uncovered` then says that those in force don't suffice, with
 -- T-01 and T-08 read likewise": what holds both ways stands above, of quotes in demand 2, of showings in demand 3 and `no-other-way-in`, of the part and of the
@@ -1079,10 +1176,10 @@ pub record Copied (l : List Term) (t : Terms) : Type 0 where
 
 -- 18 is given exactly where the terms are wrong
 abbrev pub Refuses18 : Terms → List ℕ → Outcome → Type 0
-Refuses18 t cs a = (words d : ℕ) → (withWorkspace words a ≡ refuse 18 d) ↔ ((workspace ≤ words) × WrongTerms t (length (viewPatterns cs)) d)
+Refuses18 t cs a = (words d : ℕ) → (withWorkspace words a ≡ refuse 18 d) ↔ ((workspace ≤ words) × WrongTerms t (length (viewsOf cs)) d)
 
 -- the link e of the question is matched by a link of an extract in force
-pub record MatchedOn (t : Terms) (day : ℕ) (qs cs : List ℕ) (e : Edge) : Type 0 where
+pub record MatchedOn (t : Terms) (day : ℕ) (qs : List ℕ) (cs : Offered) (e : Edge) : Type 0 where
   pub extract : ℕ
   pub given : extract < length (viewPatterns cs)
   pub in-force : InForce t day extract
@@ -1091,60 +1188,71 @@ pub record MatchedOn (t : Terms) (day : ℕ) (qs cs : List ℕ) (e : Edge) : Typ
   pub lists : In (code (e .from) (e .to)) (getD (viewSheet (extractOf cs extract) (asGraph (patternOf qs))) link [])
 
 -- all extracts are in force
-abbrev pub AllInForce : Terms → ℕ → List ℕ → Type 0
+abbrev pub AllInForce : Terms → ℕ → Offered → Type 0
 AllInForce t day cs = (a : ℕ) → a < length (viewPatterns cs) → InForce t day a
 
 -- "the first day not before a given day on which the question is covered, or none if there is no such day up to 65,535"
-pub record FirstCovered (t : Terms) (day : ℕ) (qs cs : List ℕ) (d : ℕ) : Type 0 where
+pub record FirstCovered (t : Terms) (day : ℕ) (qs : List ℕ) (cs : Offered) (d : ℕ) : Type 0 where
   pub not-before : day ≤ d
   pub is-day : d ≤ 65535
   pub covered : Covers (forceOf t d cs) qs cs
   pub none-before : (e : ℕ) → day ≤ e → e < d → Leaves (forceOf t e cs) qs cs
 
-abbrev pub NeverCovered : Terms → ℕ → List ℕ → List ℕ → Type 0
+abbrev pub NeverCovered : Terms → ℕ → List ℕ → Offered → Type 0
 NeverCovered t day qs cs = (e : ℕ) → day ≤ e → e ≤ 65535 → Leaves (forceOf t e cs) qs cs
 
 pub record OnDays : Type 0 where
   -- what a client's list is handed on as
   pub spreads : (l : List Term) → Copied l (spreadOf l)
   -- "it refuses with 18 .. right after the catalogue is read", each call in these cases and no other; terms are right or wrong
-  pub quote-terms : (q c qs cs : List ℕ) → Question q qs → Catalogue c cs → (t : Terms) (day : ℕ) → Refuses18 t cs (quoteOn q c t day)
-  pub cheapest-terms : (q c qs cs charges : List ℕ) → Question q qs → Catalogue c cs → (t : Terms) (day : ℕ) → Refuses18 t cs (cheapestOn q c t day charges)
-  pub part-terms : (q c b qs cs : List ℕ) → Question q qs → Catalogue c cs → (t : Terms) (day room room′ : ℕ) → Refuses18 t cs (partOn q c t day b room room′)
-  pub show-terms : (q c qs cs : List ℕ) → Question q qs → Catalogue c cs → (t : Terms) (day room room′ : ℕ) → Refuses18 t cs (showOn q c t day room room′)
-  pub first-day-terms : (q c qs cs : List ℕ) → Question q qs → Catalogue c cs → (t : Terms) (day : ℕ) → Refuses18 t cs (firstDay q c t day)
+  pub quote-terms : (q : List ℕ) (c : Brought) (qs cs : List ℕ) → Question q qs → CataloguePaper (c .file) cs → (t : Terms) (day : ℕ) → Refuses18 t cs (quoteOn q c t day)
+  pub cheapest-terms : (q : List ℕ) (c : Brought) (qs cs charges : List ℕ) → Question q qs → CataloguePaper (c .file) cs → (t : Terms) (day : ℕ)
+      → Refuses18 t cs (cheapestOn q c t day charges)
+  pub part-terms : (q : List ℕ) (c : Brought) (b qs cs : List ℕ) → Question q qs → CataloguePaper (c .file) cs → (t : Terms) (day room room′ : ℕ)
+      → Refuses18 t cs (partOn q c t day b room room′)
+  pub show-terms : (q : List ℕ) (c : Brought) (qs cs : List ℕ) → Question q qs → CataloguePaper (c .file) cs → (t : Terms) (day room room′ : ℕ)
+      → Refuses18 t cs (showOn q c t day room room′)
+  pub first-day-terms : (q : List ℕ) (c : Brought) (qs cs : List ℕ) → Question q qs → CataloguePaper (c .file) cs → (t : Terms) (day : ℕ) → Refuses18 t cs (firstDay q c t day)
   pub right-or-wrong : (t : Terms) (k : ℕ) → RightTerms t k ⊎ ((d : ℕ) × WrongTerms t k d)
   pub not-both : (t : Terms) (k d : ℕ) → RightTerms t k → WrongTerms t k d → ⊥
   -- the set of the extracts in force has these and no others
-  pub in-force : (t : Terms) (day : ℕ) (cs : List ℕ) (a : ℕ) → T (bit (forceOf t day cs) a) ↔ ((a < length (viewPatterns cs)) × InForce t day a)
+  pub in-force : (t : Terms) (day : ℕ) (cs : Offered) (a : ℕ) → T (bit (forceOf t day cs) a) ↔ ((a < length (viewPatterns cs)) × InForce t day a)
   -- "a quote for a day uses only extracts in force": it says covered exactly if each link is matched by a link of one of these
-  pub covers : (q c qs cs : List ℕ) → Question q qs → Catalogue c cs → (t : Terms) (day : ℕ)
+  pub covers : (q : List ℕ) (c : Brought) (qs : List ℕ) (cs : Offered) → Question q qs → Catalogue c cs → (t : Terms) (day : ℕ)
       → Covers (forceOf t day cs) qs cs ↔ ((i : ℕ) → i < edgesOf qs → MatchedOn t day qs cs (linkOf qs i))
   -- its masks: of an extract in force those without a day, of the others zero
-  pub masks-in : (qs cs : List ℕ) (t : Terms) (day i a : ℕ) → a < length (viewPatterns cs) → a < 16 → InForce t day a
+  pub masks-in : (qs : List ℕ) (cs : Offered) (t : Terms) (day i a : ℕ) → a < length (viewPatterns cs) → a < 16 → InForce t day a
       → getD (masksIn (forceOf t day cs) qs cs) (16 * i + a) 0 ≡ getD (masksIn everyView qs cs) (16 * i + a) 0
-  pub masks-out : (qs cs : List ℕ) (t : Terms) (day i a : ℕ) → a < 16 → (InForce t day a → ⊥) → getD (masksIn (forceOf t day cs) qs cs) (16 * i + a) 0 ≡ 0
+  pub masks-out : (qs : List ℕ) (cs : Offered) (t : Terms) (day i a : ℕ) → a < 16 → (InForce t day a → ⊥) → getD (masksIn (forceOf t day cs) qs cs) (16 * i + a) 0 ≡ 0
   -- the chosen set is of those in force, and answering by it "equals searching the record"
-  pub choice-in-force : (qs cs : List ℕ) (t : Terms) (day a : ℕ) → T (bit (chosenIn (forceOf t day cs) qs cs) a) → InForce t day a
-  pub answers : (way : Way) (q c r qs cs rs : List ℕ) → Question q qs → Catalogue c cs → Record r rs → (t : Terms) (day : ℕ) → Covers (forceOf t day cs) qs cs → length (bookOf cs rs) ≤ bookMost
+  pub choice-in-force : (qs : List ℕ) (cs : Offered) (t : Terms) (day a : ℕ) → T (bit (chosenIn (forceOf t day cs) qs cs) a) → InForce t day a
+  pub answers : (way : Way) (q : List ℕ) (c : Brought) (r qs : List ℕ) (cs : Offered) (rs : List ℕ) → Question q qs → Catalogue c cs → Record r rs → (t : Terms) (day : ℕ)
+      → Covers (forceOf t day cs) qs cs → length (bookOf cs rs) ≤ bookMost
       → (room words : ℕ) → withWorkspace words (answerFrom q c (chosenIn (forceOf t day cs) qs cs) (bookOf cs rs) room) ≡ withWorkspace words (searchBy way q r rs room)
   -- so is the cheapest; a set of those in force is one that may be used
-  pub cheapest-in-force : (qs cs charges : List ℕ) (t : Terms) (day set : ℕ) → CheapestIn (forceOf t day cs) qs cs charges set → (a : ℕ) → T (bit set a) → InForce t day a
-  pub any-in-force : (cs : List ℕ) (t : Terms) (day set : ℕ) → ((a : ℕ) → T (bit set a) → (a < length (viewPatterns cs)) × InForce t day a) → Among (forceOf t day cs) cs set
+  pub cheapest-in-force : (qs : List ℕ) (cs : Offered) (charges : List ℕ) (t : Terms) (day set : ℕ) → CheapestIn (forceOf t day cs) qs cs charges set → (a : ℕ)
+      → T (bit set a) → InForce t day a
+  pub any-in-force : (cs : Offered) (t : Terms) (day set : ℕ) → ((a : ℕ) → T (bit set a) → (a < length (viewPatterns cs)) × InForce t day a) → Among (forceOf t day cs) cs set
   -- a showing: "its two records have equal lists for every extract in force, whatever the others list"
-  pub equal-lists : (q c qs cs : List ℕ) → Question q qs → Catalogue c cs → (t : Terms) (day : ℕ) → Leaves (forceOf t day cs) qs cs → (a : ℕ) → a < length (viewPatterns cs) → InForce t day a
+  pub equal-lists : (q : List ℕ) (c : Brought) (qs : List ℕ) (cs : Offered) → Question q qs → Catalogue c cs → (t : Terms) (day : ℕ) → Leaves (forceOf t day cs) qs cs
+      → (a : ℕ) → a < length (viewPatterns cs) → InForce t day a
       → extractSheetOf (extractOf cs a) (firstOf qs) ≡ extractSheetOf (extractOf cs a) (secondIn (forceOf t day cs) qs cs)
   -- "also wanted: the first day": 1 and the day, or 0 and 0 for none, neither a refusal; nothing is given of other files
-  pub first-day : (q c qs cs : List ℕ) → Question q qs → Catalogue c cs → (t : Terms) (day : ℕ) → RightTerms t (length (viewPatterns cs))
+  pub first-day : (q : List ℕ) (c : Brought) (qs : List ℕ) (cs : Offered) → Question q qs → Catalogue c cs → (t : Terms) (day : ℕ) → RightTerms t (length (viewsOf (cs .content)))
       → ((d : ℕ) × FirstCovered t day qs cs d × (firstDay q c t day ≡ give (1 ∷ d ∷ []) [])) ⊎ (NeverCovered t day qs cs × (firstDay q c t day ≡ give (0 ∷ 0 ∷ []) []))
-  pub first-day-only : (q c : List ℕ) (t : Terms) (day words : ℕ) → Full (withWorkspace words (firstDay q c t day)) → (qs : List ℕ) × (cs : List ℕ) × Question q qs × Catalogue c cs × Timely cs (on t day)
+  pub first-day-only : (q : List ℕ) (c : Brought) (t : Terms) (day words : ℕ) → Full (withWorkspace words (firstDay q c t day))
+      → (qs : List ℕ) × (cs : Offered) × Question q qs × Catalogue c cs × Timely cs (on t day)
   -- on a day on which all extracts are in force each call answers what it answers without a day
-  pub quote-as-always : (q c cs : List ℕ) → Catalogue c cs → (t : Terms) (day : ℕ) → RightTerms t (length (viewPatterns cs)) → AllInForce t day cs → quoteOn q c t day ≡ quoteOutcome q c
-  pub cheapest-as-always : (q c cs charges : List ℕ) → Catalogue c cs → (t : Terms) (day : ℕ) → RightTerms t (length (viewPatterns cs)) → AllInForce t day cs
+  pub quote-as-always : (q : List ℕ) (c : Brought) (cs : Offered) → Catalogue c cs → (t : Terms) (day : ℕ) → RightTerms t (length (viewsOf (cs .content)))
+      → AllInForce t day cs → quoteOn q c t day ≡ quoteOutcome q c
+  pub cheapest-as-always : (q : List ℕ) (c : Brought) (cs : Offered) (charges : List ℕ) → Catalogue c cs → (t : Terms) (day : ℕ)
+      → RightTerms t (length (viewsOf (cs .content))) → AllInForce t day cs
       → cheapestOn q c t day charges ≡ cheapestOutcome q c charges
-  pub part-as-always : (q c b cs : List ℕ) → Catalogue c cs → (t : Terms) (day room room′ : ℕ) → RightTerms t (length (viewPatterns cs)) → AllInForce t day cs
+  pub part-as-always : (q : List ℕ) (c : Brought) (b : List ℕ) (cs : Offered) → Catalogue c cs → (t : Terms) (day room room′ : ℕ)
+      → RightTerms t (length (viewsOf (cs .content))) → AllInForce t day cs
       → partOn q c t day b room room′ ≡ partOutcome q c b room room′
-  pub show-as-always : (q c cs : List ℕ) → Catalogue c cs → (t : Terms) (day room room′ : ℕ) → RightTerms t (length (viewPatterns cs)) → AllInForce t day cs
+  pub show-as-always : (q : List ℕ) (c : Brought) (cs : Offered) → Catalogue c cs → (t : Terms) (day room room′ : ℕ) → RightTerms t (length (viewsOf (cs .content)))
+      → AllInForce t day cs
       → showOn q c t day room room′ ≡ showOutcome q c room room′
 
 -- ---- what holds of the listing of a quote
@@ -1160,7 +1268,8 @@ pub record UncoveredListing (r : Quote) (t : List ℕ) (m : ℕ) : Type 0 where
 
 pub record Listings : Type 0 where
   -- "an uncovered quote": any that the call gives for an uncovered question
-  pub uncovered : (w : When) (q c qs cs work work′ : List ℕ) → Question q qs → Catalogue c cs → Timely cs w → Leaves (usableWhen w cs) qs cs → (r : Quote) → workspace ≤ length work
+  pub uncovered : (w : When) (q : List ℕ) (c : Brought) (qs : List ℕ) (cs : Offered) (work work′ : List ℕ) → Question q qs → Catalogue c cs → Timely cs w
+      → Leaves (usableWhen w cs) qs cs → (r : Quote) → workspace ≤ length work
       → Settled blank (withWorkspace (length work) (quoteWhen w q c)) (quoteTold r) [] [] work work′
       → UncoveredListing r (masksIn (usableWhen w cs) qs cs) (edgesOf qs)
   -- "an output needs more bytes than were lent": 12 with the length of the line, and the buffer is untouched; else the whole line

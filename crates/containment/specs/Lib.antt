@@ -3,7 +3,6 @@ pub mod Quote
 pub mod Answer
 pub mod Show
 pub mod Part
-pub mod Both
 pub mod Several
 pub mod Cheapest
 pub mod Terms
@@ -11,6 +10,7 @@ pub mod Listing
 pub mod Demands
 -- inner
 pub mod Steps
+pub mod Masked
 pub mod Tries
 pub mod Parting
 pub mod SeveralSteps

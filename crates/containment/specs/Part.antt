@@ -5,8 +5,9 @@ use lib.ListN.{length}
 use lib.Dec.{ltb}
 use Rattle.packed.specs.Format.{pick}
 use Rattle.packed.specs.Calls.{Outcome, give, refuse, judged, readBook, withinPairs}
-use Rattle.matching.specs.Lists.{some}
-use Rattle.matching.specs.Simulation.{Pattern, patternOf}
+use Rattle.engine.specs.Lists.{some}
+use Rattle.engine.specs.Simulation.{Pattern, patternOf}
+use Rattle.matching.specs.Offered.{Brought}
 use Rattle.matching.specs.Join.{matched}
 use Rattle.matching.specs.Part.{partOf, patternFields, patternBytes}
 use Rattle.containment.specs.Quote.{Quoted, quoted, usableViews, usedBy}
@@ -42,5 +43,5 @@ partFor b room room′ x =
     (refuse 11 0)))
 
 -- the part of the question q that the views of the catalogue c answer, and its answer from the book b
-unfoldable pub partOutcome : List ℕ → List ℕ → List ℕ → ℕ → ℕ → Outcome
+unfoldable pub partOutcome : List ℕ → Brought → List ℕ → ℕ → ℕ → Outcome
 partOutcome q c b room room′ = quoted q c (partFor b room room′)

@@ -7,10 +7,10 @@ use mathlib.Core.List.{List, _++_}
 use lib.ListN.{length, getD}
 use lib.Dec.{T}
 use Rattle.packed.specs.declared.by_value.Pattern.{Pattern as Given}
-use Rattle.matching.specs.Lists.{upTo, each}
-use Rattle.matching.specs.Simulation.{Edge, bit}
-use Rattle.matching.specs.Masks.{Has, Mask, OneOf}
-use Rattle.matching.specs.Loaded.{givenEdge}
+use Rattle.engine.specs.Lists.{upTo, each}
+use Rattle.engine.specs.Simulation.{Edge, bit}
+use Rattle.engine.specs.Masks.{Has, Mask, OneOf}
+use Rattle.engine.specs.Loaded.{givenEdge}
 use Rattle.matching.specs.Part.{rank, atPlaces, moved, edgeFields}
 use Rattle.containment.specs.Choice.{Passing, matchedIn}
 use Rattle.containment.specs.Quote.{tableOf}

@@ -9,10 +9,10 @@ use Rattle.packed.specs.Format.{pick}
 use Rattle.packed.specs.Contents.{edgesOf}
 use Rattle.packed.specs.Refusals.{Told, told, numberOf, detailOf}
 use Rattle.packed.specs.Calls.{Outcome, give, judged, readPattern}
-use Rattle.matching.specs.Simulation.{Edge, noEdge, bothWays, Pattern, bit, patternOf, asGraph, viewSheet}
-use Rattle.matching.specs.Lists.{upTo}
+use Rattle.engine.specs.Simulation.{Edge, noEdge, bothWays, Pattern, bit, patternOf, asGraph, viewSheet}
+use Rattle.engine.specs.Lists.{upTo}
 use Rattle.matching.specs.Join.{isMatch}
-use Rattle.matching.specs.Offered.{Offered, offeredBy, offered}
+use Rattle.matching.specs.Offered.{Brought, Offered, viewPatterns, offered}
 use Rattle.containment.specs.Choice.{everyView, coversIn, columnsIn, lowestUnmatched, chosen, used}
 use Rattle.containment.specs.declared.quote_type.Coverage.{Coverage}
 use Rattle.containment.specs.declared.quote_type.Coverage.the-variants as coverage-is
@@ -50,16 +50,16 @@ pub record Quoted : Type 0 where
   -- which of the views may be used, as a set
   pub usable : ℕ
 
--- the contents of a question and of a catalogue, whose views in a set may be used; and where all may
-abbrev pub quotedIn : ℕ → List ℕ → List ℕ → Quoted
-quotedIn set qs cs = record { content = qs; offer = offeredBy cs; usable = set }
+-- the content of a question and what a catalogue offers, whose views in a set may be used; and where all may
+abbrev pub quotedIn : ℕ → List ℕ → Offered → Quoted
+quotedIn set qs o = record { content = qs; offer = o; usable = set }
 
-abbrev pub quotedBy : List ℕ → List ℕ → Quoted
-quotedBy qs cs = quotedIn everyView qs cs
+abbrev pub quotedBy : List ℕ → Offered → Quoted
+quotedBy qs o = quotedIn everyView qs o
 
 -- the question is judged, then the catalogue, and both are handed on: every call that quotes judges them here
-abbrev pub quoted : List ℕ → List ℕ → (Quoted → Outcome) → Outcome
-quoted q c k = judged (readPattern q) (λ qs. offered c (λ o. k (record { content = qs; offer = o; usable = everyView })))
+abbrev pub quoted : List ℕ → Brought → (Quoted → Outcome) → Outcome
+quoted q c k = judged (readPattern q) (λ qs. offered c (λ o. k (quotedBy qs o)))
 
 -- those of the views that are in a set, and those that may be used
 unfoldable pub viewsInSet : ℕ → List Pattern → List Pattern
@@ -67,22 +67,22 @@ viewsInSet set [] = []
 viewsInSet set (P ∷ Ps) = pick (bit set 0) (P ∷ viewsInSet (set / 2) Ps) (viewsInSet (set / 2) Ps)
 
 abbrev pub usableViews : Quoted → List Pattern
-usableViews x = viewsInSet (x .usable) (x .offer .views)
+usableViews x = viewsInSet (x .usable) (viewPatterns (x .offer))
 
 -- its table, and what the views in a set do by it
 abbrev pub tableOf : Quoted → List ℕ
-tableOf x = mapping (patternOf (x .content)) (x .offer .views)
+tableOf x = mapping (patternOf (x .content)) (viewPatterns (x .offer))
 
 abbrev pub covering : Quoted → ℕ → Bool
-covering x set = coversIn (tableOf x) set (length (x .offer .views)) (edgesOf (x .content))
+covering x set = coversIn (tableOf x) set (length (viewPatterns (x .offer))) (edgesOf (x .content))
 
 abbrev pub lowestLeft : Quoted → ℕ → ℕ
-lowestLeft x set = lowestUnmatched (tableOf x) set (length (x .offer .views)) (edgesOf (x .content))
+lowestLeft x set = lowestUnmatched (tableOf x) set (length (viewPatterns (x .offer))) (edgesOf (x .content))
 
 -- the views that answer: those chosen from the usable ones; where these don't cover the query all of them, so that 11 has the lowest edge that
 -- none of them matches
 abbrev pub usedBy : Quoted → ℕ
-usedBy x = used (tableOf x) (x .usable) (edgesOf (x .content)) (length (x .offer .views))
+usedBy x = used (tableOf x) (x .usable) (edgesOf (x .content)) (length (viewPatterns (x .offer)))
 
 -- ---- what a quote answers
 
@@ -111,7 +111,7 @@ valuesFrom t set m k =
     }
 
 unfoldable pub quoteValues : Quoted → QuoteValues
-quoteValues x = valuesFrom (tableOf x) (x .usable) (edgesOf (x .content)) (length (x .offer .views))
+quoteValues x = valuesFrom (tableOf x) (x .usable) (edgesOf (x .content)) (length (viewPatterns (x .offer)))
 
 -- the list of them that the protocol of a call carries
 unfoldable pub flat : QuoteValues → List ℕ
@@ -121,7 +121,7 @@ unfoldable pub quoteFor : Quoted → Outcome
 quoteFor x = give (flat (quoteValues x)) []
 
 -- quoting: the question's refusals, the catalogue's
-unfoldable pub quoteOutcome : List ℕ → List ℕ → Outcome
+unfoldable pub quoteOutcome : List ℕ → Brought → Outcome
 quoteOutcome q c = quoted q c quoteFor
 
 -- on a refusal each of them is zero

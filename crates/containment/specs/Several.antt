@@ -9,19 +9,18 @@ use Rattle.packed.specs.Format.{pick}
 use Rattle.packed.specs.Contents.{patternsIn, edgeCounts, sheetsIn}
 use Rattle.packed.specs.Refusals.{Told, told, numberOf, detailOf}
 use Rattle.packed.specs.Calls.{Outcome, give, refuse, judged, readQuestions, readBook, withinPairs}
-use Rattle.matching.specs.Simulation.{bit}
-use Rattle.matching.specs.Lists.{upTo}
+use Rattle.engine.specs.Simulation.{bit}
+use Rattle.engine.specs.Lists.{upTo}
 use Rattle.matching.specs.Part.{rank}
-use Rattle.matching.specs.Offered.{Offered, offered}
-use Rattle.containment.specs.Choice.{everyView}
-use Rattle.containment.specs.Quote.{Quoted, covering, lowestLeft, usedBy}
+use Rattle.matching.specs.Offered.{Brought, Offered, viewPatterns, offered}
+use Rattle.containment.specs.Quote.{Quoted, quotedBy, covering, lowestLeft, usedBy}
 use Rattle.containment.specs.Answer.{answerBytes}
 use Rattle.containment.specs.declared.several.Several.{Several}
 use Rattle.containment.specs.declared.several.Several.the-variants as several-is
 
 -- the question i of so many with the content ws, beside what the catalogue offers
 unfoldable pub questionAt : ℕ → List ℕ → Offered → ℕ → Quoted
-questionAt number ws o i = record { content = getD (patternsIn number ws) i []; offer = o; usable = everyView }
+questionAt number ws o i = quotedBy (getD (patternsIn number ws) i []) o
 
 -- "it refuses with 17 when no question or more than eight are sent, .., detail the number sent"
 unfoldable pub counted : ℕ → Outcome → Outcome
@@ -44,7 +43,7 @@ module _ (x : ℕ → Quoted) where
 
   -- what each gets by itself from the sheets of a book
   unfoldable pub answerAt : List (List (List ℕ)) → ℕ → List ℕ
-  answerAt sheets i = answerBytes (x i .content) (usedBy (x i)) (x i .offer .views) sheets
+  answerAt sheets i = answerBytes (x i .content) (usedBy (x i)) (viewPatterns (x i .offer)) sheets
 
 -- whether one of the first n outputs is over 65,536 bytes
 unfoldable pub anyLong : (ℕ → List ℕ) → ℕ → Bool
@@ -59,10 +58,10 @@ fitSeveral room needed o n =
 -- n questions answered from the content of an accepted book: 10, 11, 12
 unfoldable pub severalIn : (ℕ → Quoted) → ℕ → Offered → List ℕ → ℕ → Outcome
 severalIn x n o bs room =
-    withinPairs (o .content) bs (allCovered x n (fitSeveral room (sheetsNeeded x n (length (o .views))) (answerAt x (sheetsIn (edgeCounts (o .content)) bs)) n))
+    withinPairs (o .content) bs (allCovered x n (fitSeveral room (sheetsNeeded x n (length (viewPatterns o))) (answerAt x (sheetsIn (edgeCounts (o .content)) bs)) n))
 
 -- 17, the questions, the catalogue, the book
-unfoldable pub severalOutcome : List ℕ → ℕ → List ℕ → List ℕ → ℕ → Outcome
+unfoldable pub severalOutcome : List ℕ → ℕ → Brought → List ℕ → ℕ → Outcome
 severalOutcome q number c b room =
     counted number
     (judged (readQuestions number q) (λ ws.

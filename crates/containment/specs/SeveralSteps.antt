@@ -12,11 +12,11 @@ use Rattle.packed.specs.Formats.{patterns}
 use Rattle.packed.specs.Contents.{edgeCounts, sheetsIn}
 use Rattle.packed.specs.Matches.{matchesOf, Marked}
 use Rattle.packed.specs.Calls.{Outcome, refuse}
-use Rattle.matching.specs.Lists.{upTo}
-use Rattle.matching.specs.Simulation.{bit}
+use Rattle.engine.specs.Lists.{upTo}
+use Rattle.engine.specs.Simulation.{bit}
+use Rattle.engine.specs.Loaded.{Edges}
 use Rattle.matching.specs.Search.{sheetBytes}
-use Rattle.matching.specs.Loaded.{Edges}
-use Rattle.matching.specs.Offered.{offeredBy}
+use Rattle.matching.specs.Offered.{offers}
 use Rattle.containment.specs.Quote.{Quoted, tableOf, usedBy}
 use Rattle.containment.specs.Several.{questionAt, allCovered, isNeeded, answerAt, anyLong}
 use Rattle.containment.specs.Steps.{Views, ViewCounts, Loaded}
@@ -31,9 +31,9 @@ pub record Asked (s : List ℕ) (number : ℕ) : Type 0 where
   pub few : number ≤ questionsMost
   pub short : length s ≤ 65536
 
--- the question i of them, beside the views of an accepted catalogue
-abbrev pub askedAt : {s : List ℕ} {number : ℕ} → Asked s number → {c : List ℕ} {k : ℕ} → Views c k → ℕ → Quoted
-askedAt {number = number} a v = questionAt number (a .content) (offeredBy (v .content))
+-- the question i of them, beside the views of an accepted catalogue, of which those in the set one are matched one-way
+abbrev pub askedAt : {s : List ℕ} {number : ℕ} → Asked s number → {c : List ℕ} {k : ℕ} → Views c k → ℕ → ℕ → Quoted
+askedAt {number = number} a v one = questionAt number (a .content) (offers (v .content) one)
 
 -- ---- their tables, one after the other, of 512 words each
 
@@ -70,13 +70,13 @@ pub record Answerable (s : List ℕ) (number : ℕ) (tables used book counts : L
   pub views : ViewCounts counts k
   pub long : length tables ≡ 4096
   pub eight : length used ≡ 8
-  pub table : (i j : ℕ) → i < number → j < 512 → getD tables (512 * i + j) 0 ≡ getD (tableOf (askedAt asked (views .views) i)) j 0
-  pub used-is : (i : ℕ) → i < number → getD used i 0 ≡ usedBy (askedAt asked (views .views) i)
+  pub table : (i j : ℕ) → i < number → j < 512 → getD tables (512 * i + j) 0 ≡ getD (tableOf (askedAt asked (views .views) (views .oneWay) i)) j 0
+  pub used-is : (i : ℕ) → i < number → getD used i 0 ≡ usedBy (askedAt asked (views .views) (views .oneWay) i)
   pub loaded : Loaded (views .views .content) book counts k d w
 
 -- what each gets by itself
 abbrev pub answersOf : {s : List ℕ} {number : ℕ} {tables used book counts : List ℕ} {k d : ℕ} {w : List ℕ} → Answerable s number tables used book counts k d w → ℕ → List ℕ
-answersOf x = answerAt (askedAt (x .asked) (x .views .views)) (sheetsIn (edgeCounts (x .views .views .content)) (x .loaded .fields))
+answersOf x = answerAt (askedAt (x .asked) (x .views .views) (x .views .oneWay)) (sheetsIn (edgeCounts (x .views .views .content)) (x .loaded .fields))
 
 -- the first d pairs of the workspace make the sheet for m edges with these lists
 pub record Held (d m : ℕ) (lists : List (List ℕ)) (w : List ℕ) : Type 0 where

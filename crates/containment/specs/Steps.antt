@@ -10,16 +10,16 @@ use Rattle.packed.specs.Formats.{pattern}
 use Rattle.packed.specs.Contents.{edgesOf, edgeCounts, edgeWord, wordKind, sortedEdges}
 use Rattle.packed.specs.ByValue.{HoldsPattern, NoPattern, Small}
 use Rattle.packed.specs.Accepting.{NoViews}
-use Rattle.packed.specs.Calls.{Outcome, refuse, accepted, judged, readCatalogue, readBook, withinPairs}
+use Rattle.packed.specs.Calls.{Outcome, refuse, accepted, judged, readCatalogue, readBook, withinPairs, recordBytes}
 use Rattle.packed.specs.Refusals.{numberOf, detailOf}
 use Rattle.packed.specs.declared.reply.Reply.{Reply}
 use Rattle.packed.specs.declared.reply.Reply.the-variants as reply-is
 use Rattle.packed.specs.declared.by_value.Pattern.{Pattern as Given}
+use Rattle.engine.specs.Masks.{OneOf, Has}
 use Rattle.matching.specs.Candidates.{Booked}
-use Rattle.matching.specs.Masks.{OneOf, Has}
-use Rattle.matching.specs.Offered.{offeredBy}
+use Rattle.matching.specs.Offered.{Offered, offers}
 use Rattle.containment.specs.Quote.{Quoted, tableOf}
-use Rattle.containment.specs.Show.{graphFields, fewerFields, recordBytes}
+use Rattle.containment.specs.Show.{graphFields, fewerFields}
 use Rattle.containment.specs.declared.query.Fields.{Fields}
 use Rattle.containment.specs.declared.judging.Judged.{Judged}
 
@@ -36,16 +36,20 @@ pub record Views (c : List ℕ) (k : ℕ) : Type 0 where
   pub is : readCatalogue c ≡ accepted content
   pub number : k ≡ getD content 0 0
 
--- the numbers of edges of k views of an accepted catalogue, in a table
+-- the numbers of edges of k views of an accepted catalogue, in a table; the views in the set are matched one-way
 pub record ViewCounts (counts : List ℕ) (k : ℕ) : Type 0 where
   pub bytes : List ℕ
   pub views : Views bytes k
+  pub oneWay : ℕ
   pub are : take k counts ≡ edgeCounts (views .content)
   pub small : Small counts
 
+abbrev pub offerOf : {counts : List ℕ} {k : ℕ} → ViewCounts counts k → Offered
+offerOf v = offers (v .views .content) (v .oneWay)
+
 -- what was judged, by value
 abbrev pub quotedAs : {q : Given} → Query q → {counts : List ℕ} {k : ℕ} → ViewCounts counts k → ℕ → Quoted
-quotedAs t v usable = record { content = t .content; offer = offeredBy (v .views .content); usable = usable }
+quotedAs t v usable = record { content = t .content; offer = offerOf v; usable = usable }
 
 -- nothing was refused: r holds what is handed on
 pub record Handed (f : (Quoted → Outcome) → Outcome) (r : Judged) : Type 0 where

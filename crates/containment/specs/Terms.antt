@@ -1,13 +1,18 @@
 -- Terms: the days on which each view is in force, and what is answered for a day.
 use Prim.Native.Nat.{ℕ, zero, suc, _+_, _^_, min}
+use mathlib.Core.Path.{_≡_}
 use mathlib.Core.List.{List, [], _∷_}
 use mathlib.Core.Bool.{Bool, _&&_}
 use lib.ListN.{length, getD, set, replicate}
 use lib.Dec.{eqb, leb, ltb}
 use Rattle.packed.specs.Format.{pick}
-use Rattle.packed.specs.Calls.{Outcome, give, Verdict, accepted, rejected, judged}
+use Rattle.packed.specs.Contents.{viewsOf}
+use Rattle.packed.specs.Calls.{Outcome, give, Verdict, accepted, rejected, judged, readPattern, readCatalogue}
 use Rattle.packed.specs.Refusals.{Told, told, numberOf, detailOf}
-use Rattle.containment.specs.Quote.{Quoted, quoted, covering, quoteFor}
+use Rattle.packed.specs.declared.reply.Reply.{Reply}
+use Rattle.packed.specs.declared.reply.Reply.the-variants as reply-is
+use Rattle.matching.specs.Offered.{Brought, viewPatterns, withSet}
+use Rattle.containment.specs.Quote.{Quoted, quotedIn, covering, quoteFor}
 use Rattle.containment.specs.Cheapest.{cheapestFor}
 use Rattle.containment.specs.Part.{partFor}
 use Rattle.containment.specs.Show.{showFor}
@@ -64,30 +69,29 @@ unfoldable pub inForce : Terms → ℕ → ℕ → ℕ
 inForce t day zero = 0
 inForce t day (suc k) = inForce t day k + pick (isInForce (fromDay t k) (toDay t k) day) (2 ^ k) 0
 
--- of what was judged, the views in force on a day may be used
-abbrev pub onDay : Terms → ℕ → Quoted → Quoted
-onDay t day x = record { content = x .content; offer = x .offer; usable = inForce t day (length (x .offer .views)) }
+-- "right after the catalogue is read": every call for a day judges what a client brings here, the question, the catalogue, the terms and then the set of
+-- the views that are matched one-way; of the views those in force on the day may be used
+abbrev pub offeredOn : List ℕ → Brought → Terms → ℕ → (Quoted → Outcome) → Outcome
+offeredOn qs c t day k =
+    judged (readCatalogue (c .file)) (λ cs.
+    judged (judgeTerms t (length (viewsOf cs))) (λ _.
+    withSet (c .oneWay) cs (λ o. k (quotedIn (inForce t day (length (viewPatterns o))) qs o))))
 
--- the terms are judged, and a call goes on for a day
-abbrev pub withTerms : Terms → ℕ → (Quoted → Outcome) → Quoted → Outcome
-withTerms t day k x = judged (judgeTerms t (length (x .offer .views))) (λ _. k (onDay t day x))
-
--- "right after the catalogue is read": every call for a day judges what a client brings here
-abbrev pub quotedOn : List ℕ → List ℕ → Terms → ℕ → (Quoted → Outcome) → Outcome
-quotedOn q c t day k = quoted q c (withTerms t day k)
+abbrev pub quotedOn : List ℕ → Brought → Terms → ℕ → (Quoted → Outcome) → Outcome
+quotedOn q c t day k = judged (readPattern q) (λ qs. offeredOn qs c t day k)
 
 -- ---- what is answered for a day: "uses only extracts in force"
 
-unfoldable pub quoteOn : List ℕ → List ℕ → Terms → ℕ → Outcome
+unfoldable pub quoteOn : List ℕ → Brought → Terms → ℕ → Outcome
 quoteOn q c t day = quotedOn q c t day quoteFor
 
-unfoldable pub cheapestOn : List ℕ → List ℕ → Terms → ℕ → List ℕ → Outcome
+unfoldable pub cheapestOn : List ℕ → Brought → Terms → ℕ → List ℕ → Outcome
 cheapestOn q c t day charges = quotedOn q c t day (cheapestFor charges)
 
-unfoldable pub partOn : List ℕ → List ℕ → Terms → ℕ → List ℕ → ℕ → ℕ → Outcome
+unfoldable pub partOn : List ℕ → Brought → Terms → ℕ → List ℕ → ℕ → ℕ → Outcome
 partOn q c t day b room room′ = quotedOn q c t day (partFor b room room′)
 
-unfoldable pub showOn : List ℕ → List ℕ → Terms → ℕ → ℕ → ℕ → Outcome
+unfoldable pub showOn : List ℕ → Brought → Terms → ℕ → ℕ → ℕ → Outcome
 showOn q c t day room room′ = quotedOn q c t day (showFor room room′)
 
 -- ---- "the first day not before a given day on which the question is covered, or none if there is no such day up to 65,535"
@@ -103,16 +107,16 @@ earliest covered t day (suc k) = sooner covered day (fromDay t k) (earliest cove
 
 -- whether the query is covered on a day
 abbrev pub coveredOn : Terms → Quoted → ℕ → Bool
-coveredOn t x day = covering x (inForce t day (length (x .offer .views)))
+coveredOn t x day = covering x (inForce t day (length (viewPatterns (x .offer))))
 
 -- by value: 1 and the day, or 0 and 0 for none
 unfoldable pub dayValues : ℕ → List ℕ
 dayValues d = pick (ltb d 65536) (1 ∷ d ∷ []) (0 ∷ 0 ∷ [])
 
 unfoldable pub firstDayFor : Terms → ℕ → Quoted → Outcome
-firstDayFor t day x = give (dayValues (earliest (coveredOn t x) t day (length (x .offer .views)))) []
+firstDayFor t day x = give (dayValues (earliest (coveredOn t x) t day (length (viewPatterns (x .offer))))) []
 
-unfoldable pub firstDay : List ℕ → List ℕ → Terms → ℕ → Outcome
+unfoldable pub firstDay : List ℕ → Brought → Terms → ℕ → Outcome
 firstDay q c t day = quotedOn q c t day (firstDayFor t day)
 
 -- what its result tells
@@ -120,3 +124,8 @@ abbrev pub firstDayTold : FirstDay → Told
 firstDayTold (first-day-is.On d) = told 0 (1 ∷ d ∷ [])
 firstDayTold first-day-is.Never = told 0 (0 ∷ 0 ∷ [])
 firstDayTold (first-day-is.Refused x) = told (numberOf x) (detailOf x ∷ [])
+
+-- inner: what terms are told, beside k views
+abbrev pub TermsJudged : Terms → ℕ → Reply → Type 0
+TermsJudged t k (reply-is.Done n) = judgeTerms t k ≡ accepted []
+TermsJudged t k (reply-is.Refused x) = judgeTerms t k ≡ rejected (numberOf x) (detailOf x)

@@ -1,20 +1,16 @@
 -- inner: the sets that the search for the cheapest tries, with what it carries of each.
-use Prim.Native.Nat.{ℕ, zero, suc, _+_, _-_, _*_, _^_, _<_, _≤_}
+use Prim.Native.Nat.{ℕ, zero, suc, _+_, _-_, _*_, _^_, _≤_}
 use mathlib.Core.Path.{_≡_}
-use mathlib.Core.Bool.{Bool, true, not, _&&_, _||_}
+use mathlib.Core.Bool.{Bool, not, _&&_, _||_}
 use mathlib.Core.List.{List}
 use lib.ListN.{getD}
 use lib.Bits.{bitOr}
 use lib.Dec.{eqb, ltb}
 use Rattle.packed.specs.Format.{pick}
-use Rattle.matching.specs.Masks.{Mask}
-use Rattle.containment.specs.Choice.{Passing, matches, matchedIn}
+use Rattle.engine.specs.Masks.{Mask}
+use Rattle.containment.specs.Masked.{EdgeMatchedIn}
 use Rattle.containment.specs.Cheapest.{cost, size, turned, lesser}
 use Rattle.containment.specs.declared.costing.Tried.{Tried}
-
--- the view a matches the edge e, of m
-abbrev pub EdgeMatchedBy : List ℕ → ℕ → ℕ → ℕ → Type 0
-EdgeMatchedBy t a m e = Passing (λ i. matches t i a) m e
 
 -- u more views can be taken
 pub record TriedRoom (u : ℕ) (x : Tried) : Type 0 where
@@ -56,4 +52,4 @@ pub record Tries (t : List ℕ) (m : ℕ) (charges : List ℕ) (k set : ℕ) (x 
   pub costs : x .sum ≡ cost charges set k
   pub counts : x .number ≡ size set k
   pub turns : x .turned ≡ turned set k
-  pub edges : Mask (λ e. (e < m) × (matchedIn t set e k ≡ true)) (x .matched)
+  pub edges : Mask (EdgeMatchedIn t m set k) (x .matched)

@@ -5,11 +5,12 @@ ghost use Prim.Native.Nat.{ℕ};
 ghost use lib.ListN.{length};
 ghost use Rattle.packed.specs.Refusals.{replyTold};
 ghost use Rattle.packed.specs.Calls.{FulfilsOne, judged, readBook, fitFile};
-ghost use Rattle.matching.specs.Loaded.{Fair, patternIn};
+ghost use Rattle.engine.specs.Loaded.{Fair, patternIn};
 ghost use Rattle.matching.specs.Search.{sheetBytes};
 ghost use Rattle.matching.specs.Join.{View, answerSets};
 ghost use Rattle.matching.specs.Candidates.{Booked};
 ghost use Rattle.matching.specs.Joining.{Agrees};
+ghost use Rattle.matching.specs.Offered.{brings};
 ghost use Rattle.containment.specs.Choice.{lowestUnmatched};
 ghost use Rattle.containment.specs.Quote.{tableOf};
 ghost use Rattle.containment.specs.Answer.{answerIn, answerFrom, answerOutcome};
@@ -89,14 +90,15 @@ fn answer_book(
 pub fn answer(
     question: &[u8],
     catalogue: &[u8],
+    one_way: u32,
     book: &[u8],
     out: &mut [u8],
     work: &mut [u32],
 ) -> Reply
     requires { ⌜ length (now work) ≡ 16384 ⌝ }
-    ensures { λ r. ⌜ FulfilsOne (answerOutcome (now (question .entry)) (now (catalogue .entry)) (now (book .entry)) (length (now (out .entry)))) (replyTold r) (now (out .entry)) (now (out .exit)) ⌝ }
+    ensures { λ r. ⌜ FulfilsOne (answerOutcome (now (question .entry)) (brings (now (catalogue .entry)) «one_way») (now (book .entry)) (length (now (out .entry)))) (replyTold r) (now (out .entry)) (now (out .exit)) ⌝ }
 {
-    let f = judging::judge(question, catalogue, work);
+    let f = judging::judge(question, catalogue, one_way, work);
     let verdict = f.verdict;
     let Reply::Done(_) = verdict else {
         return verdict;
@@ -114,15 +116,16 @@ pub fn answer(
 pub fn answer_from(
     question: &[u8],
     catalogue: &[u8],
+    one_way: u32,
     set: u32,
     book: &[u8],
     out: &mut [u8],
     work: &mut [u32],
 ) -> Reply
     requires { ⌜ length (now work) ≡ 16384 ⌝ }
-    ensures { λ r. ⌜ FulfilsOne (answerFrom (now (question .entry)) (now (catalogue .entry)) set (now (book .entry)) (length (now (out .entry)))) (replyTold r) (now (out .entry)) (now (out .exit)) ⌝ }
+    ensures { λ r. ⌜ FulfilsOne (answerFrom (now (question .entry)) (brings (now (catalogue .entry)) «one_way») set (now (book .entry)) (length (now (out .entry)))) (replyTold r) (now (out .entry)) (now (out .exit)) ⌝ }
 {
-    let f = judging::judge(question, catalogue, work);
+    let f = judging::judge(question, catalogue, one_way, work);
     let verdict = f.verdict;
     let Reply::Done(_) = verdict else {
         return verdict;

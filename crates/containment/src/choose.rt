@@ -1,31 +1,17 @@
 // Coverage and the chosen views, from the masks of a quote. A set says which views may be used.
 ghost use mathlib.Core.Path.{_≡_};
-ghost use Prim.Native.Nat.{_^_, _<_, _≤_};
+ghost use Prim.Native.Nat.{ℕ, _-_, _^_, _<_, _≤_};
 ghost use mathlib.Core.Bool.{true};
+ghost use mathlib.Core.List.{List};
 ghost use lib.ListN.{length};
-ghost use Rattle.matching.specs.Simulation.{bit};
-ghost use Rattle.containment.specs.Choice.{matchedIn, coversIn, columnsIn, lowestUnmatched, addsTo, taken, kept, chosen, used};
+ghost use Rattle.engine.specs.Masks.{Mask};
+ghost use Rattle.containment.specs.Choice.{matchedIn, coversIn, columnsIn, lowestUnmatched, taken, kept, chosen, used};
+ghost use Rattle.containment.specs.Masked.{EdgeMatchedBy, EdgeMatchedIn, Masked};
 use crate::mapping;
+use matching::sets;
 
 // The set of all views.
 pub const EVERY_VIEW: u32 = 65535;
-
-// Whether the number a is in the set.
-pub fn is_in(set: u32, a: usize) -> bool
-    requires { ⌜ a < 32 ⌝ }
-    ensures { λ r. ⌜ r ≡ bit set a ⌝ }
-{
-    let d = set >> a;
-    d % 2 == 1
-}
-
-// The set of one number alone.
-pub fn only(a: usize) -> u32
-    requires { ⌜ a < 32 ⌝ }
-    ensures { λ r. ⌜ r ≡ 2 ^ a ⌝ }
-{
-    1 << a
-}
 
 // The table with the columns of the views in the set alone.
 pub fn columns_in(table: &[u32; 512], set: u32) -> [u32; 512]
@@ -35,7 +21,7 @@ pub fn columns_in(table: &[u32; 512], set: u32) -> [u32; 512]
     let mut columns = mapping::no_mapping();
     let mut k: usize = 0;
     while k < 512 {
-        if is_in(set, k % 16) {
+        if sets::is_in(set, k % 16) {
             columns[k] = table[k];
         }
         k += 1;
@@ -52,7 +38,7 @@ pub fn is_matched(mapping: &[u32; 512], set: u32, e: usize, k: usize) -> bool
     let mut a: usize = 0;
     while a < k {
         let at = 16 * e + a;
-        found = found | (is_in(set, a) & (mapping[at] != 0));
+        found = found | (sets::is_in(set, a) & (mapping[at] != 0));
         a += 1;
     }
     found
@@ -72,14 +58,72 @@ pub fn is_cover(mapping: &[u32; 512], set: u32, k: usize, m: usize) -> bool
     all
 }
 
+// The mask of those of the first m edges that the view a matches.
+fn edges_of(mapping: &[u32; 512], a: usize, m: usize) -> u32
+    requires { ⌜ (a < 16) × (m ≤ 32) ⌝ }
+    ensures { λ r. ⌜ Mask (EdgeMatchedBy (now (mapping .entry)) a m) r ⌝ }
+{
+    let mut mask: u32 = 0;
+    let mut e: usize = 0;
+    while e < m {
+        let at = 16 * e + a;
+        if mapping[at] != 0 {
+            mask = mask | sets::only(e);
+        }
+        e += 1;
+    }
+    mask
+}
+
+// These masks of the first k views.
+pub fn masks_of(mapping: &[u32; 512], k: usize, m: usize) -> [u32; 16]
+    requires { ⌜ (k ≤ 16) × (m ≤ 32) ⌝ }
+    ensures { λ r. ⌜ Masked (now (mapping .entry)) k m r ⌝ }
+{
+    let mut masks = [0u32; 16];
+    let mut a: usize = 0;
+    while a < k {
+        masks[a] = edges_of(mapping, a, m);
+        a += 1;
+    }
+    masks
+}
+
+// The mask of the first m edges.
+pub fn first_edges(m: usize) -> u32
+    requires { ⌜ m ≤ 32 ⌝ }
+    ensures { λ r. ⌜ r ≡ 2 ^ m - 1 ⌝ }
+{
+    let over: u64 = 1 << m;
+    (over - 1) as u32
+}
+
+// The edges that the views in the set match, from the masks of k views.
+fn union(masks: &[u32; 16], set: u32, k: usize) -> u32
+    requires { ⌜ k ≤ 16 ⌝ }
+    ensures { λ r. ⌜ ((t : List ℕ) (m : ℕ) → Masked t k m (now (masks .entry)) → Mask (EdgeMatchedIn t m set k) r) ⌝ }
+{
+    let mut matched: u32 = 0;
+    let mut a: usize = 0;
+    while a < k {
+        if sets::is_in(set, a) {
+            matched = matched | masks[a];
+        }
+        a += 1;
+    }
+    matched
+}
+
 // The lowest of m edges that no view in the set, of k, matches, or m.
 pub fn lowest_unmatched(mapping: &[u32; 512], set: u32, k: usize, m: usize) -> usize
     requires { ⌜ (m ≤ 32) × (k ≤ 16) ⌝ }
     ensures { λ r. ⌜ r ≡ lowestUnmatched (now (mapping .entry)) set k m ⌝ }
 {
+    let masks = masks_of(mapping, k, m);
+    let matched = union(&masks, set, k);
     let mut e: usize = 0;
     while e < m {
-        if is_matched(mapping, set, e, k) {
+        if sets::is_in(matched, e) {
             e += 1;
         } else {
             return e;
@@ -88,32 +132,19 @@ pub fn lowest_unmatched(mapping: &[u32; 512], set: u32, k: usize, m: usize) -> u
     m
 }
 
-// Whether the view a matches one of the first m edges that no view of the set below a does.
-fn is_added(mapping: &[u32; 512], set: u32, a: usize, m: usize) -> bool
-    requires { ⌜ (m ≤ 32) × (a < 16) ⌝ }
-    ensures { λ r. ⌜ r ≡ addsTo (now (mapping .entry)) set a m ⌝ }
-{
-    let mut adds = false;
-    let mut e: usize = 0;
-    while e < m {
-        let at = 16 * e + a;
-        let before = is_matched(mapping, set, e, a);
-        adds = adds | ((mapping[at] != 0) & !before);
-        e += 1;
-    }
-    adds
-}
-
 // Going up the catalogue, each view of the set that matches an edge not matched before.
-fn take_views(mapping: &[u32; 512], set: u32, k: usize, m: usize) -> u32
-    requires { ⌜ (m ≤ 32) × (k ≤ 16) ⌝ }
-    ensures { λ r. ⌜ r ≡ taken (now (mapping .entry)) set m k ⌝ }
+fn take_views(masks: &[u32; 16], set: u32, k: usize) -> u32
+    requires { ⌜ k ≤ 16 ⌝ }
+    ensures { λ r. ⌜ ((t : List ℕ) (m : ℕ) → Masked t k m (now (masks .entry)) → r ≡ taken t set m k) ⌝ }
 {
     let mut first: u32 = 0;
+    let mut matched: u32 = 0;
     let mut a: usize = 0;
     while a < k {
-        if is_in(set, a) & is_added(mapping, first, a, m) {
-            first = first + only(a);
+        let more = matched | masks[a];
+        if sets::is_in(set, a) & (more != matched) {
+            first = first + sets::only(a);
+            matched = more;
         }
         a += 1;
     }
@@ -121,16 +152,17 @@ fn take_views(mapping: &[u32; 512], set: u32, k: usize, m: usize) -> u32
 }
 
 // Going up again, the set without each view that the others can spare.
-fn drop_views(mapping: &[u32; 512], first: u32, k: usize, m: usize) -> u32
+fn drop_views(masks: &[u32; 16], first: u32, k: usize, m: usize) -> u32
     requires { ⌜ (m ≤ 32) × (k ≤ 16) ⌝ }
-    ensures { λ r. ⌜ r ≡ kept (now (mapping .entry)) m k first k ⌝ }
+    ensures { λ r. ⌜ ((t : List ℕ) → Masked t k m (now (masks .entry)) → r ≡ kept t m k first k) ⌝ }
 {
+    let all = first_edges(m);
     let mut set = first;
     let mut a: usize = 0;
     while a < k {
-        if is_in(set, a) {
-            let less = set - only(a);
-            if is_cover(mapping, less, k, m) {
+        if sets::is_in(set, a) {
+            let less = set - sets::only(a);
+            if union(masks, less, k) == all {
                 set = less;
             }
         }
@@ -144,7 +176,8 @@ pub fn choose(mapping: &[u32; 512], set: u32, k: usize, m: usize) -> u32
     requires { ⌜ (m ≤ 32) × (k ≤ 16) × (coversIn (now mapping) set k m ≡ true) ⌝ }
     ensures { λ r. ⌜ r ≡ chosen (now (mapping .entry)) set m k ⌝ }
 {
-    drop_views(mapping, take_views(mapping, set, k, m), k, m)
+    let masks = masks_of(mapping, k, m);
+    drop_views(&masks, take_views(&masks, set, k), k, m)
 }
 
 // The views that answer a query whose lowest edge that the set leaves unmatched is known: those chosen from the set, or all of it where it doesn't

@@ -1,19 +1,20 @@
 // The cheapest set of views that covers a query: the views still undecided are settled highest first, each taken or left.
 ghost use mathlib.Core.Path.{_≡_};
 ghost use mathlib.Core.List.{[]};
-ghost use Prim.Native.Nat.{ℕ, _+_, _-_, _^_, _≤_, _<_};
-ghost use lib.ListN.{length, getD};
+ghost use Prim.Native.Nat.{_+_, _≤_, _<_};
+ghost use lib.ListN.{length};
 ghost use Rattle.packed.specs.Calls.{Outcome, Fulfils, toldOf};
-ghost use Rattle.matching.specs.Masks.{Mask};
+ghost use Rattle.matching.specs.Offered.{brings};
 ghost use Rattle.containment.specs.Quote.{Quoted};
 ghost use Rattle.containment.specs.Cheapest.{cheapestFrom, cheapestFor, cheapestOutcome, cheapestTold};
 ghost use Rattle.containment.specs.Steps.{JudgedTo, AnyJudged};
 ghost use Rattle.containment.specs.Terms.{cheapestOn};
-ghost use Rattle.containment.specs.Tries.{EdgeMatchedBy, TriedRoom, taking, isFirst, foremostTried, settled};
+ghost use Rattle.containment.specs.Tries.{TriedRoom, taking, isFirst, foremostTried, settled};
 use crate::choose;
 use crate::judging;
 use crate::judging::Judged;
 use crate::terms::Terms;
+use matching::sets;
 use packed::reply::Refusal;
 use packed::reply::Reply;
 
@@ -33,56 +34,16 @@ pub struct Tried {
     pub matched: u32,
 }
 
-// The mask of those of the first m edges that the view a matches.
-fn edges_of(mapping: &[u32; 512], a: usize, m: usize) -> u32
-    requires { ⌜ (a < 16) × (m ≤ 32) ⌝ }
-    ensures { λ r. ⌜ Mask (EdgeMatchedBy (now (mapping .entry)) a m) r ⌝ }
-{
-    let mut mask: u32 = 0;
-    let mut e: usize = 0;
-    while e < m {
-        let at = 16 * e + a;
-        if mapping[at] != 0 {
-            mask = mask | choose::only(e);
-        }
-        e += 1;
-    }
-    mask
-}
-
-// These masks of the first k views.
-fn masks_of(mapping: &[u32; 512], k: usize, m: usize) -> [u32; 16]
-    requires { ⌜ (k ≤ 16) × (m ≤ 32) ⌝ }
-    ensures { λ r. ⌜ ((a : ℕ) → a < k → Mask (EdgeMatchedBy (now (mapping .entry)) a m) (getD r a 0)) ⌝ }
-{
-    let mut masks = [0u32; 16];
-    let mut a: usize = 0;
-    while a < k {
-        masks[a] = edges_of(mapping, a, m);
-        a += 1;
-    }
-    masks
-}
-
-// The mask of the first m edges.
-fn first_edges(m: usize) -> u32
-    requires { ⌜ m ≤ 32 ⌝ }
-    ensures { λ r. ⌜ r ≡ 2 ^ m - 1 ⌝ }
-{
-    let over: u64 = 1 << m;
-    (over - 1) as u32
-}
-
 // The set with the view a, which has this charge and matches these edges.
 fn take_view(x: Tried, a: usize, charge: u32, mask: u32) -> Tried
     requires { ⌜ (a < 16) × TriedRoom (a + 1) x ⌝ }
     ensures { λ r. ⌜ r ≡ taking a charge mask x ⌝ }
 {
     Tried {
-        set: x.set + choose::only(a),
+        set: x.set + sets::only(a),
         sum: x.sum + charge as u64,
         number: x.number + 1,
-        turned: x.turned + choose::only(15 - a),
+        turned: x.turned + sets::only(15 - a),
         matched: x.matched | mask,
     }
 }
@@ -135,7 +96,7 @@ fn cheapest_of(mapping: &[u32; 512], usable: u32, charges: &[u32], k: usize, m: 
         return Cheapest::Refused(Refusal::NotContained(e as u32));
     }
     let columns = choose::columns_in(mapping, usable);
-    let masks = masks_of(&columns, k, m);
+    let masks = choose::masks_of(&columns, k, m);
     let none = Tried {
         set: 0,
         sum: 0,
@@ -143,7 +104,7 @@ fn cheapest_of(mapping: &[u32; 512], usable: u32, charges: &[u32], k: usize, m: 
         turned: 0,
         matched: 0,
     };
-    let x = settle(&masks, charges, first_edges(m), k, none);
+    let x = settle(&masks, charges, choose::first_edges(m), k, none);
     let chosen = choose::choose(mapping, usable, k, m);
     Cheapest::Of(x.set as u16, x.sum, chosen as u16)
 }
@@ -170,13 +131,14 @@ fn cheapest_judged(f: Judged, charges: &[u32]) -> Cheapest
 pub(crate) fn find_cheapest(
     question: &[u8],
     catalogue: &[u8],
+    one_way: u32,
     charges: &[u32],
     work: &mut [u32],
 ) -> Cheapest
     requires { ⌜ length (now work) ≡ 16384 ⌝ }
-    ensures { λ r. ⌜ Fulfils [] (cheapestOutcome (now (question .entry)) (now (catalogue .entry)) (now (charges .entry))) (cheapestTold r) [] [] ⌝ }
+    ensures { λ r. ⌜ Fulfils [] (cheapestOutcome (now (question .entry)) (brings (now (catalogue .entry)) «one_way») (now (charges .entry))) (cheapestTold r) [] [] ⌝ }
 {
-    let f = judging::judge(question, catalogue, work);
+    let f = judging::judge(question, catalogue, one_way, work);
     cheapest_judged(f, charges)
 }
 
@@ -184,14 +146,15 @@ pub(crate) fn find_cheapest(
 pub(crate) fn find_cheapest_on(
     question: &[u8],
     catalogue: &[u8],
+    one_way: u32,
     terms: Terms,
     day: u16,
     charges: &[u32],
     work: &mut [u32],
 ) -> Cheapest
     requires { ⌜ length (now work) ≡ 16384 ⌝ }
-    ensures { λ r. ⌜ Fulfils [] (cheapestOn (now (question .entry)) (now (catalogue .entry)) terms day (now (charges .entry))) (cheapestTold r) [] [] ⌝ }
+    ensures { λ r. ⌜ Fulfils [] (cheapestOn (now (question .entry)) (brings (now (catalogue .entry)) «one_way») terms day (now (charges .entry))) (cheapestTold r) [] [] ⌝ }
 {
-    let f = judging::judge_on(question, catalogue, terms, day, work);
+    let f = judging::judge_on(question, catalogue, one_way, terms, day, work);
     cheapest_judged(f, charges)
 }

@@ -4,6 +4,7 @@ ghost use mathlib.Core.List.{[]};
 ghost use Prim.Native.Nat.{_≤_};
 ghost use lib.ListN.{length};
 ghost use Rattle.packed.specs.Calls.{Fulfils};
+ghost use Rattle.matching.specs.Offered.{brings};
 ghost use Rattle.containment.specs.Choice.{coversIn};
 ghost use Rattle.containment.specs.Terms.{inForce, sooner, earliest, firstDay, firstDayTold};
 use crate::choose;
@@ -58,14 +59,15 @@ fn earliest_of(table: &[u32; 512], t: Terms, day: u16, k: usize, m: usize) -> u3
 pub(crate) fn find_first_day(
     question: &[u8],
     catalogue: &[u8],
+    one_way: u32,
     t: Terms,
     day: u16,
     work: &mut [u32],
 ) -> FirstDay
     requires { ⌜ length (now work) ≡ 16384 ⌝ }
-    ensures { λ r. ⌜ Fulfils [] (firstDay (now (question .entry)) (now (catalogue .entry)) t day) (firstDayTold r) [] [] ⌝ }
+    ensures { λ r. ⌜ Fulfils [] (firstDay (now (question .entry)) (brings (now (catalogue .entry)) «one_way») t day) (firstDayTold r) [] [] ⌝ }
 {
-    let f = judging::judge_on(question, catalogue, t, day, work);
+    let f = judging::judge_on(question, catalogue, one_way, t, day, work);
     let verdict = f.verdict;
     if let Reply::Refused(x) = verdict {
         return FirstDay::Refused(x);

@@ -1,17 +1,16 @@
 // What a client brings is judged here, in one order for every call that quotes: the question, then the catalogue, then the terms, where a call is for a
-// day. The quote's table is made between.
+// day, then the set of the views that are matched one-way. The quote's table is made last.
 ghost use mathlib.Core.Path.{_≡_};
-ghost use Prim.Native.Nat.{_≤_};
 ghost use lib.ListN.{length};
-ghost use Rattle.packed.specs.Calls.{Outcome};
-ghost use Rattle.matching.specs.Offered.{offered};
-ghost use Rattle.containment.specs.Quote.{Quoted, quoted};
-ghost use Rattle.containment.specs.Steps.{Query, NoQuery, Handed, JudgedTo};
-ghost use Rattle.containment.specs.Terms.{withTerms, quotedOn};
+ghost use Rattle.matching.specs.Offered.{brings, offered};
+ghost use Rattle.containment.specs.Quote.{quotedBy, quoted};
+ghost use Rattle.containment.specs.Steps.{Query, NoQuery, JudgedTo};
+ghost use Rattle.containment.specs.Terms.{offeredOn, quotedOn};
 use crate::choose;
 use crate::mapping;
 use crate::terms;
 use crate::terms::Terms;
+use matching::offered;
 use packed::accept;
 use packed::accept::CatalogueFile;
 use packed::by_value;
@@ -43,20 +42,20 @@ fn refused(x: Refusal) -> Judged
     }
 }
 
-// The catalogue, once the question is accepted.
-fn judge_views(query: Pattern, catalogue: &[u8], work: &mut [u32]) -> Judged
+// The catalogue and its set, once the question is accepted.
+fn judge_views(query: Pattern, catalogue: &[u8], one_way: u32, work: &mut [u32]) -> Judged
     requires { ⌜ Query query × (length (now work) ≡ 16384) ⌝ }
-    ensures { λ r. ⌜ ((t : Query query) → JudgedTo (λ k. offered (now (catalogue .entry)) (λ o. k (record { content = t .content; offer = o; usable = 65535 }))) r (r .verdict)) ⌝ }
+    ensures { λ r. ⌜ ((t : Query query) → JudgedTo (λ k. offered (brings (now (catalogue .entry)) «one_way») (λ o. k (quotedBy (t .content) o))) r (r .verdict)) ⌝ }
 {
     let CatalogueFile {
         verdict,
         views,
         edges,
-    } = accept::accept_catalogue(catalogue, work);
+    } = offered::accept_offer(catalogue, one_way, work);
     if let Reply::Refused(x) = verdict {
         return refused(x);
     }
-    let table = mapping::map_views(query, catalogue, views, work);
+    let table = mapping::map_views(query, catalogue, one_way, views, work);
     Judged {
         verdict,
         query,
@@ -67,54 +66,72 @@ fn judge_views(query: Pattern, catalogue: &[u8], work: &mut [u32]) -> Judged
     }
 }
 
-pub fn judge(question: &[u8], catalogue: &[u8], work: &mut [u32]) -> Judged
+pub fn judge(question: &[u8], catalogue: &[u8], one_way: u32, work: &mut [u32]) -> Judged
     requires { ⌜ length (now work) ≡ 16384 ⌝ }
-    ensures { λ r. ⌜ JudgedTo (quoted (now (question .entry)) (now (catalogue .entry))) r (r .verdict) ⌝ }
+    ensures { λ r. ⌜ JudgedTo (quoted (now (question .entry)) (brings (now (catalogue .entry)) «one_way»)) r (r .verdict) ⌝ }
 {
     let f = accept::accept_pattern(question, work);
     let verdict = f.verdict;
     if let Reply::Refused(x) = verdict {
         return refused(x);
     }
-    judge_views(f.pattern, catalogue, work)
+    judge_views(f.pattern, catalogue, one_way, work)
 }
 
-// The terms, once the question and the catalogue are accepted: for the day, the views in force may be used.
-fn judge_terms(f: Judged, t: Terms, day: u16) -> Judged
-    requires { ⌜ f .views ≤ 16 ⌝ }
-    ensures { λ r. ⌜ ((g : (Quoted → Outcome) → Outcome) → Handed g f → JudgedTo (λ k. g (withTerms t day k)) r (r .verdict)) ⌝ }
+// The same for a day, with the terms between: the views in force may be used.
+fn judge_views_on(
+    query: Pattern,
+    catalogue: &[u8],
+    one_way: u32,
+    t: Terms,
+    day: u16,
+    work: &mut [u32],
+) -> Judged
+    requires { ⌜ Query query × (length (now work) ≡ 16384) ⌝ }
+    ensures { λ r. ⌜ ((q : Query query) → JudgedTo (offeredOn (q .content) (brings (now (catalogue .entry)) «one_way») t day) r (r .verdict)) ⌝ }
 {
-    let k = f.views;
-    let number = t.number;
-    if number != k {
-        return refused(Refusal::WrongTerms(number));
-    }
-    let turned = terms::first_turned(t, k);
-    if turned < k {
-        return refused(Refusal::WrongTerms(turned));
-    }
-    let query = f.query;
-    let edges = f.edges;
-    let table = f.table;
-    Judged {
-        verdict: Reply::Done(0),
-        query,
-        views: k,
+    let CatalogueFile {
+        verdict,
+        views,
         edges,
-        usable: terms::in_force(t, day, k),
+    } = accept::accept_catalogue(catalogue, work);
+    if let Reply::Refused(x) = verdict {
+        return refused(x);
+    }
+    let right = terms::judge_terms(t, views);
+    if let Reply::Refused(x) = right {
+        return refused(x);
+    }
+    let named = offered::judge_set(one_way, views);
+    if let Reply::Refused(x) = named {
+        return refused(x);
+    }
+    let table = mapping::map_views(query, catalogue, one_way, views, work);
+    Judged {
+        verdict,
+        query,
+        views,
+        edges,
+        usable: terms::in_force(t, day, views),
         table,
     }
 }
 
-// The same for a day.
-pub fn judge_on(question: &[u8], catalogue: &[u8], t: Terms, day: u16, work: &mut [u32]) -> Judged
+pub fn judge_on(
+    question: &[u8],
+    catalogue: &[u8],
+    one_way: u32,
+    t: Terms,
+    day: u16,
+    work: &mut [u32],
+) -> Judged
     requires { ⌜ length (now work) ≡ 16384 ⌝ }
-    ensures { λ r. ⌜ JudgedTo (quotedOn (now (question .entry)) (now (catalogue .entry)) t day) r (r .verdict) ⌝ }
+    ensures { λ r. ⌜ JudgedTo (quotedOn (now (question .entry)) (brings (now (catalogue .entry)) «one_way») t day) r (r .verdict) ⌝ }
 {
-    let f = judge(question, catalogue, work);
+    let f = accept::accept_pattern(question, work);
     let verdict = f.verdict;
     if let Reply::Refused(x) = verdict {
         return refused(x);
     }
-    judge_terms(f, t, day)
+    judge_views_on(f.pattern, catalogue, one_way, t, day, work)
 }

@@ -1,6 +1,5 @@
 // Containment of a query in views: quotes, the cheapest views, answers from a book, why a query is not covered, and the part that is answered.
 mod answering;
-pub mod both;
 mod choose;
 pub mod costing;
 pub mod days;
@@ -18,19 +17,19 @@ ghost use mathlib.Core.Path.{_≡_};
 ghost use mathlib.Core.List.{[], _∷_};
 ghost use lib.ListN.{length};
 ghost use Rattle.packed.specs.Calls.{OneOutput, Settled, withWorkspace};
-ghost use Rattle.packed.specs.Refusals.{replyTold};
+ghost use Rattle.packed.specs.Refusals.{replyTold, bothTold};
+ghost use Rattle.matching.specs.Offered.{brings};
 ghost use Rattle.containment.specs.Answer.{answerFrom, answerOutcome};
-ghost use Rattle.containment.specs.Both.{bothTold};
 ghost use Rattle.containment.specs.Cheapest.{cheapestOutcome, cheapestTold};
 ghost use Rattle.containment.specs.Part.{partOutcome};
 ghost use Rattle.containment.specs.Quote.{quoteOutcome, quoteTold, blank};
 ghost use Rattle.containment.specs.Several.{severalOutcome, severalTold};
 ghost use Rattle.containment.specs.Show.{showOutcome};
 ghost use Rattle.containment.specs.Terms.{spreadOf, quoteOn, cheapestOn, partOn, showOn, firstDay, firstDayTold};
-use both::Both;
 use costing::Cheapest;
 use days::FirstDay;
 use packed::limits;
+use packed::reply::Both;
 use packed::reply::Refusal;
 use packed::reply::Reply;
 use packed::workspace;
@@ -42,21 +41,33 @@ use terms::Terms;
 // How much of the workspace is zero after every call.
 const CLEARED: usize = limits::WORKSPACE;
 
-// Quotes a question with a catalogue.
-pub fn quote(question: &[u8], catalogue: &[u8], work: &mut [u32]) -> Quote
-    ensures { λ r. ⌜ Settled blank (withWorkspace (length (now (work .entry))) (quoteOutcome (now (question .entry)) (now (catalogue .entry)))) (quoteTold r) [] [] (now (work .entry)) (now (work .exit)) ⌝ }
+// Quotes a question with a catalogue. Here and in every call below the set beside the catalogue names the extracts that are matched one-way, the bit
+// worth 2^j for extract j; the others are matched both ways.
+pub fn quote(question: &[u8], catalogue: &[u8], one_way: u16, work: &mut [u32]) -> Quote
+    ensures { λ r. ⌜ Settled blank (withWorkspace (length (now (work .entry))) (quoteOutcome (now (question .entry)) (brings (now (catalogue .entry)) «one_way»))) (quoteTold r) [] [] (now (work .entry)) (now (work .exit)) ⌝ }
 {
     if work.len() < limits::WORKSPACE {
         return quoting::refused(Refusal::SmallWorkspace);
     }
-    let r = quoting::quote(question, catalogue, &mut work[0..limits::WORKSPACE]);
+    let r = quoting::quote(
+        question,
+        catalogue,
+        one_way as u32,
+        &mut work[0..limits::WORKSPACE],
+    );
     workspace::clear(work, CLEARED);
     r
 }
 
 // The cheapest set of extracts that covers a question, by the charges of the extracts.
-pub fn cheapest(question: &[u8], catalogue: &[u8], charges: &[u32], work: &mut [u32]) -> Cheapest
-    ensures { λ r. ⌜ Settled [] (withWorkspace (length (now (work .entry))) (cheapestOutcome (now (question .entry)) (now (catalogue .entry)) (now (charges .entry)))) (cheapestTold r) [] [] (now (work .entry)) (now (work .exit)) ⌝ }
+pub fn cheapest(
+    question: &[u8],
+    catalogue: &[u8],
+    one_way: u16,
+    charges: &[u32],
+    work: &mut [u32],
+) -> Cheapest
+    ensures { λ r. ⌜ Settled [] (withWorkspace (length (now (work .entry))) (cheapestOutcome (now (question .entry)) (brings (now (catalogue .entry)) «one_way») (now (charges .entry)))) (cheapestTold r) [] [] (now (work .entry)) (now (work .exit)) ⌝ }
 {
     if work.len() < limits::WORKSPACE {
         return Cheapest::Refused(Refusal::SmallWorkspace);
@@ -64,6 +75,7 @@ pub fn cheapest(question: &[u8], catalogue: &[u8], charges: &[u32], work: &mut [
     let r = costing::find_cheapest(
         question,
         catalogue,
+        one_way as u32,
         charges,
         &mut work[0..limits::WORKSPACE],
     );
@@ -75,11 +87,12 @@ pub fn cheapest(question: &[u8], catalogue: &[u8], charges: &[u32], work: &mut [
 pub fn answer(
     question: &[u8],
     catalogue: &[u8],
+    one_way: u16,
     book: &[u8],
     out: &mut [u8],
     work: &mut [u32],
 ) -> Reply
-    ensures { λ r. ⌜ OneOutput (answerOutcome (now (question .entry)) (now (catalogue .entry)) (now (book .entry))) (replyTold r) (now (out .entry)) (now (out .exit)) (now (work .entry)) (now (work .exit)) ⌝ }
+    ensures { λ r. ⌜ OneOutput (answerOutcome (now (question .entry)) (brings (now (catalogue .entry)) «one_way») (now (book .entry))) (replyTold r) (now (out .entry)) (now (out .exit)) (now (work .entry)) (now (work .exit)) ⌝ }
 {
     if work.len() < limits::WORKSPACE {
         return Reply::Refused(Refusal::SmallWorkspace);
@@ -87,6 +100,7 @@ pub fn answer(
     let r = answering::answer(
         question,
         catalogue,
+        one_way as u32,
         book,
         out,
         &mut work[0..limits::WORKSPACE],
@@ -99,12 +113,13 @@ pub fn answer(
 pub fn answer_from(
     question: &[u8],
     catalogue: &[u8],
+    one_way: u16,
     set: u16,
     book: &[u8],
     out: &mut [u8],
     work: &mut [u32],
 ) -> Reply
-    ensures { λ r. ⌜ OneOutput (answerFrom (now (question .entry)) (now (catalogue .entry)) set (now (book .entry))) (replyTold r) (now (out .entry)) (now (out .exit)) (now (work .entry)) (now (work .exit)) ⌝ }
+    ensures { λ r. ⌜ OneOutput (answerFrom (now (question .entry)) (brings (now (catalogue .entry)) «one_way») set (now (book .entry))) (replyTold r) (now (out .entry)) (now (out .exit)) (now (work .entry)) (now (work .exit)) ⌝ }
 {
     if work.len() < limits::WORKSPACE {
         return Reply::Refused(Refusal::SmallWorkspace);
@@ -112,6 +127,7 @@ pub fn answer_from(
     let r = answering::answer_from(
         question,
         catalogue,
+        one_way as u32,
         set as u32,
         book,
         out,
@@ -125,11 +141,12 @@ pub fn answer_from(
 pub fn show_uncovered(
     question: &[u8],
     catalogue: &[u8],
+    one_way: u16,
     first: &mut [u8],
     second: &mut [u8],
     work: &mut [u32],
 ) -> Both
-    ensures { λ r. ⌜ Settled [] (withWorkspace (length (now (work .entry))) (showOutcome (now (question .entry)) (now (catalogue .entry)) (length (now (first .entry))) (length (now (second .entry))))) (bothTold r) (now (first .entry) ∷ now (second .entry) ∷ []) (now (first .exit) ∷ now (second .exit) ∷ []) (now (work .entry)) (now (work .exit)) ⌝ }
+    ensures { λ r. ⌜ Settled [] (withWorkspace (length (now (work .entry))) (showOutcome (now (question .entry)) (brings (now (catalogue .entry)) «one_way») (length (now (first .entry))) (length (now (second .entry))))) (bothTold r) (now (first .entry) ∷ now (second .entry) ∷ []) (now (first .exit) ∷ now (second .exit) ∷ []) (now (work .entry)) (now (work .exit)) ⌝ }
 {
     if work.len() < limits::WORKSPACE {
         return Both::Refused(Refusal::SmallWorkspace);
@@ -137,6 +154,7 @@ pub fn show_uncovered(
     let r = showing::show(
         question,
         catalogue,
+        one_way as u32,
         first,
         second,
         &mut work[0..limits::WORKSPACE],
@@ -149,12 +167,13 @@ pub fn show_uncovered(
 pub fn part(
     question: &[u8],
     catalogue: &[u8],
+    one_way: u16,
     book: &[u8],
     part: &mut [u8],
     answer: &mut [u8],
     work: &mut [u32],
 ) -> Both
-    ensures { λ r. ⌜ Settled [] (withWorkspace (length (now (work .entry))) (partOutcome (now (question .entry)) (now (catalogue .entry)) (now (book .entry)) (length (now (part .entry))) (length (now (answer .entry))))) (bothTold r) (now (part .entry) ∷ now (answer .entry) ∷ []) (now (part .exit) ∷ now (answer .exit) ∷ []) (now (work .entry)) (now (work .exit)) ⌝ }
+    ensures { λ r. ⌜ Settled [] (withWorkspace (length (now (work .entry))) (partOutcome (now (question .entry)) (brings (now (catalogue .entry)) «one_way») (now (book .entry)) (length (now (part .entry))) (length (now (answer .entry))))) (bothTold r) (now (part .entry) ∷ now (answer .entry) ∷ []) (now (part .exit) ∷ now (answer .exit) ∷ []) (now (work .entry)) (now (work .exit)) ⌝ }
 {
     if work.len() < limits::WORKSPACE {
         return Both::Refused(Refusal::SmallWorkspace);
@@ -162,6 +181,7 @@ pub fn part(
     let r = parting::part(
         question,
         catalogue,
+        one_way as u32,
         book,
         part,
         answer,
@@ -177,11 +197,12 @@ pub fn answer_several(
     questions: &[u8],
     number: u32,
     catalogue: &[u8],
+    one_way: u16,
     book: &[u8],
     out: &mut [u8],
     work: &mut [u32],
 ) -> Several
-    ensures { λ r. ⌜ Settled [] (withWorkspace (length (now (work .entry))) (severalOutcome (now (questions .entry)) number (now (catalogue .entry)) (now (book .entry)) (length (now (out .entry))))) (severalTold r) (now (out .entry) ∷ []) (now (out .exit) ∷ []) (now (work .entry)) (now (work .exit)) ⌝ }
+    ensures { λ r. ⌜ Settled [] (withWorkspace (length (now (work .entry))) (severalOutcome (now (questions .entry)) number (brings (now (catalogue .entry)) «one_way») (now (book .entry)) (length (now (out .entry))))) (severalTold r) (now (out .entry) ∷ []) (now (out .exit) ∷ []) (now (work .entry)) (now (work .exit)) ⌝ }
 {
     if work.len() < limits::WORKSPACE {
         return Several::Refused(Refusal::SmallWorkspace);
@@ -190,6 +211,7 @@ pub fn answer_several(
         questions,
         number,
         catalogue,
+        one_way as u32,
         book,
         out,
         &mut work[0..limits::WORKSPACE],
@@ -218,11 +240,12 @@ pub fn spread(terms: &[Term]) -> Terms
 pub fn quote_on(
     question: &[u8],
     catalogue: &[u8],
+    one_way: u16,
     terms: Terms,
     day: u16,
     work: &mut [u32],
 ) -> Quote
-    ensures { λ r. ⌜ Settled blank (withWorkspace (length (now (work .entry))) (quoteOn (now (question .entry)) (now (catalogue .entry)) terms day)) (quoteTold r) [] [] (now (work .entry)) (now (work .exit)) ⌝ }
+    ensures { λ r. ⌜ Settled blank (withWorkspace (length (now (work .entry))) (quoteOn (now (question .entry)) (brings (now (catalogue .entry)) «one_way») terms day)) (quoteTold r) [] [] (now (work .entry)) (now (work .exit)) ⌝ }
 {
     if work.len() < limits::WORKSPACE {
         return quoting::refused(Refusal::SmallWorkspace);
@@ -230,6 +253,7 @@ pub fn quote_on(
     let r = quoting::quote_on(
         question,
         catalogue,
+        one_way as u32,
         terms,
         day,
         &mut work[0..limits::WORKSPACE],
@@ -242,12 +266,13 @@ pub fn quote_on(
 pub fn cheapest_on(
     question: &[u8],
     catalogue: &[u8],
+    one_way: u16,
     terms: Terms,
     day: u16,
     charges: &[u32],
     work: &mut [u32],
 ) -> Cheapest
-    ensures { λ r. ⌜ Settled [] (withWorkspace (length (now (work .entry))) (cheapestOn (now (question .entry)) (now (catalogue .entry)) terms day (now (charges .entry)))) (cheapestTold r) [] [] (now (work .entry)) (now (work .exit)) ⌝ }
+    ensures { λ r. ⌜ Settled [] (withWorkspace (length (now (work .entry))) (cheapestOn (now (question .entry)) (brings (now (catalogue .entry)) «one_way») terms day (now (charges .entry)))) (cheapestTold r) [] [] (now (work .entry)) (now (work .exit)) ⌝ }
 {
     if work.len() < limits::WORKSPACE {
         return Cheapest::Refused(Refusal::SmallWorkspace);
@@ -255,6 +280,7 @@ pub fn cheapest_on(
     let r = costing::find_cheapest_on(
         question,
         catalogue,
+        one_way as u32,
         terms,
         day,
         charges,
@@ -268,6 +294,7 @@ pub fn cheapest_on(
 pub fn part_on(
     question: &[u8],
     catalogue: &[u8],
+    one_way: u16,
     terms: Terms,
     day: u16,
     book: &[u8],
@@ -275,7 +302,7 @@ pub fn part_on(
     answer: &mut [u8],
     work: &mut [u32],
 ) -> Both
-    ensures { λ r. ⌜ Settled [] (withWorkspace (length (now (work .entry))) (partOn (now (question .entry)) (now (catalogue .entry)) terms day (now (book .entry)) (length (now (part .entry))) (length (now (answer .entry))))) (bothTold r) (now (part .entry) ∷ now (answer .entry) ∷ []) (now (part .exit) ∷ now (answer .exit) ∷ []) (now (work .entry)) (now (work .exit)) ⌝ }
+    ensures { λ r. ⌜ Settled [] (withWorkspace (length (now (work .entry))) (partOn (now (question .entry)) (brings (now (catalogue .entry)) «one_way») terms day (now (book .entry)) (length (now (part .entry))) (length (now (answer .entry))))) (bothTold r) (now (part .entry) ∷ now (answer .entry) ∷ []) (now (part .exit) ∷ now (answer .exit) ∷ []) (now (work .entry)) (now (work .exit)) ⌝ }
 {
     if work.len() < limits::WORKSPACE {
         return Both::Refused(Refusal::SmallWorkspace);
@@ -283,6 +310,7 @@ pub fn part_on(
     let r = parting::part_on(
         question,
         catalogue,
+        one_way as u32,
         terms,
         day,
         book,
@@ -298,13 +326,14 @@ pub fn part_on(
 pub fn show_on(
     question: &[u8],
     catalogue: &[u8],
+    one_way: u16,
     terms: Terms,
     day: u16,
     first: &mut [u8],
     second: &mut [u8],
     work: &mut [u32],
 ) -> Both
-    ensures { λ r. ⌜ Settled [] (withWorkspace (length (now (work .entry))) (showOn (now (question .entry)) (now (catalogue .entry)) terms day (length (now (first .entry))) (length (now (second .entry))))) (bothTold r) (now (first .entry) ∷ now (second .entry) ∷ []) (now (first .exit) ∷ now (second .exit) ∷ []) (now (work .entry)) (now (work .exit)) ⌝ }
+    ensures { λ r. ⌜ Settled [] (withWorkspace (length (now (work .entry))) (showOn (now (question .entry)) (brings (now (catalogue .entry)) «one_way») terms day (length (now (first .entry))) (length (now (second .entry))))) (bothTold r) (now (first .entry) ∷ now (second .entry) ∷ []) (now (first .exit) ∷ now (second .exit) ∷ []) (now (work .entry)) (now (work .exit)) ⌝ }
 {
     if work.len() < limits::WORKSPACE {
         return Both::Refused(Refusal::SmallWorkspace);
@@ -312,6 +341,7 @@ pub fn show_on(
     let r = showing::show_on(
         question,
         catalogue,
+        one_way as u32,
         terms,
         day,
         first,
@@ -326,11 +356,12 @@ pub fn show_on(
 pub fn first_day(
     question: &[u8],
     catalogue: &[u8],
+    one_way: u16,
     terms: Terms,
     day: u16,
     work: &mut [u32],
 ) -> FirstDay
-    ensures { λ r. ⌜ Settled [] (withWorkspace (length (now (work .entry))) (firstDay (now (question .entry)) (now (catalogue .entry)) terms day)) (firstDayTold r) [] [] (now (work .entry)) (now (work .exit)) ⌝ }
+    ensures { λ r. ⌜ Settled [] (withWorkspace (length (now (work .entry))) (firstDay (now (question .entry)) (brings (now (catalogue .entry)) «one_way») terms day)) (firstDayTold r) [] [] (now (work .entry)) (now (work .exit)) ⌝ }
 {
     if work.len() < limits::WORKSPACE {
         return FirstDay::Refused(Refusal::SmallWorkspace);
@@ -338,6 +369,7 @@ pub fn first_day(
     let r = days::find_first_day(
         question,
         catalogue,
+        one_way as u32,
         terms,
         day,
         &mut work[0..limits::WORKSPACE],

@@ -1,22 +1,22 @@
 // The table of a query and the views of a catalogue: which edges of each view match each edge of the query.
 ghost use mathlib.Core.Path.{_≡_};
-ghost use mathlib.Core.List.{map};
 ghost use Prim.Native.Nat.{ℕ, _+_, _*_, _≤_, _<_};
 ghost use lib.ListN.{length, getD, replicate};
 ghost use Rattle.packed.specs.Format.{ok, decode};
 ghost use Rattle.packed.specs.Formats.{record′};
-ghost use Rattle.packed.specs.Contents.{viewsOf};
 ghost use Rattle.packed.specs.LoadedGraph.{Holds};
 ghost use Rattle.packed.specs.Matches.{Marked, matchesOf};
-ghost use Rattle.matching.specs.Simulation.{patternOf};
-ghost use Rattle.matching.specs.Matched.{Rises};
-ghost use Rattle.matching.specs.Loaded.{Fair, givenEdge, patternIn};
+ghost use Rattle.engine.specs.Simulation.{patternOf};
+ghost use Rattle.engine.specs.Matched.{Rises};
+ghost use Rattle.engine.specs.Loaded.{Fair, givenEdge, patternIn};
+ghost use Rattle.matching.specs.Offered.{offers, viewPatterns};
 ghost use Rattle.containment.specs.Quote.{maskIn, mapping};
 ghost use Rattle.containment.specs.Show.{graphFields};
 ghost use Rattle.containment.specs.Steps.{Query, Views, PlaceOf, Present, Within, Column, MaskOf, wordAt};
 use crate::query;
-use matching::matched;
-use matching::views;
+use engine::matched;
+use engine::views;
+use matching::offered;
 use packed::by_value::Pattern;
 use packed::graph;
 use packed::graph::Graph;
@@ -80,18 +80,20 @@ pub fn no_words() -> [u32; 16]
     [0u32; 16]
 }
 
-// The masks of the k views of a catalogue on the record s of the query, with n nodes and m edges.
+// The masks of the k views of a catalogue on the record s of the query, with n nodes and m edges: each view is matched by its own rule, one-way if it is
+// in the set.
 fn note_views(
     q: Pattern,
     s: &[u8],
     n: usize,
     m: usize,
     catalogue: &[u8],
+    one_way: u32,
     k: usize,
     work: &mut [u32],
 ) -> [u32; 512]
     requires { ⌜ Query q × Views (now catalogue) k × (length (now s) ≤ 65536) × (length (now catalogue) ≤ 65536) × Holds (now s) n m (now work) × ((t : Query q) → decode record′ (now s) ≡ ok (graphFields (t .content))) ⌝ }
-    ensures { λ r. ⌜ ((t : Query q) (v : Views (now (catalogue .entry)) k) → r ≡ mapping (patternOf (t .content)) (map patternOf (viewsOf (v .content)))) ⌝ }
+    ensures { λ r. ⌜ ((t : Query q) (v : Views (now (catalogue .entry)) k) → r ≡ mapping (patternOf (t .content)) (viewPatterns (offers (v .content) «one_way»))) ⌝ }
 {
     let mut mapping = no_mapping();
     let mut leave = no_words();
@@ -102,7 +104,8 @@ fn note_views(
     while a < k {
         let v = views::view_at(catalogue, byte);
         let p = v.pattern;
-        matched::match_edges(s, n, m, p, true, work, &mut leave, &mut arrive, &mut held);
+        let both = offered::is_both(one_way, a);
+        matched::match_edges(s, n, m, p, both, work, &mut leave, &mut arrive, &mut held);
         note_view(&mut mapping, a, q, m, p, work);
         byte = v.next;
         a += 1;
@@ -117,15 +120,21 @@ fn no_bytes() -> [u8; 176]
 }
 
 // The table of the query and the k views of a catalogue.
-pub fn map_views(q: Pattern, catalogue: &[u8], k: usize, work: &mut [u32]) -> [u32; 512]
+pub fn map_views(
+    q: Pattern,
+    catalogue: &[u8],
+    one_way: u32,
+    k: usize,
+    work: &mut [u32],
+) -> [u32; 512]
     requires { ⌜ Query q × Views (now catalogue) k × (length (now catalogue) ≤ 65536) × (length (now work) ≡ 16384) ⌝ }
-    ensures { λ r. ⌜ ((t : Query q) (v : Views (now (catalogue .entry)) k) → r ≡ mapping (patternOf (t .content)) (map patternOf (viewsOf (v .content)))) ⌝ }
+    ensures { λ r. ⌜ ((t : Query q) (v : Views (now (catalogue .entry)) k) → r ≡ mapping (patternOf (t .content)) (viewPatterns (offers (v .content) «one_way»))) ⌝ }
 {
     let mut bytes = no_bytes();
     let size = query::write_graph(q, 32, &mut bytes, work);
     let g = graph::load_record(&bytes[0..size], work);
     match g {
-        Graph::Of(n, m) => note_views(q, &bytes[0..size], n, m, catalogue, k, work),
+        Graph::Of(n, m) => note_views(q, &bytes[0..size], n, m, catalogue, one_way, k, work),
         Graph::Refused(_) => no_mapping(),
     }
 }

@@ -7,21 +7,21 @@ ghost use lib.ListN.{length, take};
 ghost use lib.Seq.{sets};
 ghost use Rattle.packed.specs.Format.{ok, encode};
 ghost use Rattle.packed.specs.Formats.{pattern};
+ghost use Rattle.packed.specs.Refusals.{bothTold};
 ghost use Rattle.packed.specs.Calls.{Outcome, Fulfils};
-ghost use Rattle.matching.specs.Simulation.{Edge, bit};
-ghost use Rattle.matching.specs.Masks.{Mask};
-ghost use Rattle.matching.specs.Loaded.{Fair, patternIn};
+ghost use Rattle.engine.specs.Simulation.{Edge, bit};
+ghost use Rattle.engine.specs.Masks.{Mask};
+ghost use Rattle.engine.specs.Loaded.{Fair, patternIn};
 ghost use Rattle.matching.specs.Part.{rank, atPlaces, partOf, patternFields};
+ghost use Rattle.matching.specs.Offered.{brings};
 ghost use Rattle.containment.specs.Choice.{Passing, matchedIn};
 ghost use Rattle.containment.specs.Quote.{Quoted, usedBy};
 ghost use Rattle.containment.specs.Answer.{answerFor};
-ghost use Rattle.containment.specs.Both.{bothTold};
 ghost use Rattle.containment.specs.Part.{partBytes, partQuoted, fitPart, partFor, partOutcome};
 ghost use Rattle.containment.specs.Steps.{quotedAs, HoldsFields, JudgedTo, AnyJudged};
 ghost use Rattle.containment.specs.Terms.{partOn};
 ghost use Rattle.containment.specs.Parting.{EndTaken, takenFields, Adds, Takes, Picked, inRows, Partable};
 use crate::answering;
-use crate::both::Both;
 use crate::choose;
 use crate::judging;
 use crate::judging::Judged;
@@ -29,9 +29,11 @@ use crate::mapping;
 use crate::query;
 use crate::query::Fields;
 use crate::terms::Terms;
+use matching::sets;
 use packed::by_value;
 use packed::by_value::Pattern;
 use packed::pattern;
+use packed::reply::Both;
 use packed::reply::Part;
 use packed::reply::Refusal;
 use packed::reply::Reply;
@@ -45,7 +47,7 @@ pub fn matched_edges(table: &[u32; 512], set: u32, k: usize, m: usize) -> u32
     let mut e: usize = 0;
     while e < m {
         if choose::is_matched(table, set, e, k) {
-            taken = taken | choose::only(e);
+            taken = taken | sets::only(e);
         }
         e += 1;
     }
@@ -61,8 +63,8 @@ fn nodes_at(q: Pattern, taken: u32) -> u32
     let m = q.edges;
     let mut e: usize = 0;
     while e < m {
-        if choose::is_in(taken, e) {
-            nodes = nodes | (choose::only(q.from[e] as usize) | choose::only(q.to[e] as usize));
+        if sets::is_in(taken, e) {
+            nodes = nodes | (sets::only(q.from[e] as usize) | sets::only(q.to[e] as usize));
         }
         e += 1;
     }
@@ -77,7 +79,7 @@ pub fn number_in(set: u32, n: usize) -> u32
     let mut number: u32 = 0;
     let mut i: usize = 0;
     while i < n {
-        if choose::is_in(set, i) {
+        if sets::is_in(set, i) {
             number += 1;
         }
         i += 1;
@@ -118,7 +120,7 @@ fn with_labels(f: Fields, q: Pattern, nodes: u32) -> Fields
     let n = q.nodes;
     let mut u: usize = 0;
     while u < n {
-        if choose::is_in(nodes, u) {
+        if sets::is_in(nodes, u) {
             g = with_word(g, q.labels[u]);
         }
         u += 1;
@@ -143,7 +145,7 @@ fn with_edges(f: Fields, q: Pattern, taken: u32, nodes: u32) -> Fields
     let m = q.edges;
     let mut e: usize = 0;
     while e < m {
-        if choose::is_in(taken, e) {
+        if sets::is_in(taken, e) {
             let from = number_in(nodes, q.from[e] as usize);
             let to = number_in(nodes, q.to[e] as usize);
             g = with_edge(g, from, to, q.kind[e]);
@@ -174,7 +176,7 @@ pub fn part_rows(table: &[u32; 512], taken: u32, m: usize) -> [u32; 512]
     let mut j: usize = 0;
     let mut k: usize = 0;
     while k < end {
-        if choose::is_in(taken, k / 16) {
+        if sets::is_in(taken, k / 16) {
             rows[j] = table[k];
             j += 1;
         }
@@ -276,15 +278,16 @@ fn part_judged(f: Judged, book: &[u8], part: &mut [u8], answer: &mut [u8], work:
 pub fn part(
     question: &[u8],
     catalogue: &[u8],
+    one_way: u32,
     book: &[u8],
     part: &mut [u8],
     answer: &mut [u8],
     work: &mut [u32],
 ) -> Both
     requires { ⌜ length (now work) ≡ 16384 ⌝ }
-    ensures { λ r. ⌜ Fulfils [] (partOutcome (now (question .entry)) (now (catalogue .entry)) (now (book .entry)) (length (now (part .entry))) (length (now (answer .entry)))) (bothTold r) (now (part .entry) ∷ now (answer .entry) ∷ []) (now (part .exit) ∷ now (answer .exit) ∷ []) ⌝ }
+    ensures { λ r. ⌜ Fulfils [] (partOutcome (now (question .entry)) (brings (now (catalogue .entry)) «one_way») (now (book .entry)) (length (now (part .entry))) (length (now (answer .entry)))) (bothTold r) (now (part .entry) ∷ now (answer .entry) ∷ []) (now (part .exit) ∷ now (answer .exit) ∷ []) ⌝ }
 {
-    let f = judging::judge(question, catalogue, work);
+    let f = judging::judge(question, catalogue, one_way, work);
     part_judged(f, book, part, answer, work)
 }
 
@@ -292,6 +295,7 @@ pub fn part(
 pub fn part_on(
     question: &[u8],
     catalogue: &[u8],
+    one_way: u32,
     terms: Terms,
     day: u16,
     book: &[u8],
@@ -300,8 +304,8 @@ pub fn part_on(
     work: &mut [u32],
 ) -> Both
     requires { ⌜ length (now work) ≡ 16384 ⌝ }
-    ensures { λ r. ⌜ Fulfils [] (partOn (now (question .entry)) (now (catalogue .entry)) terms day (now (book .entry)) (length (now (part .entry))) (length (now (answer .entry)))) (bothTold r) (now (part .entry) ∷ now (answer .entry) ∷ []) (now (part .exit) ∷ now (answer .exit) ∷ []) ⌝ }
+    ensures { λ r. ⌜ Fulfils [] (partOn (now (question .entry)) (brings (now (catalogue .entry)) «one_way») terms day (now (book .entry)) (length (now (part .entry))) (length (now (answer .entry)))) (bothTold r) (now (part .entry) ∷ now (answer .entry) ∷ []) (now (part .exit) ∷ now (answer .exit) ∷ []) ⌝ }
 {
-    let f = judging::judge_on(question, catalogue, terms, day, work);
+    let f = judging::judge_on(question, catalogue, one_way, terms, day, work);
     part_judged(f, book, part, answer, work)
 }

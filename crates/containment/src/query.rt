@@ -4,7 +4,7 @@ ghost use mathlib.Core.List.{[], _∷_};
 ghost use Prim.Native.Nat.{_+_, _^_, _≤_, _<_};
 ghost use lib.ListN.{length, replicate, take};
 ghost use Rattle.packed.specs.Contents.{ranks};
-ghost use Rattle.matching.specs.Loaded.{Fair};
+ghost use Rattle.engine.specs.Loaded.{Fair};
 ghost use Rattle.containment.specs.Steps.{Query, powers, edgesBut, RanksFront, labelFields, fieldsBut, Front, Extends, HoldsFields, Graphed};
 use packed::by_value::Pattern;
 use packed::limits;

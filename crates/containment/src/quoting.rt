@@ -5,6 +5,7 @@ ghost use Prim.Native.Nat.{_≤_};
 ghost use lib.ListN.{length};
 ghost use Rattle.packed.specs.Refusals.{told, numberOf, detailOf};
 ghost use Rattle.packed.specs.Calls.{Outcome, Fulfils};
+ghost use Rattle.matching.specs.Offered.{brings};
 ghost use Rattle.containment.specs.Quote.{blank, flat, Quoted, valuesFrom, quoteFor, quoteOutcome, quoteTold};
 ghost use Rattle.containment.specs.Steps.{JudgedTo, AnyJudged};
 ghost use Rattle.containment.specs.Terms.{quoteOn};
@@ -69,11 +70,11 @@ fn quote_judged(f: Judged) -> Quote
     quote_of(table, f.usable, q.edges, f.views)
 }
 
-pub fn quote(question: &[u8], catalogue: &[u8], work: &mut [u32]) -> Quote
+pub fn quote(question: &[u8], catalogue: &[u8], one_way: u32, work: &mut [u32]) -> Quote
     requires { ⌜ length (now work) ≡ 16384 ⌝ }
-    ensures { λ r. ⌜ Fulfils blank (quoteOutcome (now (question .entry)) (now (catalogue .entry))) (quoteTold r) [] [] ⌝ }
+    ensures { λ r. ⌜ Fulfils blank (quoteOutcome (now (question .entry)) (brings (now (catalogue .entry)) «one_way»)) (quoteTold r) [] [] ⌝ }
 {
-    let f = judging::judge(question, catalogue, work);
+    let f = judging::judge(question, catalogue, one_way, work);
     quote_judged(f)
 }
 
@@ -81,13 +82,14 @@ pub fn quote(question: &[u8], catalogue: &[u8], work: &mut [u32]) -> Quote
 pub fn quote_on(
     question: &[u8],
     catalogue: &[u8],
+    one_way: u32,
     terms: Terms,
     day: u16,
     work: &mut [u32],
 ) -> Quote
     requires { ⌜ length (now work) ≡ 16384 ⌝ }
-    ensures { λ r. ⌜ Fulfils blank (quoteOn (now (question .entry)) (now (catalogue .entry)) terms day) (quoteTold r) [] [] ⌝ }
+    ensures { λ r. ⌜ Fulfils blank (quoteOn (now (question .entry)) (brings (now (catalogue .entry)) «one_way») terms day) (quoteTold r) [] [] ⌝ }
 {
-    let f = judging::judge_on(question, catalogue, terms, day, work);
+    let f = judging::judge_on(question, catalogue, one_way, terms, day, work);
     quote_judged(f)
 }

@@ -5,21 +5,22 @@ ghost use mathlib.Core.List.{List, [], _∷_};
 ghost use Prim.Native.Nat.{ℕ, _<_, _≤_};
 ghost use lib.ListN.{length, replicate};
 ghost use Rattle.packed.specs.Calls.{Fulfils, judged, readBook};
-ghost use Rattle.matching.specs.Loaded.{Fair, patternIn, Edges};
+ghost use Rattle.engine.specs.Loaded.{Fair, patternIn, Edges};
 ghost use Rattle.matching.specs.Join.{View, answerSets};
 ghost use Rattle.matching.specs.Books.{sheetSize};
 ghost use Rattle.matching.specs.Candidates.{Booked};
 ghost use Rattle.matching.specs.Joining.{Agrees};
-ghost use Rattle.matching.specs.Offered.{offeredBy};
+ghost use Rattle.matching.specs.Offered.{brings};
 ghost use Rattle.containment.specs.Several.{severalIn, fitSeveral, severalOutcome, severalTold};
-ghost use Rattle.containment.specs.Steps.{Views, ViewCounts};
+ghost use Rattle.containment.specs.Steps.{Views, ViewCounts, offerOf};
 ghost use Rattle.containment.specs.SeveralSteps.{Asked, askedAt, TablePut, TableFrom, firstLowest, Mapped, Answerable, answersOf, Measured, Held, Writable, Written};
 use crate::answering;
 use crate::choose;
 use crate::mapping;
 use crate::parting;
+use engine::views;
 use matching::join;
-use matching::views;
+use matching::offered;
 use packed::accept;
 use packed::accept::CatalogueFile;
 use packed::by_value::Pattern;
@@ -112,12 +113,13 @@ fn map_queries(
     questions: &[u8],
     number: usize,
     catalogue: &[u8],
+    one_way: u32,
     k: usize,
     tables: &mut [u32; 4096],
     work: &mut [u32],
 ) -> Sets
     requires { ⌜ Asked (now questions) number × Views (now catalogue) k × (length (now catalogue) ≤ 65536) × (length (now tables) ≡ 4096) × (length (now work) ≡ 16384) ⌝ }
-    ensures { λ r. ⌜ ((a : Asked (now (questions .entry)) number) (v : Views (now (catalogue .entry)) k) → Mapped (askedAt a v) number (now (tables .exit)) (r .used) (r .needed) (r .lowest)) ⌝ }
+    ensures { λ r. ⌜ ((a : Asked (now (questions .entry)) number) (v : Views (now (catalogue .entry)) k) → Mapped (askedAt a v «one_way») number (now (tables .exit)) (r .used) (r .needed) (r .lowest)) ⌝ }
 {
     let mut used = no_sets();
     let mut needed: u32 = 0;
@@ -127,7 +129,7 @@ fn map_queries(
     while i < number {
         let v = views::view_at(questions, byte);
         let q = v.pattern;
-        let table = mapping::map_views(q, catalogue, k, work);
+        let table = mapping::map_views(q, catalogue, one_way, k, work);
         let low = choose::lowest_unmatched(&table, choose::EVERY_VIEW, k, q.edges);
         let set = choose::use_views(&table, choose::EVERY_VIEW, low, k, q.edges);
         put_table(tables, i, &table);
@@ -303,8 +305,8 @@ fn answer_book(
     out: &mut [u8],
     work: &mut [u32],
 ) -> Several
-    requires { ⌜ (length (now work) ≡ 16384) × (1 ≤ number) × ((a : Asked (now questions) number) × (v : ViewCounts counts k) × Mapped (askedAt a (v .views)) number (now tables) (sets .used) (sets .needed) (sets .lowest)) ⌝ }
-    ensures { λ r. ⌜ ((a : Asked (now (questions .entry)) number) (v : ViewCounts counts k) → Mapped (askedAt a (v .views)) number (now (tables .entry)) (sets .used) (sets .needed) (sets .lowest) → Fulfils [] (judged (readBook (v .views .content) (now (book .entry))) (λ bs. severalIn (askedAt a (v .views)) number (offeredBy (v .views .content)) bs (length (now (out .entry))))) (severalTold r) (now (out .entry) ∷ []) (now (out .exit) ∷ [])) ⌝ }
+    requires { ⌜ (length (now work) ≡ 16384) × (1 ≤ number) × ((a : Asked (now questions) number) × (v : ViewCounts counts k) × Mapped (askedAt a (v .views) (v .oneWay)) number (now tables) (sets .used) (sets .needed) (sets .lowest)) ⌝ }
+    ensures { λ r. ⌜ ((a : Asked (now (questions .entry)) number) (v : ViewCounts counts k) → Mapped (askedAt a (v .views) (v .oneWay)) number (now (tables .entry)) (sets .used) (sets .needed) (sets .lowest) → Fulfils [] (judged (readBook (v .views .content) (now (book .entry))) (λ bs. severalIn (askedAt a (v .views) (v .oneWay)) number (offerOf v) bs (length (now (out .entry))))) (severalTold r) (now (out .entry) ∷ []) (now (out .exit) ∷ [])) ⌝ }
 {
     let loaded = answering::load_book(book, counts, k, work);
     let d = match loaded {
@@ -337,12 +339,13 @@ pub fn answer_several(
     questions: &[u8],
     number: u32,
     catalogue: &[u8],
+    one_way: u32,
     book: &[u8],
     out: &mut [u8],
     work: &mut [u32],
 ) -> Several
     requires { ⌜ length (now work) ≡ 16384 ⌝ }
-    ensures { λ r. ⌜ Fulfils [] (severalOutcome (now (questions .entry)) number (now (catalogue .entry)) (now (book .entry)) (length (now (out .entry)))) (severalTold r) (now (out .entry) ∷ []) (now (out .exit) ∷ []) ⌝ }
+    ensures { λ r. ⌜ Fulfils [] (severalOutcome (now (questions .entry)) number (brings (now (catalogue .entry)) «one_way») (now (book .entry)) (length (now (out .entry)))) (severalTold r) (now (out .entry) ∷ []) (now (out .exit) ∷ []) ⌝ }
 {
     if (number == 0) | (limits::QUESTIONS_MOST < number) {
         return Several::Refused(Refusal::WrongQuestions(number as usize));
@@ -355,7 +358,7 @@ pub fn answer_several(
         verdict,
         views,
         edges,
-    } = accept::accept_catalogue(catalogue, work);
+    } = offered::accept_offer(catalogue, one_way, work);
     if let Reply::Refused(x) = verdict {
         return Several::Refused(x);
     }
@@ -364,6 +367,7 @@ pub fn answer_several(
         questions,
         number as usize,
         catalogue,
+        one_way,
         views,
         &mut tables,
         work,

@@ -2,19 +2,20 @@
 ghost use mathlib.Core.Path.{_≡_};
 ghost use mathlib.Core.List.{[], _∷_};
 ghost use lib.ListN.{length};
-ghost use Rattle.packed.specs.Calls.{Outcome, Fulfils};
+ghost use Rattle.packed.specs.Calls.{Outcome, Fulfils, recordBytes, fitBoth};
+ghost use Rattle.matching.specs.Offered.{brings};
+ghost use Rattle.packed.specs.Refusals.{bothTold};
 ghost use Rattle.containment.specs.Quote.{Quoted};
-ghost use Rattle.containment.specs.Show.{recordBytes, fitBoth, showFor, showOutcome};
-ghost use Rattle.containment.specs.Both.{bothTold};
+ghost use Rattle.containment.specs.Show.{showFor, showOutcome};
 ghost use Rattle.containment.specs.Steps.{Query, shownFields, JudgedTo, AnyJudged};
 ghost use Rattle.containment.specs.Terms.{showOn};
-use crate::both::Both;
 use crate::choose;
 use crate::judging;
 use crate::judging::Judged;
 use crate::query;
 use crate::terms::Terms;
 use packed::by_value::Pattern;
+use packed::reply::Both;
 use packed::reply::Refusal;
 use packed::reply::Reply;
 
@@ -57,14 +58,15 @@ fn show_judged(f: Judged, first: &mut [u8], second: &mut [u8], work: &mut [u32])
 pub fn show(
     question: &[u8],
     catalogue: &[u8],
+    one_way: u32,
     first: &mut [u8],
     second: &mut [u8],
     work: &mut [u32],
 ) -> Both
     requires { ⌜ length (now work) ≡ 16384 ⌝ }
-    ensures { λ r. ⌜ Fulfils [] (showOutcome (now (question .entry)) (now (catalogue .entry)) (length (now (first .entry))) (length (now (second .entry)))) (bothTold r) (now (first .entry) ∷ now (second .entry) ∷ []) (now (first .exit) ∷ now (second .exit) ∷ []) ⌝ }
+    ensures { λ r. ⌜ Fulfils [] (showOutcome (now (question .entry)) (brings (now (catalogue .entry)) «one_way») (length (now (first .entry))) (length (now (second .entry)))) (bothTold r) (now (first .entry) ∷ now (second .entry) ∷ []) (now (first .exit) ∷ now (second .exit) ∷ []) ⌝ }
 {
-    let f = judging::judge(question, catalogue, work);
+    let f = judging::judge(question, catalogue, one_way, work);
     show_judged(f, first, second, work)
 }
 
@@ -72,6 +74,7 @@ pub fn show(
 pub fn show_on(
     question: &[u8],
     catalogue: &[u8],
+    one_way: u32,
     terms: Terms,
     day: u16,
     first: &mut [u8],
@@ -79,8 +82,8 @@ pub fn show_on(
     work: &mut [u32],
 ) -> Both
     requires { ⌜ length (now work) ≡ 16384 ⌝ }
-    ensures { λ r. ⌜ Fulfils [] (showOn (now (question .entry)) (now (catalogue .entry)) terms day (length (now (first .entry))) (length (now (second .entry)))) (bothTold r) (now (first .entry) ∷ now (second .entry) ∷ []) (now (first .exit) ∷ now (second .exit) ∷ []) ⌝ }
+    ensures { λ r. ⌜ Fulfils [] (showOn (now (question .entry)) (brings (now (catalogue .entry)) «one_way») terms day (length (now (first .entry))) (length (now (second .entry)))) (bothTold r) (now (first .entry) ∷ now (second .entry) ∷ []) (now (first .exit) ∷ now (second .exit) ∷ []) ⌝ }
 {
-    let f = judging::judge_on(question, catalogue, terms, day, work);
+    let f = judging::judge_on(question, catalogue, one_way, terms, day, work);
     show_judged(f, first, second, work)
 }

@@ -1,8 +1,10 @@
 // Terms: the days on which each view is in force.
 ghost use mathlib.Core.Path.{_≡_};
 ghost use Prim.Native.Nat.{_<_, _≤_, min};
-ghost use Rattle.containment.specs.Terms.{noTerms, withTerm, firstTurned, isInForce, inForce};
-use crate::choose;
+ghost use Rattle.containment.specs.Terms.{noTerms, withTerm, firstTurned, TermsJudged, isInForce, inForce};
+use matching::sets;
+use packed::reply::Refusal;
+use packed::reply::Reply;
 
 // The days of one view: the first on which it is in force, and the first after that on which it isn't.
 #[repr(C)]
@@ -64,6 +66,22 @@ pub fn first_turned(t: Terms, k: usize) -> usize
     k
 }
 
+// The terms are judged beside k views.
+pub fn judge_terms(t: Terms, k: usize) -> Reply
+    requires { ⌜ k ≤ 16 ⌝ }
+    ensures { λ r. ⌜ TermsJudged t k r ⌝ }
+{
+    let number = t.number;
+    if number != k {
+        return Reply::Refused(Refusal::WrongTerms(number));
+    }
+    let turned = first_turned(t, k);
+    if turned < k {
+        return Reply::Refused(Refusal::WrongTerms(turned));
+    }
+    Reply::Done(0)
+}
+
 // Whether a day lies in a term: the from-day counts, the to-day doesn't.
 fn is_in_force(from: u16, to: u16, day: u16) -> bool
     ensures { λ r. ⌜ r ≡ isInForce from to day ⌝ }
@@ -80,7 +98,7 @@ pub fn in_force(t: Terms, day: u16, k: usize) -> u32
     let mut a: usize = 0;
     while a < k {
         if is_in_force(t.from[a], t.to[a], day) {
-            set = set + choose::only(a);
+            set = set + sets::only(a);
         }
         a += 1;
     }

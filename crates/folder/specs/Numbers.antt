@@ -1,4 +1,4 @@
--- Text files of decimal numbers: what the bytes of `charges` (decisions 8.8 and 8.9), of `set` (decision 8.12) and of `number` (decision 8.21) say.
+-- Text files of decimal numbers: what the bytes of `charges` (decisions 8.8 and 8.9), of `set` and `one_way` (decision 8.12) and of `number` (decision 8.21) say.
 use Prim.Native.Nat.{ℕ, _+_, _-_, _*_, _^_, _≤_}
 use mathlib.Core.Bool.{Bool, true, false, _&&_}
 use mathlib.Core.Path.{_≡_}

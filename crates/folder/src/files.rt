@@ -63,9 +63,8 @@ pub fn is_there(name: &[u8]) -> bool {
     os::errno() != libc::ENOENT
 }
 
-// Writes all bytes to a descriptor, waits until the device has them, and closes it.
-fn fill(fd: i32, bytes: &[u8]) -> bool {
-    let written = io::write_all(fd, bytes);
+// Waits until the device has what was written to a descriptor, and closes it.
+fn finish(fd: i32, written: bool) -> bool {
     let synced = libc::fsync(fd);
     let closed = libc::close(fd);
     if !written {
@@ -77,24 +76,65 @@ fn fill(fd: i32, bytes: &[u8]) -> bool {
     closed == 0
 }
 
+// Writes a number to a descriptor, in decimal with a line end.
+fn write_number(fd: i32, x: u32) -> bool {
+    let number = io::print_decimal(fd, x as u64);
+    let line_end = io::write_all(fd, b"\n");
+    number & line_end
+}
+
+fn write_numbers(fd: i32, list: &[u32]) -> bool {
+    let mut written = true;
+    let mut i: usize = 0;
+    while i < list.len() {
+        let number = write_number(fd, list[i]);
+        written = written & number;
+        i += 1;
+    }
+    written
+}
+
 // Removes a file that this program made.
 pub fn remove(name: &[u8]) {
     os::unlink(name);
 }
 
-// Makes a file that was not there, with just these bytes, or none.
-pub fn make(name: &[u8], bytes: &[u8]) -> bool {
+// Makes a file that was not there: its descriptor, below zero if there is none.
+fn begin(name: &[u8]) -> i32 {
     let fd = os::create(name);
     if fd < 0 {
         lines::failed(name);
+    }
+    fd
+}
+
+// What was made is there whole, or not at all.
+fn whole(name: &[u8], good: bool) -> bool {
+    if !good {
+        lines::failed(name);
+        remove(name);
+    }
+    good
+}
+
+// Makes a file that was not there, with just these bytes, or none.
+pub fn make(name: &[u8], bytes: &[u8]) -> bool {
+    let fd = begin(name);
+    if fd < 0 {
         return false;
     }
-    if fill(fd, bytes) {
-        return true;
+    let written = io::write_all(fd, bytes);
+    whole(name, finish(fd, written))
+}
+
+// The same with the numbers of a list, one to a line.
+pub fn make_list(name: &[u8], list: &[u32]) -> bool {
+    let fd = begin(name);
+    if fd < 0 {
+        return false;
     }
-    lines::failed(name);
-    remove(name);
-    false
+    let written = write_numbers(fd, list);
+    whole(name, finish(fd, written))
 }
 
 // The file of the temporary name takes the name, and a file that had it is gone; or the temporary one is removed.
@@ -110,6 +150,14 @@ pub fn place(temporary: &[u8], name: &[u8]) -> bool {
 // Makes the file of this name, or puts another in its place, with just these bytes.
 pub fn write(name: &[u8], temporary: &[u8], bytes: &[u8]) -> bool {
     if !make(temporary, bytes) {
+        return false;
+    }
+    place(temporary, name)
+}
+
+// The same with the numbers of a list, one to a line.
+pub fn write_list(name: &[u8], temporary: &[u8], list: &[u32]) -> bool {
+    if !make_list(temporary, list) {
         return false;
     }
     place(temporary, name)

@@ -72,3 +72,13 @@ pub fn cheapest(set: u16, sum: u64) {
     number(sum as usize);
     say(b"\n");
 }
+
+// The line of the extracts whose lists a link would change.
+pub fn changes(set: u16) {
+    say(b"changes");
+    if set == 0 {
+        say(b" none");
+    }
+    say_extracts(set);
+    say(b"\n");
+}

@@ -1,6 +1,7 @@
 // Judges the files that it finds in the folder it is run in: `question`, `catalogue`, `record`, a `sheet` and an `answer` beside the question, a
-// `book`, `charges` and `terms` beside the catalogue, a `part` and a `part_answer` beside it, `questions` beside their `number`, the records `first` and
-// `second`, an `index` beside the record, a `set`, a `day`, and a record `old`, stored before links had kinds. One that is not there gets no line.
+// `book`, `charges`, `terms` and the set `one_way` beside the catalogue, a `part` and a `part_answer` beside it, `questions` beside their `number`,
+// the records `first` and `second`, an `index` beside the record, a `set`, a `day`, and a record `old`, stored before links had kinds. One that is not
+// there gets no line.
 ghost use mathlib.Core.Path.{_≡_};
 ghost use lib.ListN.{length};
 use folder::days;
@@ -10,6 +11,7 @@ use folder::files;
 use folder::lent;
 use folder::lines;
 use folder::numbers;
+use matching::offered;
 use packed::accept;
 use packed::limits;
 use packed::reply::Refusal;
@@ -190,6 +192,21 @@ fn judge_terms(catalogue: &[u8]) {
     say(b"terms", dated(reply, content[0], d));
 }
 
+// Beside an accepted catalogue the set names its extracts alone.
+fn judge_one_way(catalogue: &[u8]) {
+    if !files::is_there(b"one_way") {
+        return;
+    }
+    let text = folder::extracts(b"one_way");
+    if !text.good {
+        return;
+    }
+    let mut work = lent::work_words();
+    let f = offered::accept_offer(catalogue, text.set as u32, &mut work);
+    let verdict = f.verdict;
+    say(b"one_way", verdict);
+}
+
 fn judge_day() {
     if !files::is_there(b"day") {
         return;
@@ -206,11 +223,9 @@ fn judge_set() {
     if !files::is_there(b"set") {
         return;
     }
-    let text = numbers::read_set(b"set");
+    let text = folder::extracts(b"set");
     if text.good {
         lines::say(b"set accepted\n");
-    } else {
-        lines::failed_at(b"set", text.count);
     }
 }
 
@@ -239,6 +254,7 @@ fn judge(question: &[u8], catalogue: &[u8]) {
     judge_index();
     judge_charges(catalogue);
     judge_terms(catalogue);
+    judge_one_way(catalogue);
     judge_day();
     judge_set();
     judge_old();

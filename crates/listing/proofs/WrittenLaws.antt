@@ -18,7 +18,7 @@ use Rattle.containment.specs.Listing.{decimal, concat, orNone, bytes, lineOf, l
 use Rattle.containment.specs.declared.quote_type.Quote.{Quote}
 use Rattle.containment.proofs.ListingLaws.{decimal-one, decimal-more}
 use Rattle.containment.proofs.Listings.{listings}
-use Rattle.containment.proofs.Numbered.{refusal-numbered}
+use Rattle.packed.proofs.RefusalNumbers.{refusal-numbered}
 use Rattle.listing.specs.Written.{TextWritten}
 
 -- ---- texts written one after the other

@@ -6,7 +6,7 @@ ghost use lib.Dec.{eqb};
 ghost use Rattle.packed.specs.Calls.{FulfilsOne};
 ghost use Rattle.packed.specs.Format.{pick};
 ghost use Rattle.packed.specs.Refusals.{replyTold};
-ghost use Rattle.matching.specs.Simulation.{bit};
+ghost use Rattle.engine.specs.Simulation.{bit};
 ghost use Rattle.containment.specs.Listing.{bytes, decimal, edgeText, edgesText, viewsText, viewText, chosenText, linkLine, chosenLine, firstLine, linesAfter, lineOf, refusedLine, lineOutcome};
 ghost use Rattle.listing.specs.Written.{TextWritten};
 use containment::quote_type::Coverage;

@@ -7,7 +7,6 @@ use native.Mathlib.Omega.{arith}
 use borrow.Author.Tests.{lt-ltb, le-ltb}
 use Rattle.packed.specs.Format.{ok, decode}
 use Rattle.packed.specs.Formats.{pattern, record′}
-use Rattle.packed.specs.Contents.{viewsOf}
 use Rattle.packed.specs.Plain.{PlainPattern}
 use Rattle.packed.specs.ByValue.{HoldsPattern}
 use Rattle.packed.specs.Refusals.{told, replyTold}
@@ -21,18 +20,20 @@ use Rattle.packed.specs.LoadedGraph.{Holds}
 use Rattle.packed.specs.declared.by_value.Pattern.{Pattern as Given}
 use Rattle.packed.proofs.Accepted.{pattern-accepted}
 use Rattle.packed.proofs.CallLaws.{read-finds, accepted-by, read-says, judged-accepted, refusal-answered, fit-fits, fitted-tight, fitted-given}
-use Rattle.matching.specs.Simulation.{Pattern, patternOf, graphOf, matchSets, viewSheet}
+use Rattle.engine.specs.Simulation.{Pattern, patternOf, graphOf, matchSets, viewSheet}
+use Rattle.engine.specs.Index.{indexFor, indexOf, ownIndex}
+use Rattle.engine.specs.Places.{FirstsMade, edgesAt, IndexJudged}
+use Rattle.engine.specs.Loaded.{patternIn, graphIn, Fair}
+use Rattle.engine.specs.Matched.{Proper}
+use Rattle.matching.specs.Offered.{Offered, viewPatterns}
 use Rattle.matching.specs.Search.{sheetBytes, bookBytes, viewSheets, searchFor, bookFor}
-use Rattle.matching.specs.Index.{indexFor, indexOf, ownIndex, makeIndexOutcome, checkIndexOutcome, searchIndexedFor}
-use Rattle.matching.specs.Places.{FirstsMade, edgesAt, IndexJudged}
-use Rattle.matching.specs.Loaded.{patternIn, graphIn, Fair}
-use Rattle.matching.specs.Matched.{Proper}
+use Rattle.matching.specs.Index.{makeIndexOutcome, checkIndexOutcome, searchIndexedFor}
+use Rattle.engine.proofs.ListLaws.{each-same}
 use Rattle.matching.proofs.MatchSetLaws.{view-same}
 use Rattle.matching.proofs.PatternLaws.{fair-by, proper-by, pattern-same}
 use Rattle.matching.specs.Books.{bookIn}
+use Rattle.engine.proofs.OwnIndex.{own-accepted, index-long, firsts-front}
 use Rattle.matching.proofs.RecordLaws.{sets-same, index-same, ready-by, ready-ends}
-use Rattle.matching.proofs.OwnIndex.{own-accepted, index-long, firsts-front}
-use Rattle.matching.proofs.BookBytes.{map-same}
 
 -- the answer of a search, once the record was accepted and its edges stand in the workspace
 pub search-found : {s : List ℕ} {n m : ℕ} {w : List ℕ} (P : Pattern) (room : ℕ) → length s ≤ 44036 → Holds s n m w
@@ -42,12 +43,12 @@ search-found {s} P room l h =
     ∙ ap (λ (ls : List (List ℕ)). fitFile room (sheetBytes ls)) (sym (sets-same h P))
 
 -- the same of the book that is made
-pub book-found : {s : List ℕ} {n m : ℕ} {w : List ℕ} (cs : List ℕ) (room : ℕ) → length s ≤ 44036 → Holds s n m w → bookFor cs s room ≡ fitFile room (bookIn cs s n m w)
+pub book-found : {s : List ℕ} {n m : ℕ} {w : List ℕ} (o : Offered) (room : ℕ) → length s ≤ 44036 → Holds s n m w → bookFor o s room ≡ fitFile room (bookIn o s n m w)
 unfolding viewSheets
-book-found {s} {n} {m} {w} cs room l h =
-    judged-accepted (λ rs. fitFile room (bookBytes (viewSheets cs (graphOf rs)))) (accepted-by (read-finds 44036 3 record′ s l) (h .is))
+book-found {s} {n} {m} {w} o room l h =
+    judged-accepted (λ rs. fitFile room (bookBytes (viewSheets o (graphOf rs)))) (accepted-by (read-finds 44036 3 record′ s l) (h .is))
     ∙ ap (λ (x : List (List (List ℕ))). fitFile room (bookBytes x))
-    (map-same (λ v. viewSheet (patternOf v) (graphOf (h .fields))) (λ v. viewSheet (patternOf v) (graphIn s n m w)) (viewsOf cs) (λ v i. view-same (patternOf v) (graphOf (h .fields)) (graphIn s n m w) (sym (sets-same h (patternOf v)))))
+    (each-same (λ P. viewSheet P (graphOf (h .fields))) (λ P. viewSheet P (graphIn s n m w)) (viewPatterns o) (λ P i. view-same P (graphOf (h .fields)) (graphIn s n m w) (sym (sets-same h P))))
 
 -- ---- the same of the calls with an index
 module _ {s : List ℕ} {n m : ℕ} {w : List ℕ} (l : length s ≤ 44036) (h : Holds s n m w) where

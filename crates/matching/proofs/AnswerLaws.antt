@@ -11,14 +11,14 @@ use Rattle.packed.specs.Distinct.{Increasing}
 use Rattle.packed.specs.Contents.{distinct}
 use Rattle.packed.specs.Matches.{allOrNone}
 use Rattle.packed.proofs.DistinctLaws.{distinct-own}
-use Rattle.matching.specs.Lists.{In, here, there, gather, each}
-use Rattle.matching.specs.Simulation.{Pair, Edge, Pattern, asGraph, ascending, viewSheet}
+use Rattle.engine.specs.Lists.{In, here, there, gather, each}
+use Rattle.engine.specs.Simulation.{Pair, Edge, Pattern, asGraph, ascending, viewSheet}
 use Rattle.matching.specs.Join.{isMatch, View, pairOf, under, candidates, join, complete, keptFor, answerSets}
+use Rattle.engine.proofs.ListLaws.{cond-case, not-in-none, append-in, gather-in, each-in}
+use Rattle.engine.proofs.CodeLaws.{ascending-say, ascending-increasing, distinct-fewer}
+use Rattle.engine.proofs.AllOrNone.{cond-all-or-none}
 use Rattle.matching.proofs.ByEdge.{answerTo}
-use Rattle.matching.proofs.ListLaws.{cond-case, not-in-none, append-in, gather-in, each-in}
-use Rattle.matching.proofs.CodeLaws.{ascending-say, ascending-increasing, distinct-fewer}
 use Rattle.matching.proofs.MatchSetLaws.{Listable, listable-by}
-use Rattle.matching.proofs.AllOrNone.{cond-all-or-none}
 use Rattle.matching.proofs.JoinLaws.{join-candidate, kept-in, in-kept, complete-say, complete-by, answer-say, answer-each, pair-code}
 
 -- the code c stands in a list of one of the sheets

@@ -1,29 +1,30 @@
 -- The book of sheets in bytes: it is read back as their fields, one after the other, and has no more different pairs than the record has edges.
-use Prim.Native.Nat.{ℕ, _≤_}
+use Prim.Native.Nat.{ℕ, _<_, _≤_}
 use mathlib.Core.Path.{_≡_, refl, sym, ap, ap₂, subst, _∙_}
-use mathlib.Core.Logic.{⊎-elim}
 use mathlib.Core.Bool.{Bool}
 use mathlib.Core.List.{List, [], _∷_, _++_, map, flatten, append-assoc, append-nil}
-use lib.ListN.{length, getD}
+use lib.ListN.{length, getD, length-map, List·getD-map}
+use lib.Seq.{ext-getD}
 use native.Mathlib.Omega.{arith}
 use Rattle.packed.specs.Bits.{bits}
 use Rattle.packed.specs.Format.{ok, decode}
 use Rattle.packed.specs.Formats.{record′, book}
 use Rattle.packed.specs.Contents.{edgesOf, viewsOf, edgeCounts, sheetFields, sheetsIn}
 use Rattle.packed.specs.Calls.{accepted, readCatalogue, readBook, pairsOf}
-use Rattle.packed.specs.Plain.{PlainPattern, PlainSheet, Whole, InTurn}
+use Rattle.packed.specs.Plain.{PlainSheet, Whole, InTurn}
 use Rattle.packed.proofs.BitsLaws.{bits-append}
 use Rattle.packed.proofs.AcceptedTurns.{no-turns, more-turns}
 use Rattle.packed.proofs.BookSheetLaws.{sheets-back}
 use Rattle.packed.proofs.Accepted.{sheet-accepted, book-accepted, book-read}
-use Rattle.matching.specs.Lists.{In, here, there, gather}
-use Rattle.matching.specs.Simulation.{Graph, patternOf, graphOf, viewSheet}
+use Rattle.engine.specs.Lists.{In, here, there, gather, each}
+use Rattle.engine.specs.Simulation.{Pattern, Graph, graphOf, viewSheet}
+use Rattle.matching.specs.Offered.{Offered, offers, viewAt, viewPatterns}
 use Rattle.matching.specs.Search.{sheetBytes, bookBytes, viewSheets}
-use Rattle.matching.proofs.ListLaws.{not-in-none, in-cases}
+use Rattle.engine.proofs.UpToLaws.{length-upTo, getD-upTo, upTo-in}
 use Rattle.matching.proofs.MatchSetLaws.{view-sheet, view-length, book-pairs}
-use Rattle.matching.proofs.PatternLaws.{sound-of, edges-many}
+use Rattle.matching.proofs.PatternLaws.{edges-many}
 use Rattle.matching.proofs.RecordLaws.{graph-narrow, graph-few}
-use Rattle.matching.proofs.ViewLaws.{all-ahead, in-follow}
+use Rattle.matching.proofs.OfferedLaws.{sheets-are, view-plain, view-sound}
 use Rattle.matching.proofs.SheetBytes.{SheetFields, sets-sheet}
 
 -- ---- sheets one after the other
@@ -79,44 +80,43 @@ unfolding flatten gather
 all-listed [] = refl
 all-listed (ls ∷ sheets) = ap₂ (λ (x y : List ℕ). x ++ y) (all-in ls) (all-listed sheets)
 
-gather-views : (G : Graph) (vs : List (List ℕ)) → gather listed (map (λ v. viewSheet (patternOf v) G) vs) ≡ gather (λ P. listed (viewSheet P G)) (map patternOf vs)
-unfolding gather
+gather-views : (G : Graph) (Ps : List Pattern) → gather listed (each (λ P. viewSheet P G) Ps) ≡ gather (λ P. listed (viewSheet P G)) Ps
+unfolding gather each
 gather-views G [] = refl
-gather-views G (v ∷ vs) = ap (λ (l : List ℕ). listed (viewSheet (patternOf v) G) ++ l) (gather-views G vs)
+gather-views G (P ∷ Ps) = ap (λ (l : List ℕ). listed (viewSheet P G) ++ l) (gather-views G Ps)
 
--- ---- of an accepted catalogue and an accepted record
-map-in : {A B : Type 0} (f : A → B) (l : List A) {y : B} → In y (map f l) → (x : A) × In x l × (y ≡ f x)
-map-in f [] i = absurd (not-in-none i)
-map-in f (x ∷ l) i = ⊎-elim (λ e. (x, here refl, e)) (λ j. let r = map-in f l j in (r .0, there (r .1), r .2)) (in-cases i)
+-- ---- of an accepted catalogue with a set, and an accepted record
+module _ (c r cs rs : List ℕ) (one : ℕ) (e : readCatalogue c ≡ accepted cs) (f : decode record′ r ≡ ok rs) where
+  abbrev o : Offered
+  o = offers cs one
 
-pub map-same : {A B : Type 0} (f g : A → B) (l : List A) → ((x : A) → In x l → f x ≡ g x) → map f l ≡ map g l
-map-same f g [] h = refl
-map-same f g (x ∷ l) h = λ i. h x (here refl) i ∷ map-same f g l (λ y j. h y (there j)) i
-
-map-map : {A B C : Type 0} (g : B → C) (f : A → B) (l : List A) → map g (map f l) ≡ map (λ x. g (f x)) l
-map-map g f [] = refl
-map-map g f (x ∷ l) = ap (λ t. g (f x) ∷ t) (map-map g f l)
-
-module _ (c r cs rs : List ℕ) (e : readCatalogue c ≡ accepted cs) (f : decode record′ r ≡ ok rs) where
   abbrev sheets : List (List (List ℕ))
-  sheets = viewSheets cs (graphOf rs)
+  sheets = viewSheets o (graphOf rs)
 
-  view-plain : (v : List ℕ) → In v (viewsOf cs) → (body : List Bool) × PlainPattern v body
-  view-plain v i = in-follow (all-ahead c cs e .follow) i
+  abbrev sheetAt : ℕ → List (List ℕ)
+  sheetAt a = viewSheet (viewAt o a) (graphOf rs)
 
   -- the catalogue says how many lists each sheet has
   pub counts-are : edgeCounts cs ≡ map length sheets
-  unfolding edgeCounts viewSheets
+  unfolding edgeCounts
   counts-are =
-      map-same edgesOf (λ v. length (viewSheet (patternOf v) (graphOf rs))) (viewsOf cs)
-      (λ v i. let q = view-plain v i .1 in sym (view-length (patternOf v) (graphOf rs) ∙ edges-many q))
-      ∙ sym (map-map length (λ v. viewSheet (patternOf v) (graphOf rs)) (viewsOf cs))
+      let k = length-map (viewsOf cs) edgesOf in
+      ext-getD 0 (map edgesOf (viewsOf cs)) (map length sheets)
+      (k ∙ sym (length-map sheets length ∙ ap length (sheets-are o (graphOf rs)) ∙ length-upTo sheetAt (length (viewsOf cs))))
+      (λ a l.
+      let h : a < length (viewsOf cs) = omega arith in
+      List·getD-map edgesOf (viewsOf cs) a []
+      ∙ sym (List·getD-map length sheets a []
+      ∙ ap (λ (x : List (List (List ℕ))). length (getD x a [])) (sheets-are o (graphOf rs))
+      ∙ ap length (getD-upTo sheetAt (length (viewsOf cs)) a [] h)
+      ∙ view-length (viewAt o a) (graphOf rs)
+      ∙ edges-many (view-plain c cs e a h .1)))
 
   all-sheets : (ls : List (List ℕ)) → In ls sheets → SheetFields ls
-  unfolding viewSheets
   all-sheets ls i =
-      let q = map-in (λ v. viewSheet (patternOf v) (graphOf rs)) (viewsOf cs) i in
-      subst SheetFields (sym (q .2 ∙ view-sheet (patternOf (q .0)) (graphOf rs))) (sets-sheet (patternOf (q .0)) (graphOf rs) (sound-of (view-plain (q .0) (q .1) .1)) (graph-narrow r rs f) (graph-few r rs f))
+      let q = upTo-in sheetAt (length (viewsOf cs)) (subst (λ (x : List (List (List ℕ))). In ls x) (sheets-are o (graphOf rs)) i) in
+      let P : Pattern = viewAt o (q .at) in
+      subst SheetFields (sym (q .holds ∙ view-sheet P (graphOf rs))) (sets-sheet P (graphOf rs) (view-sound c cs e (q .at) (q .below) one) (graph-narrow r rs f) (graph-few r rs f))
 
   -- the book that is made is accepted beside its catalogue, as the fields of its sheets
   pub made-is : decode (book (edgeCounts cs)) (bookBytes sheets) ≡ ok (bookFields sheets)
@@ -129,8 +129,8 @@ module _ (c r cs rs : List ℕ) (e : readCatalogue c ≡ accepted cs) (f : decod
   pub made-few : length (pairsOf (edgeCounts cs) (bookFields sheets)) ≤ 8192
   unfolding pairsOf viewSheets
   made-few =
-      let p : flatten (map flatten (sheetsIn (edgeCounts cs) (bookFields sheets))) ≡ gather (λ P. listed (viewSheet P (graphOf rs))) (map patternOf (viewsOf cs)) =
+      let p : flatten (map flatten (sheetsIn (edgeCounts cs) (bookFields sheets))) ≡ gather (λ P. listed (viewSheet P (graphOf rs))) (viewPatterns o) =
       ap (λ (x : List (List (List ℕ))). flatten (map flatten x)) (ap (λ (ms : List ℕ). sheetsIn ms (bookFields sheets)) counts-are ∙ sheets-back sheets)
       ∙ all-listed sheets
-      ∙ gather-views (graphOf rs) (viewsOf cs) in
-      rw p (omega (arith, book-pairs (map patternOf (viewsOf cs)) (graphOf rs), graph-few r rs f))
+      ∙ gather-views (graphOf rs) (viewPatterns o) in
+      rw p (omega (arith, book-pairs (viewPatterns o) (graphOf rs), graph-few r rs f))

@@ -7,13 +7,13 @@ use Prim.Native.Nat.{ℕ, zero, suc, _+_, _<_, _≤_}
 use native.Mathlib.Omega.{arith}
 use lib.ListN.{length}
 use lib.Dec.{T, eqb, eqb→eq, eqb-refl}
-use Rattle.matching.specs.Lists.{_implies_, In, some, keep, below}
-use Rattle.matching.specs.Simulation.{Pair, Edge, oneWay, bothWays, Pattern}
+use Rattle.engine.specs.Lists.{_implies_, In, some, keep, below}
+use Rattle.engine.specs.Simulation.{Pair, Edge, oneWay, bothWays, Pattern}
 use Rattle.matching.specs.Join.{Offer, choice, keptFor}
 use Rattle.matching.specs.Components.{Nodes, leavingOf, joinIn, stateAt, Shut, apart, unreached, reaches, together, ready, OneStep, StepsTo, start, step}
-use Rattle.matching.proofs.ListLaws.{and-left, and-right, both, or-left, or-right, or-cases, use-if, make-if, decide, cond-case, in-cast, every-in, in-every, every-fails, keep-length, keep-shorter, keep-keep, some-in, in-some, keep-in, in-keep, below-in, in-below, in-length}
-use Rattle.matching.proofs.GreatestLaws.{greatest-part, greatest-ok, greatest-all}
-use Rattle.matching.proofs.SimLaws.{not-both}
+use Rattle.engine.proofs.ListLaws.{and-left, and-right, both, or-left, or-right, or-cases, use-if, make-if, decide, cond-case, in-cast, every-in, in-every, every-fails, keep-length, keep-shorter, keep-keep, some-in, in-some, keep-in, in-keep, below-in, in-below, in-length}
+use Rattle.engine.proofs.GreatestLaws.{greatest-part, greatest-ok, greatest-all}
+use Rattle.engine.proofs.SimLaws.{not-both}
 use Rattle.matching.proofs.JoinLaws.{Supported, supported-one, ChoicePair, choice-candidate, choice-supported, choice-most, kept-in, in-kept}
 
 -- ---- an edge that leaves S

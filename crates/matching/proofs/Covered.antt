@@ -6,14 +6,15 @@ use Prim.Native.Nat.{ℕ, _≤_, _<_}
 use native.Mathlib.Omega.{arith}
 use lib.ListN.{length, getD}
 use lib.Dec.{T}
-use Rattle.matching.specs.Lists.{In, each}
-use Rattle.matching.specs.Simulation.{Pair, Edge, asPair, bit, bothWays, Pattern, Graph, asGraph, ascending, matchSets, viewSheet, IsSim, sound}
-use Rattle.matching.proofs.ByEdge.{rowOf, viewOf, answerTo}
+use Rattle.engine.specs.Lists.{In, each}
+use Rattle.engine.specs.Simulation.{Pair, Edge, asPair, bit, bothWays, Pattern, Graph, asGraph, ascending, matchSets, viewSheet, IsSim, sound}
+use Rattle.engine.proofs.ByEdge.{rowOf}
+use Rattle.matching.proofs.ByEdge.{viewOf, answerTo}
 use Rattle.matching.specs.Join.{View, someMatch, matchedBy, matched, covered, join, complete, answerSets}
-use Rattle.matching.proofs.ListLaws.{every-in, some-in, each-same}
-use Rattle.matching.proofs.SimLaws.{FitsInto, fits-say, fits-by, sim-is, sim-most}
-use Rattle.matching.proofs.MatchLaws.{Sim, Total, Matches, matches-edge, row-say, row-by, own-label, Weaker, matches-through, SoundPattern, sound-say}
-use Rattle.matching.proofs.CodeLaws.{ascending-same}
+use Rattle.engine.proofs.ListLaws.{every-in, some-in, each-same}
+use Rattle.engine.proofs.SimLaws.{FitsInto, fits-say, fits-by, sim-is, sim-most}
+use Rattle.engine.proofs.MatchLaws.{Sim, Total, Matches, matches-edge, row-say, row-by, own-label, Weaker, matches-through, SoundPattern, sound-say}
+use Rattle.engine.proofs.CodeLaws.{ascending-same}
 use Rattle.matching.proofs.MatchSetLaws.{Narrow, matches-narrow, sets-each, view-each}
 use Rattle.matching.proofs.JoinLaws.{JoinedPair, join-candidate, join-supported, join-most, complete-say, complete-by, answer-say, answer-by, answer-each, listed-pair, match-say, some-match-each, Found, candidates-say, candidates-by}
 

@@ -7,10 +7,10 @@ use native.Mathlib.Omega.{arith}
 use Rattle.packed.specs.Contents.{eachEdge}
 use Rattle.packed.specs.Plain.{fromAt, toAt, kindAt}
 use Rattle.packed.proofs.EdgePlaces.{from-cons, to-cons, kind-cons}
-use Rattle.matching.specs.Lists.{In, each, upTo}
-use Rattle.matching.specs.Simulation.{Edge, between, noEdge, edgesIn}
-use Rattle.matching.specs.Masks.{OneOf}
-use Rattle.matching.proofs.UpToLaws.{getD-upTo, in-upTo, upTo-in, upTo-same, length-upTo}
+use Rattle.engine.specs.Lists.{In, each, upTo}
+use Rattle.engine.specs.Simulation.{Edge, between, noEdge, edgesIn}
+use Rattle.engine.specs.Masks.{OneOf}
+use Rattle.engine.proofs.UpToLaws.{getD-upTo, in-upTo, upTo-in, upTo-same, length-upTo}
 
 -- the edge number i
 abbrev pub edgeAt : List ℕ → ℕ → Edge

@@ -9,15 +9,16 @@ use native.Mathlib.Omega.{arith}
 use lib.ListN.{length, getD}
 use lib.Dec.{T, eqb, eqb→eq}
 use Rattle.packed.specs.Formats.{code}
-use Rattle.matching.specs.Lists.{_and_, _or_, _implies_, In, here, there, some, gather, each}
-use Rattle.matching.specs.Simulation.{Pair, Edge, sameEdge, asPair, noEdge, oneWay, bothWays, Pattern, Graph, asGraph, ascending, viewSheet}
-use Rattle.matching.proofs.ByEdge.{rowOf, viewOf, answerTo}
+use Rattle.engine.specs.Lists.{_and_, _or_, _implies_, In, here, there, some, gather, each}
+use Rattle.engine.specs.Simulation.{Pair, Edge, sameEdge, asPair, noEdge, oneWay, bothWays, Pattern, Graph, asGraph, ascending, viewSheet}
+use Rattle.engine.proofs.ByEdge.{rowOf}
+use Rattle.matching.proofs.ByEdge.{viewOf, answerTo}
 use Rattle.matching.specs.Join.{View, pairOf, isMatch, someMatch, under, candidates, Kept, supportedOut, supportedIn, supported, Offer, choice, join, complete, keptFor, answerSets}
-use Rattle.matching.proofs.ListLaws.{and-left, and-right, both, or-left, or-right, or-cases, use-if, make-if, equal-test, cond-case, not-in-none, in-cast, every-in, in-every, some-in, in-some, keep-in, in-keep, append-in, in-append-left, in-append-right, gather-in, in-gather, each-in, in-each}
-use Rattle.matching.proofs.GreatestLaws.{greatest-part, greatest-ok, greatest-all}
-use Rattle.matching.proofs.SimLaws.{same-edge, same-edge-refl, asks-say, asks-by, not-both}
-use Rattle.matching.proofs.MatchLaws.{Matches, row-say, row-by}
-use Rattle.matching.proofs.CodeLaws.{in-member, member-in, code-same, ascending-say, ascending-by}
+use Rattle.engine.proofs.ListLaws.{and-left, and-right, both, or-left, or-right, or-cases, use-if, make-if, equal-test, cond-case, not-in-none, in-cast, every-in, in-every, some-in, in-some, keep-in, in-keep, append-in, in-append-left, in-append-right, gather-in, in-gather, each-in, in-each}
+use Rattle.engine.proofs.GreatestLaws.{greatest-part, greatest-ok, greatest-all}
+use Rattle.engine.proofs.SimLaws.{same-edge, same-edge-refl, asks-say, asks-by, not-both}
+use Rattle.engine.proofs.MatchLaws.{Matches, row-say, row-by}
+use Rattle.engine.proofs.CodeLaws.{in-member, member-in, code-same, ascending-say, ascending-by}
 use Rattle.matching.proofs.MatchSetLaws.{Narrow, matches-narrow, view-each}
 
 -- ---- what `supported` says, for any choice K of pairs

@@ -13,20 +13,20 @@ use Rattle.packed.specs.BookSheets.{listAt}
 use Rattle.packed.specs.Matches.{marked, pairIn, codesOf, masksOf, matchesOf}
 use Rattle.packed.specs.Matches.{Marked as MarkedPairs}
 use Rattle.packed.specs.declared.by_value.Pattern.{Pattern as Given}
-use Rattle.matching.specs.Lists.{In, each, keep, upTo}
-use Rattle.matching.specs.Simulation.{bit, Pair, Edge, Pattern, has, ascending}
+use Rattle.engine.specs.Lists.{In, each, keep, upTo}
+use Rattle.engine.specs.Simulation.{bit, Pair, Edge, Pattern, has, ascending}
+use Rattle.engine.specs.Loaded.{givenEdge, patternIn, Edges}
+use Rattle.engine.specs.Masks.{Has, OneOf}
 use Rattle.matching.specs.Join.{View, pairOf, candidates, Kept, choice, join, keptFor, answerSets}
 use Rattle.matching.specs.Components.{stateAt, Holds, Ran, Pruned}
-use Rattle.matching.specs.Loaded.{givenEdge, patternIn, Edges}
-use Rattle.matching.specs.Masks.{Has, OneOf}
 use Rattle.matching.specs.Candidates.{Booked, Blank, Taken, BookListing}
 use Rattle.matching.specs.Joining.{Agrees, Joined}
-use Rattle.matching.proofs.ListLaws.{same-test, in-cast, each-in, in-each, keep-in, in-keep}
-use Rattle.matching.proofs.SimLaws.{has-in, in-has}
-use Rattle.matching.proofs.MaskBits.{none-has}
-use Rattle.matching.proofs.UpToLaws.{in-upTo}
-use Rattle.matching.proofs.CodeLaws.{ascending-same}
-use Rattle.matching.proofs.MatchedLaws.{row-marked, sets-marked}
+use Rattle.engine.proofs.ListLaws.{same-test, in-cast, each-in, in-each, keep-in, in-keep}
+use Rattle.engine.proofs.SimLaws.{has-in, in-has}
+use Rattle.engine.proofs.MaskBits.{none-has}
+use Rattle.engine.proofs.UpToLaws.{in-upTo}
+use Rattle.engine.proofs.CodeLaws.{ascending-same}
+use Rattle.engine.proofs.MatchedLaws.{row-marked, sets-marked}
 use Rattle.matching.proofs.JoinLaws.{kept-in, in-kept, pair-code}
 use Rattle.matching.proofs.ComponentLaws.{after-more, after-less}
 use Rattle.matching.proofs.AnswerLaws.{answer-all-or-none}

@@ -6,11 +6,11 @@ use Prim.Native.Nat.{ℕ, _≤_, _<_, _+_, _-_, _/_}
 use native.Mathlib.Omega.{arith}
 use lib.ListN.{length, getD, replicate, length-replicate, getD-replicate, List·getD-eq-default}
 use Rattle.packed.proofs.OrderCases.{lt-or-ge}
-use Rattle.matching.specs.Masks.{Has, Mask}
+use Rattle.engine.specs.Masks.{Has, Mask}
+use Rattle.engine.specs.Sweeping.{fromOf, toOf, Ends}
+use Rattle.engine.specs.Rounds.{Shape, Prepared}
 use Rattle.matching.specs.Candidates.{Pool}
-use Rattle.matching.specs.Sweeping.{fromOf, toOf, Ends}
-use Rattle.matching.specs.Rounds.{Shape, Prepared}
-use Rattle.matching.proofs.MaskBits.{none-has}
+use Rattle.engine.proofs.MaskBits.{none-has}
 
 -- ---- the same word for every node
 module _ {x : ℕ} {l : List ℕ} (e : l ≡ replicate 4096 x) where

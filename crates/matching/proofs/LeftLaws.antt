@@ -10,16 +10,16 @@ use lib.Dec.{T}
 use Rattle.packed.specs.Limits.{pairWidth}
 use Rattle.packed.specs.Contents.{wordFrom, wordTo}
 use Rattle.packed.specs.declared.by_value.Pattern.{Pattern as Given}
-use Rattle.matching.specs.Lists.{In, here, there, gather}
-use Rattle.matching.specs.Simulation.{Pair, Edge, bothWays, Pattern, has}
+use Rattle.engine.specs.Lists.{In, here, there, gather}
+use Rattle.engine.specs.Simulation.{Pair, Edge, bothWays, Pattern, has}
+use Rattle.engine.specs.Loaded.{givenEdge}
+use Rattle.engine.specs.Masks.{Has, OneOf}
+use Rattle.engine.specs.Sweeping.{fromOf, toOf, Ends, heldAt}
+use Rattle.engine.specs.Rounds.{End, OffersBy, SupportsBy, Supports, SupportsBack, Shape}
 use Rattle.matching.specs.Join.{pairOf, Offer, Kept, choice}
 use Rattle.matching.specs.Components.{pairAt, Holds}
-use Rattle.matching.specs.Loaded.{givenEdge}
-use Rattle.matching.specs.Masks.{Has, OneOf}
-use Rattle.matching.specs.Sweeping.{fromOf, toOf, Ends, heldAt}
-use Rattle.matching.specs.Rounds.{End, OffersBy, SupportsBy, Supports, SupportsBack, Shape}
-use Rattle.matching.proofs.ListLaws.{in-cases, in-cast, not-in-none, gather-in, in-gather}
-use Rattle.matching.proofs.SimLaws.{has-in, in-has}
+use Rattle.engine.proofs.ListLaws.{in-cases, in-cast, not-in-none, gather-in, in-gather}
+use Rattle.engine.proofs.SimLaws.{has-in, in-has}
 use Rattle.matching.proofs.JoinLaws.{KeepsAt, Supported, ChoicePair, choice-candidate, choice-supported, choice-most}
 
 -- ---- the ends of what is kept

@@ -5,10 +5,10 @@ use mathlib.Core.List.{[]}
 use Prim.Native.Nat.{ℕ, _<_}
 use lib.ListN.{length, getD}
 use Rattle.packed.specs.Formats.{code}
-use Rattle.matching.specs.Lists.{In}
-use Rattle.matching.specs.Simulation.{Pair, noEdge, Pattern, Graph, matchSets}
-use Rattle.matching.proofs.MatchLaws.{Matches, row-say, row-by}
-use Rattle.matching.proofs.CodeLaws.{code-same, ascending-say, ascending-by}
+use Rattle.engine.specs.Lists.{In}
+use Rattle.engine.specs.Simulation.{Pair, noEdge, Pattern, Graph, matchSets}
+use Rattle.engine.proofs.MatchLaws.{Matches, row-say, row-by}
+use Rattle.engine.proofs.CodeLaws.{code-same, ascending-say, ascending-by}
 use Rattle.matching.proofs.MatchSetLaws.{Narrow, matches-narrow, set-at}
 
 module _ (P : Pattern) (G : Graph) where

@@ -10,12 +10,12 @@ use Rattle.packed.specs.Formats.{code}
 use Rattle.packed.specs.Distinct.{Increasing}
 use Rattle.packed.specs.Contents.{distinct}
 use Rattle.packed.proofs.DistinctMerge.{increasing-at}
-use Rattle.matching.specs.Lists.{_and_, In, keep, gather, each}
-use Rattle.matching.specs.Simulation.{Pair, Edge, has, asPair, noEdge, Pattern, Graph, sim, total, row, ascending, matchSets, viewSheet}
-use Rattle.matching.proofs.ByEdge.{rowOf}
-use Rattle.matching.proofs.ListLaws.{cond-case, keep-length, gather-in, each-in, in-each, each-same, length-each, getD-each, in-at}
-use Rattle.matching.proofs.MatchLaws.{Matches, row-say, row-by, Subgraph, subgraph-fewer}
-use Rattle.matching.proofs.CodeLaws.{ascending-say, ascending-same, ascending-increasing, ascending-length, distinct-fewer}
+use Rattle.engine.specs.Lists.{_and_, In, keep, gather, each}
+use Rattle.engine.specs.Simulation.{Pair, Edge, has, asPair, noEdge, Pattern, Graph, sim, total, row, ascending, matchSets, viewSheet}
+use Rattle.engine.proofs.ByEdge.{rowOf}
+use Rattle.engine.proofs.ListLaws.{cond-case, keep-length, gather-in, each-in, in-each, each-same, length-each, getD-each, in-at}
+use Rattle.engine.proofs.MatchLaws.{Matches, row-say, row-by, Subgraph, subgraph-fewer}
+use Rattle.engine.proofs.CodeLaws.{ascending-say, ascending-same, ascending-increasing, ascending-length, distinct-fewer}
 
 -- the ends of each edge have 12 bits
 abbrev pub Narrow : Graph → Type 0

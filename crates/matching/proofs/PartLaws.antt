@@ -8,17 +8,17 @@ use native.Mathlib.Omega.{arith}
 use lib.ListN.{length, getD}
 use lib.Dec.{T, eqb, eqb→eq}
 use Rattle.packed.specs.Formats.{code}
-use Rattle.matching.specs.Lists.{In, keep, each}
-use Rattle.matching.specs.Simulation.{Pair, Edge, between, asPair, noEdge, bit, Pattern, Graph, asGraph, fits, ascending, IsSim}
+use Rattle.engine.specs.Lists.{In, keep, each}
+use Rattle.engine.specs.Simulation.{Pair, Edge, between, asPair, noEdge, bit, Pattern, Graph, asGraph, fits, ascending, IsSim}
 use Rattle.matching.specs.Join.{isMatch, matched, covered}
 use Rattle.matching.specs.Part.{rank, atPlaces, touches, number, moved, partOf}
-use Rattle.matching.proofs.ByEdge.{rowOf}
-use Rattle.matching.proofs.ListLaws.{same-test, or-left, or-right, or-cases, equal-test, in-every, every-in, in-some, some-in, keep-in, in-keep, keep-all, each-in, in-each, each-all, length-each, getD-each}
+use Rattle.engine.proofs.ByEdge.{rowOf}
+use Rattle.engine.proofs.ListLaws.{same-test, or-left, or-right, or-cases, equal-test, in-every, every-in, in-some, some-in, keep-in, in-keep, keep-all, each-in, in-each, each-all, length-each, getD-each}
+use Rattle.engine.proofs.SimLaws.{fits-say, fits-by, sim-is, sim-most}
+use Rattle.engine.proofs.MatchLaws.{Sim, Matches, row-say, row-by, SoundPattern}
+use Rattle.engine.proofs.CodeLaws.{ascending-say, ascending-by}
 use Rattle.matching.proofs.PlaceLaws.{rank-apart, rank-below, rank-all, places-length, places-fewer, places-at, places-from, places-all, keep-places, places-each}
-use Rattle.matching.proofs.SimLaws.{fits-say, fits-by, sim-is, sim-most}
-use Rattle.matching.proofs.MatchLaws.{Sim, Matches, row-say, row-by, SoundPattern}
 use Rattle.matching.proofs.MatchSetLaws.{Narrow, matches-narrow, subgraph-matches}
-use Rattle.matching.proofs.CodeLaws.{ascending-say, ascending-by}
 use Rattle.matching.proofs.JoinLaws.{match-say, match-by, listed-pair}
 use Rattle.matching.proofs.Removed.{only, only-subgraph, matches-stays}
 use Rattle.matching.proofs.Renumbered.{Renumbered, matches-renumbered}

@@ -11,19 +11,18 @@ use Rattle.packed.specs.Bits.{bitsOf}
 use Rattle.packed.specs.Format.{ok, decode, encode}
 use Rattle.packed.specs.Formats.{pattern}
 use Rattle.packed.specs.Plain.{Below, fieldBits, edgeBits, PlainPattern}
-use Rattle.packed.specs.Calls.{accepted, readPattern}
+use Rattle.packed.specs.Calls.{accepted, readPattern, bytesIn}
 use Rattle.packed.proofs.OrderCases.{trichotomy}
 use Rattle.packed.proofs.RoundTrip.{Bytes}
 use Rattle.packed.proofs.AcceptedGraphs.{accepts-pattern}
 use Rattle.packed.proofs.Accepted.{pattern-accepted, pattern-read, written-accepted, plain-written}
 use Rattle.packed.proofs.Most.{pattern-bytes}
-use Rattle.matching.specs.Lists.{In, keep, gather}
-use Rattle.matching.specs.Simulation.{Edge, between, noEdge, Pattern, edgesIn, patternOf}
-use Rattle.matching.specs.Search.{bytesIn}
+use Rattle.engine.specs.Lists.{In, keep, gather}
+use Rattle.engine.specs.Simulation.{Edge, between, noEdge, Pattern, edgesIn, patternOf}
 use Rattle.matching.specs.Part.{rank, atPlaces, touches, number, moved, partOf, edgeFields, patternFields, patternBytes}
-use Rattle.matching.proofs.ListLaws.{in-at, in-length, in-keep, keep-length, length-each}
+use Rattle.engine.proofs.ListLaws.{in-at, in-length, in-keep, keep-length, length-each}
+use Rattle.engine.proofs.MatchLaws.{SoundPattern, sound-say}
 use Rattle.matching.proofs.EdgeLaws.{edgeAt, edgesIn-length, edgesIn-at, at-edgesIn, edge-at}
-use Rattle.matching.proofs.MatchLaws.{SoundPattern, sound-say}
 use Rattle.matching.proofs.PatternLaws.{pattern-is, sound-of}
 use Rattle.matching.proofs.PlaceLaws.{rank-apart, places-at, places-from}
 use Rattle.matching.proofs.PartLaws.{touches-by, part-edge, part-sound, part-few, part-in, part-from}

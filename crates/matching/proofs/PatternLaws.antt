@@ -11,13 +11,13 @@ use Rattle.packed.specs.Contents.{nodesOf, edgesOf}
 use Rattle.packed.specs.Plain.{PlainPattern, fromAt, toAt, kindAt}
 use Rattle.packed.specs.ByValue.{HoldsPattern}
 use Rattle.packed.specs.declared.by_value.Pattern.{Pattern as Given}
-use Rattle.matching.specs.Simulation.{Edge, between, bothWays, Pattern, edgesIn, patternOf, sound}
-use Rattle.matching.specs.Loaded.{patternIn, Fair}
-use Rattle.matching.specs.Loaded.{givenEdge as givenAt}
-use Rattle.matching.specs.Lists.{upTo}
-use Rattle.matching.specs.Matched.{Proper}
-use Rattle.matching.proofs.UpToLaws.{upTo-same}
-use Rattle.matching.proofs.MatchLaws.{SoundPattern, sound-by}
+use Rattle.engine.specs.Simulation.{Edge, between, bothWays, Pattern, edgesIn, patternOf, sound}
+use Rattle.engine.specs.Loaded.{patternIn, Fair}
+use Rattle.engine.specs.Loaded.{givenEdge as givenAt}
+use Rattle.engine.specs.Lists.{upTo}
+use Rattle.engine.specs.Matched.{Proper}
+use Rattle.engine.proofs.UpToLaws.{upTo-same}
+use Rattle.engine.proofs.MatchLaws.{SoundPattern, sound-by}
 use Rattle.matching.proofs.EdgeLaws.{edgeAt, edgesIn-upTo, edgesIn-length, edgesIn-at, at-edgesIn}
 
 abbrev made : List ℕ → List Edge → Pattern

@@ -11,9 +11,9 @@ use lib.ListN.{length, getD}
 use lib.Dec.{T}
 use Rattle.packed.specs.Bits.{one}
 use Rattle.packed.proofs.OrderCases.{lt-or-ge}
-use Rattle.matching.specs.Lists.{put, keep, each}
+use Rattle.engine.specs.Lists.{put, keep, each}
 use Rattle.matching.specs.Part.{rank, atPlaces}
-use Rattle.matching.proofs.ListLaws.{put-all}
+use Rattle.engine.proofs.ListLaws.{put-all}
 
 pub one-of : (b : Bool) → T b → one b ≡ 1
 one-of true h = refl

@@ -6,16 +6,16 @@ use Prim.Native.Nat.{ℕ, _≤_}
 use native.Mathlib.Omega.{arith}
 use lib.Dec.{T}
 use Rattle.packed.specs.declared.by_value.Pattern.{Pattern as Given}
-use Rattle.matching.specs.Lists.{In}
-use Rattle.matching.specs.Simulation.{Pattern}
+use Rattle.engine.specs.Lists.{In}
+use Rattle.engine.specs.Simulation.{Pattern}
+use Rattle.engine.specs.Loaded.{givenEdge, patternIn}
+use Rattle.engine.specs.Sweeping.{Tabled}
+use Rattle.engine.specs.Rounds.{Safe, Sound, Fixed}
 use Rattle.matching.specs.Join.{pairOf, Offer, Kept, choice, keptFor}
 use Rattle.matching.specs.Components.{Holds, Pruned}
-use Rattle.matching.specs.Loaded.{givenEdge, patternIn}
 use Rattle.matching.specs.Candidates.{Pool}
-use Rattle.matching.specs.Sweeping.{Tabled}
-use Rattle.matching.specs.Rounds.{Safe, Sound, Fixed}
 use Rattle.matching.specs.Stepping.{Fresh}
-use Rattle.matching.proofs.MaskBits.{none-has}
+use Rattle.engine.proofs.MaskBits.{none-has}
 use Rattle.matching.proofs.JoiningLaws.{every-has, every-shape}
 use Rattle.matching.proofs.JoinLaws.{choice-candidate, kept-in, in-kept}
 use Rattle.matching.proofs.ReachLaws.{in-edges, edges-in, given-rule}

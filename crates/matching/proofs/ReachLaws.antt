@@ -10,15 +10,15 @@ use lib.Dec.{T, ltb, ltb→lt, lt→ltb}
 use lib.Bits.{bitAnd, bitOr}
 use Rattle.packed.specs.declared.by_value.Pattern.{Pattern as Given}
 use Rattle.packed.proofs.OrderCases.{lt-or-ge}
-use Rattle.matching.specs.Lists.{_or_, In}
-use Rattle.matching.specs.Simulation.{bit, Edge, bothWays}
+use Rattle.engine.specs.Lists.{_or_, In}
+use Rattle.engine.specs.Simulation.{bit, Edge, bothWays}
+use Rattle.engine.specs.Loaded.{givenEdge, patternIn, Fair}
+use Rattle.engine.specs.Masks.{Has, Mask, OneOf}
 use Rattle.matching.specs.Components.{Nodes, reaches, together, ready, Shut, OneStep}
-use Rattle.matching.specs.Loaded.{givenEdge, patternIn, Fair}
-use Rattle.matching.specs.Masks.{Has, Mask, OneOf}
 use Rattle.matching.specs.Stepping.{Spread, ReachedFrom, AllReached, AllComponents, IsNext, NextOf}
-use Rattle.matching.proofs.ListLaws.{decide, same-test, or-left as either-left, or-right as either-right, or-cases as either-cases}
-use Rattle.matching.proofs.MaskBits.{none-has, or-left, or-right, or-cases, and-say, and-by, minus-say, minus-by, part-le, few-lt}
-use Rattle.matching.proofs.UpToLaws.{in-upTo, upTo-in}
+use Rattle.engine.proofs.ListLaws.{decide, same-test, or-left as either-left, or-right as either-right, or-cases as either-cases}
+use Rattle.engine.proofs.MaskBits.{none-has, or-left, or-right, or-cases, and-say, and-by, minus-say, minus-by, part-le, few-lt}
+use Rattle.engine.proofs.UpToLaws.{in-upTo, upTo-in}
 use Rattle.matching.proofs.ComponentLaws.{Ended, reaches-self, reaches-shut, reaches-least, together-say, together-by, together-self, ready-by, step-shut, ready-one}
 
 -- ---- the query's nodes and edges

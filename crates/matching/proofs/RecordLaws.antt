@@ -15,16 +15,16 @@ use Rattle.packed.proofs.DistinctMerge.{increasing-at}
 use Rattle.packed.proofs.EdgePlaces.{each-length, each-at}
 use Rattle.packed.proofs.GraphLaws.{labels-field, record-bounds, record-among}
 use Rattle.packed.proofs.SortedEdges.{record-rises}
-use Rattle.matching.specs.Lists.{In, upTo}
-use Rattle.matching.specs.Simulation.{Edge, between, Pattern, Graph, edgesIn, graphOf, matchSets}
-use Rattle.matching.specs.Loaded.{edgeOfWord, graphIn, Ready, Edges}
-use Rattle.matching.specs.Matched.{Rises}
-use Rattle.matching.specs.Index.{indexFor, indexOf}
-use Rattle.matching.specs.Sweeping.{Ends}
-use Rattle.matching.specs.Places.{ByStart, edgesAt}
-use Rattle.matching.proofs.UpToLaws.{length-upTo, getD-upTo, upTo-same}
+use Rattle.engine.specs.Lists.{In, upTo}
+use Rattle.engine.specs.Simulation.{Edge, between, Pattern, Graph, edgesIn, graphOf, matchSets}
+use Rattle.engine.specs.Loaded.{edgeOfWord, graphIn, Ready, Edges}
+use Rattle.engine.specs.Matched.{Rises}
+use Rattle.engine.specs.Index.{indexFor, indexOf}
+use Rattle.engine.specs.Sweeping.{Ends}
+use Rattle.engine.specs.Places.{ByStart, edgesAt}
+use Rattle.engine.proofs.UpToLaws.{length-upTo, getD-upTo, upTo-same}
+use Rattle.engine.proofs.RankLaws.{rank-from}
 use Rattle.matching.proofs.MatchSetLaws.{Narrow}
-use Rattle.matching.proofs.RankLaws.{rank-from}
 use Rattle.matching.proofs.EdgeLaws.{edgeAt, edgesIn-upTo, edgesIn-at, edgesIn-length}
 
 -- ---- the content of an accepted record

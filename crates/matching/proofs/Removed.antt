@@ -4,14 +4,14 @@ use mathlib.Core.Bool.{Bool, not}
 use Prim.Native.Nat.{ℕ}
 use lib.Dec.{T, not-T}
 use Rattle.packed.specs.Formats.{code}
-use Rattle.matching.specs.Lists.{In, keep}
-use Rattle.matching.specs.Simulation.{Pair, Edge, sameEdge, asPair, Pattern, Graph, fits, ascending, matchSets, IsSim}
-use Rattle.matching.proofs.ByEdge.{rowOf}
+use Rattle.engine.specs.Lists.{In, keep}
+use Rattle.engine.specs.Simulation.{Pair, Edge, sameEdge, asPair, Pattern, Graph, fits, ascending, matchSets, IsSim}
+use Rattle.engine.proofs.ByEdge.{rowOf}
 use Rattle.matching.specs.Join.{without}
-use Rattle.matching.proofs.ListLaws.{keep-in, in-keep, each-same}
-use Rattle.matching.proofs.SimLaws.{same-edge, fits-say, fits-by, sim-is, sim-most}
-use Rattle.matching.proofs.MatchLaws.{Sim, Total, Matches, matches-edge, row-say, row-by, Subgraph}
-use Rattle.matching.proofs.CodeLaws.{ascending-by, ascending-same}
+use Rattle.engine.proofs.ListLaws.{keep-in, in-keep, each-same}
+use Rattle.engine.proofs.SimLaws.{same-edge, fits-say, fits-by, sim-is, sim-most}
+use Rattle.engine.proofs.MatchLaws.{Sim, Total, Matches, matches-edge, row-say, row-by, Subgraph}
+use Rattle.engine.proofs.CodeLaws.{ascending-by, ascending-same}
 use Rattle.matching.proofs.MatchSetLaws.{sets-each, subgraph-matches}
 
 -- G with those of its edges alone that the test takes

@@ -4,14 +4,14 @@ use mathlib.Core.Logic.{_⊎_, inl, inr, _↔_}
 use Prim.Native.Nat.{ℕ, _<_}
 use lib.ListN.{length, getD}
 use lib.Dec.{T}
-use Rattle.matching.specs.Lists.{In, each}
-use Rattle.matching.specs.Simulation.{Pair, Edge, asPair, bit, Pattern, Graph, fits, ascending, matchSets, IsSim}
+use Rattle.engine.specs.Lists.{In, each}
+use Rattle.engine.specs.Simulation.{Pair, Edge, asPair, bit, Pattern, Graph, fits, ascending, matchSets, IsSim}
 use Rattle.matching.specs.Part.{moved}
-use Rattle.matching.proofs.ByEdge.{rowOf}
-use Rattle.matching.proofs.ListLaws.{each-in, in-each, each-same}
-use Rattle.matching.proofs.SimLaws.{fits-say, fits-by, sim-is, sim-most}
-use Rattle.matching.proofs.MatchLaws.{Sim, Total, Matches, matches-edge, row-say, row-by, SoundPattern}
-use Rattle.matching.proofs.CodeLaws.{ascending-same}
+use Rattle.engine.proofs.ByEdge.{rowOf}
+use Rattle.engine.proofs.ListLaws.{each-in, in-each, each-same}
+use Rattle.engine.proofs.SimLaws.{fits-say, fits-by, sim-is, sim-most}
+use Rattle.engine.proofs.MatchLaws.{Sim, Total, Matches, matches-edge, row-say, row-by, SoundPattern}
+use Rattle.engine.proofs.CodeLaws.{ascending-same}
 use Rattle.matching.proofs.MatchSetLaws.{sets-each}
 
 -- v is an end of an edge

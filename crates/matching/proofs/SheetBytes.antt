@@ -1,6 +1,6 @@
 -- The sheet of match sets in bytes: how many they are, and that they are read back as the same lists.
 use Prim.Native.Nat.{ℕ, _≤_}
-use mathlib.Core.Path.{_≡_, refl, sym, ap, _∙_}
+use mathlib.Core.Path.{_≡_, refl, sym, ap, ap₂, _∙_}
 use mathlib.Core.List.{List, [], _∷_}
 use lib.ListN.{length}
 use lib.Dec.{T}
@@ -9,14 +9,15 @@ use Rattle.packed.specs.Format.{ok, decode, encode}
 use Rattle.packed.specs.Formats.{pattern, record′, sheet}
 use Rattle.packed.specs.Contents.{edgesOf, pairCount, sheetFields, sheetLength}
 use Rattle.packed.specs.Matches.{allOrNone}
-use Rattle.packed.specs.Calls.{accepted, readSheet}
+use Rattle.packed.specs.Calls.{accepted, readSheet, bytesIn}
 use Rattle.packed.proofs.SheetLaws.{Fit, fit-none, fit-next, rising-by, all-twice, fields-none, none-encodes, Encoded, sheet-encodes}
+use Rattle.packed.proofs.BookSheetLaws.{sheet-injective}
 use Rattle.packed.proofs.Accepted.{pattern-accepted, sheet-accepted, sheet-read}
-use Rattle.matching.specs.Lists.{In, here, there}
-use Rattle.matching.specs.Simulation.{Pattern, Graph, patternOf, graphOf, matchSets, sound}
-use Rattle.matching.specs.Search.{bytesIn, sheetBytes}
+use Rattle.engine.specs.Lists.{In, here, there}
+use Rattle.engine.specs.Simulation.{Pattern, Graph, patternOf, graphOf, matchSets, sound}
+use Rattle.matching.specs.Search.{sheetBytes}
+use Rattle.engine.proofs.AllOrNone.{sets-all-or-none}
 use Rattle.matching.proofs.MatchSetLaws.{Narrow, Listable, sets-length, sets-listable}
-use Rattle.matching.proofs.AllOrNone.{sets-all-or-none}
 use Rattle.matching.proofs.PatternLaws.{sound-of, edges-many}
 use Rattle.matching.proofs.RecordLaws.{graph-narrow, graph-few}
 
@@ -51,6 +52,13 @@ sets-sheet P G s n h =
     let e = sets-all-or-none P G s in
     sheet-by (length (matchSets P G)) (matchSets P G) refl
     (sheet-encodes (length (matchSets P G)) (matchSets P G) refl (fit-by (matchSets P G) (sets-listable P G n h)) (ap allOrNone e ∙ all-twice _ ∙ sym e))
+
+-- they are the same bytes in two graphs only where they are the same
+pub sheets-apart : (P : Pattern) (G H : Graph) → SheetFields (matchSets P G) → SheetFields (matchSets P H) → sheetBytes (matchSets P G) ≡ sheetBytes (matchSets P H) → matchSets P G ≡ matchSets P H
+sheets-apart P G H x y e =
+    let l : length (matchSets P G) ≡ length (matchSets P H) = sets-length P G ∙ sym (sets-length P H) in
+    let q : ok (sheetFields (matchSets P G)) ≡ ok (sheetFields (matchSets P H)) = sym (x .back) ∙ ap₂ (λ (m : ℕ) (b : List ℕ). decode (sheet m) b) l e ∙ y .back in
+    sheet-injective (matchSets P G) (matchSets P H) l (cc)
 
 -- ---- of an accepted pattern and an accepted record
 module _ (p r ps rs : List ℕ) (e : decode pattern p ≡ ok ps) (f : decode record′ r ≡ ok rs) where

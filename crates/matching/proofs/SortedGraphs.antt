@@ -11,12 +11,12 @@ use Rattle.packed.specs.Contents.{member, distinct, ranks, fromRanks, sortedEdg
 use Rattle.packed.specs.Plain.{EdgesAmong}
 use Rattle.packed.specs.Distinct.{BelowHead, Increasing}
 use Rattle.packed.proofs.DistinctLaws.{distinct-increasing, member-distinct, increasing-unique}
-use Rattle.matching.specs.Lists.{In, each, keep, put}
-use Rattle.matching.specs.Simulation.{Edge, between, sameEdge, Pattern, Graph, edgesIn, matchSets, viewSheet}
+use Rattle.engine.specs.Lists.{In, each, keep, put}
+use Rattle.engine.specs.Simulation.{Edge, between, sameEdge, Pattern, Graph, edgesIn, matchSets, viewSheet}
 use Rattle.matching.specs.Join.{without}
-use Rattle.matching.proofs.ListLaws.{each-in, in-each, keep-in, in-keep}
-use Rattle.matching.proofs.CodeLaws.{in-member, member-in}
-use Rattle.matching.proofs.MatchLaws.{Subgraph}
+use Rattle.engine.proofs.ListLaws.{each-in, in-each, keep-in, in-keep}
+use Rattle.engine.proofs.CodeLaws.{in-member, member-in}
+use Rattle.engine.proofs.MatchLaws.{Subgraph}
 use Rattle.matching.proofs.MatchSetLaws.{order-free, view-same}
 use Rattle.matching.proofs.EdgeLaws.{edgesIn-at, made-each}
 

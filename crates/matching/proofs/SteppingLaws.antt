@@ -15,20 +15,20 @@ use Rattle.packed.specs.Calls.{Verdict, accepted, rejected, readPattern}
 use Rattle.packed.specs.Accepting.{Held}
 use Rattle.packed.specs.declared.by_value.Pattern.{Pattern as Given}
 use Rattle.packed.proofs.OrderCases.{lt-or-ge}
-use Rattle.matching.specs.Lists.{In}
-use Rattle.matching.specs.Simulation.{bit, Edge, Pattern}
+use Rattle.engine.specs.Lists.{In}
+use Rattle.engine.specs.Simulation.{bit, Edge, Pattern}
+use Rattle.engine.specs.Loaded.{givenEdge, patternIn, Fair}
+use Rattle.engine.specs.Masks.{Has, Mask, OneOf}
+use Rattle.engine.specs.Sweeping.{fromOf, toOf, Ends, heldAt, Tabled, LookedUp}
+use Rattle.engine.specs.Rounds.{Supports, Safe, Stays, Sound, Falls, Prepared, Fixed, Round}
 use Rattle.matching.specs.Join.{pairOf, Offer, Kept, choice}
 use Rattle.matching.specs.Components.{Nodes, leavingOf, joinIn, stateAt, Shut, OneStep, StepsTo, start, step, pairAt, Holds, Ran, Pruned}
-use Rattle.matching.specs.Loaded.{givenEdge, patternIn, Fair}
-use Rattle.matching.specs.Masks.{Has, Mask, OneOf}
 use Rattle.matching.specs.Candidates.{Pool}
-use Rattle.matching.specs.Sweeping.{fromOf, toOf, Ends, heldAt, Tabled, LookedUp}
-use Rattle.matching.specs.Rounds.{Supports, Safe, Stays, Sound, Falls, Prepared, Fixed, Round}
 use Rattle.matching.specs.Stepping.{PairsTaken, LeavingLinks, Loose, LooseLinks, Between, At, Fresh, Started, Stepped, Going, RanPruned, Tried}
 use Rattle.matching.specs.declared.steps.Place.{Place}
-use Rattle.matching.proofs.ListLaws.{decide, same-test}
-use Rattle.matching.proofs.MaskBits.{none-has, or-left, or-right, or-cases, and-say, and-by, minus-say, minus-by, mask-cast, union-more}
-use Rattle.matching.proofs.RoundLaws.{fixed-prepared, prepared-ends}
+use Rattle.engine.proofs.ListLaws.{decide, same-test}
+use Rattle.engine.proofs.MaskBits.{none-has, or-left, or-right, or-cases, and-say, and-by, minus-say, minus-by, mask-cast, union-more}
+use Rattle.engine.proofs.RoundLaws.{fixed-prepared, prepared-ends}
 use Rattle.matching.proofs.JoiningLaws.{every-prepared, every-has, every-shape}
 use Rattle.matching.proofs.ComponentLaws.{leaving-one, leaving-in, in-leaving, join-in-candidate, state-say, state-candidate, state-old, state-new, step-shut}
 use Rattle.matching.proofs.ReachLaws.{in-edges, edges-in, given-ended}

@@ -8,7 +8,7 @@ use lib.ListN.{length, getD, set, length-set}
 use lib.Seq.{getD-set-same, getD-set-other}
 use lib.Bits.{bitOr}
 use Rattle.packed.specs.Order.{Outside}
-use Rattle.matching.specs.Loaded.{Edges}
+use Rattle.engine.specs.Loaded.{Edges}
 use Rattle.packed.specs.Distinct.{Increasing}
 use Rattle.packed.specs.Limits.{pairWidth}
 use Rattle.packed.specs.Walks.{fieldOr, pairPlace, codesOn}
@@ -16,11 +16,11 @@ use Rattle.packed.proofs.OrderCases.{lt-or-ge, eq-or-ne}
 use Rattle.packed.proofs.DistinctLaws.{increasing-tail}
 use Rattle.packed.proofs.DistinctMerge.{increasing-at}
 use Rattle.packed.proofs.Walks.{codes-none, codes-more}
-use Rattle.matching.specs.Lists.{In, here, there}
-use Rattle.matching.specs.Masks.{Has, Mask, OneOf}
+use Rattle.engine.specs.Lists.{In, here, there}
+use Rattle.engine.specs.Masks.{Has, Mask, OneOf}
 use Rattle.matching.specs.Candidates.{Pool, Beyond, PlaceIn, Walkable, Taken, Listing}
-use Rattle.matching.proofs.ListLaws.{not-in-none, in-cases, in-cast}
-use Rattle.matching.proofs.MaskBits.{mask-cast, mask-self, or-left, or-right, or-cases}
+use Rattle.engine.proofs.ListLaws.{not-in-none, in-cases, in-cast}
+use Rattle.engine.proofs.MaskBits.{mask-cast, mask-self, or-left, or-right, or-cases}
 
 -- ---- the pool
 pub pool-less : {d n : ℕ} {w : List ℕ} → n ≤ d → Pool d w → Pool n w

@@ -8,15 +8,15 @@ use native.Mathlib.Omega.{arith}
 use lib.ListN.{length, getD, take}
 use lib.Seq.{getD-take, length-take-le}
 use Rattle.packed.specs.Bits.{gap}
-use Rattle.matching.specs.Loaded.{Edges}
+use Rattle.engine.specs.Loaded.{Edges}
 use Rattle.packed.specs.Walks.{codesAt, pairPlace, listFirst, listCount, listEnd, Spans, listsEnd, listsFirst, listsCount, sheetEnd}
 use Rattle.packed.specs.BookSheets.{listAt, sheetAt}
 use Rattle.packed.specs.declared.cursor.Extent.{Extent}
-use Rattle.matching.specs.Lists.{In}
-use Rattle.matching.specs.Masks.{Has, Mask, OneOf}
+use Rattle.engine.specs.Lists.{In}
+use Rattle.engine.specs.Masks.{Has, Mask, OneOf}
 use Rattle.matching.specs.Candidates.{Walkable, Sheeted, SheetedAt, Booked, Taken, Listing, SheetListing, SheetListingAt, BookListing}
+use Rattle.engine.proofs.MaskBits.{mask-cast, mask-self, none-has, one-none, one-last, one-more, one-cases}
 use Rattle.matching.proofs.Taking.{edges-around, pool-keep, walkable-keep}
-use Rattle.matching.proofs.MaskBits.{mask-cast, mask-self, none-has, one-none, one-last, one-more, one-cases}
 
 -- the numbers below n with Q
 pub union-own : (Q : ℕ → Type 0) (j n : ℕ) {r : ℕ} → Mask (λ k. OneOf j (λ e. (e ≡ k) × Q e)) r → j ≡ n → Mask (λ k. (k < n) × Q k) r

@@ -7,15 +7,15 @@ use native.Mathlib.Omega.{arith}
 use lib.ListN.{length, getD}
 use lib.Dec.{T, T-not, not-T}
 use Rattle.packed.specs.Formats.{code}
-use Rattle.matching.specs.Lists.{In}
-use Rattle.matching.specs.Simulation.{Pair, Edge, sameEdge, asPair, bit, Pattern, Graph, asGraph, fits, ascending, matchSets, viewSheet, IsSim, sound}
-use Rattle.matching.proofs.ByEdge.{rowOf}
+use Rattle.engine.specs.Lists.{In}
+use Rattle.engine.specs.Simulation.{Pair, Edge, sameEdge, asPair, bit, Pattern, Graph, asGraph, fits, ascending, matchSets, viewSheet, IsSim, sound}
+use Rattle.engine.proofs.ByEdge.{rowOf}
 use Rattle.matching.specs.Join.{isMatch, someMatch, matchedBy, matched, without}
-use Rattle.matching.proofs.ListLaws.{keep-in, in-some, each-agree, length-each, getD-each}
-use Rattle.matching.proofs.Masks.{bit-self}
-use Rattle.matching.proofs.SimLaws.{same-edge, same-edge-refl, pair-edge, FitsInto, fits-by, sim-most}
-use Rattle.matching.proofs.MatchLaws.{Matches, matches-edge, row-say, row-by, SoundPattern, sound-say}
-use Rattle.matching.proofs.CodeLaws.{code-same, ascending-say, ascending-by}
+use Rattle.engine.proofs.ListLaws.{keep-in, in-some, each-agree, length-each, getD-each}
+use Rattle.engine.proofs.Masks.{bit-self}
+use Rattle.engine.proofs.SimLaws.{same-edge, same-edge-refl, pair-edge, FitsInto, fits-by, sim-most}
+use Rattle.engine.proofs.MatchLaws.{Matches, matches-edge, row-say, row-by, SoundPattern, sound-say}
+use Rattle.engine.proofs.CodeLaws.{code-same, ascending-say, ascending-by}
 use Rattle.matching.proofs.MatchSetLaws.{Narrow, sets-each, view-each, view-same}
 use Rattle.matching.proofs.Removed.{only, without-only, only-sets}
 use Rattle.matching.proofs.JoinLaws.{match-by, some-match-each}

@@ -11,8 +11,8 @@ use Rattle.packed.specs.Distinct.{Increasing}
 use Rattle.packed.specs.Order.{Outside}
 use Rattle.packed.specs.Walks.{codesAt, pairPlace, listFirst, listCount, listsEnd, listsFirst, listsCount}
 use Rattle.packed.specs.BookSheets.{listAt, sheetAt}
-use Rattle.matching.specs.Lists.{In}
-use Rattle.matching.specs.Masks.{Has, Mask, OneOf}
+use Rattle.engine.specs.Lists.{In}
+use Rattle.engine.specs.Masks.{Has, Mask, OneOf}
 
 -- the codes of d pairs ascend, each once, at the front of the workspace
 pub record Pool (d : ℕ) (w : List ℕ) : Type 0 where

@@ -7,9 +7,9 @@ use Prim.Native.Nat.{ℕ, suc, _+_, _<_, _≤_}
 use lib.ListN.{length, getD}
 use lib.Dec.{T, eqb}
 use Rattle.packed.specs.declared.by_value.Pattern.{Pattern as Given}
-use Rattle.matching.specs.Lists.{_and_, _or_, _implies_, In, every, some, keep, below}
-use Rattle.matching.specs.Greatest.{greatest}
-use Rattle.matching.specs.Simulation.{Pair, Edge, bit, oneWay, Pattern, givenEdge, patternIn}
+use Rattle.engine.specs.Lists.{_and_, _or_, _implies_, In, every, some, keep, below}
+use Rattle.engine.specs.Greatest.{greatest}
+use Rattle.engine.specs.Simulation.{Pair, Edge, bit, oneWay, Pattern, givenEdge, patternIn}
 use Rattle.matching.specs.Join.{pairOf, Kept, Offer, choice, keptFor}
 
 -- ---- components

@@ -5,9 +5,9 @@ use Prim.Native.Nat.{ℕ, _/_, _%_}
 use lib.Dec.{eqb}
 use Rattle.packed.specs.Formats.{code}
 use Rattle.packed.specs.Contents.{member}
-use Rattle.matching.specs.Lists.{_and_, _or_, _implies_, every, some, keep, gather, each}
-use Rattle.matching.specs.Greatest.{greatest}
-use Rattle.matching.specs.Simulation.{Pair, Edge, sameEdge, asksArrivals, Pattern, Graph, asGraph, ascending, viewSheet}
+use Rattle.engine.specs.Lists.{_and_, _or_, _implies_, every, some, keep, gather, each}
+use Rattle.engine.specs.Greatest.{greatest}
+use Rattle.engine.specs.Simulation.{Pair, Edge, sameEdge, asksArrivals, Pattern, Graph, asGraph, ascending, viewSheet}
 
 -- ---- answering
 

@@ -5,11 +5,11 @@ use mathlib.Core.List.{List}
 use Rattle.packed.specs.Limits.{patternNodesMost}
 use Rattle.packed.specs.Matches.{matchesOf}
 use Rattle.packed.specs.declared.by_value.Pattern.{Pattern as Given}
-use Rattle.matching.specs.Lists.{In}
-use Rattle.matching.specs.Simulation.{Pair}
+use Rattle.engine.specs.Lists.{In}
+use Rattle.engine.specs.Simulation.{Pair}
+use Rattle.engine.specs.Loaded.{givenEdge, patternIn, Edges}
 use Rattle.matching.specs.Join.{View, pairOf, candidates, answerSets}
 use Rattle.matching.specs.Components.{Holds, Ran, Pruned}
-use Rattle.matching.specs.Loaded.{givenEdge, patternIn, Edges}
 use Rattle.matching.specs.Candidates.{BookListing}
 
 -- the book's lists, by the table t, have the candidates that the views vs give

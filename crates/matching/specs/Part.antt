@@ -7,9 +7,9 @@ use lib.Dec.{eqb}
 use Rattle.packed.specs.Bits.{one}
 use Rattle.packed.specs.Format.{encode}
 use Rattle.packed.specs.Formats.{pattern}
-use Rattle.matching.specs.Lists.{_or_, some, put, keep, gather, each}
-use Rattle.matching.specs.Simulation.{Edge, between, Pattern}
-use Rattle.matching.specs.Search.{bytesIn}
+use Rattle.packed.specs.Calls.{bytesIn}
+use Rattle.engine.specs.Lists.{_or_, some, put, keep, gather, each}
+use Rattle.engine.specs.Simulation.{Edge, between, Pattern}
 
 -- how many numbers below v pass the test
 unfoldable pub rank : (ℕ → Bool) → ℕ → ℕ

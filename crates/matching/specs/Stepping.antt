@@ -11,13 +11,13 @@ use Rattle.packed.specs.Limits.{pairWidth}
 use Rattle.packed.specs.ByValue.{HoldsPattern}
 use Rattle.packed.specs.Calls.{accepted, rejected, readPattern}
 use Rattle.packed.specs.declared.by_value.Pattern.{Pattern as Given}
-use Rattle.matching.specs.Simulation.{bit}
+use Rattle.engine.specs.Simulation.{bit}
+use Rattle.engine.specs.Loaded.{patternIn, Edges}
+use Rattle.engine.specs.Masks.{Has, Mask, OneOf}
+use Rattle.engine.specs.Sweeping.{fromOf, toOf, Ends, heldAt, Tabled}
+use Rattle.engine.specs.Rounds.{Supports, Safe, Shape, Falls, Prepared}
 use Rattle.matching.specs.Components.{reaches, Shut, HoldsState, Ran, Pruned}
-use Rattle.matching.specs.Loaded.{patternIn, Edges}
-use Rattle.matching.specs.Masks.{Has, Mask, OneOf}
-use Rattle.matching.specs.Sweeping.{fromOf, toOf, Ends, heldAt, Tabled}
 use Rattle.matching.specs.Candidates.{Pool}
-use Rattle.matching.specs.Rounds.{Supports, Safe, Shape, Falls, Prepared}
 use Rattle.matching.specs.declared.steps.Place.{Place}
 
 -- ---- components

@@ -3,15 +3,17 @@ ghost use mathlib.Core.Path.{_≡_};
 ghost use lib.ListN.{length, replicate};
 ghost use Rattle.packed.specs.Refusals.{replyTold};
 ghost use Rattle.packed.specs.Calls.{FulfilsOne};
+ghost use Rattle.engine.specs.Loaded.{patternIn, Fair};
+ghost use Rattle.engine.specs.Starting.{NodeRoom};
+ghost use Rattle.engine.specs.Loaded.{Ready, graphIn};
+ghost use Rattle.engine.specs.Simulation.{ruled, matchSets};
+ghost use Rattle.engine.specs.Matched.{ruleOf, Proper, Rises, SheetSized};
 ghost use Rattle.matching.specs.Search.{searchFor, searchOutcome, makeBookOutcome};
-ghost use Rattle.matching.specs.Loaded.{patternIn, Fair};
-ghost use Rattle.matching.specs.Starting.{NodeRoom};
-ghost use Rattle.matching.specs.Loaded.{Ready, graphIn};
-ghost use Rattle.matching.specs.Simulation.{matchSets};
-ghost use Rattle.matching.specs.Matched.{Proper, Rises, SheetSized};
+ghost use Rattle.matching.specs.Offered.{brings};
 ghost use Rattle.matching.specs.Books.{Catalogued, Bookable, sheetSize, Sizes, Sized, Fits, Filled, BookAnswered};
-use crate::matched;
-use crate::views;
+use crate::offered;
+use engine::matched;
+use engine::views;
 use packed::accept;
 use packed::by_value::Pattern;
 use packed::graph;
@@ -77,6 +79,7 @@ fn no_sizes() -> [usize; 16]
 // How many bytes the book of the k views of a catalogue takes, and each of its sheets.
 fn book_size(
     catalogue: &[u8],
+    one_way: u32,
     k: usize,
     record: &[u8],
     n: usize,
@@ -88,7 +91,7 @@ fn book_size(
     held: &mut [u32],
 ) -> usize
     requires { ⌜ Bookable (now catalogue) k (now «record») n m (now work) × (length (now sizes) ≡ 16) × NodeRoom n (now leave) (now arrive) (now held) ⌝ }
-    ensures { λ r. ⌜ Sized (now (catalogue .entry)) (now («record» .entry)) n m (now (work .entry)) (now (sizes .exit)) r (now (work .exit)) × NodeRoom n (now (leave .exit)) (now (arrive .exit)) (now (held .exit)) ⌝ }
+    ensures { λ r. ⌜ Sized (now (catalogue .entry)) «one_way» (now («record» .entry)) n m (now (work .entry)) (now (sizes .exit)) r (now (work .exit)) × NodeRoom n (now (leave .exit)) (now (arrive .exit)) (now (held .exit)) ⌝ }
 {
     let mut size: usize = 0;
     let mut byte: usize = 1;
@@ -96,7 +99,8 @@ fn book_size(
     while a < k {
         let v = views::view_at(catalogue, byte);
         let p = v.pattern;
-        matched::match_edges(record, n, m, p, true, work, leave, arrive, held);
+        let both = offered::is_both(one_way, a);
+        matched::match_edges(record, n, m, p, both, work, leave, arrive, held);
         let more = matches::sheet_size(work, m, p.edges as u32);
         sizes[a] = more;
         size += more;
@@ -113,25 +117,27 @@ fn match_again(
     n: usize,
     m: usize,
     p: Pattern,
+    both: bool,
     size: usize,
     work: &mut [u32],
     leave: &mut [u32],
     arrive: &mut [u32],
     held: &mut [u32],
 ) -> usize
-    requires { ⌜ Fair p × Proper p × Ready (now «record») n m (now work) × Rises m (now work) × NodeRoom n (now leave) (now arrive) (now held) × (size ≡ sheetSize (matchSets (patternIn p) (graphIn (now «record») n m (now work)))) ⌝ }
-    ensures { λ r. ⌜ SheetSized p (now («record» .entry)) n m (now (work .entry)) r (now (work .exit)) × NodeRoom n (now (leave .exit)) (now (arrive .exit)) (now (held .exit)) ⌝ }
+    requires { ⌜ Fair p × Proper p × Ready (now «record») n m (now work) × Rises m (now work) × NodeRoom n (now leave) (now arrive) (now held) × (size ≡ sheetSize (matchSets (ruled (ruleOf both) (patternIn p)) (graphIn (now «record») n m (now work)))) ⌝ }
+    ensures { λ r. ⌜ SheetSized (ruleOf both) p (now («record» .entry)) n m (now (work .entry)) r (now (work .exit)) × NodeRoom n (now (leave .exit)) (now (arrive .exit)) (now (held .exit)) ⌝ }
 {
     if size == 1 {
         return 0;
     }
-    matched::match_edges(record, n, m, p, true, work, leave, arrive, held);
+    matched::match_edges(record, n, m, p, both, work, leave, arrive, held);
     m
 }
 
 // The sheets of the k views, each from the byte after the one before: the rest of the lent book is lent to the sheet's writer.
 fn write_book(
     catalogue: &[u8],
+    one_way: u32,
     k: usize,
     record: &[u8],
     n: usize,
@@ -143,8 +149,8 @@ fn write_book(
     arrive: &mut [u32],
     held: &mut [u32],
 )
-    requires { ⌜ Bookable (now catalogue) k (now «record») n m (now work) × Sizes (now catalogue) (now «record») n m (now work) sizes × Fits (now catalogue) (now «record») n m (now work) (now out) × NodeRoom n (now leave) (now arrive) (now held) ⌝ }
-    ensures { λ r. ⌜ Filled (now (catalogue .entry)) (now («record» .entry)) n m (now (work .entry)) (now (out .entry)) (now (out .exit)) ⌝ }
+    requires { ⌜ Bookable (now catalogue) k (now «record») n m (now work) × Sizes (now catalogue) «one_way» (now «record») n m (now work) sizes × Fits (now catalogue) «one_way» (now «record») n m (now work) (now out) × NodeRoom n (now leave) (now arrive) (now held) ⌝ }
+    ensures { λ r. ⌜ Filled (now (catalogue .entry)) «one_way» (now («record» .entry)) n m (now (work .entry)) (now (out .entry)) (now (out .exit)) ⌝ }
 {
     let mut at: usize = 0;
     let mut byte: usize = 1;
@@ -152,7 +158,8 @@ fn write_book(
     while a < k {
         let v = views::view_at(catalogue, byte);
         let p = v.pattern;
-        let d = match_again(record, n, m, p, sizes[a], work, leave, arrive, held);
+        let both = offered::is_both(one_way, a);
+        let d = match_again(record, n, m, p, both, sizes[a], work, leave, arrive, held);
         at += matches::write_sheet(work, d, p.edges as u32, &mut out[at..]);
         byte = v.next;
         a += 1;
@@ -162,13 +169,14 @@ fn write_book(
 // Makes the book of the k views of an accepted catalogue.
 fn make_book_of(
     catalogue: &[u8],
+    one_way: u32,
     k: usize,
     record: &[u8],
     out: &mut [u8],
     work: &mut [u32],
 ) -> Reply
     requires { ⌜ (length (now work) ≡ 16384) × Catalogued (now catalogue) k ⌝ }
-    ensures { λ r. ⌜ BookAnswered (now (catalogue .entry)) (now («record» .entry)) (replyTold r) (now (out .entry)) (now (out .exit)) ⌝ }
+    ensures { λ r. ⌜ BookAnswered (now (catalogue .entry)) «one_way» (now («record» .entry)) (replyTold r) (now (out .entry)) (now (out .exit)) ⌝ }
 {
     let g = graph::load_record(record, work);
     match g {
@@ -179,6 +187,7 @@ fn make_book_of(
             let mut sizes = no_sizes();
             let total = book_size(
                 catalogue,
+                one_way,
                 k,
                 record,
                 n,
@@ -194,6 +203,7 @@ fn make_book_of(
             }
             write_book(
                 catalogue,
+                one_way,
                 k,
                 record,
                 n,
@@ -211,14 +221,20 @@ fn make_book_of(
     }
 }
 
-pub fn make_book(catalogue: &[u8], record: &[u8], out: &mut [u8], work: &mut [u32]) -> Reply
+pub fn make_book(
+    catalogue: &[u8],
+    one_way: u32,
+    record: &[u8],
+    out: &mut [u8],
+    work: &mut [u32],
+) -> Reply
     requires { ⌜ length (now work) ≡ 16384 ⌝ }
-    ensures { λ r. ⌜ FulfilsOne (makeBookOutcome (now (catalogue .entry)) (now («record» .entry)) (length (now (out .entry)))) (replyTold r) (now (out .entry)) (now (out .exit)) ⌝ }
+    ensures { λ r. ⌜ FulfilsOne (makeBookOutcome (brings (now (catalogue .entry)) «one_way») (now («record» .entry)) (length (now (out .entry)))) (replyTold r) (now (out .entry)) (now (out .exit)) ⌝ }
 {
-    let f = accept::accept_catalogue(catalogue, work);
+    let f = offered::accept_offer(catalogue, one_way, work);
     let verdict = f.verdict;
     let Reply::Done(_) = verdict else {
         return verdict;
     };
-    make_book_of(catalogue, f.views, record, out, work)
+    make_book_of(catalogue, one_way, f.views, record, out, work)
 }

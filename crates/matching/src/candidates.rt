@@ -5,7 +5,7 @@ ghost use Prim.Native.Nat.{ℕ, _+_, _*_, _<_, _≤_};
 ghost use lib.ListN.{length, getD};
 ghost use Rattle.packed.specs.Limits.{pairsMost, workspace};
 ghost use Rattle.packed.specs.Walks.{listsEnd, sheetEnd};
-ghost use Rattle.matching.specs.Masks.{Has, Mask};
+ghost use Rattle.engine.specs.Masks.{Has, Mask};
 ghost use Rattle.matching.specs.Candidates.{Pool, Beyond, PlaceIn, Walkable, Sheeted, SheetedAt, Booked, Blank, Taken, Listing, SheetListing, SheetListingAt, BookListing};
 use packed::cursor;
 use packed::limits;

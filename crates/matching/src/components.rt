@@ -2,8 +2,8 @@
 ghost use mathlib.Core.Path.{_≡_};
 ghost use Prim.Native.Nat.{ℕ, _<_, _≤_};
 ghost use lib.ListN.{getD, replicate};
-ghost use Rattle.matching.specs.Masks.{Has, Mask, OneOf};
-ghost use Rattle.matching.specs.Loaded.{Fair};
+ghost use Rattle.engine.specs.Masks.{Has, Mask, OneOf};
+ghost use Rattle.engine.specs.Loaded.{Fair};
 ghost use Rattle.matching.specs.Stepping.{Spread, ReachedFrom, AllReached, AllComponents, NextOf, LeavingLinks};
 use crate::candidates;
 use packed::by_value::Pattern;

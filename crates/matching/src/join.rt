@@ -1,5 +1,5 @@
 // The join: which of the pairs that the sheets of views list a query keeps for each of its edges.
-ghost use Rattle.matching.specs.Loaded.{Fair};
+ghost use Rattle.engine.specs.Loaded.{Fair};
 ghost use Rattle.matching.specs.Candidates.{Booked};
 ghost use Rattle.matching.specs.Joining.{Joined};
 use crate::candidates;

@@ -1,25 +1,21 @@
 // Matching by simulation: searching a record for a pattern, with an index of the record or without, and making the book of a catalogue from a record.
+pub mod asking;
 mod calls;
 mod candidates;
 mod components;
-mod ends;
-mod engine;
-mod index;
+pub mod entering;
 mod indexed;
 pub mod join;
-mod link_tables;
-mod marked;
-pub mod matched;
-mod start;
+pub mod offered;
+pub mod sets;
+pub mod state;
 pub mod steps;
-mod sweeps;
-mod turns;
-pub mod views;
 
 ghost use mathlib.Core.List.{[]};
 ghost use lib.ListN.{length};
 ghost use Rattle.packed.specs.Refusals.{replyTold};
 ghost use Rattle.packed.specs.Calls.{OneOutput, Settled, withWorkspace};
+ghost use Rattle.matching.specs.Offered.{brings};
 ghost use Rattle.matching.specs.Search.{searchOutcome, makeBookOutcome};
 ghost use Rattle.matching.specs.Index.{makeIndexOutcome, checkIndexOutcome, searchIndexedOutcome};
 use packed::limits;
@@ -42,14 +38,26 @@ pub fn search(pattern: &[u8], record: &[u8], out: &mut [u8], work: &mut [u32]) -
     r
 }
 
-// Makes the book of a catalogue from a record: writes a sheet for each view.
-pub fn make_book(catalogue: &[u8], record: &[u8], out: &mut [u8], work: &mut [u32]) -> Reply
-    ensures { λ r. ⌜ OneOutput (makeBookOutcome (now (catalogue .entry)) (now («record» .entry))) (replyTold r) (now (out .entry)) (now (out .exit)) (now (work .entry)) (now (work .exit)) ⌝ }
+// Makes the book of a catalogue from a record: writes a sheet for each view, one-way for those in the set, the bit worth 2^j for view j.
+pub fn make_book(
+    catalogue: &[u8],
+    one_way: u16,
+    record: &[u8],
+    out: &mut [u8],
+    work: &mut [u32],
+) -> Reply
+    ensures { λ r. ⌜ OneOutput (makeBookOutcome (brings (now (catalogue .entry)) «one_way») (now («record» .entry))) (replyTold r) (now (out .entry)) (now (out .exit)) (now (work .entry)) (now (work .exit)) ⌝ }
 {
     if work.len() < limits::WORKSPACE {
         return Reply::Refused(Refusal::SmallWorkspace);
     }
-    let r = calls::make_book(catalogue, record, out, &mut work[0..limits::WORKSPACE]);
+    let r = calls::make_book(
+        catalogue,
+        one_way as u32,
+        record,
+        out,
+        &mut work[0..limits::WORKSPACE],
+    );
     workspace::clear(work, CLEARED);
     r
 }

@@ -4,17 +4,16 @@ ghost use mathlib.Core.Path.{_≡_};
 ghost use Prim.Native.Nat.{ℕ, _<_, _≤_};
 ghost use lib.ListN.{length, replicate};
 ghost use lib.Bits.{bitAnd, bitOr};
-ghost use Rattle.matching.specs.Simulation.{bit};
-ghost use Rattle.matching.specs.Loaded.{Fair, patternIn};
+ghost use Rattle.engine.specs.Simulation.{bit};
+ghost use Rattle.engine.specs.Loaded.{Fair, patternIn};
+ghost use Rattle.engine.specs.Sweeping.{toOf, Ends, Tabled};
+ghost use Rattle.engine.specs.Rounds.{Prepared};
 ghost use Rattle.matching.specs.Candidates.{Pool};
-ghost use Rattle.matching.specs.Sweeping.{toOf, Ends, Tabled};
-ghost use Rattle.matching.specs.Rounds.{Prepared};
 ghost use Rattle.matching.specs.Components.{OneStep, Ran, Pruned};
 ghost use Rattle.matching.specs.Stepping.{PairsTaken, LooseLinks, Fresh, Started, Stepped, AllReached, AllComponents, Going, RanPruned, Tried};
 use crate::components;
-use crate::engine;
-use crate::link_tables;
-use crate::sweeps;
+use engine::link_tables;
+use engine::sweeps;
 use packed::accept;
 use packed::by_value::Pattern;
 use packed::limits;
@@ -135,7 +134,7 @@ pub fn step(
             loose: place.loose,
         };
     }
-    engine::rest(
+    engine::engine::rest(
         work,
         d,
         n,
@@ -266,7 +265,7 @@ pub fn prune(q: Pattern, work: &mut [u32], d: usize)
     let mut leave = [all; 4096];
     let mut arrive = [all; 4096];
     let mut held = [0u32; 4096];
-    engine::rest(
+    engine::engine::rest(
         work,
         d,
         n,

@@ -1,8 +1,7 @@
-// Makes a call for a day on files of the folder it is run in: `question`, `catalogue`, `terms`, which has a line with a from-day and a to-day for each
-// extract, and `day`. Which call its argument says, of which the first letter counts: `quote` prints the quote, `cheapest` the cheapest set by the file
-// `charges`, `part` writes `part` and `part_answer` from the file `book`, `show` writes `first` and `second`, `first` prints the first day not before
-// the given one.
-use containment::both::Both;
+// Makes a call for a day on files of the folder it is run in: `question`, `catalogue`, `terms`, which has a line with a from-day and a to-day for
+// each extract, and `day`; `one_way` names the extracts that are matched one-way. Which call its argument says, of which the first letter counts:
+// `quote` prints the quote, `cheapest` the cheapest set by the file `charges`, `part` writes `part` and `part_answer` from the file `book`, `show`
+// writes `first` and `second`, `first` prints the first day not before the given one.
 use containment::costing::Cheapest;
 use containment::days::FirstDay;
 use containment::terms::Terms;
@@ -14,6 +13,7 @@ use folder::lent;
 use folder::lines;
 use folder::numbers;
 use listing::print;
+use packed::reply::Both;
 use packed::reply::Refusal;
 
 // Of too many charges no more are lent than show it: all are counted here.
@@ -31,7 +31,7 @@ fn say_cheapest(c: Cheapest, charges: usize) {
     }
 }
 
-fn cheapest(question: &[u8], catalogue: &[u8], t: Terms, day: u16) {
+fn cheapest(question: &[u8], catalogue: &[u8], one_way: u16, t: Terms, day: u16) {
     let mut charges = lent::charge_words();
     let mut work = lent::work_words();
     let text = numbers::read_list(b"charges", &mut charges);
@@ -40,13 +40,21 @@ fn cheapest(question: &[u8], catalogue: &[u8], t: Terms, day: u16) {
         return;
     }
     let n = lent::least(text.count, charges.len());
-    let c = containment::cheapest_on(question, catalogue, t, day, &charges[0..n], &mut work);
+    let c = containment::cheapest_on(
+        question,
+        catalogue,
+        one_way,
+        t,
+        day,
+        &charges[0..n],
+        &mut work,
+    );
     say_cheapest(c, text.count);
 }
 
-fn quote(question: &[u8], catalogue: &[u8], t: Terms, day: u16) {
+fn quote(question: &[u8], catalogue: &[u8], one_way: u16, t: Terms, day: u16) {
     let mut work = lent::work_words();
-    print::quote(containment::quote_on(question, catalogue, t, day, &mut work));
+    print::quote(containment::quote_on(question, catalogue, one_way, t, day, &mut work));
 }
 
 fn finish_part(found: Both, part: &[u8], answer: &[u8]) {
@@ -66,7 +74,7 @@ fn finish_part(found: Both, part: &[u8], answer: &[u8]) {
     }
 }
 
-fn part(question: &[u8], catalogue: &[u8], t: Terms, day: u16) {
+fn part(question: &[u8], catalogue: &[u8], one_way: u16, t: Terms, day: u16) {
     let mut book = lent::sheet_bytes();
     let mut part = lent::part_bytes();
     let mut answer = lent::output_bytes();
@@ -75,6 +83,7 @@ fn part(question: &[u8], catalogue: &[u8], t: Terms, day: u16) {
     let found = containment::part_on(
         question,
         catalogue,
+        one_way,
         t,
         day,
         &book[0..k],
@@ -102,13 +111,14 @@ fn finish_show(shown: Both, first: &[u8], second: &[u8]) {
     }
 }
 
-fn show(question: &[u8], catalogue: &[u8], t: Terms, day: u16) {
+fn show(question: &[u8], catalogue: &[u8], one_way: u16, t: Terms, day: u16) {
     let mut first = lent::shown_bytes();
     let mut second = lent::shown_bytes();
     let mut work = lent::work_words();
     let shown = containment::show_on(
         question,
         catalogue,
+        one_way,
         t,
         day,
         &mut first,
@@ -130,9 +140,9 @@ fn say_first_day(f: FirstDay) {
     }
 }
 
-fn first_day(question: &[u8], catalogue: &[u8], t: Terms, day: u16) {
+fn first_day(question: &[u8], catalogue: &[u8], one_way: u16, t: Terms, day: u16) {
     let mut work = lent::work_words();
-    say_first_day(containment::first_day(question, catalogue, t, day, &mut work));
+    say_first_day(containment::first_day(question, catalogue, one_way, t, day, &mut work));
 }
 
 fn terms_of(d: Days) -> Terms {
@@ -145,29 +155,33 @@ fn terms_of(d: Days) -> Terms {
     }
 }
 
-fn make(letter: u8, question: &[u8], catalogue: &[u8], t: Terms, day: u16) {
+fn make(letter: u8, question: &[u8], catalogue: &[u8], one_way: u16, t: Terms, day: u16) {
     match letter {
-        b'q' => quote(question, catalogue, t, day),
-        b'c' => cheapest(question, catalogue, t, day),
-        b'p' => part(question, catalogue, t, day),
-        b's' => show(question, catalogue, t, day),
-        b'f' => first_day(question, catalogue, t, day),
+        b'q' => quote(question, catalogue, one_way, t, day),
+        b'c' => cheapest(question, catalogue, one_way, t, day),
+        b'p' => part(question, catalogue, one_way, t, day),
+        b's' => show(question, catalogue, one_way, t, day),
+        b'f' => first_day(question, catalogue, one_way, t, day),
         _ => lines::failed(b"argument"),
     }
 }
 
 // What the text files say is there; the others are read here.
-fn run(letter: u8, t: Terms, day: u16) {
+fn run(letter: u8, one_way: u16, t: Terms, day: u16) {
     let mut question = lent::question_bytes();
     let mut catalogue = lent::catalogue_bytes();
     let n = files::read(b"question", &mut question);
     let m = files::read(b"catalogue", &mut catalogue);
-    make(letter, &question[0..n], &catalogue[0..m], t, day);
+    make(letter, &question[0..n], &catalogue[0..m], one_way, t, day);
 }
 
 fn main() {
     let mut word = [0u8; 16];
     os::arg(1, &mut word);
+    let one_way = folder::extracts(b"one_way");
+    if !one_way.good {
+        return;
+    }
     let d = days::read_days(b"terms");
     if !d.good {
         lines::failed_at(b"terms", d.count);
@@ -178,5 +192,10 @@ fn main() {
         lines::failed(b"day");
         return;
     }
-    run(word[0], terms_of(d), (day.value % 0x1_0000) as u16);
+    run(
+        word[0],
+        one_way.set,
+        terms_of(d),
+        (day.value % 0x1_0000) as u16,
+    );
 }

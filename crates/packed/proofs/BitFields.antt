@@ -6,7 +6,8 @@ use mathlib.Core.Bool.{Bool}
 use lib.ListN.{length, take, drop, getD, set, length-append}
 use lib.Seq.{sets, take-at, drop-at, drop-cons}
 use lib.Dec.{eqb}
-use lib.Pow.{pow-pos, shr-shr, shr-lt, shl-exact, pow-add, pow-lt}
+use lib.Pow as pow
+use lib.Pow.{pow-pos, shr-shr, shr-lt, shl-lt, shl-shr, shl-exact, pow-add, pow-lt, split, low, mod-mod-pow}
 use lib.Arith.{digits-lt}
 use native.Mathlib.Omega.{arith}
 use native.Mathlib.Nat.{mod-lt, mod-eq-of-lt, one-mul, div-add-mod', div-one, add-zero}
@@ -106,6 +107,29 @@ module _ (x k m c : ℕ) (within : k + m ≤ 8) (fits : c < 2 ^ k) where
       ∙ sym (sets-at (bitsOf o (x / 2 ^ (k + m))) (bitsOf k (x / 2 ^ m)) (bitsOf m x) (bitsOf k c) o (length-bitsOf o (x / 2 ^ (k + m))) (length-bitsOf k c ∙ sym (length-bitsOf k (x / 2 ^ m))))
       ∙ ap (λ (l : List Bool). sets l o (bitsOf k c)) (sym before)
 
+-- the byte x, with those of c in the place of its bits above the m low ones
+module _ (x m c : ℕ) (within : m ≤ 8) (fits : c < 256) (clear : c % 2 ^ m ≡ 0) (byte : x < 256) where
+  sum : 8 - m + m ≡ 8
+  sum = omega arith
+
+  top : c / 2 ^ m < 2 ^ (8 - m)
+  top = shr-lt (8 - m) m (rw sum fits)
+
+  patched : c + x % 2 ^ m ≡ patch x (8 - m) m (c / 2 ^ m)
+  patched =
+      let none : x / 2 ^ (8 - m + m) ≡ 0 = rw sum (omega arith) in
+      rw none (omega (arith, split c m))
+
+  pub high-lt : c + x % 2 ^ m < 256
+  high-lt = rw patched (patch-lt x (8 - m) m (c / 2 ^ m) (omega arith) top byte)
+
+  pub bitsOf-high : bitsOf 8 (c + x % 2 ^ m) ≡ sets (bitsOf 8 x) 0 (bitsOf (8 - m) (c / 2 ^ m))
+  bitsOf-high =
+      let o : 8 - (8 - m + m) ≡ 0 = omega arith in
+      ap (bitsOf 8) patched
+      ∙ bitsOf-patch x (8 - m) m (c / 2 ^ m) (omega arith) top
+      ∙ ap (λ (i : ℕ). sets (bitsOf 8 x) i (bitsOf (8 - m) (c / 2 ^ m))) o
+
 -- a byte is replaced by one that has m over its bits from o on
 bits-set : (s : List ℕ) (q o y : ℕ) (m : List Bool) → o + length m ≤ 8 → bitsOf 8 y ≡ sets (bitsOf 8 (getD s q 0)) o m → bits (set s q y) ≡ sets (bits s) (8 * q + o) m
 unfolding bits
@@ -169,3 +193,53 @@ pub put-split : (l : List Bool) (at k left n q v : ℕ) → k + left ≡ n → (
 unfolding bitsOf
 put-split l at k zero n q v e f = rw div-one (let z : k ≡ n = omega arith in ap (λ (w : ℕ). sets l at (bitsOf w v)) z)
 put-split l at k (suc left) n q v e f = rw (f (omega arith), ← e) (put-next l at k (suc left) v)
+
+-- 24 bits, moved to where they stand in a word before its m low ones
+module _ (v m : ℕ) (within : m ≤ 8) (fits : v < 2 ^ 24) where
+  pub moved : v * 2 ^ m % 2 ^ 32 ≡ v * 2 ^ m
+  moved = shl-exact {a = v} 24 m 32 fits (omega arith)
+
+  pub moved-top : v * 2 ^ m % 2 ^ 32 / 2 ^ 24 < 2 ^ m
+  moved-top =
+      let e : m + 24 ≡ 24 + m = omega arith in
+      rw moved (shr-lt m 24 (rw e (shl-lt 24 m fits)))
+
+  pub moved-clear : v * 2 ^ m % 2 ^ 32 % 256 % 2 ^ m ≡ 0
+  moved-clear =
+      let w : 8 ≡ 8 - m + m = omega arith in
+      rw moved (ap (λ (i : ℕ). v * 2 ^ m % 2 ^ i % 2 ^ m) w ∙ mod-mod-pow (v * 2 ^ m) (8 - m) m ∙ ap (λ (y : ℕ). y % 2 ^ m) (sym (add-zero (v * 2 ^ m))) ∙ low v m {lo = 0} (pow-pos m))
+
+-- 24 bits in four bytes, of which the first has m: the bytes of x, which is v before the rest of the last byte
+put-four : (l : List Bool) (at m v x p₁ p₂ p₃ : ℕ) → m ≤ 8 → x ≡ v * 2 ^ m → p₁ ≡ at + m → p₂ ≡ p₁ + 8 → p₃ ≡ p₂ + 8
+    → sets (sets (sets (sets l at (bitsOf m (x / 2 ^ 24))) p₁ (bitsOf 8 (x / 2 ^ 16 % 256))) p₂ (bitsOf 8 (x / 2 ^ 8 % 256))) p₃ (bitsOf (8 - m) (x % 256 / 2 ^ m)) ≡ sets l at (bitsOf 24 v)
+put-four l at m v x p₁ p₂ p₃ h e i₁ i₂ i₃ =
+    let left : ℕ = 24 - m in
+    let same : x / 2 ^ m ≡ v = ap (λ (y : ℕ). y / 2 ^ m) e ∙ shl-shr v m in
+    let down : (j k : ℕ) → m + j ≡ k → x / 2 ^ k ≡ v / 2 ^ j = (λ j k q. ap (λ (i : ℕ). x / 2 ^ i) (sym q) ∙ sym (shr-shr x m j) ∙ ap (λ (y : ℕ). y / 2 ^ j) same) in
+    let last : 8 - m ≡ left - 8 - 8 = omega arith in
+    let w : 8 ≡ left - 8 - 8 + m = omega arith in
+    let a : bitsOf m (x / 2 ^ 24) ≡ bitsOf (24 - left) (v / 2 ^ left) = ap (bitsOf m) (down left 24 (omega arith)) ∙ ap (λ (k : ℕ). bitsOf k (v / 2 ^ left)) (let z : m ≡ 24 - left = omega arith in z) in
+    let d : bitsOf (8 - m) (x % 256 / 2 ^ m) ≡ bitsOf (left - 8 - 8) (v % 2 ^ (left - 8 - 8)) =
+    ap (λ (k : ℕ). bitsOf k (x % 256 / 2 ^ m)) last
+    ∙ ap (bitsOf (left - 8 - 8)) (ap (λ (k : ℕ). x % 2 ^ k / 2 ^ m) w ∙ pow.field x (left - 8 - 8) m ∙ ap (λ (y : ℕ). y % 2 ^ (left - 8 - 8)) same) in
+    rw (a, d, down (left - 8) 16 (omega arith), down (left - 8 - 8) 8 (omega arith), put-more l at 24 left p₁ v (omega arith) (omega arith) (omega arith), put-more l at 24 (left - 8) p₂ v (omega arith) (omega arith) (omega arith))
+    (put-last l at 24 (left - 8 - 8) p₃ v (omega arith) (omega arith))
+
+module _ (s : List ℕ) (at m v x y₁ y₂ : ℕ) where
+  abbrev whole-bytes : List ℕ
+  whole-bytes = set (set (set s (at / 8) y₁) (at / 8 + 1) (x / 2 ^ 16 % 256)) (at / 8 + 2) (x / 2 ^ 8 % 256)
+
+  pub put-bytes : m ≡ 8 - at % 8 → x ≡ v * 2 ^ m → bitsOf 8 y₁ ≡ sets (bitsOf 8 (getD s (at / 8) 0)) (8 - (m + 0)) (bitsOf m (x / 2 ^ 24))
+      → bitsOf 8 y₂ ≡ sets (bitsOf 8 (getD whole-bytes (at / 8 + 3) 0)) 0 (bitsOf (8 - m) (x % 256 / 2 ^ m)) → bits (set whole-bytes (at / 8 + 3) y₂) ≡ sets (bits s) at (bitsOf 24 v)
+  put-bytes e f h₁ h₂ =
+      let o : 8 - (m + 0) ≡ at % 8 = omega arith in
+      let i : 8 * (at / 8) + at % 8 ≡ at = omega arith in
+      let first : bits (set s (at / 8) y₁) ≡ sets (bits s) at (bitsOf m (x / 2 ^ 24)) =
+      bits-set s (at / 8) (at % 8) y₁ (bitsOf m (x / 2 ^ 24)) (omega (arith, length-bitsOf m (x / 2 ^ 24))) (h₁ ∙ ap (λ (k : ℕ). sets (bitsOf 8 (getD s (at / 8) 0)) k (bitsOf m (x / 2 ^ 24))) o)
+      ∙ ap (λ (k : ℕ). sets (bits s) k (bitsOf m (x / 2 ^ 24))) i in
+      bits-set whole-bytes (at / 8 + 3) 0 y₂ (bitsOf (8 - m) (x % 256 / 2 ^ m)) (omega (arith, length-bitsOf (8 - m) (x % 256 / 2 ^ m))) h₂
+      ∙ ap (λ (t : List Bool). sets t (8 * (at / 8 + 3) + 0) (bitsOf (8 - m) (x % 256 / 2 ^ m)))
+      (put-whole _ (at / 8 + 2) (x / 2 ^ 8 % 256)
+      ∙ ap (λ (t : List Bool). sets t (8 * (at / 8 + 2)) (bitsOf 8 (x / 2 ^ 8 % 256)))
+      (put-whole _ (at / 8 + 1) (x / 2 ^ 16 % 256) ∙ ap (λ (t : List Bool). sets t (8 * (at / 8 + 1)) (bitsOf 8 (x / 2 ^ 16 % 256))) first))
+      ∙ put-four (bits s) at m v x (8 * (at / 8 + 1)) (8 * (at / 8 + 2)) (8 * (at / 8 + 3) + 0) (omega arith) f (omega arith) (omega arith) (omega arith)

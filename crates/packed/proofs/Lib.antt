@@ -45,6 +45,11 @@ pub mod EdgeCounts
 -- records
 pub mod GraphLaws
 pub mod SortedEdges
+pub mod MadeRecords
+pub mod EnteredLaws
+pub mod EnteringLaws
+pub mod EnteredWords
+pub mod EnteredTable
 -- sheets and books, and the edges of a record
 pub mod Sheets
 pub mod Records
@@ -62,4 +67,6 @@ pub mod OldGraphLaws
 -- the calls
 pub mod AcceptLaws
 pub mod CallLaws
+pub mod TwoOutputs
+pub mod RefusalNumbers
 pub mod CallRoundTrips

@@ -142,6 +142,21 @@ fit room o = pick (ltb room (length o)) (refuse 12 (length o)) (give [] (o ∷ [
 unfoldable pub fitFile : ℕ → List ℕ → Outcome
 fitFile room o = pick (ltb room (length o) || ltb bookMost (length o)) (refuse 12 (length o)) (give [] (o ∷ []))
 
+-- two outputs, 12 for the first that doesn't fit
+unfoldable pub fitBoth : ℕ → ℕ → List ℕ → List ℕ → Outcome
+fitBoth room room′ a b =
+    pick (ltb room (length a)) (refuse 12 (length a))
+    (pick (ltb room′ (length b)) (refuse 12 (length b)) (give [] (a ∷ b ∷ [])))
+
+-- what was written, of a content that is accepted
+abbrev pub bytesIn : Result ℕ → List ℕ
+bytesIn (ok s) = s
+bytesIn (bad e) = []
+
+-- a record with this content, in bytes
+unfoldable pub recordBytes : List ℕ → List ℕ
+recordBytes fs = bytesIn (encode record′ fs)
+
 -- ---- the calls: what each answers with the workspace aside, and then whole, from the lengths of the output and of the workspace
 
 unfoldable pub patternRead : List ℕ → ℕ → Outcome

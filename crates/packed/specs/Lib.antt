@@ -7,6 +7,7 @@ pub mod Refusals
 pub mod Limits
 pub mod Calls
 pub mod OldRecord
+pub mod Entered
 -- inner
 pub mod Order
 pub mod Distinct
@@ -18,4 +19,5 @@ pub mod Matches
 pub mod ByValue
 pub mod Accepting
 pub mod LoadedGraph
+pub mod Entering
 pub mod OldLoading

@@ -2,9 +2,11 @@
 use Prim.Native.Nat.{ℕ}
 use mathlib.Core.List.{List, [], _∷_}
 use Rattle.packed.specs.declared.reply.Refusal.{Refusal}
-use Rattle.packed.specs.declared.reply.Refusal.the-variants.{TooLong, Truncated, OutOfRange, NoSuchNode, DuplicateEdge, NotAscending, IsolatedNode, ZeroCount, Trailing, TooManyPairs, NotContained, NoRoom, Contained, SmallWorkspace, WrongCharges, WrongIndex, WrongQuestions, WrongTerms}
+use Rattle.packed.specs.declared.reply.Refusal.the-variants.{TooLong, Truncated, OutOfRange, NoSuchNode, DuplicateEdge, NotAscending, IsolatedNode, ZeroCount, Trailing, TooManyPairs, NotContained, NoRoom, Contained, SmallWorkspace, WrongCharges, WrongIndex, WrongQuestions, WrongTerms, WrongSet, OldSlip, LastChange}
 use Rattle.packed.specs.declared.reply.Reply.{Reply}
 use Rattle.packed.specs.declared.reply.Reply.the-variants as reply-is
+use Rattle.packed.specs.declared.reply.Both.{Both}
+use Rattle.packed.specs.declared.reply.Both.the-variants as both-is
 
 abbrev pub numberOf : Refusal → ℕ
 numberOf (TooLong d) = 1
@@ -25,9 +27,13 @@ numberOf (WrongCharges d) = 15
 numberOf (WrongIndex d) = 16
 numberOf (WrongQuestions d) = 17
 numberOf (WrongTerms d) = 18
+numberOf (WrongSet d) = 19
+numberOf (OldSlip d) = 20
+numberOf (LastChange d) = 21
 
 -- 1 to 10: the file's number; 11: the lowest unmatched edge; 12: the size needed; 13 and 14: zero; 15: how many charges were lent; 16: how many
--- entries were lent, or the first that differs; 17: how many questions were sent; 18: how many terms were lent, or the first that ends before it begins
+-- entries were lent, or the first that differs; 17: how many questions were sent; 18: how many terms were lent, or the first that ends before it begins;
+-- 19: the lowest number in the set that is no view; 20 and 21: the state's change number
 abbrev pub detailOf : Refusal → ℕ
 detailOf (TooLong d) = d
 detailOf (Truncated d) = d
@@ -47,6 +53,9 @@ detailOf (WrongCharges d) = d
 detailOf (WrongIndex d) = d
 detailOf (WrongQuestions d) = d
 detailOf (WrongTerms d) = d
+detailOf (WrongSet d) = d
+detailOf (OldSlip d) = d
+detailOf (LastChange d) = d
 
 -- what an answer tells: a number, 0 for success, and values
 pub data Told : Type 0 where
@@ -56,3 +65,8 @@ pub data Told : Type 0 where
 abbrev pub replyTold : Reply → Told
 replyTold (reply-is.Done n) = told 0 (n ∷ [])
 replyTold (reply-is.Refused x) = told (numberOf x) (detailOf x ∷ [])
+
+-- the same with two outputs
+abbrev pub bothTold : Both → Told
+bothTold (both-is.Done a b) = told 0 (a ∷ b ∷ [])
+bothTold (both-is.Refused x) = told (numberOf x) (detailOf x ∷ [])

@@ -64,7 +64,8 @@ pub fn accept_pattern(s: &[u8], work: &mut [u32]) -> PatternFile
     }
 }
 
-fn without_views(verdict: Reply) -> CatalogueFile
+// A verdict with no views beside it.
+pub fn without_views(verdict: Reply) -> CatalogueFile
     ensures { λ r. ⌜ (r .verdict ≡ verdict) × NoViews (r .views) (r .edges) ⌝ }
 {
     CatalogueFile {

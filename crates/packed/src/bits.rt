@@ -1,7 +1,7 @@
 // Fields of 1 to 32 bits at any bit offset, most significant bit first.
 
 ghost use mathlib.Core.Path.{_≡_};
-ghost use Prim.Native.Nat.{_+_, _*_, _^_, _-_, _%_, _<_, _≤_, min};
+ghost use Prim.Native.Nat.{_+_, _*_, _^_, _-_, _/_, _%_, _<_, _≤_, min};
 ghost use lib.ListN.{length, take, drop};
 ghost use lib.Seq.{sets};
 ghost use Rattle.packed.specs.Bits.{bitsOf, bits, field, zeros, gap};
@@ -112,4 +112,42 @@ pub fn put_bits(out: &mut [u8], at: usize, n: u32, v: u32)
     let left = n - k;
     put_chunk(out, at, k, v >> left);
     put_low(out, (at + k as usize) / 8, left, v);
+}
+
+// The byte x, with those of c in the place of its bits above the m low ones.
+fn patch_high(x: u8, m: u32, c: u32) -> u8
+    requires { ⌜ (m ≤ 8) × (c < 256) × (c % 2 ^ m ≡ 0) ⌝ }
+    ensures { λ r. ⌜ bitsOf 8 r ≡ sets (bitsOf 8 x) 0 (bitsOf (8 - m) (c / 2 ^ m)) ⌝ }
+{
+    (c + x as u32 % (1 << m)) as u8
+}
+
+// The 24 bits at the bit offset at are set to v, where the slice has the byte that they begin in and three more. Moved to where it stands there, v is x;
+// the four become the bytes of x, but the first keeps its high bits and the last its low ones.
+fn put_inside(out: &mut [u8], at: usize, v: u32)
+    requires { ⌜ (at / 8 + 4 ≤ length (now out)) × (v < 2 ^ 24) ⌝ }
+    ensures { λ r. ⌜ bits (now (out .exit)) ≡ sets (bits (now (out .entry))) at (bitsOf 24 v) ⌝ }
+{
+    let m = 8 - (at % 8) as u32;
+    let x = v << m;
+    let a = at / 8;
+    let b = a + 1;
+    let c = a + 2;
+    let d = a + 3;
+    out[a] = patch_byte(out[a], m, 0, x >> 24);
+    out[b] = ((x >> 16) % 256) as u8;
+    out[c] = ((x >> 8) % 256) as u8;
+    out[d] = patch_high(out[d], m, x % 256);
+}
+
+// Three bytes at the bit offset at: put_bits of 24 bits, but at once where none lies beyond the end of the slice.
+pub fn put_three(out: &mut [u8], at: usize, v: u32)
+    requires { ⌜ (at + 24 < 2 ^ 60) × (v < 2 ^ 24) ⌝ }
+    ensures { λ r. ⌜ bits (now (out .exit)) ≡ sets (bits (now (out .entry))) at (bitsOf 24 v) ⌝ }
+{
+    if at / 8 + 4 <= out.len() {
+        put_inside(out, at, v);
+    } else {
+        put_bits(out, at, 24, v);
+    }
 }

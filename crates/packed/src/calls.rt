@@ -1,7 +1,7 @@
 // The client calls with room to work in: 16,384 words, which are left in any state.
 ghost use mathlib.Core.Path.{_≡_};
 ghost use Prim.Native.Nat.{_≤_};
-ghost use lib.ListN.{length, take, replicate};
+ghost use lib.ListN.{length, take};
 ghost use Rattle.packed.specs.Formats.{sheet, book};
 ghost use Rattle.packed.specs.ByValue.{Small};
 ghost use Rattle.packed.specs.Refusals.{replyTold};
@@ -250,19 +250,12 @@ pub fn write_book(catalogue: &[u8], fields: &[u32], out: &mut [u8], work: &mut [
 
 // ---- the converter
 
-// A word for each field that an old record can have.
-fn no_fields() -> [u32; 28674]
-    ensures { λ r. ⌜ r ≡ replicate 28674 0 ⌝ }
-{
-    [0u32; limits::OLD_RECORD_FIELDS]
-}
-
 // Sorts the edges of an old record: its content, with the edges in the order in which they stand in the workspace, is written as a record.
 pub fn sort_record(old: &[u8], out: &mut [u8], work: &mut [u32]) -> Reply
     requires { ⌜ length (now work) ≡ 16384 ⌝ }
     ensures { λ r. ⌜ FulfilsOne (recordSorted (now (old .entry)) (length (now (out .entry)))) (replyTold r) (now (out .entry)) (now (out .exit)) ⌝ }
 {
-    let mut fields = no_fields();
+    let mut fields = record::no_fields();
     let verdict = accept::accept_old_record(old, &mut fields, work);
     let Reply::Done(n) = verdict else {
         return verdict;

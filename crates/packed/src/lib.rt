@@ -9,6 +9,7 @@ mod calls;
 mod catalogue;
 pub mod cursor;
 mod distinct;
+pub mod enter;
 mod field;
 pub mod gather;
 pub mod graph;

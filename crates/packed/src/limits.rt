@@ -10,10 +10,11 @@ pub const RECORD_MOST: usize = 44036;
 
 pub const BOOK_MOST: usize = 65536;
 
-// The most bytes of a record as it was stored before its edges stood in order and had kinds, and the most fields of its content.
+// The most bytes of a record as it was stored before its edges stood in order and had kinds.
 pub const OLD_RECORD_MOST: usize = 40964;
 
-pub const OLD_RECORD_FIELDS: usize = 28674;
+// The most fields of a record's content, then as now.
+pub const RECORD_FIELDS: usize = 28674;
 
 // The most different pairs of a book.
 pub const PAIRS_MOST: usize = 8192;

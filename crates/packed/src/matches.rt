@@ -179,7 +179,7 @@ fn put_pair(x: u32, v: u32, places: &mut [usize; 32], out: &mut [u8])
     while 0 < left {
         let z = u32::trailing_zeros(left);
         let e = (k + z) as usize;
-        bits::put_bits(out, places[e], limits::PAIR_WIDTH, v);
+        bits::put_three(out, places[e], v);
         places[e] = places[e] + limits::PAIR_BITS;
         left = (left >> z) / 2;
         k = k + z + 1;

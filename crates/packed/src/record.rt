@@ -2,7 +2,7 @@
 ghost use mathlib.Core.Path.{_≡_};
 ghost use mathlib.Core.List.{List, []};
 ghost use Prim.Native.Nat.{ℕ, _+_, _-_, _*_, _/_, _%_, _^_, _<_, _≤_, min};
-ghost use lib.ListN.{length, take};
+ghost use lib.ListN.{length, take, replicate};
 ghost use lib.Seq.{sets};
 ghost use Rattle.packed.specs.Format.{ok, times, decode, encode};
 ghost use Rattle.packed.specs.Formats.{labels, rising, record′};
@@ -26,6 +26,13 @@ const LABELS_BYTE: usize = limits::LABELS / 8;
 const LABELS_BIT: usize = limits::LABELS % 8;
 
 const LABELS_BYTES: usize = limits::LABELS_BITS / 8;
+
+// A word for each field that the content of a record can have.
+pub(crate) fn no_fields() -> [u32; 28674]
+    ensures { λ r. ⌜ r ≡ replicate 28674 0 ⌝ }
+{
+    [0u32; limits::RECORD_FIELDS]
+}
 
 // The numbers of nodes and edges.
 fn read_counts(s: &[u8]) -> Two
@@ -246,7 +253,7 @@ fn store_labels(s: &[u8], nodes: usize, out: &mut [u32])
 }
 
 // The fields of the m edges whose words stand at the front of the workspace, from the word at on.
-fn store_edges(work: &[u32], m: usize, out: &mut [u32], at: usize)
+pub(crate) fn store_edges(work: &[u32], m: usize, out: &mut [u32], at: usize)
     requires { ⌜ (m ≤ length (now work)) × (at + 3 * m ≤ length (now out)) ⌝ }
     ensures { λ r. ⌜ now (out .exit) ≡ sets (now (out .entry)) at (fromWords (take m (now (work .entry)))) ⌝ }
 {

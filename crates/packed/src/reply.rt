@@ -40,11 +40,23 @@ pub enum Refusal {
     WrongQuestions(usize),
     // 18, terms: how many entries the list of terms has, where that is not the number of views; else the first entry whose from-day isn't below its to-day
     WrongTerms(usize),
+    // 19, set: the lowest number in the set of the views that are matched one-way which is no view of the catalogue
+    WrongSet(usize),
+    // 20, slip: the state's change number, where that of the slip is another
+    OldSlip(usize),
+    // 21, last change: the state's change number, where no other follows it
+    LastChange(usize),
 }
 
 // What a call with one output answers: how much of it was written, or the refusal.
 pub enum Reply {
     Done(usize),
+    Refused(Refusal),
+}
+
+// What a call with two outputs answers: how much of each was written, or the refusal.
+pub enum Both {
+    Done(usize, usize),
     Refused(Refusal),
 }
 
@@ -101,6 +113,9 @@ pub fn number_of(x: Refusal) -> usize
         Refusal::WrongIndex(_) => 16,
         Refusal::WrongQuestions(_) => 17,
         Refusal::WrongTerms(_) => 18,
+        Refusal::WrongSet(_) => 19,
+        Refusal::OldSlip(_) => 20,
+        Refusal::LastChange(_) => 21,
     }
 }
 
@@ -127,5 +142,8 @@ pub fn detail_of(x: Refusal) -> usize
         Refusal::WrongIndex(d) => d,
         Refusal::WrongQuestions(d) => d,
         Refusal::WrongTerms(d) => d,
+        Refusal::WrongSet(d) => d,
+        Refusal::OldSlip(d) => d,
+        Refusal::LastChange(d) => d,
     }
 }

@@ -1,10 +1,11 @@
 // Finds the part of the file `question` that the extracts of the file `catalogue` answer, and answers it from the file `book`, which belongs to the
-// catalogue, all in the folder it is run in: writes the files `part` and `part_answer` there. Neither takes its name before both are written.
-use containment::both::Both;
+// catalogue and to the set of its extracts that are matched one-way, which the file `one_way` has, all in the folder it is run in: writes the files
+// `part` and `part_answer` there. Neither takes its name before both are written.
 use folder::both;
 use folder::files;
 use folder::lent;
 use folder::lines;
+use packed::reply::Both;
 
 fn finish(found: Both, part: &[u8], answer: &[u8]) {
     match found {
@@ -30,12 +31,17 @@ fn main() {
     let mut part = lent::part_bytes();
     let mut answer = lent::output_bytes();
     let mut work = lent::work_words();
+    let one_way = folder::extracts(b"one_way");
+    if !one_way.good {
+        return;
+    }
     let n = files::read(b"question", &mut question);
     let m = files::read(b"catalogue", &mut catalogue);
     let k = files::read(b"book", &mut book);
     let found = containment::part(
         &question[0..n],
         &catalogue[0..m],
+        one_way.set,
         &book[0..k],
         &mut part,
         &mut answer,

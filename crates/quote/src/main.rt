@@ -1,4 +1,5 @@
-// Quotes the file `question` with the file `catalogue`, both in the folder it is run in, and prints the listing or the refusal.
+// Quotes the file `question` with the file `catalogue`, both in the folder it is run in, and prints the listing or the refusal. All extracts are
+// matched both ways.
 use folder::files;
 use folder::lent;
 use listing::print;
@@ -9,5 +10,5 @@ fn main() {
     let mut work = lent::work_words();
     let n = files::read(b"question", &mut question);
     let m = files::read(b"catalogue", &mut catalogue);
-    print::quote(containment::quote(&question[0..n], &catalogue[0..m], &mut work));
+    print::quote(containment::quote(&question[0..n], &catalogue[0..m], 0, &mut work));
 }

@@ -12,7 +12,7 @@ use crate::slices;
 use containment::terms::Terms;
 
 // More than a record may have, and more than a sheet may; no more of an output is lent.
-fn first_bytes() -> [u8; 44100]
+pub fn first_bytes() -> [u8; 44100]
     ensures { λ r. ⌜ 44100 ≡ length r ⌝ }
 {
     [0; 44100]
@@ -55,6 +55,7 @@ fn make(
     k: usize,
     question: &[u8],
     catalogue: &[u8],
+    one_way: u16,
     terms: Terms,
     day: u16,
     book: &[u8],
@@ -64,13 +65,14 @@ fn make(
 ) -> Outcome {
     mark(first, second);
     if k == calls::PART {
-        let p = yuthaqim::yuthaqim_part(question, catalogue, book, first, second, work);
+        let p = yuthaqim::yuthaqim_part(question, catalogue, one_way, book, first, second, work);
         return wrote(p.number, p.detail, p.first, p.second, first, second);
     }
     if k == calls::PART_ON {
         let p = yuthaqim::yuthaqim_part_on(
             question,
             catalogue,
+            one_way,
             terms,
             day,
             book,
@@ -81,10 +83,19 @@ fn make(
         return wrote(p.number, p.detail, p.first, p.second, first, second);
     }
     if k == calls::SHOW_ON {
-        let s = yuthaqim::yuthaqim_show_on(question, catalogue, terms, day, first, second, work);
+        let s = yuthaqim::yuthaqim_show_on(
+            question,
+            catalogue,
+            one_way,
+            terms,
+            day,
+            first,
+            second,
+            work,
+        );
         return wrote(s.number, s.detail, s.first, s.second, first, second);
     }
-    let s = yuthaqim::yuthaqim_show_uncovered(question, catalogue, first, second, work);
+    let s = yuthaqim::yuthaqim_show_uncovered(question, catalogue, one_way, first, second, work);
     wrote(s.number, s.detail, s.first, s.second, first, second)
 }
 
@@ -113,6 +124,7 @@ fn call_in(
         k,
         question,
         catalogue,
+        cells::sixteen(registers, cells::ONE_WAY),
         terms,
         day,
         book,

@@ -150,8 +150,8 @@ fn quoted(
     outcome::values(outcome::QUOTE, number, value, other as usize, e)
 }
 
-fn quote(question: &[u8], catalogue: &[u8], work: &mut [u32]) -> Outcome {
-    let q = yuthaqim::yuthaqim_quote(question, catalogue, work);
+fn quote(question: &[u8], catalogue: &[u8], one_way: u16, work: &mut [u32]) -> Outcome {
+    let q = yuthaqim::yuthaqim_quote(question, catalogue, one_way, work);
     let mapping = q.mapping;
     let d = digest::over_words(digest::START, &mapping, 512);
     quoted(
@@ -165,8 +165,15 @@ fn quote(question: &[u8], catalogue: &[u8], work: &mut [u32]) -> Outcome {
     )
 }
 
-fn quote_on(question: &[u8], catalogue: &[u8], t: Terms, day: u16, work: &mut [u32]) -> Outcome {
-    let q = yuthaqim::yuthaqim_quote_on(question, catalogue, t, day, work);
+fn quote_on(
+    question: &[u8],
+    catalogue: &[u8],
+    one_way: u16,
+    t: Terms,
+    day: u16,
+    work: &mut [u32],
+) -> Outcome {
+    let q = yuthaqim::yuthaqim_quote_on(question, catalogue, one_way, t, day, work);
     let mapping = q.mapping;
     let d = digest::over_words(digest::START, &mapping, 512);
     quoted(
@@ -188,20 +195,27 @@ fn priced(number: usize, detail: usize, sum: u64, set: u16, chosen: u16) -> Outc
 }
 
 // The content is the charges.
-fn cheapest(question: &[u8], catalogue: &[u8], charges: &[u32], work: &mut [u32]) -> Outcome {
-    let c = yuthaqim::yuthaqim_cheapest(question, catalogue, charges, work);
+fn cheapest(
+    question: &[u8],
+    catalogue: &[u8],
+    one_way: u16,
+    charges: &[u32],
+    work: &mut [u32],
+) -> Outcome {
+    let c = yuthaqim::yuthaqim_cheapest(question, catalogue, one_way, charges, work);
     priced(c.number, c.detail, c.sum, c.set, c.chosen)
 }
 
 fn cheapest_on(
     question: &[u8],
     catalogue: &[u8],
+    one_way: u16,
     t: Terms,
     day: u16,
     charges: &[u32],
     work: &mut [u32],
 ) -> Outcome {
-    let c = yuthaqim::yuthaqim_cheapest_on(question, catalogue, t, day, charges, work);
+    let c = yuthaqim::yuthaqim_cheapest_on(question, catalogue, one_way, t, day, charges, work);
     priced(c.number, c.detail, c.sum, c.set, c.chosen)
 }
 
@@ -210,11 +224,20 @@ fn several(
     questions: &[u8],
     number: u32,
     catalogue: &[u8],
+    one_way: u16,
     book: &[u8],
     out: &mut [u8],
     work: &mut [u32],
 ) -> Outcome {
-    let s = yuthaqim::yuthaqim_answer_several(questions, number, catalogue, book, out, work);
+    let s = yuthaqim::yuthaqim_answer_several(
+        questions,
+        number,
+        catalogue,
+        one_way,
+        book,
+        out,
+        work,
+    );
     outcome::several(s.number, s.detail, s.bytes, s.sheets as usize, out)
 }
 
@@ -223,6 +246,7 @@ fn make(
     k: usize,
     question: &[u8],
     catalogue: &[u8],
+    one_way: u16,
     record: &[u8],
     book: &[u8],
     set: u16,
@@ -234,15 +258,15 @@ fn make(
         return outcome::sheet(r.number, r.value, out);
     }
     if k == MAKE_BOOK {
-        let r = yuthaqim::yuthaqim_make_book(catalogue, record, out, work);
+        let r = yuthaqim::yuthaqim_make_book(catalogue, one_way, record, out, work);
         return outcome::bytes(r.number, r.value, out);
     }
     if k == ANSWER {
-        let r = yuthaqim::yuthaqim_answer(question, catalogue, book, out, work);
+        let r = yuthaqim::yuthaqim_answer(question, catalogue, one_way, book, out, work);
         return outcome::sheet(r.number, r.value, out);
     }
     if k == ANSWER_FROM {
-        let r = yuthaqim::yuthaqim_answer_from(question, catalogue, set, book, out, work);
+        let r = yuthaqim::yuthaqim_answer_from(question, catalogue, one_way, set, book, out, work);
         return outcome::sheet(r.number, r.value, out);
     }
     let r = yuthaqim::yuthaqim_sort_record(record, out, work);
@@ -261,15 +285,16 @@ fn on_day(
     out: &mut [u8],
     work: &mut [u32],
 ) -> Outcome {
-    let day = (cells::number(registers, cells::DAY) % 0x1_0000) as u16;
+    let one_way = cells::sixteen(registers, cells::ONE_WAY);
+    let day = cells::sixteen(registers, cells::DAY);
     if k == QUOTE_ON {
-        return quote_on(question, catalogue, t, day, work);
+        return quote_on(question, catalogue, one_way, t, day, work);
     }
     if k == CHEAPEST_ON {
-        return cheapest_on(question, catalogue, t, day, charges, work);
+        return cheapest_on(question, catalogue, one_way, t, day, charges, work);
     }
     if k == FIRST_DAY {
-        return terms::first_day(question, catalogue, t, day, work);
+        return terms::first_day(question, catalogue, one_way, t, day, work);
     }
     both::call(k, question, catalogue, t, day, book, registers, out, work)
 }
@@ -297,11 +322,12 @@ fn on_parts(
     if k < SEARCH {
         return write(k, a, b, &words[0..m], &mut out[0..n], work);
     }
+    let one_way = cells::sixteen(registers, cells::ONE_WAY);
     if k == QUOTE {
-        return quote(a, b, work);
+        return quote(a, b, one_way, work);
     }
     if k == CHEAPEST {
-        return cheapest(a, b, &words[0..m], work);
+        return cheapest(a, b, one_way, &words[0..m], work);
     }
     if (QUOTE_ON <= k) & (k <= FIRST_DAY) {
         return on_day(k, registers, a, b, d, t, &words[0..m], out, work);
@@ -316,8 +342,8 @@ fn on_parts(
         return indexed::call(k, a, c, d, &mut out[0..n], work);
     }
     if k == ANSWER_SEVERAL {
-        let number = (cells::number(registers, cells::QUESTIONS) % 0x1_0000_0000) as u32;
-        return several(a, number, b, d, &mut out[0..n], work);
+        let number = cells::thirty_two(registers, cells::QUESTIONS);
+        return several(a, number, b, one_way, d, &mut out[0..n], work);
     }
     if k == STEPS {
         let links = cells::number(registers, cells::LINKS);
@@ -326,8 +352,8 @@ fn on_parts(
     if k == PLAIN {
         return beside::search(a, c, &mut out[0..n], words, work);
     }
-    let set = (cells::number(registers, cells::SET) % 0x1_0000) as u16;
-    make(k, a, b, c, d, set, &mut out[0..n], work)
+    let set = cells::sixteen(registers, cells::SET);
+    make(k, a, b, one_way, c, d, set, &mut out[0..n], work)
 }
 
 // The end of a part and its start, both within the memory.

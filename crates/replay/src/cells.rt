@@ -63,6 +63,23 @@ pub const QUESTIONS: usize = 37;
 // The day that is asked about.
 pub const DAY: usize = 38;
 
+// The set of extracts that are matched one-way.
+pub const ONE_WAY: usize = 39;
+
+// The state beside a record: its link count and its change number.
+pub const STATE_LINKS: usize = 40;
+
+pub const STATE_CHANGE: usize = 41;
+
+// The link that is to enter, and the change number of its slip.
+pub const LINK_FROM: usize = 42;
+
+pub const LINK_TO: usize = 43;
+
+pub const LINK_OF: usize = 44;
+
+pub const SLIP_CHANGE: usize = 45;
+
 // So many registers can be set by an instruction.
 pub const REGISTERS: usize = 64;
 
@@ -126,6 +143,15 @@ pub fn at(cells: &[u64], i: usize) -> u64 {
 
 pub fn number(cells: &[u64], i: usize) -> usize {
     at(cells, i) as usize
+}
+
+// The low 32 bits of a cell, and the low 16 bits.
+pub fn thirty_two(cells: &[u64], i: usize) -> u32 {
+    (number(cells, i) % 0x1_0000_0000) as u32
+}
+
+pub fn sixteen(cells: &[u64], i: usize) -> u16 {
+    (number(cells, i) % 0x1_0000) as u16
 }
 
 pub fn put(cells: &mut [u64], i: usize, x: u64) {

@@ -8,7 +8,7 @@ use crate::outcome::Outcome;
 use crate::slices;
 
 // More than an index may have; as bytes they fill the output.
-fn no_entries() -> [u16; 33000]
+pub fn no_entries() -> [u16; 33000]
     ensures { λ r. ⌜ 33000 ≡ length r ⌝ }
 {
     [0; 33000]
@@ -51,7 +51,7 @@ fn take(bytes: &[u8], n: usize, s: &mut [u16]) {
 }
 
 // The first n entries go to the bytes.
-fn give(s: &[u16], n: usize, bytes: &mut [u8]) {
+pub fn give(s: &[u16], n: usize, bytes: &mut [u8]) {
     let mut i: usize = 0;
     while i < n {
         let at = slices::plus(i, i);
@@ -67,7 +67,7 @@ fn entry_mark(i: usize) -> u16 {
     (i % 0x8000 + 0x8000) as u16
 }
 
-fn mark(s: &mut [u16], n: usize) {
+pub fn mark(s: &mut [u16], n: usize) {
     let mut i: usize = 0;
     while i < n {
         put_entry(s, i, entry_mark(i));
@@ -75,7 +75,7 @@ fn mark(s: &mut [u16], n: usize) {
     }
 }
 
-fn unmarked(s: &[u16], from: usize, to: usize) -> usize {
+pub fn unmarked(s: &[u16], from: usize, to: usize) -> usize {
     let mut count: usize = 0;
     let mut i = from;
     while i < to {

@@ -17,17 +17,23 @@ pub const BOTH: usize = 4;
 // The bytes of several answers, and the sheets that they needed beside it.
 pub const SEVERAL: usize = 5;
 
+// The bytes of a record and the entries of its index; the state after it is written behind them.
+pub const ENTERED: usize = 6;
+
 // 1 where a question is covered, and the chosen views beside it, else 0 and the lowest unmatched link.
-pub const QUOTE: usize = 6;
+pub const QUOTE: usize = 7;
 
 // A sum, and the set that costs it beside it.
-pub const PRICE: usize = 7;
+pub const PRICE: usize = 8;
 
 // The number of a join's steps, and the settled items beside it.
-pub const STEPS: usize = 8;
+pub const STEPS: usize = 9;
 
 // 1 and a first day beside it, or 0 where there is none.
-pub const DAY: usize = 9;
+pub const DAY: usize = 10;
+
+// The set of extracts that a link changes, and the change number of its slip beside it.
+pub const ASKED: usize = 11;
 
 // 0 or the refusal's number; the two values, of which a refusal's detail is the first; how much was written, a digest of it; and at how many
 // places of an output that the call alone knows the marks are not as they should be.

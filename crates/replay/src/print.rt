@@ -94,6 +94,10 @@ fn say_values(form: usize, value: usize, other: usize, digest: u64) {
             say(b", set ");
             say_number(other);
         }
+        outcome::ASKED => {
+            say(b"changes ");
+            say_number(value);
+        }
         outcome::DAY => {
             say(b"first day ");
             if value == 1 {
@@ -120,6 +124,11 @@ fn say_lengths(form: usize, value: usize, other: usize) {
             say_number(other);
             say(b" bytes");
         }
+        outcome::ENTERED => {
+            say(b" bytes and ");
+            say_number(other);
+            say(b" entries");
+        }
         outcome::SEVERAL => {
             say(b" bytes, ");
             say_number(other);
@@ -133,7 +142,7 @@ fn say_accepted(cells: &[u64], out: &[u8], words: &[u32]) {
     let form = cells::number(cells, cells::FORM);
     let value = cells::number(cells, cells::VALUE);
     let other = cells::number(cells, cells::OTHER);
-    if outcome::SEVERAL < form {
+    if outcome::ENTERED < form {
         say_values(form, value, other, cells::at(cells, cells::DIGEST));
     } else {
         say_lengths(form, value, other);

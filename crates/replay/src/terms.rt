@@ -64,11 +64,12 @@ pub fn of(bytes: &[u8]) -> Terms {
 pub fn first_day(
     question: &[u8],
     catalogue: &[u8],
+    one_way: u16,
     t: Terms,
     day: u16,
     work: &mut [u32],
 ) -> Outcome {
-    let f = yuthaqim::yuthaqim_first_day(question, catalogue, t, day, work);
+    let f = yuthaqim::yuthaqim_first_day(question, catalogue, one_way, t, day, work);
     let value = if f.number == 0 {
         f.found as usize
     } else {

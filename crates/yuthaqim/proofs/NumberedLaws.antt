@@ -7,17 +7,24 @@ use borrow.Author.Tests.{ne-eqb}
 use Rattle.packed.specs.Refusals.{Told, told, numberOf, detailOf}
 use Rattle.packed.specs.Calls.{Outcome, Settled}
 use Rattle.packed.specs.declared.reply.Refusal.{Refusal}
+use Rattle.packed.proofs.RefusalNumbers.{refusal-numbered}
+use Rattle.matching.specs.Enter.{Commits}
+use Rattle.matching.specs.declared.state.State.{State}
+use Rattle.matching.specs.declared.state.Slip.{Slip}
 use Rattle.containment.specs.Quote.{quoteTold}
 use Rattle.containment.specs.declared.quote_type.Coverage.{Coverage}
 use Rattle.containment.specs.declared.quote_type.Coverage.the-variants as coverage-is
 use Rattle.containment.specs.declared.quote_type.Quote.{Quote}
-use Rattle.containment.proofs.Numbered.{refusal-numbered}
-use Rattle.yuthaqim.specs.Numbered.{toldBy, numberedQuoteTold, numberedBothTold, numberedSeveralTold, numberedCheapestTold, QuoteZeros, BothZeros, SeveralZeros, CheapestZeros, numberedFirstDayTold, FirstDayZeros}
+use Rattle.yuthaqim.specs.Numbered.{toldBy, numberedQuoteTold, numberedBothTold, numberedSeveralTold, numberedCheapestTold, QuoteZeros, BothZeros, SeveralZeros, CheapestZeros, numberedFirstDayTold, FirstDayZeros, numberedAskedTold, AskedZeros}
 use Rattle.yuthaqim.specs.declared.numbered.NumberedQuote.{NumberedQuote}
 
 pub settled-as : {none : List ℕ} {a : Outcome} {r r′ : Told} {outs outs′ : List (List ℕ)} {work work′ : List ℕ}
     → r′ ≡ r → Settled none a r outs outs′ work work′ → Settled none a r′ outs outs′ work work′
 settled-as e s = record { result = e ∙ s .result; outputs = s .outputs; workspace = s .workspace }
+
+pub commits-as : {r : List ℕ} {s s′ : State} {p : Slip} {t t′ : Told} {out out′ index index′ work work′ : List ℕ}
+    → t′ ≡ t → Commits r s p t s′ out out′ index index′ work work′ → Commits r s p t′ s′ out out′ index index′ work work′
+commits-as e c = record { settled = settled-as e (c .settled); state = c .state }
 
 -- no refusal has the number of success
 number-not-0 : (x : Refusal) → numberOf x ≡ 0 → ⊥
@@ -100,3 +107,18 @@ pub day-refused : (x : Refusal) {n d : ℕ} → n ≡ numberOf x → d ≡ detai
     × FirstDayZeros (record { number = n; detail = d; found = 0; day = 0 })
 unfolding numberedFirstDayTold
 day-refused x p r = (rw (p, r, refused-told), record { no-detail = λ h. absurd (number-not-0 x (sym p ∙ h)); no-found = λ n. refl; no-day = λ n. refl })
+
+-- a set and a slip in numbers
+pub asked-done : (set : ℕ) (p : Slip) → (numberedAskedTold (record { number = 0; detail = 0; set = set; slip = p }) ≡ told 0 (set ∷ p .from ∷ p .to ∷ p .kind ∷ p .change ∷ []))
+    × AskedZeros (record { number = 0; detail = 0; set = set; slip = p })
+unfolding numberedAskedTold toldBy
+asked-done set p = (refl, record { no-detail = λ h. refl; no-set = λ n. absurd (n refl); no-slip = λ n. absurd (n refl) })
+
+abbrev noSlip : Slip
+noSlip = record { from = 0; to = 0; kind = 0; change = 0 }
+
+pub asked-refused : (x : Refusal) {n d : ℕ} → n ≡ numberOf x → d ≡ detailOf x
+    → (numberedAskedTold (record { number = n; detail = d; set = 0; slip = noSlip }) ≡ told (numberOf x) (detailOf x ∷ []))
+    × AskedZeros (record { number = n; detail = d; set = 0; slip = noSlip })
+unfolding numberedAskedTold
+asked-refused x p r = (rw (p, r, refused-told), record { no-detail = λ h. absurd (number-not-0 x (sym p ∙ h)); no-set = λ n. refl; no-slip = λ n. refl })

@@ -5,6 +5,7 @@ use mathlib.Core.List.{List, [], _∷_}
 use lib.Dec.{eqb}
 use Rattle.packed.specs.Format.{pick}
 use Rattle.packed.specs.Refusals.{Told, told}
+use Rattle.matching.specs.declared.state.Slip.{Slip}
 use Rattle.containment.specs.Quote.{QuoteValues, flat}
 use Rattle.yuthaqim.specs.declared.numbered.NumberedReply.{NumberedReply}
 use Rattle.yuthaqim.specs.declared.numbered.NumberedQuote.{NumberedQuote}
@@ -12,6 +13,7 @@ use Rattle.yuthaqim.specs.declared.numbered.NumberedBoth.{NumberedBoth}
 use Rattle.yuthaqim.specs.declared.numbered.NumberedSeveral.{NumberedSeveral}
 use Rattle.yuthaqim.specs.declared.numbered.NumberedCheapest.{NumberedCheapest}
 use Rattle.yuthaqim.specs.declared.numbered.NumberedFirstDay.{NumberedFirstDay}
+use Rattle.yuthaqim.specs.declared.numbered.NumberedAsked.{NumberedAsked}
 
 -- the values of success, or those of a refusal
 unfoldable pub toldBy : ℕ → List ℕ → List ℕ → Told
@@ -38,6 +40,12 @@ numberedCheapestTold c = toldBy (c .number) (c .set ∷ c .sum ∷ c .chosen ∷
 
 unfoldable pub numberedFirstDayTold : NumberedFirstDay → Told
 numberedFirstDayTold d = toldBy (d .number) (d .found ∷ d .day ∷ []) (d .detail ∷ [])
+
+abbrev slipValues : Slip → List ℕ
+slipValues p = p .from ∷ p .to ∷ p .kind ∷ p .change ∷ []
+
+unfoldable pub numberedAskedTold : NumberedAsked → Told
+numberedAskedTold a = toldBy (a .number) (a .set ∷ slipValues (a .slip)) (a .detail ∷ [])
 
 -- what is not told: a quote has no detail
 pub record QuoteZeros (q : NumberedQuote) : Type 0 where
@@ -67,3 +75,9 @@ pub record FirstDayZeros (d : NumberedFirstDay) : Type 0 where
   pub no-detail : d .number ≡ 0 → d .detail ≡ 0
   pub no-found : (d .number ≡ 0 → ⊥) → d .found ≡ 0
   pub no-day : (d .number ≡ 0 → ⊥) → d .day ≡ 0
+
+-- a slip has no detail, and a refusal has no set and no slip
+pub record AskedZeros (a : NumberedAsked) : Type 0 where
+  pub no-detail : a .number ≡ 0 → a .detail ≡ 0
+  pub no-set : (a .number ≡ 0 → ⊥) → a .set ≡ 0
+  pub no-slip : (a .number ≡ 0 → ⊥) → a .slip ≡ record { from = 0; to = 0; kind = 0; change = 0 }

@@ -6,6 +6,7 @@ ghost use mathlib.Core.List.{[], _∷_};
 ghost use lib.ListN.{length};
 ghost use Rattle.packed.specs.Calls.{OneOutput, Settled, withWorkspace, patternRead, catalogueRead, recordRead, sheetRead, bookRead, patternWritten, catalogueWritten, recordWritten, sheetWritten, bookWritten};
 ghost use Rattle.packed.specs.OldRecord.{recordSorted};
+ghost use Rattle.matching.specs.Offered.{brings};
 ghost use Rattle.matching.specs.Search.{searchOutcome, makeBookOutcome};
 ghost use Rattle.matching.specs.Index.{makeIndexOutcome, checkIndexOutcome, searchIndexedOutcome};
 ghost use Rattle.containment.specs.Quote.{quoteOutcome, blank};
@@ -216,13 +217,14 @@ pub extern "C" fn yuthaqim_search_indexed(
 #[no_mangle]
 pub extern "C" fn yuthaqim_make_book(
     catalogue: &[u8],
+    one_way: u16,
     record: &[u8],
     out: &mut [u8],
     work: &mut [u32],
 ) -> NumberedReply
-    ensures { λ r. ⌜ OneOutput (makeBookOutcome (now (catalogue .entry)) (now («record» .entry))) (numberedReplyTold r) (now (out .entry)) (now (out .exit)) (now (work .entry)) (now (work .exit)) ⌝ }
+    ensures { λ r. ⌜ OneOutput (makeBookOutcome (brings (now (catalogue .entry)) «one_way») (now («record» .entry))) (numberedReplyTold r) (now (out .entry)) (now (out .exit)) (now (work .entry)) (now (work .exit)) ⌝ }
 {
-    numbered::reply(matching::make_book(catalogue, record, out, work))
+    numbered::reply(matching::make_book(catalogue, one_way, record, out, work))
 }
 
 // Quotes a question with a catalogue.
@@ -230,11 +232,12 @@ pub extern "C" fn yuthaqim_make_book(
 pub extern "C" fn yuthaqim_quote(
     question: &[u8],
     catalogue: &[u8],
+    one_way: u16,
     work: &mut [u32],
 ) -> NumberedQuote
-    ensures { λ r. ⌜ Settled blank (withWorkspace (length (now (work .entry))) (quoteOutcome (now (question .entry)) (now (catalogue .entry)))) (numberedQuoteTold r) [] [] (now (work .entry)) (now (work .exit)) × QuoteZeros r ⌝ }
+    ensures { λ r. ⌜ Settled blank (withWorkspace (length (now (work .entry))) (quoteOutcome (now (question .entry)) (brings (now (catalogue .entry)) «one_way»))) (numberedQuoteTold r) [] [] (now (work .entry)) (now (work .exit)) × QuoteZeros r ⌝ }
 {
-    numbered::quote(containment::quote(question, catalogue, work))
+    numbered::quote(containment::quote(question, catalogue, one_way, work))
 }
 
 // Answers a question from a book: writes the question's sheet.
@@ -242,13 +245,14 @@ pub extern "C" fn yuthaqim_quote(
 pub extern "C" fn yuthaqim_answer(
     question: &[u8],
     catalogue: &[u8],
+    one_way: u16,
     book: &[u8],
     out: &mut [u8],
     work: &mut [u32],
 ) -> NumberedReply
-    ensures { λ r. ⌜ OneOutput (answerOutcome (now (question .entry)) (now (catalogue .entry)) (now (book .entry))) (numberedReplyTold r) (now (out .entry)) (now (out .exit)) (now (work .entry)) (now (work .exit)) ⌝ }
+    ensures { λ r. ⌜ OneOutput (answerOutcome (now (question .entry)) (brings (now (catalogue .entry)) «one_way») (now (book .entry))) (numberedReplyTold r) (now (out .entry)) (now (out .exit)) (now (work .entry)) (now (work .exit)) ⌝ }
 {
-    numbered::reply(containment::answer(question, catalogue, book, out, work))
+    numbered::reply(containment::answer(question, catalogue, one_way, book, out, work))
 }
 
 // Answers a question from a book by a set of extracts: writes the question's sheet.
@@ -256,14 +260,15 @@ pub extern "C" fn yuthaqim_answer(
 pub extern "C" fn yuthaqim_answer_from(
     question: &[u8],
     catalogue: &[u8],
+    one_way: u16,
     set: u16,
     book: &[u8],
     out: &mut [u8],
     work: &mut [u32],
 ) -> NumberedReply
-    ensures { λ r. ⌜ OneOutput (answerFrom (now (question .entry)) (now (catalogue .entry)) set (now (book .entry))) (numberedReplyTold r) (now (out .entry)) (now (out .exit)) (now (work .entry)) (now (work .exit)) ⌝ }
+    ensures { λ r. ⌜ OneOutput (answerFrom (now (question .entry)) (brings (now (catalogue .entry)) «one_way») set (now (book .entry))) (numberedReplyTold r) (now (out .entry)) (now (out .exit)) (now (work .entry)) (now (work .exit)) ⌝ }
 {
-    numbered::reply(containment::answer_from(question, catalogue, set, book, out, work))
+    numbered::reply(containment::answer_from(question, catalogue, one_way, set, book, out, work))
 }
 
 // Finds the part of a question that the extracts answer, and answers it from a book: writes the part as a pattern, and its sheet.
@@ -271,14 +276,15 @@ pub extern "C" fn yuthaqim_answer_from(
 pub extern "C" fn yuthaqim_part(
     question: &[u8],
     catalogue: &[u8],
+    one_way: u16,
     book: &[u8],
     part: &mut [u8],
     answer: &mut [u8],
     work: &mut [u32],
 ) -> NumberedBoth
-    ensures { λ r. ⌜ Settled [] (withWorkspace (length (now (work .entry))) (partOutcome (now (question .entry)) (now (catalogue .entry)) (now (book .entry)) (length (now (part .entry))) (length (now (answer .entry))))) (numberedBothTold r) (now (part .entry) ∷ now (answer .entry) ∷ []) (now (part .exit) ∷ now (answer .exit) ∷ []) (now (work .entry)) (now (work .exit)) × BothZeros r ⌝ }
+    ensures { λ r. ⌜ Settled [] (withWorkspace (length (now (work .entry))) (partOutcome (now (question .entry)) (brings (now (catalogue .entry)) «one_way») (now (book .entry)) (length (now (part .entry))) (length (now (answer .entry))))) (numberedBothTold r) (now (part .entry) ∷ now (answer .entry) ∷ []) (now (part .exit) ∷ now (answer .exit) ∷ []) (now (work .entry)) (now (work .exit)) × BothZeros r ⌝ }
 {
-    numbered::both(containment::part(question, catalogue, book, part, answer, work))
+    numbered::both(containment::part(question, catalogue, one_way, book, part, answer, work))
 }
 
 // Answers several questions from one book: writes their sheets one after the other.
@@ -287,13 +293,22 @@ pub extern "C" fn yuthaqim_answer_several(
     questions: &[u8],
     number: u32,
     catalogue: &[u8],
+    one_way: u16,
     book: &[u8],
     out: &mut [u8],
     work: &mut [u32],
 ) -> NumberedSeveral
-    ensures { λ r. ⌜ Settled [] (withWorkspace (length (now (work .entry))) (severalOutcome (now (questions .entry)) number (now (catalogue .entry)) (now (book .entry)) (length (now (out .entry))))) (numberedSeveralTold r) (now (out .entry) ∷ []) (now (out .exit) ∷ []) (now (work .entry)) (now (work .exit)) × SeveralZeros r ⌝ }
+    ensures { λ r. ⌜ Settled [] (withWorkspace (length (now (work .entry))) (severalOutcome (now (questions .entry)) number (brings (now (catalogue .entry)) «one_way») (now (book .entry)) (length (now (out .entry))))) (numberedSeveralTold r) (now (out .entry) ∷ []) (now (out .exit) ∷ []) (now (work .entry)) (now (work .exit)) × SeveralZeros r ⌝ }
 {
-    numbered::several(containment::answer_several(questions, number, catalogue, book, out, work))
+    numbered::several(containment::answer_several(
+        questions,
+        number,
+        catalogue,
+        one_way,
+        book,
+        out,
+        work,
+    ))
 }
 
 // Shows why a question is not covered: writes it as a record, and the same without its lowest unmatched link.
@@ -301,13 +316,14 @@ pub extern "C" fn yuthaqim_answer_several(
 pub extern "C" fn yuthaqim_show_uncovered(
     question: &[u8],
     catalogue: &[u8],
+    one_way: u16,
     first: &mut [u8],
     second: &mut [u8],
     work: &mut [u32],
 ) -> NumberedBoth
-    ensures { λ r. ⌜ Settled [] (withWorkspace (length (now (work .entry))) (showOutcome (now (question .entry)) (now (catalogue .entry)) (length (now (first .entry))) (length (now (second .entry))))) (numberedBothTold r) (now (first .entry) ∷ now (second .entry) ∷ []) (now (first .exit) ∷ now (second .exit) ∷ []) (now (work .entry)) (now (work .exit)) × BothZeros r ⌝ }
+    ensures { λ r. ⌜ Settled [] (withWorkspace (length (now (work .entry))) (showOutcome (now (question .entry)) (brings (now (catalogue .entry)) «one_way») (length (now (first .entry))) (length (now (second .entry))))) (numberedBothTold r) (now (first .entry) ∷ now (second .entry) ∷ []) (now (first .exit) ∷ now (second .exit) ∷ []) (now (work .entry)) (now (work .exit)) × BothZeros r ⌝ }
 {
-    numbered::both(containment::show_uncovered(question, catalogue, first, second, work))
+    numbered::both(containment::show_uncovered(question, catalogue, one_way, first, second, work))
 }
 
 // Finds the cheapest set of extracts that covers a question, by the charges of the extracts.
@@ -315,12 +331,13 @@ pub extern "C" fn yuthaqim_show_uncovered(
 pub extern "C" fn yuthaqim_cheapest(
     question: &[u8],
     catalogue: &[u8],
+    one_way: u16,
     charges: &[u32],
     work: &mut [u32],
 ) -> NumberedCheapest
-    ensures { λ r. ⌜ Settled [] (withWorkspace (length (now (work .entry))) (cheapestOutcome (now (question .entry)) (now (catalogue .entry)) (now (charges .entry)))) (numberedCheapestTold r) [] [] (now (work .entry)) (now (work .exit)) × CheapestZeros r ⌝ }
+    ensures { λ r. ⌜ Settled [] (withWorkspace (length (now (work .entry))) (cheapestOutcome (now (question .entry)) (brings (now (catalogue .entry)) «one_way») (now (charges .entry)))) (numberedCheapestTold r) [] [] (now (work .entry)) (now (work .exit)) × CheapestZeros r ⌝ }
 {
-    numbered::cheapest(containment::cheapest(question, catalogue, charges, work))
+    numbered::cheapest(containment::cheapest(question, catalogue, one_way, charges, work))
 }
 
 // A list of terms in plain numbers, as the calls for a day take it.
@@ -336,13 +353,14 @@ pub extern "C" fn yuthaqim_spread_terms(terms: &[Term]) -> Terms
 pub extern "C" fn yuthaqim_quote_on(
     question: &[u8],
     catalogue: &[u8],
+    one_way: u16,
     terms: Terms,
     day: u16,
     work: &mut [u32],
 ) -> NumberedQuote
-    ensures { λ r. ⌜ Settled blank (withWorkspace (length (now (work .entry))) (quoteOn (now (question .entry)) (now (catalogue .entry)) terms day)) (numberedQuoteTold r) [] [] (now (work .entry)) (now (work .exit)) × QuoteZeros r ⌝ }
+    ensures { λ r. ⌜ Settled blank (withWorkspace (length (now (work .entry))) (quoteOn (now (question .entry)) (brings (now (catalogue .entry)) «one_way») terms day)) (numberedQuoteTold r) [] [] (now (work .entry)) (now (work .exit)) × QuoteZeros r ⌝ }
 {
-    numbered::quote(containment::quote_on(question, catalogue, terms, day, work))
+    numbered::quote(containment::quote_on(question, catalogue, one_way, terms, day, work))
 }
 
 // Finds the cheapest set of extracts in force on a day that covers a question, by the charges of all extracts.
@@ -350,14 +368,23 @@ pub extern "C" fn yuthaqim_quote_on(
 pub extern "C" fn yuthaqim_cheapest_on(
     question: &[u8],
     catalogue: &[u8],
+    one_way: u16,
     terms: Terms,
     day: u16,
     charges: &[u32],
     work: &mut [u32],
 ) -> NumberedCheapest
-    ensures { λ r. ⌜ Settled [] (withWorkspace (length (now (work .entry))) (cheapestOn (now (question .entry)) (now (catalogue .entry)) terms day (now (charges .entry)))) (numberedCheapestTold r) [] [] (now (work .entry)) (now (work .exit)) × CheapestZeros r ⌝ }
+    ensures { λ r. ⌜ Settled [] (withWorkspace (length (now (work .entry))) (cheapestOn (now (question .entry)) (brings (now (catalogue .entry)) «one_way») terms day (now (charges .entry)))) (numberedCheapestTold r) [] [] (now (work .entry)) (now (work .exit)) × CheapestZeros r ⌝ }
 {
-    numbered::cheapest(containment::cheapest_on(question, catalogue, terms, day, charges, work))
+    numbered::cheapest(containment::cheapest_on(
+        question,
+        catalogue,
+        one_way,
+        terms,
+        day,
+        charges,
+        work,
+    ))
 }
 
 // Finds the part of a question that the extracts in force on a day answer, and answers it from a book: writes the part as a pattern, and its sheet.
@@ -365,6 +392,7 @@ pub extern "C" fn yuthaqim_cheapest_on(
 pub extern "C" fn yuthaqim_part_on(
     question: &[u8],
     catalogue: &[u8],
+    one_way: u16,
     terms: Terms,
     day: u16,
     book: &[u8],
@@ -372,9 +400,19 @@ pub extern "C" fn yuthaqim_part_on(
     answer: &mut [u8],
     work: &mut [u32],
 ) -> NumberedBoth
-    ensures { λ r. ⌜ Settled [] (withWorkspace (length (now (work .entry))) (partOn (now (question .entry)) (now (catalogue .entry)) terms day (now (book .entry)) (length (now (part .entry))) (length (now (answer .entry))))) (numberedBothTold r) (now (part .entry) ∷ now (answer .entry) ∷ []) (now (part .exit) ∷ now (answer .exit) ∷ []) (now (work .entry)) (now (work .exit)) × BothZeros r ⌝ }
+    ensures { λ r. ⌜ Settled [] (withWorkspace (length (now (work .entry))) (partOn (now (question .entry)) (brings (now (catalogue .entry)) «one_way») terms day (now (book .entry)) (length (now (part .entry))) (length (now (answer .entry))))) (numberedBothTold r) (now (part .entry) ∷ now (answer .entry) ∷ []) (now (part .exit) ∷ now (answer .exit) ∷ []) (now (work .entry)) (now (work .exit)) × BothZeros r ⌝ }
 {
-    numbered::both(containment::part_on(question, catalogue, terms, day, book, part, answer, work))
+    numbered::both(containment::part_on(
+        question,
+        catalogue,
+        one_way,
+        terms,
+        day,
+        book,
+        part,
+        answer,
+        work,
+    ))
 }
 
 // Shows why a question is not covered on a day: writes it as a record, and the same without the lowest link that no extract in force matches.
@@ -382,15 +420,25 @@ pub extern "C" fn yuthaqim_part_on(
 pub extern "C" fn yuthaqim_show_on(
     question: &[u8],
     catalogue: &[u8],
+    one_way: u16,
     terms: Terms,
     day: u16,
     first: &mut [u8],
     second: &mut [u8],
     work: &mut [u32],
 ) -> NumberedBoth
-    ensures { λ r. ⌜ Settled [] (withWorkspace (length (now (work .entry))) (showOn (now (question .entry)) (now (catalogue .entry)) terms day (length (now (first .entry))) (length (now (second .entry))))) (numberedBothTold r) (now (first .entry) ∷ now (second .entry) ∷ []) (now (first .exit) ∷ now (second .exit) ∷ []) (now (work .entry)) (now (work .exit)) × BothZeros r ⌝ }
+    ensures { λ r. ⌜ Settled [] (withWorkspace (length (now (work .entry))) (showOn (now (question .entry)) (brings (now (catalogue .entry)) «one_way») terms day (length (now (first .entry))) (length (now (second .entry))))) (numberedBothTold r) (now (first .entry) ∷ now (second .entry) ∷ []) (now (first .exit) ∷ now (second .exit) ∷ []) (now (work .entry)) (now (work .exit)) × BothZeros r ⌝ }
 {
-    numbered::both(containment::show_on(question, catalogue, terms, day, first, second, work))
+    numbered::both(containment::show_on(
+        question,
+        catalogue,
+        one_way,
+        terms,
+        day,
+        first,
+        second,
+        work,
+    ))
 }
 
 // Finds the first day, not before the given one, on which a question is covered.
@@ -398,11 +446,12 @@ pub extern "C" fn yuthaqim_show_on(
 pub extern "C" fn yuthaqim_first_day(
     question: &[u8],
     catalogue: &[u8],
+    one_way: u16,
     terms: Terms,
     day: u16,
     work: &mut [u32],
 ) -> NumberedFirstDay
-    ensures { λ r. ⌜ Settled [] (withWorkspace (length (now (work .entry))) (firstDay (now (question .entry)) (now (catalogue .entry)) terms day)) (numberedFirstDayTold r) [] [] (now (work .entry)) (now (work .exit)) × FirstDayZeros r ⌝ }
+    ensures { λ r. ⌜ Settled [] (withWorkspace (length (now (work .entry))) (firstDay (now (question .entry)) (brings (now (catalogue .entry)) «one_way») terms day)) (numberedFirstDayTold r) [] [] (now (work .entry)) (now (work .exit)) × FirstDayZeros r ⌝ }
 {
-    numbered::first_day(containment::first_day(question, catalogue, terms, day, work))
+    numbered::first_day(containment::first_day(question, catalogue, one_way, terms, day, work))
 }

@@ -1,19 +1,21 @@
 // Answers in numbers: an enum doesn't cross to C.
 ghost use mathlib.Core.Path.{_≡_};
-ghost use Rattle.packed.specs.Refusals.{replyTold};
-ghost use Rattle.containment.specs.Both.{bothTold};
+ghost use Rattle.packed.specs.Refusals.{replyTold, bothTold};
+ghost use Rattle.matching.specs.Ask.{askTold};
 ghost use Rattle.containment.specs.Cheapest.{cheapestTold};
 ghost use Rattle.containment.specs.Quote.{quoteTold};
 ghost use Rattle.containment.specs.Several.{severalTold};
-ghost use Rattle.yuthaqim.specs.Numbered.{numberedReplyTold, numberedQuoteTold, numberedBothTold, numberedSeveralTold, numberedCheapestTold, QuoteZeros, BothZeros, SeveralZeros, CheapestZeros, numberedFirstDayTold, FirstDayZeros};
+ghost use Rattle.yuthaqim.specs.Numbered.{numberedReplyTold, numberedQuoteTold, numberedBothTold, numberedSeveralTold, numberedCheapestTold, QuoteZeros, BothZeros, SeveralZeros, CheapestZeros, numberedFirstDayTold, FirstDayZeros, numberedAskedTold, AskedZeros};
 ghost use Rattle.containment.specs.Terms.{firstDayTold};
-use containment::both::Both;
 use containment::costing::Cheapest;
 use containment::days::FirstDay;
 use containment::quote_type::Coverage;
 use containment::quote_type::Quote;
 use containment::several::Several;
+use matching::asking::Asked;
+use matching::state::Slip;
 use packed::reply;
+use packed::reply::Both;
 use packed::reply::Reply;
 
 // 0 and how much of the output was written, or a refusal's number and detail.
@@ -70,6 +72,15 @@ pub struct NumberedFirstDay {
     pub detail: usize,
     pub found: u16,
     pub day: u16,
+}
+
+// 0, the set of extracts and the slip, or a refusal's number and detail. What has no meaning is zero.
+#[repr(C)]
+pub struct NumberedAsked {
+    pub number: usize,
+    pub detail: usize,
+    pub set: u16,
+    pub slip: Slip,
 }
 
 pub fn reply(r: Reply) -> NumberedReply
@@ -203,6 +214,30 @@ pub fn first_day(d: FirstDay) -> NumberedFirstDay
             detail: reply::detail_of(x),
             found: 0,
             day: 0,
+        },
+    }
+}
+
+pub fn asked(a: Asked) -> NumberedAsked
+    ensures { λ n. ⌜ (numberedAskedTold n ≡ askTold a) × AskedZeros n ⌝ }
+{
+    match a {
+        Asked::Done(set, slip) => NumberedAsked {
+            number: 0,
+            detail: 0,
+            set,
+            slip,
+        },
+        Asked::Refused(x) => NumberedAsked {
+            number: reply::number_of(x),
+            detail: reply::detail_of(x),
+            set: 0,
+            slip: Slip {
+                from: 0,
+                to: 0,
+                kind: 0,
+                change: 0,
+            },
         },
     }
 }

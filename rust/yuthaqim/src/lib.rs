@@ -11,16 +11,21 @@
 //! the number of links, the kind of each item or in a record its kinds, and for each link its from, its to and its kind, which
 //! is 0 to 7. That of a sheet is 0 alone where nothing was found, else 1 and then the counts and pairs.
 //!
+//! A catalogue comes with a set, `one_way`, in every call that matches its extracts: the bit worth 2^a says that extract a is
+//! matched one-way, by the links that leave an item alone, against a question and on a record; the others are matched both ways,
+//! and a question always is. 0 names none. A book goes with its catalogue and its set: where it was made under another set than
+//! the one that is asked with, nothing is promised of an answer but that it is one.
+//!
 //! ```
 //! # fn main() -> Result<(), yuthaqim::Refusal> {
 //! let question = [0x20, 0x80, 0x08, 0x86, 0x02, 0x00, 0x80, 0x98, 0x23, 0x00];
 //! let catalogue =
 //!     [0x18, 0x10, 0x20, 0x08, 0x08, 0x18, 0x40, 0x08, 0xc0, 0x40, 0x90, 0x18, 0x40, 0x10, 0xc0, 0x40, 0x90];
 //! let mut work = vec![0; yuthaqim::WORK_WORDS];
-//! let quote = yuthaqim::quote(&question, &catalogue, &mut work)?;
+//! let quote = yuthaqim::quote(&question, &catalogue, 0, &mut work)?;
 //! assert!(quote.covered);
 //! assert!(quote.extracts().eq([1, 2]));
-//! let cheapest = yuthaqim::cheapest(&question, &catalogue, &[100, 200, 150], &mut work)?;
+//! let cheapest = yuthaqim::cheapest(&question, &catalogue, 0, &[100, 200, 150], &mut work)?;
 //! assert!(cheapest.extracts().eq([1, 2]));
 //! assert_eq!(cheapest.sum, 350);
 //!
@@ -28,34 +33,34 @@
 //! let length = yuthaqim::write_record(&[3, 2, 1, 6, 8, 0, 1, 0, 1, 2, 0], &mut record, &mut work)?;
 //! let record = &record[..length];
 //! let mut book = [0; yuthaqim::BOOK_BYTES];
-//! let length = yuthaqim::make_book(&catalogue, record, &mut book, &mut work)?;
+//! let length = yuthaqim::make_book(&catalogue, 0, record, &mut book, &mut work)?;
 //! let book = &book[..length];
 //! let mut sheet = [0; yuthaqim::SHEET_BYTES];
-//! let length = yuthaqim::answer(&question, &catalogue, book, &mut sheet, &mut work)?;
+//! let length = yuthaqim::answer(&question, &catalogue, 0, book, &mut sheet, &mut work)?;
 //! let mut content = [0; yuthaqim::SHEET_WORDS];
 //! let length = yuthaqim::read_sheet(&question, &sheet[..length], &mut content, &mut work)?;
 //! assert_eq!(content[..length], [1, 1, 0, 1, 1, 0, 1, 1, 1, 2, 1, 1, 2]);
 //!
 //! // Any set that covers the question answers it: here the cheapest.
 //! let mut same = [0; yuthaqim::SHEET_BYTES];
-//! let length = yuthaqim::answer_from(&question, &catalogue, cheapest.set, book, &mut same, &mut work)?;
+//! let length = yuthaqim::answer_from(&question, &catalogue, 0, cheapest.set, book, &mut same, &mut work)?;
 //! assert_eq!(same[..length], sheet[..length]);
 //!
 //! // Several questions in one call, here that one and a section with a slow run: what each gets by itself, one after the
 //! // other, and how many sheets of the book that took.
 //! let questions = [&question[..], &[0x10, 0x20, 0x08, 0x08]].concat();
-//! let answers = yuthaqim::answer_several(&questions, 2, &catalogue, book, &mut same, &mut work)?;
+//! let answers = yuthaqim::answer_several(&questions, 2, &catalogue, 0, book, &mut same, &mut work)?;
 //! assert_eq!((answers.bytes, answers.sheets), (length + 5, 3));
 //! assert_eq!(same[..length], sheet[..length]);
 //! assert_eq!(same[length..length + 5], [0x80, 0x02, 0x00, 0x00, 0x02]);
 //!
 //! // With one extract the question is uncovered: the part that this one answers, and its answer.
 //! let slow = [0x08, 0x18, 0x40, 0x08, 0xc0, 0x40, 0x90];
-//! assert_eq!(yuthaqim::quote(&question, &slow, &mut work)?.lowest_unmatched, Some(1));
+//! assert_eq!(yuthaqim::quote(&question, &slow, 0, &mut work)?.lowest_unmatched, Some(1));
 //! let mut lists = [0; yuthaqim::BOOK_BYTES];
-//! let length = yuthaqim::make_book(&slow, record, &mut lists, &mut work)?;
+//! let length = yuthaqim::make_book(&slow, 0, record, &mut lists, &mut work)?;
 //! let mut part = [0; yuthaqim::PATTERN_BYTES];
-//! let (size, length) = yuthaqim::part(&question, &slow, &lists[..length], &mut part, &mut same, &mut work)?;
+//! let (size, length) = yuthaqim::part(&question, &slow, 0, &lists[..length], &mut part, &mut same, &mut work)?;
 //! assert_eq!(part[..size], slow[1..]);
 //! let length = yuthaqim::read_sheet(&part[..size], &same[..length], &mut content, &mut work)?;
 //! assert_eq!(content[..length], [1, 1, 0, 1, 1, 1, 2]);
@@ -63,12 +68,28 @@
 //! // Extracts that are sold for a season, each from a day up to another: on day 12 all three are in force, on day 10 the last
 //! // isn't yet. What is chosen for the day answers the question from the book.
 //! let terms = [(10, 20), (10, 15), (12, 20)].map(|(from, to)| yuthaqim::Term { from, to });
-//! assert_eq!(yuthaqim::quote_on(&question, &catalogue, &terms, 10, &mut work)?.lowest_unmatched, Some(1));
-//! assert_eq!(yuthaqim::first_day(&question, &catalogue, &terms, 10, &mut work)?, Some(12));
-//! assert_eq!(yuthaqim::first_day(&question, &catalogue, &terms, 15, &mut work)?, None);
-//! let quote = yuthaqim::quote_on(&question, &catalogue, &terms, 12, &mut work)?;
-//! let length = yuthaqim::answer_from(&question, &catalogue, quote.chosen as u16, book, &mut same, &mut work)?;
+//! assert_eq!(yuthaqim::quote_on(&question, &catalogue, 0, &terms, 10, &mut work)?.lowest_unmatched, Some(1));
+//! assert_eq!(yuthaqim::first_day(&question, &catalogue, 0, &terms, 10, &mut work)?, Some(12));
+//! assert_eq!(yuthaqim::first_day(&question, &catalogue, 0, &terms, 15, &mut work)?, None);
+//! let quote = yuthaqim::quote_on(&question, &catalogue, 0, &terms, 12, &mut work)?;
+//! let length = yuthaqim::answer_from(&question, &catalogue, 0, quote.chosen as u16, book, &mut same, &mut work)?;
 //! assert_eq!(same[..length], sheet[..length]);
+//!
+//! // Sheets made before matches looked both ways go on serving, where their extracts are named: here a run with a reading that
+//! // hangs on no section, which extract 1, one-way, lists. The answer is what a search gives, both ways.
+//! let mut stray = [0; yuthaqim::RECORD_BYTES];
+//! let fields = [5, 4, 1, 2, 8, 2, 2, 0, 1, 0, 0, 3, 0, 1, 2, 0, 4, 2, 0];
+//! let length = yuthaqim::write_record(&fields, &mut stray, &mut work)?;
+//! let stray = &stray[..length];
+//! let length = yuthaqim::make_book(&catalogue, 1 << 1, stray, &mut lists, &mut work)?;
+//! assert_eq!(lists[8..length], [0x80, 0x02, 0x00, 0x00, 0x02, 0x00, 0x10, 0x00, 0x80, 0x10, 0x02, 0x00, 0x10, 0x00]);
+//! let size = yuthaqim::answer(&slow[1..], &catalogue, 1 << 1, &lists[..length], &mut same, &mut work)?;
+//! let mut found = [0; yuthaqim::SHEET_BYTES];
+//! let length = yuthaqim::search(&slow[1..], stray, &mut found, &mut work)?;
+//! assert_eq!(found[..length], [0x80, 0x02, 0x00, 0x00, 0x02, 0x00, 0x08, 0x00, 0x80, 0x10]);
+//! assert_eq!(same[..size], found[..length]);
+//! let refusal = yuthaqim::quote(&question, &catalogue, 1 << 3, &mut work).unwrap_err();
+//! assert_eq!((refusal.number, refusal.detail), (yuthaqim::SET, 3));
 //!
 //! // An index beside the record: a search by it gives the same sheet.
 //! let mut index = [0; yuthaqim::INDEX_ENTRIES];
@@ -86,7 +107,7 @@
 //! let length = yuthaqim::write_pattern(&[2, 2, 0, 1, 0, 1, 0, 0, 1, 1], &mut two, &mut work)?;
 //! let mut one = [0; yuthaqim::CATALOGUE_BYTES];
 //! let size = yuthaqim::write_catalogue(&[1, 2, 1, 0, 1, 0, 1, 1], &mut one, &mut work)?;
-//! let quote = yuthaqim::quote(&two[..length], &one[..size], &mut work)?;
+//! let quote = yuthaqim::quote(&two[..length], &one[..size], 0, &mut work)?;
 //! assert_eq!((quote.matches(0, 0), quote.matches(1, 0), quote.lowest_unmatched), (0, 1, Some(0)));
 //! # Ok(())
 //! # }
@@ -147,9 +168,10 @@ pub const CHARGES: usize = 15;
 pub const INDEX: usize = 16;
 pub const QUESTIONS: usize = 17;
 pub const TERMS: usize = 18;
+pub const SET: usize = 19;
 
 /// The word of each refusal, from 1 on.
-const WORDS: [&str; 18] = [
+const WORDS: [&str; 19] = [
     "long",
     "short",
     "count",
@@ -168,19 +190,21 @@ const WORDS: [&str; 18] = [
     "index",
     "questions",
     "terms",
+    "set",
 ];
 
 /// Why a call refuses.
 #[derive(Clone, Copy, Debug, PartialEq, Eq)]
 pub struct Refusal {
-    /// 1 to 18.
+    /// 1 to 19.
     pub number: usize,
     /// Of 1 to 10 the file at fault (1 a pattern, 2 a catalogue, 3 a record, 4 a book or sheet), of [`UNCOVERED`] the
     /// lowest link that is unmatched, by the set that was named where one was, of [`NO_FIT`] how much the first output
     /// without room needs, or all answers together where several questions are answered, of [`CHARGES`] how many charges
     /// there were, of [`INDEX`] how many entries there were if that is wrong, else the first position that differs, of
     /// [`QUESTIONS`] how many questions were sent, of [`TERMS`] how many entries there were if that is wrong, else the first
-    /// position whose from-day isn't below its to-day, of the others zero.
+    /// position whose from-day isn't below its to-day, of [`SET`] the lowest number in the set that is no extract of the
+    /// catalogue, of the others zero.
     pub detail: usize,
 }
 

@@ -1,7 +1,7 @@
 //! Answering a question from a book.
 
 use crate::files::*;
-use crate::matching::fields;
+use crate::matching::{fields, Ways};
 use crate::quoting::{lowest_unmatched, quote};
 use std::collections::BTreeSet;
 
@@ -21,14 +21,7 @@ fn candidates(mapping: &[Vec<(usize, usize)>], set: &[usize], book: &Book) -> Ch
     candidates
 }
 
-/// By which links a pair is supported at its ends: those that leave them, or those that arrive there too.
-#[derive(Clone, Copy, PartialEq, Eq)]
-pub enum Ways {
-    Leaving,
-    Both,
-}
-
-/// The greatest choice. A pair that lacks what is asked of it is dropped, until none is; a pair of any choice that
+/// The greatest choice by a rule, for both ends of a pair. A pair that lacks what is asked of it is dropped, until none is; a pair of any choice that
 /// has what is asked is never dropped.
 pub fn greatest_choice(question: &Pattern, candidates: Choice, ways: Ways) -> Choice {
     let mut kept = candidates;
@@ -82,15 +75,16 @@ fn written(
     write_sheet(question, &fields(&sheet(choice)), room, work_words)
 }
 
-/// 14, the question, the catalogue, the book, then 10, 11 and 12.
+/// 14, the question, the catalogue, 19, the book, then 10, 11 and 12.
 pub fn answer(
     question: &[u8],
     catalogue: &[u8],
+    one_way: u16,
     book: &[u8],
     room: usize,
     work_words: usize,
 ) -> Result<Vec<u8>, Refusal> {
-    let quote = quote(question, catalogue, work_words)?;
+    let quote = quote(question, catalogue, one_way, work_words)?;
     let book = judge_book(&judge_catalogue(catalogue)?, book)?;
     if let Some(lowest) = quote.lowest_unmatched {
         return refused(UNCOVERED, lowest);
@@ -103,12 +97,13 @@ pub fn answer(
 pub fn answer_from(
     question: &[u8],
     catalogue: &[u8],
+    one_way: u16,
     set: u16,
     book: &[u8],
     room: usize,
     work_words: usize,
 ) -> Result<Vec<u8>, Refusal> {
-    let mapping = quote(question, catalogue, work_words)?.mapping;
+    let mapping = quote(question, catalogue, one_way, work_words)?.mapping;
     let catalogue = judge_catalogue(catalogue)?;
     let book = judge_book(&catalogue, book)?;
     let set: Vec<usize> = (0..catalogue.len()).filter(|j| set >> j & 1 == 1).collect();
@@ -121,8 +116,13 @@ pub fn answer_from(
 #[cfg(test)]
 mod tests {
     use super::*;
+    use crate::cheapest::cheapest;
+    use crate::drawing::{draw_charges, draw_files, draw_kinds, draw_one_way, Rule};
+    use crate::indexing::{make_index, search_indexed};
     use crate::matching::{make_book, search};
     use crate::quoting::tests::{of_kinds, C, D, SLOW};
+    use crate::quoting::Quote;
+    use crate::terms::bits;
 
     const ROOM: usize = BOOK_BYTES;
     const WORK: usize = WORK_WORDS;
@@ -132,16 +132,16 @@ mod tests {
     }
 
     fn answered(book: &[u8]) -> Vec<u32> {
-        let sheet = answer(&D, &C, book, ROOM, WORK).unwrap();
+        let sheet = answer(&D, &C, 0, book, ROOM, WORK).unwrap();
         read_sheet(&D, &sheet, ROOM, WORK).unwrap()
     }
 
     #[test]
     fn k9_as_the_search() {
         let k9 = write_record(&[3, 2, 1, 6, 8, 0, 1, 0, 1, 2, 0], ROOM, WORK).unwrap();
-        let book = make_book(&C, &k9, ROOM, WORK).unwrap();
+        let book = make_book(&C, 0, &k9, ROOM, WORK).unwrap();
         assert_eq!(answered(&book), [1, 1, 0, 1, 1, 0, 1, 1, 1, 2, 1, 1, 2]);
-        assert_eq!(answer(&D, &C, &book, ROOM, WORK), search(&D, &k9, ROOM, WORK));
+        assert_eq!(answer(&D, &C, 0, &book, ROOM, WORK), search(&D, &k9, ROOM, WORK));
     }
 
     #[test]
@@ -172,19 +172,19 @@ mod tests {
     }
 
     fn answered_from(set: u16, book: &[u8]) -> Vec<u32> {
-        let sheet = answer_from(&D, &C, set, book, ROOM, WORK).unwrap();
+        let sheet = answer_from(&D, &C, 0, set, book, ROOM, WORK).unwrap();
         read_sheet(&D, &sheet, ROOM, WORK).unwrap()
     }
 
     #[test]
     fn the_client_may_choose() {
         let k9 = write_record(&[3, 2, 1, 6, 8, 0, 1, 0, 1, 2, 0], ROOM, WORK).unwrap();
-        let made = make_book(&C, &k9, ROOM, WORK).unwrap();
+        let made = make_book(&C, 0, &k9, ROOM, WORK).unwrap();
         for set in [6, 7, 0xffff, 0xfffe] {
-            assert_eq!(answer_from(&D, &C, set, &made, ROOM, WORK), search(&D, &k9, ROOM, WORK));
+            assert_eq!(answer_from(&D, &C, 0, set, &made, ROOM, WORK), search(&D, &k9, ROOM, WORK));
         }
         for (set, lowest) in [(0, 0), (0xfff8, 0), (1, 1), (2, 1), (3, 1), (4, 0), (5, 2)] {
-            assert_eq!(answer_from(&D, &C, set, &made, ROOM, WORK), refused(UNCOVERED, lowest));
+            assert_eq!(answer_from(&D, &C, 0, set, &made, ROOM, WORK), refused(UNCOVERED, lowest));
         }
         // Where the book is of no record, extract 0 adds a slow run whose reading extract 1 lists.
         let sheets = book(&[1, 1, 0, 3, 1, 1, 0, 1, 2, 1, 2, 3, 2, 1, 1, 0, 1, 1, 1, 2]);
@@ -195,9 +195,77 @@ mod tests {
     #[test]
     fn an_uncovered_question_has_the_lowest_link_of_the_set() {
         // Link 1 is unmatched by all, link 0 by none of the set.
-        assert_eq!(answer(&D, &SLOW, &[0], ROOM, WORK), refused(UNCOVERED, 1));
-        assert_eq!(answer_from(&D, &SLOW, 1, &[0], ROOM, WORK), refused(UNCOVERED, 1));
-        assert_eq!(answer_from(&D, &SLOW, 0, &[0], ROOM, WORK), refused(UNCOVERED, 0));
+        assert_eq!(answer(&D, &SLOW, 0, &[0], ROOM, WORK), refused(UNCOVERED, 1));
+        assert_eq!(answer_from(&D, &SLOW, 0, 1, &[0], ROOM, WORK), refused(UNCOVERED, 1));
+        assert_eq!(answer_from(&D, &SLOW, 0, 0, &[0], ROOM, WORK), refused(UNCOVERED, 0));
+    }
+
+    /// A record in which a question is found: the question itself, the same with some of its links, and a few items and links more.
+    fn draw_found(rule: &mut Rule, question: &Pattern) -> Vec<u8> {
+        let n = question.kinds.len() as u32;
+        let mut kinds: Vec<u32> = question.kinds.iter().chain(&question.kinds).map(|kind| 1 << kind).collect();
+        kinds.extend((0..4).map(|_| 1 << question.kinds[rule.draw(n) as usize]));
+        let mut links: Vec<Link> = question.links.clone();
+        links.extend(question.links.iter().filter(|_| rule.draw(4) != 0).map(|&(v, w, kind)| (v + n, w + n, kind)));
+        for _ in 0..3 + rule.draw(8) {
+            let kind = question.links[rule.draw(question.links.len() as u32) as usize].2;
+            links.push((rule.draw(kinds.len() as u32), rule.draw(kinds.len() as u32), kind));
+        }
+        links.sort();
+        links.dedup();
+        write_record(&graph_fields(&kinds, &links), ROOM, WORK).unwrap()
+    }
+
+    #[test]
+    fn mixed_books_answer_as_the_two_way_search() {
+        let mut rule = Rule::new();
+        let (mut other_books, mut other_quotes, mut other_answers) = (0, 0, 0);
+        for _ in 0..600 {
+            let kinds = draw_kinds(&mut rule);
+            let (question, catalogue) = draw_files(&mut rule, 5, false, kinds);
+            let extracts = judge_catalogue(&catalogue).unwrap().len();
+            let one_way = draw_one_way(&mut rule, extracts);
+            let Ok(Quote { covered: true, chosen, mapping, .. }) = quote(&question, &catalogue, one_way, WORK) else {
+                continue;
+            };
+            let record = draw_found(&mut rule, &judge_pattern(&question).unwrap());
+            let book = make_book(&catalogue, one_way, &record, ROOM, WORK).unwrap();
+            let searched = search(&question, &record, ROOM, WORK);
+            let index = make_index(&record, ROOM, WORK).unwrap();
+            assert_eq!(search_indexed(&question, &record, &index, ROOM, WORK), searched);
+            assert_eq!(answer(&question, &catalogue, one_way, &book, ROOM, WORK), searched);
+            let charges = draw_charges(&mut rule, extracts);
+            let cheapest =
+                cheapest(&question, &catalogue, one_way, &charges, WORK).map_or(0xffff, |found| bits(&found.set));
+            for set in [cheapest, 0xffff, bits(&chosen) | rule.draw(65_536) as u16] {
+                assert_eq!(answer_from(&question, &catalogue, one_way, set, &book, ROOM, WORK), searched);
+            }
+            // What the set matters for: the book, and what matches what.
+            let two_way = make_book(&catalogue, 0, &record, ROOM, WORK).unwrap();
+            other_books += u32::from(two_way != book);
+            other_quotes += u32::from(quote(&question, &catalogue, 0, WORK).unwrap().mapping != mapping);
+            // A book that was made by another set promises nothing but an answer.
+            let answered = answer(&question, &catalogue, one_way, &two_way, ROOM, WORK).unwrap();
+            assert!(read_sheet(&question, &answered, ROOM, WORK).is_ok());
+            other_answers += u32::from(Ok(answered) != searched);
+        }
+        assert!(
+            other_books > 100 && other_quotes > 30 && other_answers > 5,
+            "{other_books} {other_quotes} {other_answers}"
+        );
+    }
+
+    #[test]
+    fn a_sheet_made_both_ways_is_not_to_be_credited_one_way() {
+        // 0 → 1, 1 → 1 of one kind, and the extract 0 → 0: both ways it lists 1 → 1 alone.
+        let question = write_pattern(&[2, 2, 0, 0, 0, 1, 0, 1, 1, 0], ROOM, WORK).unwrap();
+        let catalogue = write_catalogue(&[1, 1, 1, 0, 0, 0, 0], ROOM, WORK).unwrap();
+        let record = write_record(&graph_fields(&[1, 1], &[(0, 1, 0), (1, 1, 0)]), ROOM, WORK).unwrap();
+        let [both, one_way] = [0, 1].map(|set| make_book(&catalogue, set, &record, ROOM, WORK).unwrap());
+        let searched = search(&question, &record, ROOM, WORK);
+        assert_eq!(answer(&question, &catalogue, 1, &one_way, ROOM, WORK), searched);
+        assert_ne!(answer(&question, &catalogue, 1, &both, ROOM, WORK), searched);
+        assert_eq!(answer(&question, &catalogue, 0, &both, ROOM, WORK), refused(UNCOVERED, 0));
     }
 
     #[test]
@@ -206,16 +274,16 @@ mod tests {
         // Section 0 has both kinds to run 2, section 1 one to run 2 and the other to run 3.
         let kinds = graph_fields(&[1, 1, 2, 2], &[(0, 2, 0), (0, 2, 1), (1, 2, 0), (1, 3, 1)]);
         let record = write_record(&kinds, ROOM, WORK).unwrap();
-        let book = make_book(&catalogue, &record, ROOM, WORK).unwrap();
+        let book = make_book(&catalogue, 0, &record, ROOM, WORK).unwrap();
         let searched = search(&question, &record, ROOM, WORK).unwrap();
         assert_eq!(read_sheet(&question, &searched, ROOM, WORK).unwrap(), [1, 1, 0, 2, 1, 0, 2]);
-        assert_eq!(answer(&question, &catalogue, &book, ROOM, WORK), Ok(searched.clone()));
+        assert_eq!(answer(&question, &catalogue, 0, &book, ROOM, WORK), Ok(searched.clone()));
         for set in [3, 4, 5, 6, 7, 0xffff] {
-            assert_eq!(answer_from(&question, &catalogue, set, &book, ROOM, WORK), Ok(searched.clone()));
+            assert_eq!(answer_from(&question, &catalogue, 0, set, &book, ROOM, WORK), Ok(searched.clone()));
         }
         // Extract 0 lists the pairs of kind 1, which are no candidates for the link of kind 0.
         for (set, lowest) in [(0, 0), (1, 0), (2, 1), (0xfff8, 0)] {
-            assert_eq!(answer_from(&question, &catalogue, set, &book, ROOM, WORK), refused(UNCOVERED, lowest));
+            assert_eq!(answer_from(&question, &catalogue, 0, set, &book, ROOM, WORK), refused(UNCOVERED, lowest));
         }
     }
 
@@ -225,7 +293,7 @@ mod tests {
         // Pairs of kind 1, then of kind 0. Item 3 lacks kind 1, and item 5 kind 0.
         let answered = |fields: &[u32]| {
             let book = write_book(&catalogue, fields, ROOM, WORK).unwrap();
-            let sheet = answer(&question, &catalogue, &book, ROOM, WORK).unwrap();
+            let sheet = answer(&question, &catalogue, 0, &book, ROOM, WORK).unwrap();
             read_sheet(&question, &sheet, ROOM, WORK).unwrap()
         };
         assert_eq!(answered(&[1, 2, 0, 1, 5, 6, 1, 2, 0, 1, 3, 4]), [1, 1, 0, 1, 1, 0, 1]);
@@ -253,9 +321,9 @@ mod tests {
             (&one, &twice, &full, WORK, CROWDED, BOOK),
             (&D, &C, &[0; 3], WORK, NO_FIT, 1),
         ] {
-            assert_eq!(answer(question, catalogue, book, 0, work), refused(number, detail));
-            assert_eq!(answer_from(question, catalogue, 0xffff, book, 0, work), refused(number, detail));
+            assert_eq!(answer(question, catalogue, 0, book, 0, work), refused(number, detail));
+            assert_eq!(answer_from(question, catalogue, 0, 0xffff, book, 0, work), refused(number, detail));
         }
-        assert_eq!(answer(&D, &C, &[0; 3], 1, WORK), Ok(vec![0]));
+        assert_eq!(answer(&D, &C, 0, &[0; 3], 1, WORK), Ok(vec![0]));
     }
 }

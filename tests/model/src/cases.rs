@@ -1,6 +1,6 @@
 //! The cases, by sections: the rules, each with its answer; files and contents written out, limits, damaged files, the worked
-//! cases, links with kinds, searches beside the plain one, questions and their answers, the steps of joins, and the refusals of
-//! every call.
+//! cases, links with kinds, searches beside the plain one, questions and their answers, the steps of joins, and the refusals of every
+//! call.
 
 mod kinds;
 mod questions;
@@ -27,7 +27,7 @@ pub fn written() -> (Vec<u8>, String) {
     refusals::write(&mut script);
     script.name("all calls\n");
     script.all();
-    assert!(script.file.len() < 400_000, "{} bytes", script.file.len());
+    assert!(script.file.len() < 500_000, "{} bytes", script.file.len());
     (script.file, script.printed)
 }
 

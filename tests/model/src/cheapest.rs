@@ -39,16 +39,22 @@ pub fn cheapest_of(quote: Quote, extracts: usize, usable: &[usize], charges: &[u
     Ok(Cheapest { sum: sum(&set, charges), set, chosen: quote.chosen })
 }
 
-/// 14, the question, the catalogue, then 15 and 11.
-pub fn cheapest(question: &[u8], catalogue: &[u8], charges: &[u32], work_words: usize) -> Result<Cheapest, Refusal> {
-    let quote = quote(question, catalogue, work_words)?;
+/// 14, the question, the catalogue, 19, then 15 and 11.
+pub fn cheapest(
+    question: &[u8],
+    catalogue: &[u8],
+    one_way: u16,
+    charges: &[u32],
+    work_words: usize,
+) -> Result<Cheapest, Refusal> {
+    let quote = quote(question, catalogue, one_way, work_words)?;
     let extracts = judge_catalogue(catalogue)?.len();
     cheapest_of(quote, extracts, &(0..extracts).collect::<Vec<usize>>(), charges)
 }
 
 /// Whether another set that covers the question has the cheapest one's sum and number of extracts, so that its numbers decide.
-pub fn is_tied(question: &[u8], catalogue: &[u8], charges: &[u32], cheapest: &Cheapest) -> bool {
-    let mapping = quote(question, catalogue, WORK_WORDS).unwrap().mapping;
+pub fn is_tied(question: &[u8], catalogue: &[u8], one_way: u16, charges: &[u32], cheapest: &Cheapest) -> bool {
+    let mapping = quote(question, catalogue, one_way, WORK_WORDS).unwrap().mapping;
     let is_equal = |set: &Vec<usize>| set.len() == cheapest.set.len() && sum(set, charges) == cheapest.sum;
     sets(charges.len()).filter(is_equal).any(|set| set != cheapest.set && covers(&mapping, &set))
 }
@@ -74,13 +80,13 @@ mod tests {
         let mut fields = vec![extracts.len() as u32];
         fields.extend(extracts.iter().flat_map(|numbers| links(numbers)));
         let catalogue = write_catalogue(&fields, CATALOGUE_BYTES, WORK).unwrap();
-        cheapest(&question, &catalogue, charges, WORK).unwrap()
+        cheapest(&question, &catalogue, 0, charges, WORK).unwrap()
     }
 
     #[test]
     fn k2_with_charges() {
         let chosen = vec![1, 2];
-        assert_eq!(cheapest(&D, &C, &[100, 200, 150], WORK), Ok(Cheapest { set: vec![1, 2], sum: 350, chosen }));
+        assert_eq!(cheapest(&D, &C, 0, &[100, 200, 150], WORK), Ok(Cheapest { set: vec![1, 2], sum: 350, chosen }));
     }
 
     #[test]
@@ -108,11 +114,11 @@ mod tests {
     #[test]
     fn links_that_differ_in_their_kinds_alone() {
         let (question, catalogue) = of_kinds(&[0, 1], &[&[0, 1], &[0], &[1], &[2]]);
-        let of = |charges: &[u32]| cheapest(&question, &catalogue, charges, WORK);
+        let of = |charges: &[u32]| cheapest(&question, &catalogue, 0, charges, WORK);
         assert_eq!(of(&[9, 4, 4, 0]), Ok(Cheapest { set: vec![1, 2], sum: 8, chosen: vec![0] }));
         assert_eq!(of(&[8, 4, 4, 0]).unwrap().set, [0]);
         let (question, catalogue) = of_kinds(&[0, 1], &[&[1], &[2], &[1]]);
-        assert_eq!(cheapest(&question, &catalogue, &[0; 3], WORK), refused(UNCOVERED, 0));
+        assert_eq!(cheapest(&question, &catalogue, 0, &[0; 3], WORK), refused(UNCOVERED, 0));
     }
 
     #[test]
@@ -131,7 +137,7 @@ mod tests {
             (&D[..], &[], 1, WORK, CHARGES, 1),
             (&D[..], &[], 0, WORK, UNCOVERED, 0),
         ] {
-            assert_eq!(cheapest(question, catalogue, &[0; 17][..charges], work), refused(number, detail));
+            assert_eq!(cheapest(question, catalogue, 0, &[0; 17][..charges], work), refused(number, detail));
         }
     }
 }

@@ -208,6 +208,47 @@ pub fn draw_charges(rule: &mut Rule, extracts: usize) -> Vec<u32> {
     (0..number).map(|_| (least + rule.draw(most)) * large).collect()
 }
 
+// Sets of extracts that are matched one-way.
+
+/// None of so many extracts, all of them, one, or any.
+pub fn draw_one_way(rule: &mut Rule, extracts: usize) -> u16 {
+    let all = (1u32 << extracts) - 1;
+    let set = match rule.draw(8) {
+        0 => 0,
+        1 => all,
+        2 => 1 << rule.draw(extracts as u32),
+        _ => rule.draw(65_536),
+    };
+    (set & all) as u16
+}
+
+/// A set that names an extract which is not there, with any others; none where the catalogue is full.
+pub fn draw_strange(rule: &mut Rule, extracts: usize) -> Option<u16> {
+    let beyond = 16 - extracts as u32;
+    let set = 1 << (extracts as u32 + rule.draw(beyond)) | rule.draw(65_536);
+    (beyond > 0).then_some(set as u16)
+}
+
+// Links that are to enter.
+
+/// A link for a record of items with these kinds: one of some that are wanted, one like that in another kind, one between any items; or one at
+/// fault.
+#[cfg(test)]
+pub fn draw_link(rule: &mut Rule, kinds: &[u32], wanted: &[Link]) -> Link {
+    let items = kinds.len() as u32;
+    let any = (rule.draw(items), rule.draw(items), rule.draw(8));
+    let like = if wanted.is_empty() { any } else { wanted[rule.draw(wanted.len() as u32) as usize] };
+    match rule.draw(16) {
+        0 => (items + rule.draw(2), like.1, like.2),
+        1 => (like.0, [items, 4_096, u32::MAX][rule.draw(3) as usize], like.2),
+        2 => (like.0, like.1, [8, 9, u32::MAX][rule.draw(3) as usize]),
+        3 => (like.0, like.1, any.2),
+        4..=6 => (any.0, any.1, like.2),
+        7 => any,
+        _ => like,
+    }
+}
+
 // Terms.
 
 /// A term that begins before a day and ends within a few days of its beginning, or of the last day; one in 64 is empty or turned.

@@ -10,7 +10,7 @@ pub const INDEX: u32 = 16;
 pub const INDEX_ENTRIES: usize = 4_097;
 
 /// For each item the number of links that begin at lower items, then the number of all.
-fn index_of(record: &Record) -> Vec<u16> {
+pub fn index_of(record: &Record) -> Vec<u16> {
     let items = record.kinds.len() as u32;
     let below = |item: u32| record.links.iter().filter(|&&(from, ..)| from < item).count();
     let mut index: Vec<u16> = (0..items).map(|item| below(item) as u16).collect();

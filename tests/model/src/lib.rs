@@ -6,6 +6,7 @@ pub mod answering;
 pub mod cases;
 pub mod cheapest;
 mod drawing;
+pub mod entering;
 pub mod files;
 pub mod indexing;
 pub mod matching;

@@ -1,6 +1,10 @@
-//! Matching by simulation, both ways: searching a record for a pattern, and making the book of a catalogue from a record.
+//! Matching by simulation: searching a record for a pattern, both ways, and making the book of a catalogue from a record, each extract
+//! by its own rule.
 
 use crate::files::*;
+
+/// The number of the refusal of a set that names an extract which isn't in the catalogue.
+pub const ONE_WAY: u32 = 19;
 
 /// Lent to a reader whose content stays inside.
 const ENOUGH: usize = usize::MAX;
@@ -14,11 +18,36 @@ pub fn record_of(bytes: &[u8], work_words: usize) -> Result<Record, Refusal> {
     Ok(Record { kinds, links })
 }
 
+/// By which links a pair is supported: one-way by those that leave, or both ways by those that arrive too.
+#[derive(Clone, Copy, Debug, PartialEq, Eq)]
+pub enum Ways {
+    Leaving,
+    Both,
+}
+
+/// An extract: a pattern and the rule by which it is matched, against a question and on a record.
+#[derive(Clone, Debug, PartialEq, Eq)]
+pub struct Extract {
+    pub pattern: Pattern,
+    pub ways: Ways,
+}
+
+/// The extracts of a catalogue with a set: the bit worth 2^j says that extract j is matched one-way, the others are both ways. 19 right
+/// after the catalogue, with the lowest number in the set that no extract has.
+pub fn extracts(catalogue: Catalogue, one_way: u16) -> Result<Vec<Extract>, Refusal> {
+    let is_named = |j: &usize| one_way >> j & 1 == 1;
+    if let Some(lowest) = (catalogue.len()..16).find(is_named) {
+        return refused(ONE_WAY, lowest);
+    }
+    let ways = |j: usize| if is_named(&j) { Ways::Leaving } else { Ways::Both };
+    Ok(catalogue.into_iter().enumerate().map(|(j, pattern)| Extract { pattern, ways: ways(j) }).collect())
+}
+
 /// The greatest simulation: whether pattern item u and record item v are related stands at `[u][v]`.
 ///
 /// It starts with every pair of which v has u's kind, and a pair that lacks what a simulation asks of it is
 /// dropped, until none is. A pair of any simulation is never dropped, so all of them lie in what is left.
-fn greatest_simulation(pattern: &Pattern, record: &Record) -> Vec<Vec<bool>> {
+fn greatest_simulation(pattern: &Pattern, ways: Ways, record: &Record) -> Vec<Vec<bool>> {
     let mut leaving = vec![Vec::new(); record.kinds.len()];
     let mut arriving = vec![Vec::new(); record.kinds.len()];
     for &(from, to, kind) in &record.links {
@@ -32,8 +61,9 @@ fn greatest_simulation(pattern: &Pattern, record: &Record) -> Vec<Vec<bool>> {
     loop {
         let mut dropped = false;
         for &(u, next, kind) in &pattern.links {
-            // As the link leaves its one end, and as it arrives at the other.
-            for (own, other, beside) in [(u, next, &leaving), (next, u, &arriving)] {
+            // As the link leaves its one end, and where the rule is both ways, as it arrives at the other.
+            let ends = [(u, next, &leaving), (next, u, &arriving)];
+            for (own, other, beside) in ends.into_iter().take(if ways == Ways::Both { 2 } else { 1 }) {
                 for v in items.clone() {
                     let supported = beside[v].iter().any(|&(w, its)| its == kind && related[other as usize][w]);
                     if related[own as usize][v] && !supported {
@@ -49,9 +79,9 @@ fn greatest_simulation(pattern: &Pattern, record: &Record) -> Vec<Vec<bool>> {
     }
 }
 
-/// A pattern's sheet from a record: a pair for each record link of the pattern link's kind that joins partners.
-pub fn sheet(pattern: &Pattern, record: &Record) -> Sheet {
-    let related = greatest_simulation(pattern, record);
+/// A pattern's sheet from a record by a rule: a pair for each record link of the pattern link's kind that joins partners.
+fn sheet_by(pattern: &Pattern, ways: Ways, record: &Record) -> Sheet {
+    let related = greatest_simulation(pattern, ways, record);
     if related.iter().any(|partners| !partners.contains(&true)) {
         return vec![Vec::new(); pattern.links.len()];
     }
@@ -63,6 +93,18 @@ pub fn sheet(pattern: &Pattern, record: &Record) -> Sheet {
         met.map(|&(v, w, _)| (v, w)).collect()
     };
     pattern.links.iter().map(listed).collect()
+}
+
+/// The sheet of a question or another lone pattern, always both ways.
+pub fn sheet(pattern: &Pattern, record: &Record) -> Sheet {
+    sheet_by(pattern, Ways::Both, record)
+}
+
+impl Extract {
+    /// An extract's sheet, by its own rule.
+    pub fn sheet(&self, record: &Record) -> Sheet {
+        sheet_by(&self.pattern, self.ways, record)
+    }
 }
 
 /// A sheet's content: 0 where nothing was found, else 1 and the count and the pairs of each list.
@@ -89,15 +131,19 @@ pub fn search(pattern: &[u8], record: &[u8], room: usize, work_words: usize) -> 
     write_sheet(pattern, &fields(&sheet), room, work_words)
 }
 
-/// 14, the catalogue, the record, then 12. A book of a record has no more different pairs than the record has
+/// 14, the catalogue, 19, the record, then 12. A book of a record has no more different pairs than the record has
 /// links, whatever their kinds, so 10 doesn't fall to it.
-pub fn make_book(catalogue: &[u8], record: &[u8], room: usize, work_words: usize) -> Result<Vec<u8>, Refusal> {
+pub fn make_book(
+    catalogue: &[u8],
+    one_way: u16,
+    record: &[u8],
+    room: usize,
+    work_words: usize,
+) -> Result<Vec<u8>, Refusal> {
     read_catalogue(catalogue, ENOUGH, work_words)?;
+    let extracts = extracts(judge_catalogue(catalogue)?, one_way)?;
     let record = record_of(record, work_words)?;
-    let mut book = Vec::new();
-    for extract in judge_catalogue(catalogue)? {
-        book.extend(fields(&sheet(&extract, &record)));
-    }
+    let book: Vec<u32> = extracts.iter().flat_map(|extract| fields(&extract.sheet(&record))).collect();
     write_book(catalogue, &book, room, work_words)
 }
 
@@ -165,6 +211,32 @@ mod tests {
     }
 
     #[test]
+    fn by_its_own_rule() {
+        // Extract 1 of C lists the vial's reading one-way; the others list the same either way.
+        let two_way = make_book(&C, 0, &k6_and_a_vial(), ROOM, WORK).unwrap();
+        let one_way = make_book(&C, 2, &k6_and_a_vial(), ROOM, WORK).unwrap();
+        assert_eq!(read_book(&C, &two_way, ROOM, WORK).unwrap(), [1, 2, 0, 1, 0, 3, 1, 1, 0, 1, 1, 1, 2, 0]);
+        assert_eq!(read_book(&C, &one_way, ROOM, WORK).unwrap(), [1, 2, 0, 1, 0, 3, 1, 1, 0, 1, 2, 1, 2, 4, 2, 0]);
+        for (set, book) in [(1, &two_way), (4, &two_way), (5, &two_way), (3, &one_way), (6, &one_way), (7, &one_way)] {
+            assert_eq!(make_book(&C, set, &k6_and_a_vial(), ROOM, WORK).as_ref(), Ok(book));
+        }
+    }
+
+    #[test]
+    fn a_set_names_extracts_alone() {
+        for (catalogue, set, lowest) in
+            [(&C[..], 8, 3), (&C, 0xffff, 3), (&C, 0x8007, 15), (&[0], 32_769, 0), (&[], 32_769, 0), (&[], 2, 1)]
+        {
+            assert_eq!(make_book(catalogue, set, &[], 0, WORK), refused(ONE_WAY, lowest));
+            assert_eq!(make_book(catalogue, set, &[], 0, WORK - 1), refused(DESK, 0));
+        }
+        assert_eq!(make_book(&C[..16], 8, &[], 0, WORK), refused(SHORT, CATALOGUE));
+        assert_eq!(make_book(&C, 7, &[], 0, WORK), refused(SHORT, RECORD));
+        let sixteen = Extract { pattern: judge_pattern(&SLOW).unwrap(), ways: Ways::Leaving };
+        assert_eq!(extracts(vec![sixteen.pattern.clone(); 16], 0xffff), Ok(vec![sixteen; 16]));
+    }
+
+    #[test]
     fn k7_the_greatest_and_not_the_least() {
         let both_ways = record(&[32, 32], &[(0, 1, 0), (1, 0, 0)]);
         assert_eq!(listed(&pattern(&SELF), &both_ways), [1, 2, 0, 1, 1, 0]);
@@ -192,7 +264,7 @@ mod tests {
     #[test]
     fn links_out_of_order() {
         let turned = graph_fields(&[1, 2, 8, 2], &[(1, 2, 0), (0, 3, 0), (0, 1, 0)]);
-        assert_eq!(make_book(&C, &pack_record(&turned), ROOM, WORK), refused(ORDER, RECORD));
+        assert_eq!(make_book(&C, 0, &pack_record(&turned), ROOM, WORK), refused(ORDER, RECORD));
         assert_eq!(search(&SLOW, &pack_record(&turned), ROOM, WORK), refused(ORDER, RECORD));
         assert_eq!(sort_record(&pack_old_record(&turned), ROOM, WORK), Ok(k6()));
     }
@@ -255,9 +327,9 @@ mod tests {
             let fields = graph_fields(&extract.kinds, &extract.links);
             sheets.extend(search(&pattern(&fields), &k6(), ROOM, WORK).unwrap());
         }
-        assert_eq!(make_book(&C, &k6(), ROOM, WORK), Ok(sheets));
+        assert_eq!(make_book(&C, 0, &k6(), ROOM, WORK), Ok(sheets));
         for no_extracts in [&[0][..], &[]] {
-            assert_eq!(make_book(no_extracts, &k6(), 0, WORK), Ok(vec![]));
+            assert_eq!(make_book(no_extracts, 0, &k6(), 0, WORK), Ok(vec![]));
         }
     }
 
@@ -269,11 +341,11 @@ mod tests {
         assert_eq!(search(&SLOW, &[], 0, WORK), refused(SHORT, RECORD));
         assert_eq!(search(&SLOW, &k6(), 9, WORK), refused(NO_FIT, 10));
         assert_eq!(search(&SLOW, &k6(), 10, WORK).map(|sheet| sheet.len()), Ok(10));
-        assert_eq!(make_book(&[], &[], 0, WORK - 1), refused(DESK, 0));
-        assert_eq!(make_book(&C[..16], &[], 0, WORK), refused(SHORT, CATALOGUE));
-        assert_eq!(make_book(&C, &[], 0, WORK), refused(SHORT, RECORD));
-        let length = make_book(&C, &k6(), ROOM, WORK).unwrap().len();
-        assert_eq!(make_book(&C, &k6(), length - 1, WORK), refused(NO_FIT, length));
+        assert_eq!(make_book(&[], 0, &[], 0, WORK - 1), refused(DESK, 0));
+        assert_eq!(make_book(&C[..16], 0, &[], 0, WORK), refused(SHORT, CATALOGUE));
+        assert_eq!(make_book(&C, 0, &[], 0, WORK), refused(SHORT, RECORD));
+        let length = make_book(&C, 0, &k6(), ROOM, WORK).unwrap().len();
+        assert_eq!(make_book(&C, 0, &k6(), length - 1, WORK), refused(NO_FIT, length));
     }
 
     #[test]

@@ -30,20 +30,21 @@ pub fn written(
     write_pattern(&graph_fields(&kinds, &links), room, work_words)
 }
 
-/// 14, the question, the catalogue, the book, 10, 11, then 12 for the part's bytes and then for its answer's: the part that has
+/// 14, the question, the catalogue, 19, the book, 10, 11, then 12 for the part's bytes and then for its answer's: the part that has
 /// the matched links, and what it is answered by itself.
 pub fn part(
     question: &[u8],
     catalogue: &[u8],
+    one_way: u16,
     book: &[u8],
     room_1: usize,
     room_2: usize,
     work_words: usize,
 ) -> Result<(Vec<u8>, Vec<u8>), Refusal> {
-    let quote = quote(question, catalogue, work_words)?;
+    let quote = quote(question, catalogue, one_way, work_words)?;
     judge_book(&judge_catalogue(catalogue)?, book)?;
     let part = written(question, &quote.mapping, room_1, work_words)?;
-    let answer = answer(&part, catalogue, book, room_2, work_words)?;
+    let answer = answer(&part, catalogue, one_way, book, room_2, work_words)?;
     Ok((part, answer))
 }
 
@@ -79,12 +80,12 @@ pub mod tests {
     }
 
     fn of(question: &[u8], catalogue: &[u8], book: &[u8]) -> (Vec<u8>, Vec<u8>) {
-        part(question, catalogue, book, ROOM, ROOM, WORK).unwrap()
+        part(question, catalogue, 0, book, ROOM, ROOM, WORK).unwrap()
     }
 
     #[test]
     fn d_with_extract_1_of_c() {
-        assert_eq!(make_book(&SLOW, &k6(), ROOM, WORK), Ok(K6_SHEET.to_vec()));
+        assert_eq!(make_book(&SLOW, 0, &k6(), ROOM, WORK), Ok(K6_SHEET.to_vec()));
         let expected = (SLOW[1..].to_vec(), K6_SHEET.to_vec());
         assert_eq!(of(&D, &SLOW, &K6_SHEET), expected);
         assert_eq!(search(&D, &k6(), ROOM, WORK), Ok(vec![0]));
@@ -94,13 +95,13 @@ pub mod tests {
             (6, 9, refused(NO_FIT, 10)),
             (6, 10, Ok(expected)),
         ] {
-            assert_eq!(part(&D, &SLOW, &K6_SHEET, room_1, room_2, WORK), outcome);
+            assert_eq!(part(&D, &SLOW, 0, &K6_SHEET, room_1, room_2, WORK), outcome);
         }
     }
 
     #[test]
     fn a_covered_question_is_its_own_part() {
-        assert_eq!(make_book(&C, &k9(), ROOM, WORK), Ok(K9_BOOK.to_vec()));
+        assert_eq!(make_book(&C, 0, &k9(), ROOM, WORK), Ok(K9_BOOK.to_vec()));
         assert_eq!(of(&D, &C, &K9_BOOK), (D.to_vec(), K9_SHEET.to_vec()));
     }
 
@@ -109,7 +110,7 @@ pub mod tests {
         // Fast to reading alone.
         let catalogue = [0x08, 0x10, 0x22, 0x18, 0x08];
         let book = [0x80, 0x02, 0x00, 0x20, 0x04];
-        assert_eq!(make_book(&catalogue, &k9(), ROOM, WORK), Ok(book.to_vec()));
+        assert_eq!(make_book(&catalogue, 0, &k9(), ROOM, WORK), Ok(book.to_vec()));
         assert_eq!(of(&D, &catalogue, &book), (catalogue[1..].to_vec(), book.to_vec()));
     }
 
@@ -120,7 +121,7 @@ pub mod tests {
         let record = write_record(&graph_fields(&[1, 2], &[(0, 1, 0), (0, 1, 1)]), ROOM, WORK).unwrap();
         let bytes = "00 10 00 40 00 00 00 20 00 00 00 40 00 00 20 00 00 04 80";
         assert_eq!(record.iter().map(|byte| format!("{byte:02x}")).collect::<Vec<_>>().join(" "), bytes);
-        let book = make_book(&catalogue, &record, ROOM, WORK).unwrap();
+        let book = make_book(&catalogue, 0, &record, ROOM, WORK).unwrap();
         assert_eq!(
             of(&question, &catalogue, &book),
             (vec![0x10, 0x20, 0x08, 0x09], vec![0x80, 0x02, 0x00, 0x00, 0x02])
@@ -129,9 +130,9 @@ pub mod tests {
 
     #[test]
     fn no_link_is_matched() {
-        assert_eq!(part(&D, &NONE, &[], 0, 0, WORK), refused(UNCOVERED, 0));
-        assert_eq!(part(&D, &[], &[], 0, 0, WORK), refused(UNCOVERED, 0));
-        assert_eq!(part(&D, &SLOW_TO_FAST, &[0], 0, 0, WORK), refused(UNCOVERED, 0));
+        assert_eq!(part(&D, &NONE, 0, &[], 0, 0, WORK), refused(UNCOVERED, 0));
+        assert_eq!(part(&D, &[], 0, &[], 0, 0, WORK), refused(UNCOVERED, 0));
+        assert_eq!(part(&D, &SLOW_TO_FAST, 0, &[0], 0, 0, WORK), refused(UNCOVERED, 0));
     }
 
     #[test]
@@ -140,7 +141,7 @@ pub mod tests {
         let catalogue = [0x10, 0x18, 0x40, 0x08, 0xc0, 0x40, 0x90, 0x10, 0x20, 0x08, 0x08];
         let book = [0x80, 0x02, 0x00, 0x00, 0x02, 0x00, 0x08, 0x00, 0x80, 0x10, 0x80, 0x02, 0x00, 0xa0, 0x02];
         assert_eq!(of(&D, &catalogue, &book), (SLOW[1..].to_vec(), K6_SHEET.to_vec()));
-        let all = crate::answering::answer_from(&SLOW[1..], &catalogue, 3, &book, ROOM, WORK).unwrap();
+        let all = crate::answering::answer_from(&SLOW[1..], &catalogue, 0, 3, &book, ROOM, WORK).unwrap();
         assert_eq!(all, [0x80, 0x04, 0x00, 0x00, 0x02, 0x00, 0xa0, 0x02, 0x00, 0x08, 0x00, 0x80, 0x10]);
     }
 
@@ -155,16 +156,16 @@ pub mod tests {
             (&D, &SLOW_TO_FAST, &[0], WORK, UNCOVERED, 0),
             (&D, &SLOW, &[0], WORK, NO_FIT, 6),
         ] {
-            assert_eq!(part(question, catalogue, book, 0, 0, work), refused(number, detail));
+            assert_eq!(part(question, catalogue, 0, book, 0, 0, work), refused(number, detail));
         }
-        assert_eq!(part(&D, &SLOW, &[0], 6, 0, WORK), refused(NO_FIT, 1));
-        assert_eq!(part(&D, &SLOW, &[0], 6, 1, WORK), Ok((SLOW[1..].to_vec(), vec![0])));
+        assert_eq!(part(&D, &SLOW, 0, &[0], 6, 0, WORK), refused(NO_FIT, 1));
+        assert_eq!(part(&D, &SLOW, 0, &[0], 6, 1, WORK), Ok((SLOW[1..].to_vec(), vec![0])));
     }
 
     // What the part promises, on questions that are drawn.
 
     fn quoted(question: &Pattern, catalogue: &[u8]) -> Quote {
-        quote(&pattern_file(question), catalogue, WORK).unwrap()
+        quote(&pattern_file(question), catalogue, 0, WORK).unwrap()
     }
 
     /// Every set of numbers below n but for the empty one.
@@ -224,7 +225,7 @@ pub mod tests {
             links.extend(question.links.iter().filter(|_| rule.draw(4) != 0));
             links.sort();
             let record = write_record(&graph_fields(&twice, &links), ROOM, WORK).unwrap();
-            let book = make_book(&catalogue, &record, ROOM, WORK).unwrap();
+            let book = make_book(&catalogue, 0, &record, ROOM, WORK).unwrap();
             let (part, answer) = of(&file, &catalogue, &book);
             assert_eq!(search(&part, &record, ROOM, WORK), Ok(answer));
             let record = record_of(&record, WORK).unwrap();

@@ -1,7 +1,7 @@
 //! Quoting a question with a catalogue, and showing why a question is uncovered.
 
 use crate::files::*;
-use crate::matching::sheet;
+use crate::matching::{extracts, Extract};
 
 /// The number of the refusal of a showing for a covered question.
 pub const COVERED: u32 = 13;
@@ -32,15 +32,15 @@ pub fn judge(question: &[u8], catalogue: &[u8], work_words: usize) -> Result<(Pa
     Ok((judge_pattern(question)?, judge_catalogue(catalogue)?))
 }
 
-/// For each question link the extract links of its kind whose list, on the question read as a record, contains it. A list
-/// has pairs, which say nothing of a kind: that of the extract link is theirs.
-pub fn mapping(question: &Pattern, catalogue: &Catalogue) -> Mapping {
+/// For each question link the extract links of its kind whose list, on the question read as a record and by the extract's rule,
+/// contains it. A list has pairs, which say nothing of a kind: that of the extract link is theirs.
+pub fn mapping(question: &Pattern, extracts: &[Extract]) -> Mapping {
     let record = as_record(question);
     let mut mapping = vec![Vec::new(); question.links.len()];
-    for (a, extract) in catalogue.iter().enumerate() {
-        for (b, list) in sheet(extract, &record).iter().enumerate() {
+    for (a, extract) in extracts.iter().enumerate() {
+        for (b, list) in extract.sheet(&record).iter().enumerate() {
             for (e, &(from, to, kind)) in question.links.iter().enumerate() {
-                if extract.links[b].2 == kind && list.contains(&(from, to)) {
+                if extract.pattern.links[b].2 == kind && list.contains(&(from, to)) {
                     mapping[e].push((a, b));
                 }
             }
@@ -93,9 +93,11 @@ pub fn quoted(mapping: Mapping, extracts: usize) -> Quote {
     Quote { covered, mapping, chosen, lowest_unmatched }
 }
 
-pub fn quote(question: &[u8], catalogue: &[u8], work_words: usize) -> Result<Quote, Refusal> {
+/// 14, the question, the catalogue, then 19.
+pub fn quote(question: &[u8], catalogue: &[u8], one_way: u16, work_words: usize) -> Result<Quote, Refusal> {
     let (question, catalogue) = judge(question, catalogue, work_words)?;
-    Ok(quoted(mapping(&question, &catalogue), catalogue.len()))
+    let extracts = extracts(catalogue, one_way)?;
+    Ok(quoted(mapping(&question, &extracts), extracts.len()))
 }
 
 /// A record's file, its links ascending: 12 if it doesn't fit.
@@ -126,17 +128,20 @@ pub fn shown(
 pub fn show(
     question: &[u8],
     catalogue: &[u8],
+    one_way: u16,
     room_1: usize,
     room_2: usize,
     work_words: usize,
 ) -> Result<(Vec<u8>, Vec<u8>), Refusal> {
-    let quote = quote(question, catalogue, work_words)?;
+    let quote = quote(question, catalogue, one_way, work_words)?;
     shown(&judge_pattern(question)?, &quote, room_1, room_2, work_words)
 }
 
 #[cfg(test)]
 pub mod tests {
     use super::*;
+    use crate::drawing::{draw_files, draw_kinds, draw_one_way, Rule};
+    use crate::matching::{make_book, search, sheet};
 
     const WORK: usize = WORK_WORDS;
     pub const D: [u8; 10] = [0x20, 0x80, 0x08, 0x86, 0x02, 0x00, 0x80, 0x98, 0x23, 0x00];
@@ -148,7 +153,7 @@ pub mod tests {
     pub const NONE: [u8; 1] = [0];
 
     fn of_d(catalogue: &[u8]) -> Quote {
-        quote(&D, catalogue, WORK).unwrap()
+        quote(&D, catalogue, 0, WORK).unwrap()
     }
 
     fn slow_to_fast() -> Vec<u8> {
@@ -173,7 +178,7 @@ pub mod tests {
         let mapping = vec![vec![(0, 0)], vec![], vec![(0, 1)], vec![]];
         let quote = Quote { covered: false, mapping, chosen: vec![], lowest_unmatched: Some(1) };
         assert_eq!(of_d(&SLOW), quote);
-        let (first, second) = show(&D, &SLOW, ENOUGH, ENOUGH, WORK).unwrap();
+        let (first, second) = show(&D, &SLOW, 0, ENOUGH, ENOUGH, WORK).unwrap();
         let fields = |links: &[u32]| {
             let mut fields = vec![4, links.len() as u32 / 3, 1, 2, 4, 8];
             fields.extend(links);
@@ -187,7 +192,7 @@ pub mod tests {
     fn shown_links_ascend() {
         // D with its links turned. Links 0, from 2 to 3, and 2, from 0 to 2, are unmatched.
         let turned = write_pattern(&[4, 4, 0, 1, 2, 3, 2, 3, 0, 1, 3, 0, 0, 2, 0, 0, 1, 0], ENOUGH, WORK).unwrap();
-        let (first, second) = show(&turned, &SLOW, ENOUGH, ENOUGH, WORK).unwrap();
+        let (first, second) = show(&turned, &SLOW, 0, ENOUGH, ENOUGH, WORK).unwrap();
         let links = [(0, 1, 0), (0, 2, 0), (1, 3, 0), (2, 3, 0)];
         assert_eq!(read_record(&first, ENOUGH, WORK), Ok(graph_fields(&[1, 2, 4, 8], &links)));
         assert_eq!(read_record(&second, ENOUGH, WORK), Ok(graph_fields(&[1, 2, 4, 8], &links[..3])));
@@ -200,7 +205,7 @@ pub mod tests {
             assert!(!of_d(none).covered);
             assert_eq!(of_d(none).mapping, vec![vec![]; 4]);
         }
-        assert_eq!(show(&D, &[], ENOUGH, ENOUGH, WORK), show(&D, &NONE, ENOUGH, ENOUGH, WORK));
+        assert_eq!(show(&D, &[], 0, ENOUGH, ENOUGH, WORK), show(&D, &NONE, 0, ENOUGH, ENOUGH, WORK));
     }
 
     #[test]
@@ -222,7 +227,7 @@ pub mod tests {
         // The question itself twice: the second is never taken, so the first is kept.
         let twice = write_catalogue(&[2, 2, 1, 0, 1, 0, 1, 0, 2, 1, 0, 1, 0, 1, 0], ENOUGH, WORK).unwrap();
         let question = write_pattern(&[2, 1, 0, 1, 0, 1, 0], ENOUGH, WORK).unwrap();
-        assert_eq!(quote(&question, &twice, WORK).unwrap().chosen, [0]);
+        assert_eq!(quote(&question, &twice, 0, WORK).unwrap().chosen, [0]);
     }
 
     /// Items of kinds 0 and 1 linked by links of these kinds.
@@ -240,7 +245,7 @@ pub mod tests {
 
     /// The links of the two records that are shown, which are of the question's items.
     fn shown(question: &[u8], catalogue: &[u8]) -> (Vec<Link>, Vec<Link>) {
-        let (first, second) = show(question, catalogue, ENOUGH, ENOUGH, WORK).unwrap();
+        let (first, second) = show(question, catalogue, 0, ENOUGH, ENOUGH, WORK).unwrap();
         let links = |record: &[u8]| crate::matching::record_of(record, WORK).unwrap().links;
         (links(&first), links(&second))
     }
@@ -253,7 +258,7 @@ pub mod tests {
         assert_eq!(sheet(&judge_catalogue(&catalogue).unwrap()[0], &record), [[(0, 1)]]);
         let mapping = vec![vec![], vec![(0, 0)]];
         let expected = Quote { covered: false, mapping, chosen: vec![], lowest_unmatched: Some(0) };
-        assert_eq!(quote(&question, &catalogue, WORK), Ok(expected));
+        assert_eq!(quote(&question, &catalogue, 0, WORK), Ok(expected));
         assert_eq!(shown(&question, &catalogue), (vec![(0, 1, 0), (0, 1, 1)], vec![(0, 1, 1)]));
     }
 
@@ -269,7 +274,7 @@ pub mod tests {
             (&[0, 1, 2], &[&[2, 0]], vec![vec![(0, 1)], vec![], vec![(0, 0)]], vec![]),
         ] {
             let (question, catalogue) = of_kinds(question, extracts);
-            let quote = quote(&question, &catalogue, WORK).unwrap();
+            let quote = quote(&question, &catalogue, 0, WORK).unwrap();
             assert_eq!((quote.mapping, quote.chosen), (mapping, chosen));
         }
     }
@@ -287,10 +292,52 @@ pub mod tests {
     }
 
     #[test]
+    fn each_sheet_by_its_own_rule_is_the_same_on_both_shown_records() {
+        let mut rule = Rule::new();
+        let (mut shown, mut others) = (0, 0);
+        for _ in 0..1_500 {
+            let kinds = draw_kinds(&mut rule);
+            let (question, catalogue) = draw_files(&mut rule, 5, false, kinds);
+            let one_way = draw_one_way(&mut rule, judge_catalogue(&catalogue).unwrap().len());
+            let Ok((first, second)) = show(&question, &catalogue, one_way, ENOUGH, ENOUGH, WORK) else { continue };
+            let book = |set, record: &[u8]| make_book(&catalogue, set, record, ENOUGH, WORK).unwrap();
+            assert_eq!(book(one_way, &first), book(one_way, &second));
+            let sheet = |record: &[u8]| search(&question, record, ENOUGH, WORK).unwrap();
+            assert_ne!(sheet(&first), sheet(&second));
+            shown += 1;
+            // By another rule for one of them it may be that they aren't.
+            let extracts = judge_catalogue(&catalogue).unwrap().len();
+            others += u32::from((0..extracts).any(|j| {
+                let other = one_way ^ 1 << j;
+                book(other, &first) != book(other, &second)
+            }));
+        }
+        assert!(shown > 500 && others > 5, "{shown} {others}");
+    }
+
+    #[test]
+    fn one_way_matches_more() {
+        // 0 → 1, 1 → 1 of one kind by the extract 0 → 0: nothing arrives at item 0.
+        let question = write_pattern(&[2, 2, 0, 0, 0, 1, 0, 1, 1, 0], ENOUGH, WORK).unwrap();
+        let catalogue = write_catalogue(&[1, 1, 1, 0, 0, 0, 0], ENOUGH, WORK).unwrap();
+        assert_eq!(quote(&question, &catalogue, 1, WORK).unwrap().chosen, [0]);
+        assert_eq!(quote(&question, &catalogue, 0, WORK).unwrap().lowest_unmatched, Some(0));
+        // What matches both ways matches one-way too.
+        let mut rule = Rule::new();
+        for _ in 0..300 {
+            let kinds = draw_kinds(&mut rule);
+            let (question, catalogue) = draw_files(&mut rule, 5, false, kinds);
+            let all = ((1u32 << judge_catalogue(&catalogue).unwrap().len()) - 1) as u16;
+            let [both, one_way] = [0, all].map(|set| quote(&question, &catalogue, set, WORK).unwrap().mapping);
+            assert!(both.iter().zip(&one_way).all(|(both, one_way)| both.iter().all(|link| one_way.contains(link))));
+        }
+    }
+
+    #[test]
     fn an_extract_that_follows_a_link_of_another_kind() {
         // D whose link from slow run to reading has kind 1: extract 1 of C doesn't fit it.
         let question = write_pattern(&[4, 4, 0, 1, 2, 3, 0, 1, 0, 0, 2, 0, 1, 3, 1, 2, 3, 0], ENOUGH, WORK).unwrap();
-        let quote = quote(&question, &C, WORK).unwrap();
+        let quote = quote(&question, &C, 0, WORK).unwrap();
         assert_eq!(quote.mapping, [vec![(0, 0)], vec![(2, 0)], vec![], vec![(2, 1)]]);
     }
 
@@ -303,13 +350,13 @@ pub mod tests {
             (&D[..], &C[..16], WORK, SHORT, CATALOGUE),
             (&D[..], &[0; 898][..], WORK, LONG, CATALOGUE),
         ] {
-            assert_eq!(quote(question, catalogue, work), refused(number, detail));
-            assert_eq!(show(question, catalogue, 0, 0, work), refused(number, detail));
+            assert_eq!(quote(question, catalogue, 0, work), refused(number, detail));
+            assert_eq!(show(question, catalogue, 0, 0, 0, work), refused(number, detail));
         }
-        assert_eq!(show(&D, &C, 0, 0, WORK), refused(COVERED, 0));
-        let (first, second) = show(&D, &SLOW, ENOUGH, ENOUGH, WORK).unwrap();
-        assert_eq!(show(&D, &SLOW, first.len() - 1, 0, WORK), refused(NO_FIT, first.len()));
-        assert_eq!(show(&D, &SLOW, first.len(), second.len() - 1, WORK), refused(NO_FIT, second.len()));
-        assert!(show(&D, &SLOW, first.len(), second.len(), WORK).is_ok());
+        assert_eq!(show(&D, &C, 0, 0, 0, WORK), refused(COVERED, 0));
+        let (first, second) = show(&D, &SLOW, 0, ENOUGH, ENOUGH, WORK).unwrap();
+        assert_eq!(show(&D, &SLOW, 0, first.len() - 1, 0, WORK), refused(NO_FIT, first.len()));
+        assert_eq!(show(&D, &SLOW, 0, first.len(), second.len() - 1, WORK), refused(NO_FIT, second.len()));
+        assert!(show(&D, &SLOW, 0, first.len(), second.len(), WORK).is_ok());
     }
 }

@@ -5,6 +5,7 @@ mod calls;
 mod counts;
 mod outcome;
 
+use crate::entering::{Slip, State};
 use crate::files::*;
 use crate::rule::{Drawn, Lists, Pairs};
 use counts::Counts;
@@ -40,6 +41,13 @@ const KIND_FORM: usize = 35;
 pub const SET: usize = 36;
 pub const QUESTIONS: usize = 37;
 pub const DAY: usize = 38;
+pub const ONE_WAY: usize = 39;
+pub const STATE_LINKS: usize = 40;
+pub const STATE_CHANGE: usize = 41;
+pub const LINK_FROM: usize = 42;
+pub const LINK_TO: usize = 43;
+pub const LINK_OF: usize = 44;
+pub const SLIP_CHANGE: usize = 45;
 const REGISTERS: usize = 64;
 
 /// The instructions.
@@ -371,7 +379,7 @@ impl Script {
         (self.last.number != 0).then_some(self.last.number as u32)
     }
 
-    /// The lengths of the two records that a showing wrote.
+    /// The lengths of the two outputs of the last call: bytes, and of a commit's second one entries.
     pub fn lengths(&self) -> (usize, usize) {
         (self.last.value as usize, self.last.other as usize)
     }
@@ -385,6 +393,7 @@ impl Script {
 
     fn answered(&self, call: usize) -> Outcome {
         let [question, catalogue, record, book, terms] = [0, 1, 2, 3, 4].map(|part| self.part(part));
+        let number = |register: usize| self.registers[register] as u32;
         (row(call).answer)(&Lent {
             question,
             catalogue,
@@ -392,9 +401,12 @@ impl Script {
             book,
             terms,
             content: &self.words[..self.registers[CONTENT].min(WORDS)],
+            one_way: self.registers[ONE_WAY] as u16,
             set: self.registers[SET] as u16,
-            number: self.registers[QUESTIONS] as u32,
+            number: number(QUESTIONS),
             day: self.registers[DAY] as u16,
+            state: State { links: number(STATE_LINKS), change: number(STATE_CHANGE) },
+            slip: Slip { link: (number(LINK_FROM), number(LINK_TO), number(LINK_OF)), change: number(SLIP_CHANGE) },
             words: self.registers[ROOM].min(WORDS),
             room: self.registers[ROOM].min(OUTPUT),
             second: self.registers[SECOND],
@@ -456,7 +468,7 @@ impl Script {
     /// it needs. Where it has two outputs, a byte less is lent for the second alone before that.
     pub fn round(&mut self, call: usize) {
         let outcome = self.answered(call);
-        let both = outcome.form == Form::Both;
+        let both = matches!(outcome.form, Form::Both | Form::Entered);
         self.begin(if both { BOTH } else { ROUND }, call);
         self.chosen = call;
         let registers = self.registers;
@@ -569,10 +581,12 @@ impl Script {
             (0, Form::Bytes | Form::Sheet) => format!("{value} bytes"),
             (0, Form::Entries) => format!("{value} entries"),
             (0, Form::Both) => format!("{value} and {other} bytes"),
+            (0, Form::Entered) => format!("{value} bytes and {other} entries"),
             (0, Form::Several) => format!("{value} bytes, {other} sheets"),
             (0, Form::Quote) if *value == 1 => format!("covered, chosen {other}, digest {digest:016x}"),
             (0, Form::Quote) => format!("uncovered, lowest {other}, digest {digest:016x}"),
             (0, Form::Price) => format!("cost {value}, set {other}, digest {digest:016x}"),
+            (0, Form::Asked) => format!("changes {value}, digest {digest:016x}"),
             (0, Form::Steps) => format!("{value} steps, digest {digest:016x}"),
             (0, Form::Day) if *value == 1 => format!("first day {other}, digest {digest:016x}"),
             (0, Form::Day) => format!("first day none, digest {digest:016x}"),

@@ -2,6 +2,7 @@
 
 use crate::answering::{answer, UNCOVERED};
 use crate::files::*;
+use crate::matching;
 use crate::quoting::quote;
 use std::collections::BTreeSet;
 
@@ -30,12 +31,14 @@ fn length(answer: &Result<Vec<u8>, Refusal>) -> usize {
     }
 }
 
-/// 14, then 17 with the number that is sent; the questions, the catalogue, the book and 10; 11 for the first uncovered question;
+/// 14, then 17 with the number that is sent; the questions, the catalogue, 19, the book and 10; 11 for the first uncovered question;
 /// 12 with the sum of the lengths, where an answer has more than its most bytes or the sum is over the bytes lent.
+#[allow(clippy::too_many_arguments)]
 pub fn answer_several(
     questions: &[u8],
     number: u32,
     catalogue: &[u8],
+    one_way: u16,
     book: &[u8],
     room: usize,
     work_words: usize,
@@ -45,20 +48,22 @@ pub fn answer_several(
         return refused(QUESTIONS, number as usize);
     }
     let questions = judge_patterns(questions, number as usize)?;
-    judge_book(&judge_catalogue(catalogue)?, book)?;
+    let extracts = judge_catalogue(catalogue)?;
+    matching::extracts(extracts.clone(), one_way)?;
+    judge_book(&extracts, book)?;
     let file =
         |question: &Pattern| write_pattern(&graph_fields(&question.kinds, &question.links), PATTERN_BYTES, work_words);
     let questions: Vec<Vec<u8>> = questions.iter().map(|question| file(question).unwrap()).collect();
     let mut chosen = BTreeSet::new();
     for question in &questions {
-        let quote = quote(question, catalogue, work_words)?;
+        let quote = quote(question, catalogue, one_way, work_words)?;
         if let Some(lowest) = quote.lowest_unmatched {
             return refused(UNCOVERED, lowest);
         }
         chosen.extend(quote.chosen);
     }
     let answers: Vec<_> =
-        questions.iter().map(|question| answer(question, catalogue, book, BOOK_BYTES, work_words)).collect();
+        questions.iter().map(|question| answer(question, catalogue, one_way, book, BOOK_BYTES, work_words)).collect();
     let sum = answers.iter().map(length).sum();
     let answers: Option<Vec<Vec<u8>>> = answers.into_iter().map(Result::ok).collect();
     match answers {
@@ -78,12 +83,12 @@ mod tests {
     const ONE_SHEET: [u8; 5] = [0x80, 0x02, 0x00, 0x00, 0x02];
 
     fn several(questions: &[&[u8]], book: &[u8]) -> Several {
-        answer_several(&questions.concat(), questions.len() as u32, &C, book, 8 * ROOM, WORK).unwrap()
+        answer_several(&questions.concat(), questions.len() as u32, &C, 0, book, 8 * ROOM, WORK).unwrap()
     }
 
     /// What is said with nothing lent, beside a catalogue that is wrong or the one that is right.
     fn no(questions: &[u8], number: u32, catalogue: &[u8]) -> Refusal {
-        answer_several(questions, number, catalogue, &K9_BOOK, 0, WORK).unwrap_err()
+        answer_several(questions, number, catalogue, 0, &K9_BOOK, 0, WORK).unwrap_err()
     }
 
     #[test]
@@ -97,8 +102,8 @@ mod tests {
         }
         assert_eq!(several(&[&D, &D], &[0; 3]), Several { answers: vec![0; 2], sheets: 2 });
         let both = [&D[..], &ONE].concat();
-        assert_eq!(answer_several(&both, 2, &C, &K9_BOOK, 24, WORK), refused(NO_FIT, 25));
-        assert!(answer_several(&both, 2, &C, &K9_BOOK, 25, WORK).is_ok());
+        assert_eq!(answer_several(&both, 2, &C, 0, &K9_BOOK, 24, WORK), refused(NO_FIT, 25));
+        assert!(answer_several(&both, 2, &C, 0, &K9_BOOK, 25, WORK).is_ok());
     }
 
     #[test]
@@ -107,9 +112,9 @@ mod tests {
             let refusal = Refusal { number: QUESTIONS, detail: number as usize };
             assert_eq!(no(&[], number, &[0xff]), refusal);
             assert_eq!(no(&[0; 1_000], number, &[0xff]), refusal);
-            assert_eq!(answer_several(&D, number, &C, &K9_BOOK, 0, WORK - 1), refused(DESK, 0));
+            assert_eq!(answer_several(&D, number, &C, 0, &K9_BOOK, 0, WORK - 1), refused(DESK, 0));
         }
-        assert!(answer_several(&D.repeat(8), 8, &C, &K9_BOOK, ROOM, WORK).is_ok());
+        assert!(answer_several(&D.repeat(8), 8, &C, 0, &K9_BOOK, ROOM, WORK).is_ok());
     }
 
     #[test]
@@ -142,16 +147,16 @@ mod tests {
     #[test]
     fn after_the_questions() {
         assert_eq!(no(&D, 1, &[0xff]), Refusal { number: COUNT, detail: CATALOGUE });
-        assert_eq!(answer_several(&D, 1, &C, &[], 0, WORK), refused(SHORT, BOOK));
+        assert_eq!(answer_several(&D, 1, &C, 0, &[], 0, WORK), refused(SHORT, BOOK));
         // With section to slow alone D lacks link 1, and fast to reading lacks link 0.
         let catalogue = [&[0x08], &ONE[..]].concat();
         let questions = [&D[..], &[0x10, 0x22, 0x18, 0x08]].concat();
-        assert_eq!(answer_several(&questions, 2, &catalogue, &[0], 0, WORK), refused(UNCOVERED, 1));
+        assert_eq!(answer_several(&questions, 2, &catalogue, 0, &[0], 0, WORK), refused(UNCOVERED, 1));
         let turned = [&[0x10, 0x22, 0x18, 0x08], &D[..]].concat();
-        assert_eq!(answer_several(&turned, 2, &catalogue, &[0], 0, WORK), refused(UNCOVERED, 0));
+        assert_eq!(answer_several(&turned, 2, &catalogue, 0, &[0], 0, WORK), refused(UNCOVERED, 0));
         let second = [&ONE[..], &D].concat();
-        assert_eq!(answer_several(&second, 2, &catalogue, &[0], 0, WORK), refused(UNCOVERED, 1));
-        assert_eq!(answer_several(&ONE, 1, &catalogue, &[0, 0], 0, WORK), refused(TAIL, BOOK));
+        assert_eq!(answer_several(&second, 2, &catalogue, 0, &[0], 0, WORK), refused(UNCOVERED, 1));
+        assert_eq!(answer_several(&ONE, 1, &catalogue, 0, &[0, 0], 0, WORK), refused(TAIL, BOOK));
     }
 
     /// The catalogue of a self-link, and a book of the one list (0, 0) to (n - 1, n - 1).
@@ -175,14 +180,14 @@ mod tests {
         let (catalogue, book) = to_itself(700);
         // The second answer alone has 67,257 bytes, the first 2,102.
         let questions = [own.clone(), sixteen()].concat();
-        assert_eq!(answer_several(&questions, 2, &catalogue, &book, 8 * ROOM, WORK), refused(NO_FIT, 69_359));
-        assert_eq!(answer(&sixteen(), &catalogue, &book, 8 * ROOM, WORK), refused(NO_FIT, 67_257));
+        assert_eq!(answer_several(&questions, 2, &catalogue, 0, &book, 8 * ROOM, WORK), refused(NO_FIT, 69_359));
+        assert_eq!(answer(&sixteen(), &catalogue, 0, &book, 8 * ROOM, WORK), refused(NO_FIT, 67_257));
         // The sum has no limit of its own.
         let (catalogue, book) = to_itself(682);
         let questions = [sixteen(), sixteen()].concat();
-        let answers = answer_several(&questions, 2, &catalogue, &book, 8 * ROOM, WORK).unwrap();
+        let answers = answer_several(&questions, 2, &catalogue, 0, &book, 8 * ROOM, WORK).unwrap();
         assert_eq!((answers.answers.len(), answers.sheets), (131_058, 1));
-        assert_eq!(answer_several(&questions, 2, &catalogue, &book, 131_057, WORK), refused(NO_FIT, 131_058));
+        assert_eq!(answer_several(&questions, 2, &catalogue, 0, &book, 131_057, WORK), refused(NO_FIT, 131_058));
     }
 
     #[test]
@@ -190,8 +195,8 @@ mod tests {
         for book in [&K9_BOOK[..], &[0; 3], &[]] {
             for room in [0, 1, 19, 20] {
                 for work in [WORK - 1, WORK] {
-                    let alone = answer(&D, &C, book, room, work);
-                    assert_eq!(answer_several(&D, 1, &C, book, room, work).map(|several| several.answers), alone);
+                    let alone = answer(&D, &C, 0, book, room, work);
+                    assert_eq!(answer_several(&D, 1, &C, 0, book, room, work).map(|several| several.answers), alone);
                 }
             }
         }

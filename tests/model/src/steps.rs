@@ -1,7 +1,8 @@
 //! The order in which an answer's pairs are pruned: from the ends inward, by the item that a link leaves; then both ways.
 
-use crate::answering::{greatest_choice, Choice, Ways};
+use crate::answering::{greatest_choice, Choice};
 use crate::files::Pattern;
+use crate::matching::Ways;
 use std::collections::BTreeSet;
 
 /// Items of a question.

@@ -3,6 +3,7 @@
 use crate::answering::answer_from;
 use crate::cheapest::{cheapest_of, Cheapest};
 use crate::files::*;
+use crate::matching::extracts;
 use crate::part;
 use crate::quoting::{self, judge, shown, Mapping, Quote};
 
@@ -37,11 +38,17 @@ fn judge_terms(extracts: usize, terms: &[Term]) -> Result<(), Refusal> {
     }
 }
 
-/// 14, the question, the catalogue, then 18: the mapping by all extracts, whatever their terms are.
-fn judged(question: &[u8], catalogue: &[u8], terms: &[Term], work_words: usize) -> Result<(Pattern, Mapping), Refusal> {
+/// 14, the question, the catalogue, 18, then 19: the mapping by all extracts, whatever their terms are.
+fn judged(
+    question: &[u8],
+    catalogue: &[u8],
+    one_way: u16,
+    terms: &[Term],
+    work_words: usize,
+) -> Result<(Pattern, Mapping), Refusal> {
     let (question, catalogue) = judge(question, catalogue, work_words)?;
     judge_terms(catalogue.len(), terms)?;
-    let mapping = quoting::mapping(&question, &catalogue);
+    let mapping = quoting::mapping(&question, &extracts(catalogue, one_way)?);
     Ok((question, mapping))
 }
 
@@ -54,24 +61,26 @@ fn only(mapping: Mapping, set: &[usize]) -> Mapping {
 pub fn quote_on(
     question: &[u8],
     catalogue: &[u8],
+    one_way: u16,
     terms: &[Term],
     day: u16,
     work_words: usize,
 ) -> Result<Quote, Refusal> {
-    let (_, mapping) = judged(question, catalogue, terms, work_words)?;
+    let (_, mapping) = judged(question, catalogue, one_way, terms, work_words)?;
     Ok(quoting::quoted(only(mapping, &in_force(terms, day)), terms.len()))
 }
 
-/// After 18 15, for which all extracts count, and 11: the cheapest of the sets of extracts in force that cover.
+/// After 19 15, for which all extracts count, and 11: the cheapest of the sets of extracts in force that cover.
 pub fn cheapest_on(
     question: &[u8],
     catalogue: &[u8],
+    one_way: u16,
     terms: &[Term],
     day: u16,
     charges: &[u32],
     work_words: usize,
 ) -> Result<Cheapest, Refusal> {
-    let quote = quote_on(question, catalogue, terms, day, work_words)?;
+    let quote = quote_on(question, catalogue, one_way, terms, day, work_words)?;
     cheapest_of(quote, terms.len(), &in_force(terms, day), charges)
 }
 
@@ -80,12 +89,13 @@ pub fn bits(set: &[usize]) -> u16 {
     set.iter().map(|a| 1 << a).sum()
 }
 
-/// After 18 the book, 10, 11 and 12: the part that has the links matched by extracts in force, and its answer by its own quote for
+/// After 19 the book, 10, 11 and 12: the part that has the links matched by extracts in force, and its answer by its own quote for
 /// the day.
 #[allow(clippy::too_many_arguments)]
 pub fn part_on(
     question: &[u8],
     catalogue: &[u8],
+    one_way: u16,
     terms: &[Term],
     day: u16,
     book: &[u8],
@@ -93,26 +103,27 @@ pub fn part_on(
     room_2: usize,
     work_words: usize,
 ) -> Result<(Vec<u8>, Vec<u8>), Refusal> {
-    let quote = quote_on(question, catalogue, terms, day, work_words)?;
+    let quote = quote_on(question, catalogue, one_way, terms, day, work_words)?;
     judge_book(&judge_catalogue(catalogue)?, book)?;
     let part = part::written(question, &quote.mapping, room_1, work_words)?;
-    let chosen = quote_on(&part, catalogue, terms, day, work_words)?.chosen;
-    let answer = answer_from(&part, catalogue, bits(&chosen), book, room_2, work_words)?;
+    let chosen = quote_on(&part, catalogue, one_way, terms, day, work_words)?.chosen;
+    let answer = answer_from(&part, catalogue, one_way, bits(&chosen), book, room_2, work_words)?;
     Ok((part, answer))
 }
 
-/// After 18 13 and 12: the question as a record, and without the lowest link that the extracts in force leave unmatched.
+/// After 19 13 and 12: the question as a record, and without the lowest link that the extracts in force leave unmatched.
 #[allow(clippy::too_many_arguments)]
 pub fn show_on(
     question: &[u8],
     catalogue: &[u8],
+    one_way: u16,
     terms: &[Term],
     day: u16,
     room_1: usize,
     room_2: usize,
     work_words: usize,
 ) -> Result<(Vec<u8>, Vec<u8>), Refusal> {
-    let quote = quote_on(question, catalogue, terms, day, work_words)?;
+    let quote = quote_on(question, catalogue, one_way, terms, day, work_words)?;
     shown(&judge_pattern(question)?, &quote, room_1, room_2, work_words)
 }
 
@@ -121,11 +132,12 @@ pub fn show_on(
 pub fn first_day(
     question: &[u8],
     catalogue: &[u8],
+    one_way: u16,
     terms: &[Term],
     day: u16,
     work_words: usize,
 ) -> Result<Option<u16>, Refusal> {
-    let (_, mapping) = judged(question, catalogue, terms, work_words)?;
+    let (_, mapping) = judged(question, catalogue, one_way, terms, work_words)?;
     let matching = |matches: &Vec<(usize, usize)>| matches.iter().fold(0u16, |set, (a, _)| set | 1 << a);
     let links: Vec<u16> = mapping.iter().map(matching).collect();
     let is_covered = |day: &u16| {
@@ -155,7 +167,7 @@ mod tests {
     }
 
     fn on(day: u16) -> Quote {
-        quote_on(&D, &C, &season(), day, WORK).unwrap()
+        quote_on(&D, &C, 0, &season(), day, WORK).unwrap()
     }
 
     #[test]
@@ -167,13 +179,13 @@ mod tests {
         assert_eq!(on(9).mapping, vec![vec![]; 4]);
         assert_eq!(on(10).mapping, [vec![(0, 0), (1, 0)], vec![], vec![(1, 1)], vec![]]);
         for day in 12..15 {
-            assert_eq!(Ok(on(day)), quote(&D, &C, WORK));
+            assert_eq!(Ok(on(day)), quote(&D, &C, 0, WORK));
         }
     }
 
     #[test]
     fn the_first_day() {
-        let of = |days: &[(u16, u16)], day| first_day(&D, &C, &terms(days), day, WORK).unwrap();
+        let of = |days: &[(u16, u16)], day| first_day(&D, &C, 0, &terms(days), day, WORK).unwrap();
         let season = [(10, 20), (10, 15), (12, 20)];
         for (day, first) in [(0, Some(12)), (12, Some(12)), (14, Some(14)), (15, None)] {
             assert_eq!(of(&season, day), first);
@@ -199,40 +211,40 @@ mod tests {
             (&[(20, 10), (10, 15)], 2),
         ] {
             let list = terms(days);
-            assert_eq!(quote_on(&D, &C, &list, 12, WORK), refused(TERMS, detail));
-            assert_eq!(cheapest_on(&D, &C, &list, 12, &[0; 2], WORK), refused(TERMS, detail));
-            assert_eq!(part_on(&D, &C, &list, 12, &[0xff], 0, 0, WORK), refused(TERMS, detail));
-            assert_eq!(show_on(&D, &C, &list, 12, 0, 0, WORK), refused(TERMS, detail));
-            assert_eq!(first_day(&D, &C, &list, 12, WORK), refused(TERMS, detail));
-            assert_eq!(quote_on(&D, &C, &list, 12, WORK - 1), refused(DESK, 0));
-            assert_eq!(quote_on(&D[..9], &C[..16], &list, 12, WORK), refused(SHORT, PATTERN));
-            assert_eq!(quote_on(&D, &C[..16], &list, 12, WORK), refused(SHORT, CATALOGUE));
+            assert_eq!(quote_on(&D, &C, 0, &list, 12, WORK), refused(TERMS, detail));
+            assert_eq!(cheapest_on(&D, &C, 0, &list, 12, &[0; 2], WORK), refused(TERMS, detail));
+            assert_eq!(part_on(&D, &C, 0, &list, 12, &[0xff], 0, 0, WORK), refused(TERMS, detail));
+            assert_eq!(show_on(&D, &C, 0, &list, 12, 0, 0, WORK), refused(TERMS, detail));
+            assert_eq!(first_day(&D, &C, 0, &list, 12, WORK), refused(TERMS, detail));
+            assert_eq!(quote_on(&D, &C, 0, &list, 12, WORK - 1), refused(DESK, 0));
+            assert_eq!(quote_on(&D[..9], &C[..16], 0, &list, 12, WORK), refused(SHORT, PATTERN));
+            assert_eq!(quote_on(&D, &C[..16], 0, &list, 12, WORK), refused(SHORT, CATALOGUE));
         }
         for none in [&NONE[..], &[]] {
-            assert_eq!(quote_on(&D, none, &[], 5, WORK), quote(&D, none, WORK));
-            assert_eq!(first_day(&D, none, &[], 5, WORK), Ok(None));
-            assert_eq!(quote_on(&D, none, &terms(&[(0, 1)]), 5, WORK), refused(TERMS, 1));
+            assert_eq!(quote_on(&D, none, 0, &[], 5, WORK), quote(&D, none, 0, WORK));
+            assert_eq!(first_day(&D, none, 0, &[], 5, WORK), Ok(None));
+            assert_eq!(quote_on(&D, none, 0, &terms(&[(0, 1)]), 5, WORK), refused(TERMS, 1));
         }
-        assert_eq!(quote_on(&D, &C, &[Term { from: 0, to: 1 }; 70_000], 5, WORK), refused(TERMS, 70_000));
+        assert_eq!(quote_on(&D, &C, 0, &[Term { from: 0, to: 1 }; 70_000], 5, WORK), refused(TERMS, 70_000));
     }
 
     #[test]
     fn the_cheapest_on_a_day() {
         let charges = [100, 200, 150];
-        let of = |day| cheapest_on(&D, &C, &season(), day, &charges, WORK);
-        assert_eq!(of(12), cheapest(&D, &C, &charges, WORK));
+        let of = |day| cheapest_on(&D, &C, 0, &season(), day, &charges, WORK);
+        assert_eq!(of(12), cheapest(&D, &C, 0, &charges, WORK));
         assert_eq!(of(10), refused(UNCOVERED, 1));
-        assert_eq!(cheapest_on(&D, &C, &season(), 12, &charges[..2], WORK), refused(CHARGES, 2));
+        assert_eq!(cheapest_on(&D, &C, 0, &season(), 12, &charges[..2], WORK), refused(CHARGES, 2));
         // Extracts 1, 1 and 2 of C: the first costs nothing, and is not in force.
         let twice = [&[0x18], &C[5..11], &C[5..11], &C[11..]].concat();
         let list = terms(&[(10, 20), (0, 20), (0, 20)]);
         let expected = Cheapest { set: vec![1, 2], sum: 16, chosen: vec![1, 2] };
-        assert_eq!(cheapest_on(&D, &twice, &list, 9, &[0, 9, 7], WORK), Ok(expected));
+        assert_eq!(cheapest_on(&D, &twice, 0, &list, 9, &[0, 9, 7], WORK), Ok(expected));
     }
 
     #[test]
     fn the_part_on_a_day() {
-        let of = |day| part_on(&D, &C, &season(), day, &K9_BOOK, ROOM, ROOM, WORK);
+        let of = |day| part_on(&D, &C, 0, &season(), day, &K9_BOOK, ROOM, ROOM, WORK);
         let slow = vec![0x18, 0x40, 0x08, 0xc0, 0x40, 0x90];
         let slow_sheet = vec![0x80, 0x02, 0x00, 0x00, 0x02, 0x00, 0x08, 0x00, 0x80, 0x10];
         assert_eq!(of(10), Ok((slow, slow_sheet)));
@@ -241,15 +253,15 @@ mod tests {
             vec![0x80, 0x02, 0x00, 0x00, 0x02, 0x00, 0x08, 0x00, 0x00, 0x08, 0x00, 0x20, 0x02, 0x00, 0x40];
         assert_eq!(of(15), Ok((three, three_sheet)));
         assert_eq!(of(9), refused(UNCOVERED, 0));
-        assert_eq!(part_on(&D, &C, &season(), 9, &[0xff], ROOM, ROOM, WORK), refused(SHORT, BOOK));
+        assert_eq!(part_on(&D, &C, 0, &season(), 9, &[0xff], ROOM, ROOM, WORK), refused(SHORT, BOOK));
     }
 
     #[test]
     fn shown_on_a_day() {
-        let of = |day| show_on(&D, &C, &season(), day, ROOM, ROOM, WORK);
+        let of = |day| show_on(&D, &C, 0, &season(), day, ROOM, ROOM, WORK);
         let (first, second) = of(10).unwrap();
         // K3's: link 1 is the lowest that extracts 0 and 1 leave unmatched.
-        assert_eq!(show(&D, &crate::quoting::tests::SLOW, ROOM, ROOM, WORK), Ok((first.clone(), second.clone())));
+        assert_eq!(show(&D, &crate::quoting::tests::SLOW, 0, ROOM, ROOM, WORK), Ok((first.clone(), second.clone())));
         // Extract 2, which is not in force, lists something on the first and nothing on the second.
         let fast = [0x18, 0x40, 0x10, 0xc0, 0x40, 0x90];
         let sheet = vec![0x80, 0x02, 0x00, 0x00, 0x04, 0x00, 0x08, 0x01, 0x00, 0x18];
@@ -273,35 +285,35 @@ mod tests {
                 })
                 .collect();
             let covered: Vec<bool> =
-                (0..=45).map(|day| quote_on(&question, &catalogue, &list, day, WORK).unwrap().covered).collect();
+                (0..=45).map(|day| quote_on(&question, &catalogue, 0, &list, day, WORK).unwrap().covered).collect();
             for day in 0..=45 {
                 let first = (day..=45).find(|&day| covered[day as usize]);
-                assert_eq!(first_day(&question, &catalogue, &list, day, WORK), Ok(first));
+                assert_eq!(first_day(&question, &catalogue, 0, &list, day, WORK), Ok(first));
                 first_days += usize::from(first.is_some_and(|first| first > day));
             }
             // Where all are in force, each call answers what it answers without a day.
             let all = vec![Term { from: 0, to: 65_535 }; extracts];
-            assert_eq!(quote_on(&question, &catalogue, &all, 7, WORK), quote(&question, &catalogue, WORK));
+            assert_eq!(quote_on(&question, &catalogue, 0, &all, 7, WORK), quote(&question, &catalogue, 0, WORK));
             let k9 = write_record(&graph_fields(&[1, 6, 8], &[(0, 1, 0), (1, 2, 0)]), ROOM, WORK).unwrap();
-            let book = make_book(&catalogue, &k9, ROOM, WORK).unwrap();
-            let part = part::part(&question, &catalogue, &book, ROOM, ROOM, WORK);
-            assert_eq!(part_on(&question, &catalogue, &all, 7, &book, ROOM, ROOM, WORK), part);
-            let shown = show(&question, &catalogue, ROOM, ROOM, WORK);
-            assert_eq!(show_on(&question, &catalogue, &all, 7, ROOM, ROOM, WORK), shown);
+            let book = make_book(&catalogue, 0, &k9, ROOM, WORK).unwrap();
+            let part = part::part(&question, &catalogue, 0, &book, ROOM, ROOM, WORK);
+            assert_eq!(part_on(&question, &catalogue, 0, &all, 7, &book, ROOM, ROOM, WORK), part);
+            let shown = show(&question, &catalogue, 0, ROOM, ROOM, WORK);
+            assert_eq!(show_on(&question, &catalogue, 0, &all, 7, ROOM, ROOM, WORK), shown);
             // Where some are, each call answers what it answers for the catalogue of these alone; but for the numbers of extracts.
             let day = rule.draw(30) as u16;
             let force = in_force(&list, day);
             let fewer = of_extracts(&catalogue, &force);
-            let quoted = quote_on(&question, &catalogue, &list, day, WORK).unwrap();
-            let alone = quote(&question, &fewer, WORK).unwrap();
+            let quoted = quote_on(&question, &catalogue, 0, &list, day, WORK).unwrap();
+            let alone = quote(&question, &fewer, 0, WORK).unwrap();
             assert_eq!(quoted.chosen, alone.chosen.iter().map(|&a| force[a]).collect::<Vec<usize>>());
             assert_eq!(quoted.lowest_unmatched, alone.lowest_unmatched);
-            let book_of_fewer = make_book(&fewer, &k9, ROOM, WORK).unwrap();
-            let part = part::part(&question, &fewer, &book_of_fewer, ROOM, ROOM, WORK);
-            assert_eq!(part_on(&question, &catalogue, &list, day, &book, ROOM, ROOM, WORK), part);
+            let book_of_fewer = make_book(&fewer, 0, &k9, ROOM, WORK).unwrap();
+            let part = part::part(&question, &fewer, 0, &book_of_fewer, ROOM, ROOM, WORK);
+            assert_eq!(part_on(&question, &catalogue, 0, &list, day, &book, ROOM, ROOM, WORK), part);
             parts += usize::from(part.is_ok());
-            let shown = show(&question, &fewer, ROOM, ROOM, WORK);
-            assert_eq!(show_on(&question, &catalogue, &list, day, ROOM, ROOM, WORK), shown);
+            let shown = show(&question, &fewer, 0, ROOM, ROOM, WORK);
+            assert_eq!(show_on(&question, &catalogue, 0, &list, day, ROOM, ROOM, WORK), shown);
         }
         assert!(first_days > 500 && parts > 50, "{first_days} {parts}");
     }

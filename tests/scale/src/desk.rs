@@ -82,6 +82,13 @@ pub fn fitted<T>(
     }
 }
 
+/// A catalogue's file, with the set of its extracts that are matched one-way.
+#[derive(Clone, Copy)]
+pub struct Offer<'a> {
+    pub catalogue: &'a [u8],
+    pub one_way: u16,
+}
+
 /// Memory that is lent, filled with one value, so that a change shows.
 struct Memory<T> {
     all: Vec<T>,
@@ -311,12 +318,16 @@ impl Desk<u8> {
         draw: &mut Draw,
         lent: Lent,
         question: &[u8],
-        catalogue: &[u8],
+        Offer { catalogue, one_way }: Offer,
     ) -> Result<(), Difference> {
-        let expected = quoting::quote(question, catalogue, lent.work);
-        let answered = raw::quote(question, catalogue, self.work.lend(lent.work, draw.word()));
-        let inputs = &[("question", &question as _), ("catalogue", &catalogue as _)];
+        let expected = quoting::quote(question, catalogue, one_way, lent.work);
+        let answered = raw::quote(question, catalogue, one_way, self.work.lend(lent.work, draw.word()));
+        let inputs = &[("question", &question as _), ("catalogue", &catalogue as _), ("one_way", &one_way as _)];
         let asked = Asked { call: Call::Quote, inputs, lent };
+        if one_way != 0 && expected.as_ref().is_ok_and(|quote| quote.covered) {
+            let both_ways = quoting::quote(question, catalogue, 0, lent.work);
+            notes.tally.by_one_way += u64::from(both_ways.is_ok_and(|quote| !quote.covered));
+        }
         let held = [
             ("answer", answered == quoted(&expected)),
             ("result", same_quote(&answered.result(), &expected)),
@@ -331,18 +342,19 @@ impl Desk<u8> {
         draw: &mut Draw,
         lent: Lent,
         question: &[u8],
-        catalogue: &[u8],
+        Offer { catalogue, one_way }: Offer,
         charges: &[u32],
     ) -> Result<(), Difference> {
-        let expected = cheapest::cheapest(question, catalogue, charges, lent.work);
-        let answered = raw::cheapest(question, catalogue, charges, self.work.lend(lent.work, draw.word()));
-        let inputs = &[("question", &question as _), ("catalogue", &catalogue as _), ("charges", &charges as _)];
-        let asked = Asked { call: Call::Cheapest, inputs, lent };
+        let expected = cheapest::cheapest(question, catalogue, one_way, charges, lent.work);
+        let answered = raw::cheapest(question, catalogue, one_way, charges, self.work.lend(lent.work, draw.word()));
+        let inputs: [(_, &dyn Debug); 4] =
+            [("question", &question), ("catalogue", &catalogue), ("one_way", &one_way), ("charges", &charges)];
+        let asked = Asked { call: Call::Cheapest, inputs: &inputs, lent };
         let held = [("answer", answered == priced(&expected)), ("workspace", self.work.is_cleared())];
         if let Ok(found) = &expected {
             notes.tally.cheapest += 1;
             notes.tally.not_chosen += u64::from(found.set != found.chosen);
-            notes.tally.tied += u64::from(cheapest::is_tied(question, catalogue, charges, found));
+            notes.tally.tied += u64::from(cheapest::is_tied(question, catalogue, one_way, charges, found));
         }
         notes.end(&asked, &expected, &answered, expected.as_ref().err().copied(), &held)
     }
@@ -383,17 +395,22 @@ impl Desk<u8> {
         draw: &mut Draw,
         lent: Lent,
         (questions, number): (&[u8], u32),
-        catalogue: &[u8],
+        Offer { catalogue, one_way }: Offer,
         book: &[u8],
     ) -> Result<Result<several::Several, Refusal>, Difference> {
-        let model = |room, work| several::answer_several(questions, number, catalogue, book, room, work);
+        let model = |room, work| several::answer_several(questions, number, catalogue, one_way, book, room, work);
         let (lent, expected) = fitted(draw, lent, model);
-        let inputs: [(_, &dyn Debug); 4] =
-            [("questions", &questions), ("number", &number), ("catalogue", &catalogue), ("book", &book)];
+        let inputs: [(_, &dyn Debug); 5] = [
+            ("questions", &questions),
+            ("number", &number),
+            ("catalogue", &catalogue),
+            ("one_way", &one_way),
+            ("book", &book),
+        ];
         let asked = Asked { call: Call::AnswerSeveral, inputs: &inputs, lent };
         let fill = draw.word();
         let (out, work) = (self.out.lend(lent.room, fill as u8), self.work.lend(lent.work, fill));
-        let answered = raw::answer_several(questions, number, catalogue, book, out, work);
+        let answered = raw::answer_several(questions, number, catalogue, one_way, book, out, work);
         let written = expected.as_ref().map_or(&[][..], |several| &several.answers);
         let held = [
             ("answer", answered == answers(&expected)),
@@ -411,17 +428,19 @@ impl Desk<u8> {
         draw: &mut Draw,
         lent: Lent,
         question: &[u8],
-        catalogue: &[u8],
+        Offer { catalogue, one_way }: Offer,
     ) -> Result<TwoFiles, Difference> {
         let fewer = draw.below(6);
         let second = |room: usize| room.saturating_sub(fewer);
-        let show = |room, work| quoting::show(question, catalogue, room, second(room), work);
+        let show = |room, work| quoting::show(question, catalogue, one_way, room, second(room), work);
         let (lent, expected) = fitted(draw, lent, show);
-        let inputs = &[("question", &question as _), ("catalogue", &catalogue as _), ("fewer", &fewer as _)];
-        let asked = Asked { call: Call::ShowUncovered, inputs, lent };
+        let inputs: [(_, &dyn Debug); 4] =
+            [("question", &question), ("catalogue", &catalogue), ("one_way", &one_way), ("fewer", &fewer)];
+        let asked = Asked { call: Call::ShowUncovered, inputs: &inputs, lent };
         let rooms = (lent.room, second(lent.room));
-        let show =
-            |first: &mut _, second: &mut _, work: &mut _| raw::show_uncovered(question, catalogue, first, second, work);
+        let show = |first: &mut _, second: &mut _, work: &mut _| {
+            raw::show_uncovered(question, catalogue, one_way, first, second, work)
+        };
         self.two(notes, draw, asked, rooms, expected, show)
     }
 
@@ -432,16 +451,22 @@ impl Desk<u8> {
         draw: &mut Draw,
         (first, lent): (usize, Lent),
         question: &[u8],
-        catalogue: &[u8],
+        Offer { catalogue, one_way }: Offer,
         book: &[u8],
     ) -> Result<TwoFiles, Difference> {
-        let expected = part::part(question, catalogue, book, first, lent.room, lent.work);
-        let inputs: [(_, &dyn Debug); 4] =
-            [("question", &question), ("catalogue", &catalogue), ("book", &book), ("first", &first)];
+        let expected = part::part(question, catalogue, one_way, book, first, lent.room, lent.work);
+        let inputs: [(_, &dyn Debug); 5] = [
+            ("question", &question),
+            ("catalogue", &catalogue),
+            ("one_way", &one_way),
+            ("book", &book),
+            ("first", &first),
+        ];
         let asked = Asked { call: Call::Part, inputs: &inputs, lent };
         let rooms = (first, lent.room);
-        let part =
-            |first: &mut _, second: &mut _, work: &mut _| raw::part(question, catalogue, book, first, second, work);
+        let part = |first: &mut _, second: &mut _, work: &mut _| {
+            raw::part(question, catalogue, one_way, book, first, second, work)
+        };
         self.two(notes, draw, asked, rooms, expected, part)
     }
 }

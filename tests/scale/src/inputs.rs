@@ -1,6 +1,6 @@
 //! The inputs: which call a seed makes, with which files, and what is lent.
 
-use crate::desk::{exactly, fitted, Asked, Desk, Difference, Lent, Notes, TwoFiles, MOST};
+use crate::desk::{exactly, fitted, Asked, Desk, Difference, Lent, Notes, Offer, TwoFiles, MOST};
 use crate::draw::{draw_size, Draw, Size};
 use crate::graphs::*;
 use crate::layout::{content, file, of_book, of_catalogue, of_old_record, of_pattern, of_questions, of_record};
@@ -21,12 +21,22 @@ pub struct Test {
     pub notes: Notes,
 }
 
-/// A call on both sides, where it has the same name: the model is told how much is lent, the library is lent it.
+/// A call on both sides, where it has the same name: the model is told how much is lent, the library is lent it. A number
+/// among the inputs stands in brackets.
 macro_rules! reply {
-    ($test:ident.$desk:ident, $draw:ident, $fit:ident($lent:expr), $call:ident, $module:ident::$name:ident($($input:ident),+)) => {{
-        let (lent, expected) = $fit($draw, $lent, |room, work| $module::$name($(&$input,)+ room, work));
-        let asked = Asked { call: Call::$call, inputs: &[$((stringify!($input), &$input as _)),+], lent };
-        $test.$desk.reply(&mut $test.notes, $draw, asked, expected, |out, work| yuthaqim::$name($(&$input,)+ out, work))
+    (
+        $test:ident.$desk:ident, $draw:ident, $fit:ident($lent:expr), $call:ident,
+        $module:ident::$name:ident($($input:ident),+ $([$number:ident] $($later:ident),+)?)
+    ) => {{
+        let (lent, expected) =
+            $fit($draw, $lent, |room, work| $module::$name($(&$input,)+ $($number, $(&$later,)+)? room, work));
+        let inputs: &[(_, &dyn Debug)] = &[
+            $((stringify!($input), &$input),)+
+            $((stringify!($number), &$number), $((stringify!($later), &$later)),+)?
+        ];
+        let asked = Asked { call: Call::$call, inputs, lent };
+        let library = |out: &mut [_], work: &mut [u32]| yuthaqim::$name($(&$input,)+ $($number, $(&$later,)+)? out, work);
+        $test.$desk.reply(&mut $test.notes, $draw, asked, expected, library)
     }};
 }
 
@@ -64,7 +74,7 @@ fn draw_matched_in_part(draw: &mut Draw) -> Subject {
     let mut subject = draw_subject(draw, false);
     for _ in 0..draw.of(&[0, 8, 8, 8]) {
         let (question, catalogue) = (of_pattern(&subject.question).bytes(), of_catalogue(&subject.catalogue).bytes());
-        let quote = quoting::quote(&question, &catalogue, WORK_WORDS).unwrap();
+        let quote = quoting::quote(&question, &catalogue, 0, WORK_WORDS).unwrap();
         if !quote.covered && !matched(&quote).is_empty() {
             break;
         }
@@ -83,6 +93,29 @@ impl Subject {
         let more = 8usize.saturating_sub(self.catalogue.len());
         let copies: Vec<Pattern> = self.catalogue.iter().take(more).cloned().collect();
         self.catalogue.extend(copies);
+    }
+
+    /// Extracts that are matched one-way: none, all, one, or any of them.
+    fn one_way(&self, draw: &mut Draw) -> u16 {
+        let extracts = self.catalogue.len();
+        let all = ((1u32 << extracts) - 1) as u16;
+        let set = match draw.below(6) {
+            0 => 0,
+            1 => all,
+            2 => 1 << draw.below(extracts.max(1)),
+            _ => draw.word() as u16,
+        };
+        set & all
+    }
+
+    /// The same; and one time in sixteen a set that may name extracts which aren't there.
+    fn any_one_way(&self, draw: &mut Draw) -> u16 {
+        let set = self.one_way(draw);
+        match draw.below(32) {
+            0 => draw.word() as u16,
+            1 => set | 1 << draw.within(self.catalogue.len().min(15), 15),
+            _ => set,
+        }
     }
 
     /// A record whose links are out of order, or damaged otherwise, one time in so many each.
@@ -129,11 +162,11 @@ fn index_of(record: &[u8]) -> Vec<u16> {
 
 /// A set to answer from: any, a cheapest one, or one with extracts beside it. A question that can't be read, or isn't
 /// covered, has any.
-fn draw_set(draw: &mut Draw, question: &[u8], catalogue: &[u8]) -> u16 {
+fn draw_set(draw: &mut Draw, question: &[u8], Offer { catalogue, one_way }: Offer) -> u16 {
     let any = draw.word() as u16;
     let extracts = files::judge_catalogue(catalogue).map_or(0, |extracts| extracts.len());
     let charges: Vec<u32> = (0..extracts).map(|_| draw.word() >> 8).collect();
-    let Ok(cheapest) = cheapest(question, catalogue, &charges, WORK_WORDS) else {
+    let Ok(cheapest) = cheapest(question, catalogue, one_way, &charges, WORK_WORDS) else {
         return any;
     };
     let set: u16 = cheapest.set.iter().map(|a| 1 << a).sum();
@@ -145,8 +178,8 @@ fn draw_set(draw: &mut Draw, question: &[u8], catalogue: &[u8]) -> u16 {
 }
 
 /// Whether the extracts of a set cover a question.
-fn covers(question: &[u8], catalogue: &[u8], set: u16) -> bool {
-    let mapping = quoting::quote(question, catalogue, WORK_WORDS).unwrap().mapping;
+fn covers(question: &[u8], Offer { catalogue, one_way }: Offer, set: u16) -> bool {
+    let mapping = quoting::quote(question, catalogue, one_way, WORK_WORDS).unwrap().mapping;
     let set: Vec<usize> = (0..16).filter(|a| set >> a & 1 == 1).collect();
     quoting::covers(&mapping, &set)
 }
@@ -168,7 +201,8 @@ impl Test {
     pub fn input(&mut self, seed: u64) -> Result<(), Difference> {
         let draw = &mut Draw::new(seed);
         match draw.below(100) {
-            0..=20 => self.lone_file(draw),
+            0..=19 => self.lone_file(draw),
+            20 => self.another_one_way(draw),
             21..=22 => self.on_day(draw),
             23 => self.on_day_and_search(draw),
             24..=25 => self.sort_record(draw),
@@ -360,8 +394,9 @@ impl Test {
         let subject = draw_subject(draw, false);
         let lent = Lent::draw(draw);
         let catalogue = self.catalogue(draw, &subject, 16);
+        let one_way = subject.any_one_way(draw);
         let record = subject.record(draw, 16, &subject.catalogue);
-        reply!(self.bytes, draw, fitted(lent), MakeBook, matching::make_book(catalogue, record))?;
+        reply!(self.bytes, draw, fitted(lent), MakeBook, matching::make_book(catalogue [one_way] record))?;
         Ok(())
     }
 
@@ -371,28 +406,32 @@ impl Test {
         let lent = Lent::draw(draw);
         let question = subject.question(draw, 16);
         let catalogue = self.catalogue(draw, &subject, 16);
-        self.bytes.quote(&mut self.notes, draw, lent, &question, &catalogue)
+        let offer = Offer { catalogue: &catalogue, one_way: subject.any_one_way(draw) };
+        self.bytes.quote(&mut self.notes, draw, lent, &question, offer)
     }
 
-    /// What is shown: each extract's lists are the same on both records, and the question's sheets are not.
+    /// What is shown: each extract's lists, by its own rule, are the same on both records, and the question's sheets are not.
     fn show(&mut self, draw: &mut Draw) -> Result<(), Difference> {
         let covered = draw.one_in(8);
         let subject = draw_subject(draw, covered);
         let lent = Lent::draw(draw);
         let question = subject.question(draw, 16);
         let catalogue = self.catalogue(draw, &subject, 16);
-        let Ok((first, second)) = self.bytes.show(&mut self.notes, draw, lent, &question, &catalogue)? else {
+        let one_way = subject.any_one_way(draw);
+        let offer = Offer { catalogue: &catalogue, one_way };
+        let Ok((first, second)) = self.bytes.show(&mut self.notes, draw, lent, &question, offer)? else {
             return Ok(());
         };
         let whole = Lent { room: BOOK_BYTES, work: WORK_WORDS };
-        let book = reply!(self.bytes, draw, exactly(whole), MakeBook, matching::make_book(catalogue, first))?;
-        let same = reply!(self.bytes, draw, exactly(whole), MakeBook, matching::make_book(catalogue, second))?;
+        let book = reply!(self.bytes, draw, exactly(whole), MakeBook, matching::make_book(catalogue [one_way] first))?;
+        let same = reply!(self.bytes, draw, exactly(whole), MakeBook, matching::make_book(catalogue [one_way] second))?;
         let sheet = reply!(self.bytes, draw, exactly(whole), Search, matching::search(question, first))?;
         let other = reply!(self.bytes, draw, exactly(whole), Search, matching::search(question, second))?;
         if book.outcome != same.outcome || sheet.outcome == other.outcome {
             return Err(format!("shown, and not shown by it: {first:02x?}\n{second:02x?}\n"));
         }
         self.notes.tally.shown += 1;
+        self.notes.tally.shown_one_way += u64::from(one_way != 0);
         self.notes.tally.one_kind += u64::from(keeps_pair(&first, &second));
         Ok(())
     }
@@ -407,7 +446,8 @@ impl Test {
         let question = subject.question(draw, 16);
         let catalogue = self.catalogue(draw, &subject, 16);
         let charges = draw_charges(draw, subject.catalogue.len());
-        self.bytes.cheapest(&mut self.notes, draw, lent, &question, &catalogue, &charges)
+        let offer = Offer { catalogue: &catalogue, one_way: subject.any_one_way(draw) };
+        self.bytes.cheapest(&mut self.notes, draw, lent, &question, offer, &charges)
     }
 
     /// From a book that belongs to no record.
@@ -417,10 +457,11 @@ impl Test {
         let lent = Lent::draw(draw);
         let question = subject.question(draw, 16);
         let catalogue = self.catalogue(draw, &subject, 16);
+        let one_way = subject.any_one_way(draw);
         let sheets = draw_book(draw, subject.size, &subject.catalogue);
         let layout = of_book(draw, &sheets, 16);
         let book = file(draw, layout, 8, BOOK_BYTES);
-        reply!(self.bytes, draw, fitted(lent), Answer, answering::answer(question, catalogue, book))?;
+        reply!(self.bytes, draw, fitted(lent), Answer, answering::answer(question, catalogue [one_way] book))?;
         Ok(())
     }
 
@@ -431,14 +472,16 @@ impl Test {
         let lent = Lent::draw(draw);
         let question = subject.question(draw, 16);
         let catalogue = self.catalogue(draw, &subject, 16);
-        let set = draw_set(draw, &question, &catalogue);
+        let one_way = subject.any_one_way(draw);
+        let offer = Offer { catalogue: &catalogue, one_way };
+        let set = draw_set(draw, &question, offer);
         let sheets = draw_book(draw, subject.size, &subject.catalogue);
         let layout = of_book(draw, &sheets, 16);
         let book = file(draw, layout, 8, BOOK_BYTES);
-        let model = |room, work| answering::answer_from(&question, &catalogue, set, &book, room, work);
+        let model = |room, work| answering::answer_from(&question, &catalogue, one_way, set, &book, room, work);
         let (lent, _) = fitted(draw, lent, model);
-        let from = self.from_set(draw, lent, &question, &catalogue, set, &book)?;
-        if from.is_ok() && from != answering::answer(&question, &catalogue, &book, lent.room, lent.work) {
+        let from = self.from_set(draw, lent, &question, offer, set, &book)?;
+        if from.is_ok() && from != answering::answer(&question, &catalogue, one_way, &book, lent.room, lent.work) {
             self.notes.tally.apart += 1;
         }
         Ok(())
@@ -449,16 +492,21 @@ impl Test {
         draw: &mut Draw,
         lent: Lent,
         question: &[u8],
-        catalogue: &[u8],
+        Offer { catalogue, one_way }: Offer,
         set: u16,
         book: &[u8],
     ) -> Result<Result<Vec<u8>, Refusal>, Difference> {
-        let expected = answering::answer_from(question, catalogue, set, book, lent.room, lent.work);
-        let inputs: [(_, &dyn Debug); 4] =
-            [("question", &question), ("catalogue", &catalogue), ("set", &set), ("book", &book)];
+        let expected = answering::answer_from(question, catalogue, one_way, set, book, lent.room, lent.work);
+        let inputs: [(_, &dyn Debug); 5] = [
+            ("question", &question),
+            ("catalogue", &catalogue),
+            ("one_way", &one_way),
+            ("set", &set),
+            ("book", &book),
+        ];
         let asked = Asked { call: Call::AnswerFrom, inputs: &inputs, lent };
         let library =
-            |out: &mut [u8], work: &mut [u32]| yuthaqim::answer_from(question, catalogue, set, book, out, work);
+            |out: &mut [u8], work: &mut [u32]| yuthaqim::answer_from(question, catalogue, one_way, set, book, out, work);
         Ok(self.bytes.reply(&mut self.notes, draw, asked, expected, library)?.outcome)
     }
 
@@ -468,11 +516,13 @@ impl Test {
         let subject = draw_subject(draw, true);
         let question = of_pattern(&subject.question).bytes();
         let catalogue = of_catalogue(&subject.catalogue).bytes();
+        let one_way = subject.one_way(draw);
+        let offer = Offer { catalogue: &catalogue, one_way };
         let beside = has_links_beside(&subject.question);
         let record = draw_record(draw, &subject.kinds, subject.size, &[subject.question]);
         let record = of_record(&record).bytes();
         let whole = Lent { room: BOOK_BYTES, work: WORK_WORDS };
-        let made = reply!(self.bytes, draw, exactly(whole), MakeBook, matching::make_book(catalogue, record))?;
+        let made = reply!(self.bytes, draw, exactly(whole), MakeBook, matching::make_book(catalogue [one_way] record))?;
         let Ok(book) = made.outcome else {
             return Ok(());
         };
@@ -486,14 +536,20 @@ impl Test {
             return Err(format!("indexed: {:?}\nsearch: {:?}\n", indexed.outcome, searched.outcome));
         }
         self.notes.tally.indexed += 1;
-        let answered = reply!(self.bytes, draw, exactly(lent), Answer, answering::answer(question, catalogue, book))?;
+        let answered =
+            reply!(self.bytes, draw, exactly(lent), Answer, answering::answer(question, catalogue [one_way] book))?;
         if answered.outcome != searched.outcome {
             return Err(format!("answer: {:?}\nsearch: {:?}\n", answered.outcome, searched.outcome));
         }
         self.notes.tally.answered += 1;
-        let set = draw_set(draw, &question, &catalogue);
-        let from = self.from_set(draw, lent, &question, &catalogue, set, &book)?;
-        if covers(&question, &catalogue, set) {
+        if one_way != 0 {
+            self.notes.tally.mixed += u64::from(u32::from(one_way) != (1 << subject.catalogue.len()) - 1);
+            let both_ways = matching::make_book(&catalogue, 0, &record, BOOK_BYTES, WORK_WORDS);
+            self.notes.tally.more_listed += u64::from(both_ways.is_ok_and(|other| other != book));
+        }
+        let set = draw_set(draw, &question, offer);
+        let from = self.from_set(draw, lent, &question, offer, set, &book)?;
+        if covers(&question, offer, set) {
             if from != searched.outcome {
                 return Err(format!("from {set:#x}: {from:?}\nsearch: {:?}\n", searched.outcome));
             }
@@ -506,16 +562,47 @@ impl Test {
         Ok(())
     }
 
+    /// From the book of a record that was made under another set than the one that is asked with: that promises an answer, as the
+    /// model gives it, and not that it is what a search gives.
+    fn another_one_way(&mut self, draw: &mut Draw) -> Result<(), Difference> {
+        let covered = !draw.one_in(3);
+        let subject = draw_subject(draw, covered);
+        let question = of_pattern(&subject.question).bytes();
+        let catalogue = of_catalogue(&subject.catalogue).bytes();
+        let record = draw_record(draw, &subject.kinds, subject.size, std::slice::from_ref(&subject.question));
+        let record = of_record(&record).bytes();
+        let [one_way, other] = [(); 2].map(|()| subject.one_way(draw));
+        let whole = Lent { room: BOOK_BYTES, work: WORK_WORDS };
+        let made = reply!(self.bytes, draw, exactly(whole), MakeBook, matching::make_book(catalogue [other] record))?;
+        let Ok(book) = made.outcome else {
+            return Ok(());
+        };
+        let answered =
+            reply!(self.bytes, draw, exactly(whole), Answer, answering::answer(question, catalogue [one_way] book))?;
+        let offer = Offer { catalogue: &catalogue, one_way };
+        let _ = self.part_of(draw, whole, &question, offer, &book)?;
+        let set = draw_set(draw, &question, offer);
+        let _ = self.from_set(draw, whole, &question, offer, set, &book)?;
+        if answered.outcome.is_ok() && one_way != other {
+            self.notes.tally.other_sets += 1;
+            let searched = matching::search(&question, &record, BOOK_BYTES, WORK_WORDS);
+            self.notes.tally.not_searched += u64::from(answered.outcome != searched);
+        }
+        Ok(())
+    }
+
     /// Several questions from the book of a record or from one of none; where they are answered, each as by itself.
     fn several(&mut self, draw: &mut Draw) -> Result<(), Difference> {
         let covered = !draw.one_in(4);
         let subject = draw_subject(draw, covered);
         let questions = draw_questions(draw, &subject);
         let catalogue = self.catalogue(draw, &subject, 16);
+        let one_way = subject.any_one_way(draw);
+        let offer = Offer { catalogue: &catalogue, one_way };
         let book = if draw.one_in(2) {
             let record = of_record(&draw_record(draw, &subject.kinds, subject.size, &questions)).bytes();
             let catalogue = of_catalogue(&subject.catalogue).bytes();
-            let Ok(book) = matching::make_book(&catalogue, &record, BOOK_BYTES, WORK_WORDS) else {
+            let Ok(book) = matching::make_book(&catalogue, one_way, &record, BOOK_BYTES, WORK_WORDS) else {
                 return Ok(());
             };
             book
@@ -527,7 +614,7 @@ impl Test {
         let number = draw_number(draw, questions.len());
         let paper = file(draw, of_questions(&questions), 4, PATTERN_BYTES * questions.len());
         let lent = Lent::draw(draw);
-        let given = self.bytes.several(&mut self.notes, draw, lent, (&paper, number), &catalogue, &book)?;
+        let given = self.bytes.several(&mut self.notes, draw, lent, (&paper, number), offer, &book)?;
         let Ok(given) = given else {
             return Ok(());
         };
@@ -537,11 +624,12 @@ impl Test {
         let (mut answers, mut chosen) = (Vec::new(), 0);
         for question in &questions {
             let question = of_pattern(question).bytes();
-            let alone = reply!(self.bytes, draw, exactly(whole), Answer, answering::answer(question, catalogue, book))?;
+            let alone =
+                reply!(self.bytes, draw, exactly(whole), Answer, answering::answer(question, catalogue [one_way] book))?;
             let alone = alone.outcome.unwrap_or_default();
             self.notes.tally.questions_with_pairs += u64::from(alone.first() != Some(&0));
             answers.extend(alone);
-            chosen += quoting::quote(&question, &catalogue, WORK_WORDS).unwrap().chosen.len();
+            chosen += quoting::quote(&question, &catalogue, one_way, WORK_WORDS).unwrap().chosen.len();
         }
         if answers != given.answers {
             return Err(format!("several: {:02x?}\neach by itself: {answers:02x?}\n", given.answers));
@@ -561,9 +649,10 @@ impl Test {
         let sheets = draw_book(draw, subject.size, &subject.catalogue);
         let layout = of_book(draw, &sheets, 16);
         let book = file(draw, layout, 8, BOOK_BYTES);
-        let _ = self.part_of(draw, lent, &question, &catalogue, &book)?;
+        let offer = Offer { catalogue: &catalogue, one_way: subject.any_one_way(draw) };
+        let _ = self.part_of(draw, lent, &question, offer, &book)?;
         if question == of_pattern(&subject.question).bytes() {
-            self.choices(draw, &subject.question, &catalogue)?;
+            self.choices(draw, &subject.question, offer)?;
         }
         Ok(())
     }
@@ -574,10 +663,11 @@ impl Test {
         draw: &mut Draw,
         lent: Lent,
         question: &[u8],
-        catalogue: &[u8],
+        offer: Offer,
         book: &[u8],
     ) -> Result<(Lent, TwoFiles), Difference> {
-        let whole = part(question, catalogue, book, MOST, BOOK_BYTES, WORK_WORDS);
+        let model = |first, room, work| part(question, offer.catalogue, offer.one_way, book, first, room, work);
+        let whole = model(MOST, BOOK_BYTES, WORK_WORDS);
         let needed = whole.map_or(1, |(part, _)| part.len());
         let first = match draw.below(16) {
             0 => draw.below(needed),
@@ -585,13 +675,14 @@ impl Test {
             2..=5 => needed,
             _ => needed + draw.below(60),
         };
-        let (lent, _) = fitted(draw, lent, |room, work| part(question, catalogue, book, MOST, room, work));
-        Ok((lent, self.bytes.part(&mut self.notes, draw, (first, lent), question, catalogue, book)?))
+        let (lent, _) = fitted(draw, lent, |room, work| model(MOST, room, work));
+        Ok((lent, self.bytes.part(&mut self.notes, draw, (first, lent), question, offer, book)?))
     }
 
     /// Choices of a question's links: those that are covered lie inside the part.
-    fn choices(&mut self, draw: &mut Draw, question: &Pattern, catalogue: &[u8]) -> Result<(), Difference> {
-        let Ok(quote) = quoting::quote(&of_pattern(question).bytes(), catalogue, WORK_WORDS) else {
+    fn choices(&mut self, draw: &mut Draw, question: &Pattern, offer: Offer) -> Result<(), Difference> {
+        let Offer { catalogue, one_way } = offer;
+        let Ok(quote) = quoting::quote(&of_pattern(question).bytes(), catalogue, one_way, WORK_WORDS) else {
             return Ok(());
         };
         let matched = matched(&quote);
@@ -601,11 +692,11 @@ impl Test {
         for _ in 0..3 {
             let links = draw_choice(draw, question.links.len(), &matched);
             let chosen = of_pattern(&choice(question, &links)).bytes();
-            if !quoting::quote(&chosen, catalogue, WORK_WORDS).unwrap().covered {
+            if !quoting::quote(&chosen, catalogue, one_way, WORK_WORDS).unwrap().covered {
                 continue;
             }
             let whole = Lent { room: BOOK_BYTES, work: WORK_WORDS };
-            self.bytes.quote(&mut self.notes, draw, whole, &chosen, catalogue)?;
+            self.bytes.quote(&mut self.notes, draw, whole, &chosen, offer)?;
             if !links.iter().all(|e| matched.contains(e)) {
                 return Err(format!("covered, and not inside the part: {links:?} of {question:?}\n{catalogue:02x?}\n"));
             }
@@ -621,8 +712,10 @@ impl Test {
         let subject = draw_matched_in_part(draw);
         let question = of_pattern(&subject.question).bytes();
         let catalogue = of_catalogue(&subject.catalogue).bytes();
+        let one_way = subject.one_way(draw);
+        let offer = Offer { catalogue: &catalogue, one_way };
         // The question, or what is matched of it, or both.
-        let quote = quoting::quote(&question, &catalogue, WORK_WORDS).unwrap();
+        let quote = quoting::quote(&question, &catalogue, one_way, WORK_WORDS).unwrap();
         let matched = matched(&quote);
         let planted = [subject.question.clone(), choice(&subject.question, &matched)];
         let planted =
@@ -630,13 +723,13 @@ impl Test {
         let record = draw_record(draw, &subject.kinds, subject.size, planted);
         let record = of_record(&record).bytes();
         let whole = Lent { room: BOOK_BYTES, work: WORK_WORDS };
-        let made = reply!(self.bytes, draw, exactly(whole), MakeBook, matching::make_book(catalogue, record))?;
+        let made = reply!(self.bytes, draw, exactly(whole), MakeBook, matching::make_book(catalogue [one_way] record))?;
         let Ok(book) = made.outcome else {
             return Ok(());
         };
-        self.choices(draw, &subject.question, &catalogue)?;
+        self.choices(draw, &subject.question, offer)?;
         let lent = Lent::draw(draw);
-        let (lent, given) = self.part_of(draw, lent, &question, &catalogue, &book)?;
+        let (lent, given) = self.part_of(draw, lent, &question, offer, &book)?;
         if matched.is_empty() {
             return Ok(());
         }
@@ -648,7 +741,7 @@ impl Test {
         let index = index_of(&record);
         let indexed =
             reply!(self.bytes, draw, exactly(lent), SearchIndexed, indexing::search_indexed(part, record, index))?;
-        let asked = reply!(self.bytes, draw, exactly(lent), Answer, answering::answer(part, catalogue, book))?;
+        let asked = reply!(self.bytes, draw, exactly(lent), Answer, answering::answer(part, catalogue [one_way] book))?;
         if indexed.outcome != searched.outcome || asked.outcome != searched.outcome {
             return Err(format!("part searched for: {:?}\nanswered: {:?}\n", searched.outcome, asked.outcome));
         }

@@ -43,7 +43,7 @@ impl Call {
 }
 
 /// The refusals are numbered from 1 to this.
-const REFUSALS: usize = 18;
+const REFUSALS: usize = 19;
 
 /// At 0 how often a call succeeded, then how often it gave each refusal.
 type Counts = [u64; REFUSALS + 1];
@@ -97,6 +97,16 @@ pub struct Tally {
     pub first_days: u64,
     pub shown_on: u64,
     pub others_differ: u64,
+    /// Quotes that are covered and would not be if all extracts were matched both ways. Covered questions that were answered from the
+    /// book of a record some of whose extracts, and not all, are matched one-way, and the record searched; those whose book isn't that of
+    /// the record both ways. Showings with extracts that are matched one-way. Answers from the book of a record made under another set than
+    /// the one asked with, and those of them that aren't what a search gives.
+    pub by_one_way: u64,
+    pub mixed: u64,
+    pub more_listed: u64,
+    pub shown_one_way: u64,
+    pub other_sets: u64,
+    pub not_searched: u64,
     /// Old files that were sorted, and those of them whose links were not in order.
     pub sorted: u64,
     pub disordered: u64,
@@ -128,6 +138,7 @@ impl fmt::Display for Tally {
         let Tally { parts, parts_with_pairs, wider, whole, choices, smaller, .. } = self;
         let Tally { several, questions, questions_with_pairs, shared, empty, .. } = self;
         let Tally { on_days, parts_on, first_days, shown_on, others_differ, .. } = self;
+        let Tally { by_one_way, mixed, more_listed, shown_one_way, other_sets, not_searched, .. } = self;
         writeln!(
             f,
             "{answered} covered questions answered as the record is searched, {with_pairs} of them with pairs, {beside} of \
@@ -157,6 +168,12 @@ impl fmt::Display for Tally {
             "{on_days} questions covered on a day and answered as the record is searched, {parts_on} parts on a day answered so, \
              {first_days} first days after the given one; {shown_on} showings for a day with the same lists of all extracts in \
              force, {others_differ} of them with other lists of another"
+        )?;
+        writeln!(
+            f,
+            "{by_one_way} quotes covered by one-way extracts alone; {mixed} covered questions answered from mixed books as the record is \
+             searched, {more_listed} books with other lists than both ways; {shown_one_way} showings with one-way extracts; \
+             {other_sets} answers from books of another set, {not_searched} of them not what a search gives"
         )?;
         writeln!(f, "{apart} answers from books of no record that are not those of the chosen set")?;
         writeln!(f, "{cheapest} cheapest sets, {not_chosen} of them not the chosen one, {tied} tied with another up to the numbers")?;

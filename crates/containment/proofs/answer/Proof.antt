@@ -1,6 +1,7 @@
 -- `containment::answer` meets its contract.
 use lib.ListN.{length}
 use Rattle.packed.proofs.CallLaws.{settles-small, settles-lent}
+use Rattle.matching.specs.Offered.{brings}
 use Rattle.containment.specs.Answer.{answerOutcome}
 use borrow.Author.Needs.{needs}
 use Rattle.containment.proofs.answer.Statement.{statement}
@@ -10,7 +11,7 @@ returns : tie.Need-returns
 returns c =
     let args = c .before .before .before .before .before .before .args in
     let a = args in
-    settles-small (answerOutcome (a .question .now) (a .catalogue .now) (a .book .now) (length (a .out .now))) (a .out .now) (a .work .now) (c .if1 .taken)
+    settles-small (answerOutcome (a .question .now) (brings (a .catalogue .now) (a .one-way)) (a .book .now) (length (a .out .now))) (a .out .now) (a .work .now) (c .if1 .taken)
 
 sub-answer : tie.Need-sub-answer
 sub-answer c = search needs
@@ -41,8 +42,8 @@ returns-2 c =
     let clear = c .before .before .clear in
     let a = args in
     let k = answer in
-    settles-lent (answerOutcome (a .question .now) (a .catalogue .now) (a .book .now) (length (a .out .now))) (a .out .now) (a .work .now) (k .last .1 .1 .1 .1 .0) (if1 .left)
-    (k .ensures) (k .kept .1 .1 .1 .1 .0) (clear .ensures)
+    settles-lent (answerOutcome (a .question .now) (brings (a .catalogue .now) (a .one-way)) (a .book .now) (length (a .out .now))) (a .out .now) (a .work .now) (k .last .1 .1 .1 .1 .1 .0) (if1 .left)
+    (k .ensures) (k .kept .1 .1 .1 .1 .1 .0) (clear .ensures)
 
 pub answer-spec : {M : Type 1} → statement M
 answer-spec =

@@ -1,6 +1,7 @@
 -- `containment::answer_from` meets its contract.
 use lib.ListN.{length}
 use Rattle.packed.proofs.CallLaws.{settles-small, settles-lent}
+use Rattle.matching.specs.Offered.{brings}
 use Rattle.containment.specs.Answer.{answerFrom}
 use borrow.Author.Needs.{needs}
 use Rattle.containment.proofs.answer_from.Statement.{statement}
@@ -10,7 +11,7 @@ returns : tie.Need-returns
 returns c =
     let args = c .before .before .before .before .before .before .args in
     let a = args in
-    settles-small (answerFrom (a .question .now) (a .catalogue .now) (a .set) (a .book .now) (length (a .out .now))) (a .out .now) (a .work .now) (c .if1 .taken)
+    settles-small (answerFrom (a .question .now) (brings (a .catalogue .now) (a .one-way)) (a .set) (a .book .now) (length (a .out .now))) (a .out .now) (a .work .now) (c .if1 .taken)
 
 sub-answer-from : tie.Need-sub-answer-from
 sub-answer-from c = search needs
@@ -40,8 +41,8 @@ returns-2 c =
     let k = c .before .before .before .before .before .before .before .before .answer-from in
     let clear = c .before .before .clear in
     let a = args in
-    settles-lent (answerFrom (a .question .now) (a .catalogue .now) (a .set) (a .book .now) (length (a .out .now))) (a .out .now) (a .work .now) (k .last .1 .1 .1 .1 .1 .0) (if1 .left)
-    (k .ensures) (k .kept .1 .1 .1 .1 .1 .0) (clear .ensures)
+    settles-lent (answerFrom (a .question .now) (brings (a .catalogue .now) (a .one-way)) (a .set) (a .book .now) (length (a .out .now))) (a .out .now) (a .work .now) (k .last .1 .1 .1 .1 .1 .1 .0) (if1 .left)
+    (k .ensures) (k .kept .1 .1 .1 .1 .1 .1 .0) (clear .ensures)
 
 pub answer-from-spec : {M : Type 1} → statement M
 answer-from-spec =

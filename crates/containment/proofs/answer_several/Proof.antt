@@ -3,6 +3,7 @@ use mathlib.Core.Path.{refl}
 use mathlib.Core.List.{[], _∷_}
 use lib.ListN.{length}
 use Rattle.packed.proofs.CallLaws.{small-settled, lent-settled}
+use Rattle.matching.specs.Offered.{brings}
 use Rattle.containment.specs.Several.{severalOutcome}
 use borrow.Author.Needs.{needs}
 use Rattle.containment.proofs.answer_several.Statement.{statement}
@@ -11,7 +12,7 @@ use Rattle.containment.proofs.answer_several.Tie as tie
 returns : tie.Need-returns
 returns c =
     let a = c .before .before .before .before .before .before .args in
-    small-settled [] (severalOutcome (a .questions .now) (a .number) (a .catalogue .now) (a .book .now) (length (a .out .now))) (a .work .now) (a .out .now ∷ []) (c .if1 .taken) refl
+    small-settled [] (severalOutcome (a .questions .now) (a .number) (brings (a .catalogue .now) (a .one-way)) (a .book .now) (length (a .out .now))) (a .work .now) (a .out .now ∷ []) (c .if1 .taken) refl
 
 sub-answer-several : tie.Need-sub-answer-several
 sub-answer-several c = search needs
@@ -38,7 +39,7 @@ returns-2 : tie.Need-returns-2
 returns-2 c =
     let a = c .before .before .before .before .before .before .before .before .before .before .before .before .before .before .before .before .before .args in
     let k = c .before .before .before .before .before .before .before .before .answer-several in
-    lent-settled [] (severalOutcome (a .questions .now) (a .number) (a .catalogue .now) (a .book .now) (length (a .out .now))) (a .work .now) (c .before .before .before .before .before .before .before .before .before .before .before .if1 .left) (k .ensures) (k .last .1 .1 .1 .1 .1 .0) (k .kept .1 .1 .1 .1 .1 .0) (c .before .before .clear .ensures)
+    lent-settled [] (severalOutcome (a .questions .now) (a .number) (brings (a .catalogue .now) (a .one-way)) (a .book .now) (length (a .out .now))) (a .work .now) (c .before .before .before .before .before .before .before .before .before .before .before .if1 .left) (k .ensures) (k .last .1 .1 .1 .1 .1 .1 .0) (k .kept .1 .1 .1 .1 .1 .1 .0) (c .before .before .clear .ensures)
 
 pub answer-several-spec : {M : Type 1} → statement M
 answer-several-spec =

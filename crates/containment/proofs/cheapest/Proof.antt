@@ -1,6 +1,7 @@
 -- `containment::cheapest` meets its contract.
 use mathlib.Core.Path.{refl}
 use mathlib.Core.List.{[]}
+use Rattle.matching.specs.Offered.{brings}
 use Rattle.containment.specs.Cheapest.{cheapestOutcome}
 use Rattle.packed.proofs.CallLaws.{small-settled, lent-settled}
 use borrow.Author.Needs.{needs}
@@ -11,7 +12,7 @@ returns : tie.Need-returns
 returns c =
     let args = c .before .before .before .before .before .args in
     let a = args in
-    small-settled [] (cheapestOutcome (a .question .now) (a .catalogue .now) (a .charges .now)) (a .work .now) [] (c .if1 .taken) refl
+    small-settled [] (cheapestOutcome (a .question .now) (brings (a .catalogue .now) (a .one-way)) (a .charges .now)) (a .work .now) [] (c .if1 .taken) refl
 
 sub-find-cheapest : tie.Need-sub-find-cheapest
 sub-find-cheapest c = search needs
@@ -39,7 +40,7 @@ returns-2 c =
     let clear = c .before .before .clear in
     let a = args in
     let k = find-cheapest in
-    lent-settled [] (cheapestOutcome (a .question .now) (a .catalogue .now) (a .charges .now)) (a .work .now) (if1 .left) (k .ensures) (k .last .1 .1 .1 .0) (k .kept .1 .1 .1 .0) (clear .ensures)
+    lent-settled [] (cheapestOutcome (a .question .now) (brings (a .catalogue .now) (a .one-way)) (a .charges .now)) (a .work .now) (if1 .left) (k .ensures) (k .last .1 .1 .1 .1 .0) (k .kept .1 .1 .1 .1 .0) (clear .ensures)
 
 pub cheapest-spec : {M : Type 1} → statement M
 cheapest-spec =

@@ -1,6 +1,7 @@
 -- `containment::cheapest_on` meets its contract.
 use mathlib.Core.Path.{refl}
 use mathlib.Core.List.{[]}
+use Rattle.matching.specs.Offered.{brings}
 use Rattle.containment.specs.Terms.{cheapestOn}
 use Rattle.packed.proofs.CallLaws.{small-settled, lent-settled}
 use borrow.Author.Needs.{needs}
@@ -11,7 +12,7 @@ returns : tie.Need-returns
 returns c =
     let args = c .before .before .before .before .before .args in
     let a = args in
-    small-settled [] (cheapestOn (a .question .now) (a .catalogue .now) (a .terms) (a .day) (a .charges .now)) (a .work .now) [] (c .if1 .taken) refl
+    small-settled [] (cheapestOn (a .question .now) (brings (a .catalogue .now) (a .one-way)) (a .terms) (a .day) (a .charges .now)) (a .work .now) [] (c .if1 .taken) refl
 
 sub-find-cheapest-on : tie.Need-sub-find-cheapest-on
 sub-find-cheapest-on c = search needs
@@ -39,7 +40,7 @@ returns-2 c =
     let clear = c .before .before .clear in
     let a = args in
     let k = find-cheapest in
-    lent-settled [] (cheapestOn (a .question .now) (a .catalogue .now) (a .terms) (a .day) (a .charges .now)) (a .work .now) (if1 .left) (k .ensures) (k .last .1 .1 .1 .1 .1 .0) (k .kept .1 .1 .1 .1 .1 .0) (clear .ensures)
+    lent-settled [] (cheapestOn (a .question .now) (brings (a .catalogue .now) (a .one-way)) (a .terms) (a .day) (a .charges .now)) (a .work .now) (if1 .left) (k .ensures) (k .last .1 .1 .1 .1 .1 .1 .0) (k .kept .1 .1 .1 .1 .1 .1 .0) (clear .ensures)
 
 pub cheapest-on-spec : {M : Type 1} → statement M
 cheapest-on-spec =

@@ -2,6 +2,7 @@
 use mathlib.Core.Path.{refl}
 use mathlib.Core.List.{[]}
 use Rattle.packed.proofs.CallLaws.{small-settled, lent-settled}
+use Rattle.matching.specs.Offered.{brings}
 use Rattle.containment.specs.Terms.{firstDay}
 use borrow.Author.Needs.{needs}
 use Rattle.containment.proofs.first_day.Statement.{statement}
@@ -10,7 +11,7 @@ use Rattle.containment.proofs.first_day.Tie as tie
 returns : tie.Need-returns
 returns c =
     let a = c .before .before .before .before .args in
-    small-settled [] (firstDay (a .question .now) (a .catalogue .now) (a .terms) (a .day)) (a .work .now) [] (c .if1 .taken) refl
+    small-settled [] (firstDay (a .question .now) (brings (a .catalogue .now) (a .one-way)) (a .terms) (a .day)) (a .work .now) [] (c .if1 .taken) refl
 
 sub-find-first-day : tie.Need-sub-find-first-day
 sub-find-first-day c = search needs
@@ -34,7 +35,7 @@ returns-2 : tie.Need-returns-2
 returns-2 c =
     let a = c .before .before .before .before .before .before .before .before .before .before .before .before .args in
     let k = c .before .before .before .before .before .before .find-first-day in
-    lent-settled [] (firstDay (a .question .now) (a .catalogue .now) (a .terms) (a .day)) (a .work .now) (c .before .before .before .before .before .before .before .before .if1 .left) (k .ensures) (k .last .1 .1 .1 .1 .0) (k .kept .1 .1 .1 .1 .0) (c .before .before .clear .ensures)
+    lent-settled [] (firstDay (a .question .now) (brings (a .catalogue .now) (a .one-way)) (a .terms) (a .day)) (a .work .now) (c .before .before .before .before .before .before .before .before .if1 .left) (k .ensures) (k .last .1 .1 .1 .1 .1 .0) (k .kept .1 .1 .1 .1 .1 .0) (c .before .before .clear .ensures)
 
 pub first-day-spec : {M : Type 1} → statement M
 first-day-spec =

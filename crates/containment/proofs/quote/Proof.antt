@@ -1,6 +1,7 @@
 -- `containment::quote` meets its contract.
 use mathlib.Core.List.{[]}
 use Rattle.packed.proofs.CallLaws.{small-settled, lent-settled}
+use Rattle.matching.specs.Offered.{brings}
 use Rattle.containment.specs.Quote.{blank, quoteOutcome}
 use borrow.Author.Needs.{needs}
 use Rattle.containment.proofs.quote.Statement.{statement}
@@ -14,7 +15,7 @@ returns c =
     let args = c .before .before .before .before .before .args in
     let if1 = c .before .if1 in
     let a = args in
-    small-settled blank (quoteOutcome (a .question .now) (a .catalogue .now)) (a .work .now) [] (if1 .taken) (c .refused .ensures)
+    small-settled blank (quoteOutcome (a .question .now) (brings (a .catalogue .now) (a .one-way))) (a .work .now) [] (if1 .taken) (c .refused .ensures)
 
 sub-quote : tie.Need-sub-quote
 sub-quote c = search needs
@@ -42,7 +43,7 @@ returns-2 c =
     let clear = c .before .before .clear in
     let a = args in
     let k = at-quote in
-    lent-settled blank (quoteOutcome (a .question .now) (a .catalogue .now)) (a .work .now) (if1 .left) (k .ensures) (k .last .1 .1 .0) (k .kept .1 .1 .0) (clear .ensures)
+    lent-settled blank (quoteOutcome (a .question .now) (brings (a .catalogue .now) (a .one-way))) (a .work .now) (if1 .left) (k .ensures) (k .last .1 .1 .1 .0) (k .kept .1 .1 .1 .0) (clear .ensures)
 
 pub quote-spec : {M : Type 1} → statement M
 quote-spec =

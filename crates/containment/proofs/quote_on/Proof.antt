@@ -1,6 +1,7 @@
 -- `containment::quote_on` meets its contract.
 use mathlib.Core.List.{[]}
 use Rattle.packed.proofs.CallLaws.{small-settled, lent-settled}
+use Rattle.matching.specs.Offered.{brings}
 use Rattle.containment.specs.Quote.{blank}
 use Rattle.containment.specs.Terms.{quoteOn}
 use borrow.Author.Needs.{needs}
@@ -15,7 +16,7 @@ returns c =
     let args = c .before .before .before .before .before .args in
     let if1 = c .before .if1 in
     let a = args in
-    small-settled blank (quoteOn (a .question .now) (a .catalogue .now) (a .terms) (a .day)) (a .work .now) [] (if1 .taken) (c .refused .ensures)
+    small-settled blank (quoteOn (a .question .now) (brings (a .catalogue .now) (a .one-way)) (a .terms) (a .day)) (a .work .now) [] (if1 .taken) (c .refused .ensures)
 
 sub-quote-on : tie.Need-sub-quote-on
 sub-quote-on c = search needs
@@ -43,7 +44,7 @@ returns-2 c =
     let clear = c .before .before .clear in
     let a = args in
     let k = at-quote in
-    lent-settled blank (quoteOn (a .question .now) (a .catalogue .now) (a .terms) (a .day)) (a .work .now) (if1 .left) (k .ensures) (k .last .1 .1 .1 .1 .0) (k .kept .1 .1 .1 .1 .0) (clear .ensures)
+    lent-settled blank (quoteOn (a .question .now) (brings (a .catalogue .now) (a .one-way)) (a .terms) (a .day)) (a .work .now) (if1 .left) (k .ensures) (k .last .1 .1 .1 .1 .1 .0) (k .kept .1 .1 .1 .1 .1 .0) (clear .ensures)
 
 pub quote-on-spec : {M : Type 1} → statement M
 quote-on-spec =

@@ -3,6 +3,7 @@ use mathlib.Core.Path.{refl, _∙_}
 use mathlib.Core.List.{[], _∷_}
 use lib.ListN.{length}
 use Rattle.packed.proofs.CallLaws.{lent-long, small-settled, lent-settled}
+use Rattle.matching.specs.Offered.{brings}
 use Rattle.containment.specs.Show.{showOutcome}
 use borrow.Author.Needs.{needs}
 use Rattle.containment.proofs.show_uncovered.Statement.{statement}
@@ -12,7 +13,7 @@ returns : tie.Need-returns
 returns c =
     let args = c .before .before .before .before .before .before .args in
     let a = args in
-    small-settled [] (showOutcome (a .question .now) (a .catalogue .now) (length (a .first .now)) (length (a .second .now))) (a .work .now) (a .first .now ∷ a .second .now ∷ []) (c .if1 .taken) refl
+    small-settled [] (showOutcome (a .question .now) (brings (a .catalogue .now) (a .one-way)) (length (a .first .now)) (length (a .second .now))) (a .work .now) (a .first .now ∷ a .second .now ∷ []) (c .if1 .taken) refl
 
 sub-show : tie.Need-sub-show
 sub-show c = search needs
@@ -42,7 +43,7 @@ same-length-3 c =
     let show = c .before .before .before .before .before .before .before .before .before .before .show in
     let clear = c .before .before .clear in
     let k = show in
-    clear .kept .0 ∙ lent-long (args .work .now) (k .last .1 .1 .1 .1 .0) (if1 .left) (k .kept .1 .1 .1 .1 .0)
+    clear .kept .0 ∙ lent-long (args .work .now) (k .last .1 .1 .1 .1 .1 .0) (if1 .left) (k .kept .1 .1 .1 .1 .1 .0)
 
 returns-2 : tie.Need-returns-2
 returns-2 c =
@@ -52,7 +53,7 @@ returns-2 c =
     let clear = c .before .before .clear in
     let a = args in
     let k = show in
-    lent-settled [] (showOutcome (a .question .now) (a .catalogue .now) (length (a .first .now)) (length (a .second .now))) (a .work .now) (if1 .left) (k .ensures) (k .last .1 .1 .1 .1 .0) (k .kept .1 .1 .1 .1 .0) (clear .ensures)
+    lent-settled [] (showOutcome (a .question .now) (brings (a .catalogue .now) (a .one-way)) (length (a .first .now)) (length (a .second .now))) (a .work .now) (if1 .left) (k .ensures) (k .last .1 .1 .1 .1 .1 .0) (k .kept .1 .1 .1 .1 .1 .0) (clear .ensures)
 
 pub show-uncovered-spec : {M : Type 1} → statement M
 show-uncovered-spec =

@@ -1,6 +1,7 @@
 -- `matching::make_book` meets its contract.
 use lib.ListN.{length}
 use Rattle.packed.proofs.CallLaws.{settles-small, settles-lent}
+use Rattle.matching.specs.Offered.{brings}
 use Rattle.matching.specs.Search.{makeBookOutcome}
 use borrow.Author.Needs.{needs}
 use Rattle.matching.proofs.make_book.Statement.{statement}
@@ -10,7 +11,7 @@ returns : tie.Need-returns
 returns c =
     let args = c .before .before .before .before .before .args in
     let a = args in
-    settles-small (makeBookOutcome (a .catalogue .now) (a .«record» .now) (length (a .out .now))) (a .out .now) (a .work .now) (c .if1 .taken)
+    settles-small (makeBookOutcome (brings (a .catalogue .now) (a .one-way)) (a .«record» .now) (length (a .out .now))) (a .out .now) (a .work .now) (c .if1 .taken)
 
 sub-make-book : tie.Need-sub-make-book
 sub-make-book c = search needs
@@ -41,8 +42,8 @@ returns-2 c =
     let clear = c .before .before .clear in
     let a = args in
     let k = make-book in
-    settles-lent (makeBookOutcome (a .catalogue .now) (a .«record» .now) (length (a .out .now))) (a .out .now) (a .work .now) (k .last .1 .1 .1 .0) (if1 .left)
-    (k .ensures) (k .kept .1 .1 .1 .0) (clear .ensures)
+    settles-lent (makeBookOutcome (brings (a .catalogue .now) (a .one-way)) (a .«record» .now) (length (a .out .now))) (a .out .now) (a .work .now) (k .last .1 .1 .1 .1 .0) (if1 .left)
+    (k .ensures) (k .kept .1 .1 .1 .1 .0) (clear .ensures)
 
 pub make-book-spec : {M : Type 1} → statement M
 make-book-spec =

@@ -1,5 +1,6 @@
 //! Questions and catalogues that are drawn: quotes and showings; answers from the book of a record beside searches of it;
-//! answers from books of no record, of one question and of several; all on damaged files too.
+//! answers from books of no record, of one question and of several; all on damaged files too. First all extracts are matched both
+//! ways, then some of them one-way.
 
 use super::searches::{lay_record, places};
 use super::*;
@@ -12,7 +13,9 @@ use crate::terms::{bits, quote_on, Term};
 
 /// The most items of a question, whether question and catalogue are as large as can be, the most items of a record; how
 /// many questions, how many of them have a record, and how many a book of no record.
-const GROUPS: [(u32, bool, u32, u32, u32, u32); 9] = [
+type Group = (u32, bool, u32, u32, u32, u32);
+
+const GROUPS: [Group; 9] = [
     (2, false, 4, 36, 36, 0),
     (4, false, 16, 44, 44, 44),
     (4, false, 1_024, 26, 26, 26),
@@ -24,6 +27,15 @@ const GROUPS: [(u32, bool, u32, u32, u32, u32); 9] = [
     (16, true, 256, 26, 20, 20),
 ];
 
+/// Those of which some extracts are matched one-way.
+const MIXED: [Group; 5] = [
+    (2, false, 8, 30, 30, 8),
+    (4, false, 16, 50, 50, 16),
+    (8, false, 64, 30, 30, 12),
+    (16, false, 1_024, 12, 12, 4),
+    (16, true, 256, 8, 8, 4),
+];
+
 /// More bytes than a question and a catalogue may have.
 const QUESTION_ROOM: usize = PATTERN_BYTES + 4;
 const CATALOGUE_ROOM: usize = CATALOGUE_BYTES + 15;
@@ -32,13 +44,16 @@ struct Files {
     question: Vec<u8>,
     catalogue: Vec<u8>,
     extracts: Vec<Pattern>,
+    /// Those that are matched one-way.
+    one_way: u16,
 }
 
 impl Files {
-    fn draw(rule: &mut Rule, size: u32, full: bool, kinds: Kinds) -> Files {
+    fn draw(rule: &mut Rule, size: u32, full: bool, kinds: Kinds, mixed: bool) -> Files {
         let (question, catalogue) = draw_files(rule, size, full, kinds);
         let extracts = judge_catalogue(&catalogue).unwrap();
-        Files { question, catalogue, extracts }
+        let one_way = if mixed { draw_one_way(rule, extracts.len()) } else { 0 };
+        Files { question, catalogue, extracts, one_way }
     }
 
     fn lay_question(&self, script: &mut Script) {
@@ -47,7 +62,7 @@ impl Files {
     }
 
     fn quote(&self) -> Quote {
-        quote(&self.question, &self.catalogue, WORK_WORDS).unwrap()
+        quote(&self.question, &self.catalogue, self.one_way, WORK_WORDS).unwrap()
     }
 
     fn is_covered(&self) -> bool {
@@ -83,7 +98,7 @@ fn answer_on_a_day(script: &mut Script, rule: &mut Rule, files: &Files) {
     let (terms, day) = on_a_day(script, rule, files);
     script.round(PART_ON);
     if let Ok(Quote { covered: true, chosen, .. }) =
-        quote_on(&files.question, &files.catalogue, &terms, day, WORK_WORDS)
+        quote_on(&files.question, &files.catalogue, files.one_way, &terms, day, WORK_WORDS)
     {
         script.set(SET, bits(&chosen).into());
         script.round(ANSWER_FROM);
@@ -95,7 +110,7 @@ fn answer_on_a_day(script: &mut Script, rule: &mut Rule, files: &Files) {
 
 /// The book of a record, where it fits, the part and the answers from it, beside searches where the question is covered, without
 /// an index and with one.
-fn answers(script: &mut Script, rule: &mut Rule, files: &Files, items: u32, kinds: Kinds) {
+fn answers(script: &mut Script, rule: &mut Rule, files: &Files, items: u32, kinds: Kinds, mixed: bool) {
     lay_record(script, rule, items, kinds);
     script.once(MAKE_BOOK);
     if !script.is_accepted() {
@@ -103,6 +118,9 @@ fn answers(script: &mut Script, rule: &mut Rule, files: &Files, items: u32, kind
     }
     keep_as(script, BOOK_PART);
     several(script, rule, files);
+    if mixed {
+        by_another_set(script, rule, files);
+    }
     answer_on_a_day(script, rule, files);
     script.round(PART);
     script.round(ANSWER);
@@ -118,6 +136,46 @@ fn answers(script: &mut Script, rule: &mut Rule, files: &Files, items: u32, kind
         script.round(SEARCH_INDEXED);
         script.same();
     }
+}
+
+/// A question that is uncovered by a set of extracts that are matched one-way: each sheet, by its own rule, is the same on both shown
+/// records, and the question's is not.
+fn shown(script: &mut Script) {
+    script.once(SHOW_UNCOVERED);
+    if !script.is_accepted() {
+        return;
+    }
+    let (first, second) = script.lengths();
+    keep_as(script, RECORD_PART);
+    let start = PLACES[RECORD_PART];
+    let searched = [(start, start + first), (start + first, start + first + second)].map(|(start, end)| {
+        script.place(RECORD_PART, start, end);
+        script.once(MAKE_BOOK);
+        if start == PLACES[RECORD_PART] {
+            script.hold();
+        } else {
+            script.same();
+        }
+        script.once(SEARCH);
+        script.last().clone()
+    });
+    assert_ne!(searched[0], searched[1]);
+}
+
+/// The book that is laid, asked with another set than the one that it was made with: all calls answer, of which nothing is promised. Then
+/// with a set that names what isn't in the catalogue.
+fn by_another_set(script: &mut Script, rule: &mut Rule, files: &Files) {
+    let strange = draw_strange(rule, files.extracts.len());
+    for set in [Some(draw_one_way(rule, files.extracts.len())), strange].into_iter().flatten() {
+        script.set(ONE_WAY, set.into());
+        script.round(PART);
+        script.round(ANSWER);
+        script.set(SET, rule.draw(65_536) as usize);
+        for call in [ANSWER_FROM, ANSWER_SEVERAL, MAKE_BOOK, CHEAPEST, SHOW_UNCOVERED, QUOTE_ON] {
+            script.once(call);
+        }
+    }
+    script.set(ONE_WAY, files.one_way.into());
 }
 
 /// A set that covers: the chosen one and any others, or all.
@@ -225,6 +283,7 @@ fn damage(script: &mut Script, rule: &mut Rule, part: usize, room: usize) {
 }
 
 /// Good files, then with the book damaged, with the catalogue damaged too, and with all three damaged.
+#[allow(clippy::too_many_arguments)]
 fn case(
     script: &mut Script,
     rule: &mut Rule,
@@ -233,9 +292,11 @@ fn case(
     record: Option<u32>,
     book: bool,
     sweep: bool,
+    mixed: bool,
 ) -> bool {
     let kinds = draw_kinds(rule);
-    let files = Files::draw(rule, size, full, kinds);
+    let files = Files::draw(rule, size, full, kinds, mixed);
+    script.set(ONE_WAY, files.one_way.into());
     script.bytes(CATALOGUE_PART, &files.catalogue);
     if rule.draw(4) == 0 {
         wrong_link(script, rule, &files.question);
@@ -252,8 +313,11 @@ fn case(
     if !book {
         turned_kind(script, rule, &files, false);
     }
+    if mixed {
+        shown(script);
+    }
     if let Some(items) = record {
-        answers(script, rule, &files, items, kinds);
+        answers(script, rule, &files, items, kinds, mixed);
     }
     if book {
         lay_book(script, rule, &files);
@@ -286,19 +350,27 @@ fn case(
     files.is_covered()
 }
 
-pub fn write(script: &mut Script) {
-    let mut rule = Rule::new();
-    for (size, full, items, questions, records, books) in GROUPS {
+fn write_groups(script: &mut Script, rule: &mut Rule, groups: &[Group], mixed: bool) {
+    for &(size, full, items, questions, records, books) in groups {
         let mut covered = 0;
         for question in 0..questions {
-            let record = (question < records).then(|| draw_items(&mut rule, items, question));
-            covered += u32::from(case(script, &mut rule, size, full, record, question < books, question % 2 == 0));
+            let record = (question < records).then(|| draw_items(rule, items, question));
+            let sweep = !mixed && question % 2 == 0;
+            covered += u32::from(case(script, rule, size, full, record, question < books, sweep, mixed));
         }
         let full = if full { ", full" } else { "" };
+        let mixed = if mixed { ", some one-way" } else { "" };
         script.name(&format!(
-            "{size} items{full}, {records} records of {items}, {books} books of no record: {questions} questions, \
+            "{size} items{full}{mixed}, {records} records of {items}, {books} books of no record: {questions} questions, \
              {covered} covered\n"
         ));
         script.group();
     }
+}
+
+pub fn write(script: &mut Script) {
+    let mut rule = Rule::new();
+    write_groups(script, &mut rule, &GROUPS, false);
+    write_groups(script, &mut rule, &MIXED, true);
+    script.set(ONE_WAY, 0);
 }

@@ -4,11 +4,12 @@
 use super::*;
 use crate::files::*;
 use crate::indexing::INDEX;
+use crate::matching::record_of;
 use crate::terms::TERMS;
 
 /// The library's calls that read files, and which.
 fn calls() -> Vec<(usize, Vec<usize>)> {
-    (0..CALLS.len()).map(|call| (call, parts(call))).filter(|(_, parts)| !parts.is_empty()).collect()
+    (0..ASK).map(|call| (call, parts(call))).filter(|(_, parts)| !parts.is_empty()).collect()
 }
 
 /// A file for each refusal that falls to it.
@@ -143,6 +144,17 @@ impl Good {
         for part in [QUESTION_PART, CATALOGUE_PART, RECORD_PART, BOOK_PART, TERMS_PART] {
             self.lay(script, part);
         }
+        self.lay_slip(script);
+    }
+
+    /// The state beside the record, and the slip of a link that isn't there.
+    fn lay_slip(&self, script: &mut Script) {
+        let links = record_of(&self.record, WORK_WORDS).map_or(0, |record| record.links.len());
+        for (register, number) in
+            [(STATE_LINKS, links), (STATE_CHANGE, 7), (LINK_FROM, 2), (LINK_TO, 0), (LINK_OF, 5), (SLIP_CHANGE, 7)]
+        {
+            script.set(register, number);
+        }
     }
 }
 
@@ -248,6 +260,53 @@ fn lay_content(script: &mut Script, call: usize) {
     script.content(&[0; 3][..if call == WRITE_SHEET { 1 } else { 3 }]);
 }
 
+/// Every call that matches extracts, on C and on catalogues without extracts, with sets that name an extract which is not there: alone, with
+/// those that are there, the last of all; also where charges, the book and the record are at fault, which are judged later, and where the
+/// catalogue is, which is judged before.
+fn not_there(script: &mut Script) {
+    for call in (0..ASK).filter(|&call| takes_set(call)) {
+        let good = small(call);
+        good.lay_all(script);
+        lay_day(script, call);
+        for catalogue in [&C[..], &[0], &[]] {
+            let extracts = if catalogue.len() > 1 { 3 } else { 0 };
+            script.bytes(CATALOGUE_PART, catalogue);
+            script.bytes(TERMS_PART, &good.terms[..4 * extracts]);
+            for set in [8usize, 12, 0x8000, 0xfff8, 0xffff] {
+                script.set(ONE_WAY, set);
+                script.content(&[0; 3][..extracts]);
+                script.round(call);
+                let refusal =
+                    (u64::from(crate::matching::ONE_WAY), u64::from((set >> extracts << extracts).trailing_zeros()));
+                assert_eq!((script.last().number, script.last().value), refusal, "{call} {set}");
+                script.content(&[0; 5]);
+                for part in [BOOK_PART, RECORD_PART] {
+                    script.short(part);
+                    assert_eq!((script.last().number, script.last().value), refusal, "{call} {set}");
+                }
+                script.short(CATALOGUE_PART);
+            }
+        }
+    }
+    script.set(ONE_WAY, 0);
+    script.name("every call that matches extracts with a set of some that are not there\n");
+    script.group();
+}
+
+/// The same calls with sets of extracts that are there, on a catalogue that is cut at each byte and has each bit turned.
+fn one_way(script: &mut Script) {
+    for call in (0..ASK).filter(|&call| takes_set(call)) {
+        script.set(ONE_WAY, if of_uncovered(call) { 1 } else { 5 });
+        of_kinds(call).lay_all(script);
+        lay_day(script, call);
+        lay_content(script, call);
+        sweep(script, call, CATALOGUE_PART, 1);
+    }
+    script.set(ONE_WAY, 0);
+    script.name("every call that matches extracts, some one-way, on catalogues with one fault\n");
+    script.group();
+}
+
 /// Every call that takes a catalogue, on one without extracts: the byte 00 and then no byte, which has to come to the same;
 /// beside books of no byte and of one, and content or charges of no field and of one.
 fn without_extracts(script: &mut Script) {
@@ -300,6 +359,8 @@ pub fn write(script: &mut Script) {
     script.name("every call on files with one fault\n");
     script.group();
     without_extracts(script);
+    not_there(script);
+    one_way(script);
     for (call, parts) in calls() {
         if call != SORT_RECORD {
             of_kinds(call).lay_all(script);

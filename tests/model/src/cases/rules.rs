@@ -2,6 +2,7 @@
 
 use super::*;
 use crate::cheapest::Cheapest;
+use crate::entering::{Slip, State};
 use crate::files::*;
 use crate::quoting::Quote;
 use crate::several::Several;
@@ -100,10 +101,24 @@ fn lay(script: &mut Script, part: usize, file: &[u8]) {
     }
 }
 
+/// Registers become the numbers of a text.
+fn set_all(script: &mut Script, registers: &[usize], text: &str) {
+    let numbers: Vec<usize> = numbers(text);
+    assert_eq!(numbers.len(), registers.len());
+    for (&register, number) in registers.iter().zip(numbers) {
+        script.set(register, number);
+    }
+}
+
 /// The arguments are laid, and the words to work in are just enough or as many as follow them.
 fn lay_arguments(script: &mut Script, names: &Names, call: &Call, arguments: &[&str]) {
-    let mut rest = arguments.iter();
+    let mut rest = arguments.iter().peekable();
     for takes in call.takes {
+        if matches!(takes, Takes::OneWay) {
+            let named = rest.next_if(|text| text.starts_with("one_way "));
+            script.set(ONE_WAY, named.map_or(0, |text| text["one_way ".len()..].parse().unwrap()));
+            continue;
+        }
         let text = rest.next().unwrap();
         match takes {
             Takes::Content => script.content(&numbers(text)),
@@ -115,6 +130,9 @@ fn lay_arguments(script: &mut Script, names: &Names, call: &Call, arguments: &[&
             Takes::Day => script.set(DAY, text.parse().unwrap()),
             Takes::Set => script.set(SET, text.parse().unwrap()),
             Takes::Number => script.set(QUESTIONS, text.parse().unwrap()),
+            Takes::State => set_all(script, &[STATE_LINKS, STATE_CHANGE], text),
+            Takes::Link => set_all(script, &[LINK_FROM, LINK_TO, LINK_OF], text),
+            Takes::Slip => set_all(script, &[LINK_FROM, LINK_TO, LINK_OF, SLIP_CHANGE], text),
             Takes::Room => script.set(ROOM, text.parse().unwrap()),
             Takes::Second => script.set(SECOND, text.parse().unwrap()),
             part => lay(script, part.part().unwrap(), &bytes(names, text)),
@@ -125,7 +143,7 @@ fn lay_arguments(script: &mut Script, names: &Names, call: &Call, arguments: &[&
 }
 
 /// What a line says that its call has to answer.
-fn expected(names: &Names, form: Form, answer: &str) -> Outcome {
+fn expected(names: &Names, form: Form, answer: &str, before: State) -> Outcome {
     let (first, rest) = answer.split_once(' ').unwrap();
     let refusal = (first == "refused").then(|| {
         let numbers: Vec<usize> = numbers(rest);
@@ -160,6 +178,19 @@ fn expected(names: &Names, form: Form, answer: &str) -> Outcome {
             sum: rest.split_once(' ').unwrap().0.parse().unwrap(),
             chosen: numbers(between(rest, "chosen ", "\n")),
         })),
+        Form::Asked => Outcome::asked(or(refusal, || {
+            let (changes, slip) = rest.split_once(", slip ").unwrap();
+            let slip: Vec<u32> = numbers(slip);
+            (numbers(changes), Slip { link: (slip[0], slip[1], slip[2]), change: slip[3] })
+        })),
+        Form::Entered if refusal.is_some() => Outcome::entered(Err(refusal.unwrap()), before, before),
+        Form::Entered => {
+            let (record, rest) = rest.split_once(" and ").unwrap();
+            let (index, state) = rest.split_once(", state ").unwrap();
+            let state: Vec<u32> = numbers(state);
+            let after = State { links: state[0], change: state[1] };
+            Outcome::entered(Ok((bytes(names, record), numbers(index))), before, after)
+        }
         Form::Day => Outcome::dated(or(refusal, || rest.parse().ok())),
         Form::Steps => unreachable!(),
     }
@@ -175,12 +206,15 @@ pub fn write(script: &mut Script) {
                 lay_arguments(script, &names, call, &arguments);
                 script.once(call.number);
                 let last = script.last();
-                assert_eq!(*last, expected(&names, last.form, answer), "{} {arguments:?}", call.name);
+                let before =
+                    State { links: script.register(STATE_LINKS) as u32, change: script.register(STATE_CHANGE) as u32 };
+                assert_eq!(*last, expected(&names, last.form, answer, before), "{} {arguments:?}", call.name);
                 script.named_outcome();
             }
         }
     }
     lend_most(script);
+    script.set(ONE_WAY, 0);
     script.name("the rules\n");
     script.group();
 }
@@ -193,6 +227,6 @@ mod tests {
     fn every_call_answers_what_its_line_says() {
         write(&mut Script::new());
         let calls = lines().1.iter().filter(|line| matches!(line, Line::Call { .. })).count();
-        assert_eq!(calls, 550);
+        assert_eq!(calls, 654);
     }
 }

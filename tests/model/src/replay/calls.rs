@@ -4,6 +4,7 @@ use super::outcome::Outcome;
 use super::{BOOK_PART, CATALOGUE_PART, QUESTION_PART, RECORD_PART, TERMS_PART};
 use crate::answering::{answer, answer_from};
 use crate::cheapest::cheapest;
+use crate::entering::{self, ask, commit};
 use crate::files::*;
 use crate::indexing::{check_index, make_index, search_indexed};
 use crate::matching::{make_book, search};
@@ -12,8 +13,9 @@ use crate::quoting::{quote, show};
 use crate::several::answer_several;
 use crate::terms::{cheapest_on, first_day, part_on, quote_on, show_on, Term};
 
-/// What is lent to a call: the parts, the content, a set of extracts, how many questions there are, a day; how many words are lent
-/// to a reader, and how much of an output and of a second one to the others; and the words to work in.
+/// What is lent to a call: the parts, the content, the set of extracts that are matched one-way, a set to answer from, how many questions
+/// there are, a day, a state and a slip, whose link is asked about; how many words are lent to a reader, and how much of an output and of a second one to the others; and the words to
+/// work in.
 pub struct Lent<'a> {
     pub question: &'a [u8],
     pub catalogue: &'a [u8],
@@ -21,9 +23,12 @@ pub struct Lent<'a> {
     pub book: &'a [u8],
     pub terms: &'a [u8],
     pub content: &'a [u32],
+    pub one_way: u16,
     pub set: u16,
     pub number: u32,
     pub day: u16,
+    pub state: entering::State,
+    pub slip: entering::Slip,
     pub words: usize,
     pub room: usize,
     pub second: usize,
@@ -55,8 +60,8 @@ impl Lent<'_> {
 }
 
 /// What a call takes, in its order: parts of the memory, of which an index stands in a book's place and several questions in
-/// that of one; the content, which is the charges of the cheapest set too; a set of extracts; how many questions there are; a day;
-/// and how much is lent for an output and for a second one.
+/// that of one; the content, which is the charges of the cheapest set too; the set of extracts that are matched one-way; a set to answer
+/// from; how many questions there are; a day; a state, a link and a slip; and how much is lent for an output and for a second one.
 #[derive(Clone, Copy)]
 pub enum Takes {
     Question,
@@ -66,9 +71,13 @@ pub enum Takes {
     Index,
     Terms,
     Content,
+    OneWay,
     Set,
     Number,
     Day,
+    State,
+    Link,
+    Slip,
     Room,
     Second,
 }
@@ -140,21 +149,21 @@ calls! {
             |l| Outcome::bytes(write_book(l.catalogue, l.content, l.room, l.work));
         SEARCH 10 "search" [Question, Record, Room]
             |l| Outcome::sheet(search(l.question, l.record, l.room, l.work));
-        MAKE_BOOK 11 "make_book" [Catalogue, Record, Room]
-            |l| Outcome::bytes(make_book(l.catalogue, l.record, l.room, l.work));
-        QUOTE 12 "quote" [Question, Catalogue]
-            |l| Outcome::quoted(quote(l.question, l.catalogue, l.work));
-        ANSWER 13 "answer" [Question, Catalogue, Book, Room]
-            |l| Outcome::sheet(answer(l.question, l.catalogue, l.book, l.room, l.work));
-        SHOW_UNCOVERED 14 "show_uncovered" [Question, Catalogue, Room, Second]
+        MAKE_BOOK 11 "make_book" [Catalogue, OneWay, Record, Room]
+            |l| Outcome::bytes(make_book(l.catalogue, l.one_way, l.record, l.room, l.work));
+        QUOTE 12 "quote" [Question, Catalogue, OneWay]
+            |l| Outcome::quoted(quote(l.question, l.catalogue, l.one_way, l.work));
+        ANSWER 13 "answer" [Question, Catalogue, OneWay, Book, Room]
+            |l| Outcome::sheet(answer(l.question, l.catalogue, l.one_way, l.book, l.room, l.work));
+        SHOW_UNCOVERED 14 "show_uncovered" [Question, Catalogue, OneWay, Room, Second]
             |l| {
                 let (first, second) = l.rooms();
-                Outcome::both(show(l.question, l.catalogue, first, second, l.work))
+                Outcome::both(show(l.question, l.catalogue, l.one_way, first, second, l.work))
             };
-        CHEAPEST 15 "cheapest" [Question, Catalogue, Content]
-            |l| Outcome::priced(cheapest(l.question, l.catalogue, l.content, l.work));
-        ANSWER_FROM 16 "answer_from" [Question, Catalogue, Set, Book, Room]
-            |l| Outcome::sheet(answer_from(l.question, l.catalogue, l.set, l.book, l.room, l.work));
+        CHEAPEST 15 "cheapest" [Question, Catalogue, OneWay, Content]
+            |l| Outcome::priced(cheapest(l.question, l.catalogue, l.one_way, l.content, l.work));
+        ANSWER_FROM 16 "answer_from" [Question, Catalogue, OneWay, Set, Book, Room]
+            |l| Outcome::sheet(answer_from(l.question, l.catalogue, l.one_way, l.set, l.book, l.room, l.work));
         SORT_RECORD 17 "sort_record" [Record, Room]
             |l| Outcome::bytes(sort_record(l.record, l.room, l.work));
         MAKE_INDEX 18 "make_index" [Record, Room]
@@ -163,29 +172,38 @@ calls! {
             |l| Outcome::checked(check_index(l.record, &l.index(), l.work));
         SEARCH_INDEXED 20 "search_indexed" [Question, Record, Index, Room]
             |l| Outcome::sheet(search_indexed(l.question, l.record, &l.index(), l.room, l.work));
-        PART 21 "part" [Question, Catalogue, Book, Room, Second]
+        PART 21 "part" [Question, Catalogue, OneWay, Book, Room, Second]
             |l| {
                 let (first, second) = l.rooms();
-                Outcome::both(part(l.question, l.catalogue, l.book, first, second, l.work))
+                Outcome::both(part(l.question, l.catalogue, l.one_way, l.book, first, second, l.work))
             };
-        ANSWER_SEVERAL 22 "answer_several" [Question, Number, Catalogue, Book, Room]
-            |l| Outcome::several(answer_several(l.question, l.number, l.catalogue, l.book, l.room, l.work));
-        QUOTE_ON 23 "quote_on" [Question, Catalogue, Terms, Day]
-            |l| Outcome::quoted(quote_on(l.question, l.catalogue, &l.terms(), l.day, l.work));
-        CHEAPEST_ON 24 "cheapest_on" [Question, Catalogue, Terms, Day, Content]
-            |l| Outcome::priced(cheapest_on(l.question, l.catalogue, &l.terms(), l.day, l.content, l.work));
-        PART_ON 25 "part_on" [Question, Catalogue, Terms, Day, Book, Room, Second]
+        ANSWER_SEVERAL 22 "answer_several" [Question, Number, Catalogue, OneWay, Book, Room]
+            |l| Outcome::several(answer_several(l.question, l.number, l.catalogue, l.one_way, l.book, l.room, l.work));
+        QUOTE_ON 23 "quote_on" [Question, Catalogue, OneWay, Terms, Day]
+            |l| Outcome::quoted(quote_on(l.question, l.catalogue, l.one_way, &l.terms(), l.day, l.work));
+        CHEAPEST_ON 24 "cheapest_on" [Question, Catalogue, OneWay, Terms, Day, Content]
+            |l| Outcome::priced(cheapest_on(l.question, l.catalogue, l.one_way, &l.terms(), l.day, l.content, l.work));
+        PART_ON 25 "part_on" [Question, Catalogue, OneWay, Terms, Day, Book, Room, Second]
             |l| {
                 let (first, second) = l.rooms();
-                Outcome::both(part_on(l.question, l.catalogue, &l.terms(), l.day, l.book, first, second, l.work))
+                Outcome::both(part_on(l.question, l.catalogue, l.one_way, &l.terms(), l.day, l.book, first, second, l.work))
             };
-        SHOW_ON 26 "show_on" [Question, Catalogue, Terms, Day, Room, Second]
+        SHOW_ON 26 "show_on" [Question, Catalogue, OneWay, Terms, Day, Room, Second]
             |l| {
                 let (first, second) = l.rooms();
-                Outcome::both(show_on(l.question, l.catalogue, &l.terms(), l.day, first, second, l.work))
+                Outcome::both(show_on(l.question, l.catalogue, l.one_way, &l.terms(), l.day, first, second, l.work))
             };
-        FIRST_DAY 27 "first_day" [Question, Catalogue, Terms, Day]
-            |l| Outcome::dated(first_day(l.question, l.catalogue, &l.terms(), l.day, l.work));
+        FIRST_DAY 27 "first_day" [Question, Catalogue, OneWay, Terms, Day]
+            |l| Outcome::dated(first_day(l.question, l.catalogue, l.one_way, &l.terms(), l.day, l.work));
+        ASK 28 "ask" [Catalogue, OneWay, Record, State, Link]
+            |l| Outcome::asked(ask(l.catalogue, l.one_way, l.record, l.state, l.slip.link, l.work));
+        COMMIT 29 "commit" [Record, State, Slip, Room, Second]
+            |l| {
+                let (bytes, entries) = (l.room.min(FIRST), l.second.min(ENTRIES));
+                let mut state = l.state;
+                let entered = commit(l.record, &mut state, l.slip, bytes, entries, l.work);
+                Outcome::entered(entered, l.state, state)
+            };
     }
     // The states of a join after each step, and the search that the program makes apart from the library's, which to the
     // model is the same.
@@ -215,6 +233,11 @@ pub fn writer(reader: usize) -> usize {
 /// The parts that a call takes.
 pub fn parts(call: usize) -> Vec<usize> {
     row(call).takes.iter().filter_map(|takes| takes.part()).collect()
+}
+
+/// Whether a call matches extracts, and so takes a set of those that are matched one-way.
+pub fn takes_set(call: usize) -> bool {
+    row(call).takes.iter().any(|takes| matches!(takes, OneWay))
 }
 
 /// The part that a reader reads.

@@ -2,6 +2,7 @@
 
 use crate::answering::Choice;
 use crate::cheapest::Cheapest;
+use crate::entering::{Slip, State};
 use crate::files::{Pattern, Refusal};
 use crate::quoting::Quote;
 use crate::several::Several;
@@ -39,7 +40,8 @@ pub enum Output {
 /// What the values of an accepted answer are. The first is how much was written: words, bytes, those of a sheet, the entries of
 /// an index, or the bytes of the first of two outputs, with those of the second beside it. Several answers have their bytes and
 /// the sheets that they needed. A quote has 1 and the chosen set, or 0 and the lowest unmatched link; the cheapest set its sum
-/// and itself; the steps of a join their number and the settled items; a first day 1 and itself, or 0 and 0 where there is none.
+/// and itself; the steps of a join their number and the settled items; a first day 1 and itself, or 0 and 0 where there is none; what is asked
+/// about a link the set that it changes and the slip's change number. A commit has the record's bytes and the index's entries.
 #[derive(Clone, Copy, Debug, PartialEq)]
 pub enum Form {
     Words,
@@ -52,6 +54,8 @@ pub enum Form {
     Price,
     Steps,
     Day,
+    Asked,
+    Entered,
 }
 
 /// 0 or the refusal's number; two values, of which a refusal's detail is the first; and a digest of what was written.
@@ -190,6 +194,38 @@ impl Outcome {
             Err(refusal) => {
                 let digest = over(DIGEST_START, &[0u64; 2]);
                 Outcome { digest, ..Outcome::refused(Form::Day, refusal) }
+            }
+        }
+    }
+
+    /// The digest is that of the set and the slip.
+    pub fn asked(result: Result<(Vec<usize>, Slip), Refusal>) -> Outcome {
+        match result {
+            Ok((changes, Slip { link: (from, to, kind), change })) => {
+                let slip = [from, to, kind, change].map(u64::from);
+                let digest = over(over(DIGEST_START, &[bits(&changes)]), &slip);
+                Outcome::values(Form::Asked, bits(&changes), change.into(), digest)
+            }
+            Err(refusal) => {
+                let digest = over(DIGEST_START, &[0u64; 5]);
+                Outcome { digest, ..Outcome::refused(Form::Asked, refusal) }
+            }
+        }
+    }
+
+    /// What a commit wrote is the record, the index, two bytes for each entry, and the state after it, four bytes for each number. On a
+    /// refusal the state has to be as it came.
+    pub fn entered(result: Result<(Vec<u8>, Vec<u16>), Refusal>, before: State, after: State) -> Outcome {
+        match result {
+            Ok((record, index)) => {
+                let entries = index.iter().flat_map(|entry| entry.to_be_bytes());
+                let numbers = [after.links, after.change].into_iter().flat_map(u32::to_be_bytes);
+                let bytes = record.iter().copied().chain(entries).chain(numbers).collect();
+                Outcome::wrote(Form::Entered, record.len(), index.len(), bytes)
+            }
+            Err(refusal) => {
+                assert_eq!(before, after);
+                Outcome::refused(Form::Entered, refusal)
             }
         }
     }

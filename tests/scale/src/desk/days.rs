@@ -4,18 +4,25 @@ use super::*;
 use model::terms::{self, Term};
 use yuthaqim::Dated;
 
-/// A question and a catalogue with its terms, and the day that is asked about.
+/// A question and a catalogue with its set and its terms, and the day that is asked about.
 #[derive(Clone, Copy)]
 pub struct OnDay<'a> {
     pub question: &'a [u8],
     pub catalogue: &'a [u8],
+    pub one_way: u16,
     pub terms: &'a [Term],
     pub day: u16,
 }
 
 /// The inputs that all of these calls have.
 fn inputs<'a>(on: &'a OnDay<'a>) -> Vec<(&'static str, &'a dyn Debug)> {
-    vec![("question", &on.question), ("catalogue", &on.catalogue), ("terms", &on.terms), ("day", &on.day)]
+    vec![
+        ("question", &on.question),
+        ("catalogue", &on.catalogue),
+        ("one_way", &on.one_way),
+        ("terms", &on.terms),
+        ("day", &on.day),
+    ]
 }
 
 /// The terms as the library takes them.
@@ -42,9 +49,9 @@ impl Desk<u8> {
         lent: Lent,
         on: OnDay,
     ) -> Result<Result<Quote, Refusal>, Difference> {
-        let expected = terms::quote_on(on.question, on.catalogue, on.terms, on.day, lent.work);
+        let expected = terms::quote_on(on.question, on.catalogue, on.one_way, on.terms, on.day, lent.work);
         let work = self.work.lend(lent.work, draw.word());
-        let answered = raw::quote_on(on.question, on.catalogue, &lent_terms(on.terms), on.day, work);
+        let answered = raw::quote_on(on.question, on.catalogue, on.one_way, &lent_terms(on.terms), on.day, work);
         let asked = Asked { call: Call::QuoteOn, inputs: &inputs(&on), lent };
         let held = [
             ("answer", answered == quoted(&expected)),
@@ -63,9 +70,10 @@ impl Desk<u8> {
         on: OnDay,
         charges: &[u32],
     ) -> Result<(), Difference> {
-        let expected = terms::cheapest_on(on.question, on.catalogue, on.terms, on.day, charges, lent.work);
+        let expected = terms::cheapest_on(on.question, on.catalogue, on.one_way, on.terms, on.day, charges, lent.work);
         let work = self.work.lend(lent.work, draw.word());
-        let answered = raw::cheapest_on(on.question, on.catalogue, &lent_terms(on.terms), on.day, charges, work);
+        let list = lent_terms(on.terms);
+        let answered = raw::cheapest_on(on.question, on.catalogue, on.one_way, &list, on.day, charges, work);
         let mut inputs = inputs(&on);
         inputs.push(("charges", &charges));
         let asked = Asked { call: Call::CheapestOn, inputs: &inputs, lent };
@@ -80,9 +88,9 @@ impl Desk<u8> {
         lent: Lent,
         on: OnDay,
     ) -> Result<Result<Option<u16>, Refusal>, Difference> {
-        let expected = terms::first_day(on.question, on.catalogue, on.terms, on.day, lent.work);
+        let expected = terms::first_day(on.question, on.catalogue, on.one_way, on.terms, on.day, lent.work);
         let work = self.work.lend(lent.work, draw.word());
-        let answered = raw::first_day(on.question, on.catalogue, &lent_terms(on.terms), on.day, work);
+        let answered = raw::first_day(on.question, on.catalogue, on.one_way, &lent_terms(on.terms), on.day, work);
         let asked = Asked { call: Call::FirstDay, inputs: &inputs(&on), lent };
         let held = [
             ("answer", answered == dated(&expected)),
@@ -103,7 +111,9 @@ impl Desk<u8> {
     ) -> Result<TwoFiles, Difference> {
         let fewer = draw.below(6);
         let second = |room: usize| room.saturating_sub(fewer);
-        let model = |room, work| terms::show_on(on.question, on.catalogue, on.terms, on.day, room, second(room), work);
+        let model = |room, work| {
+            terms::show_on(on.question, on.catalogue, on.one_way, on.terms, on.day, room, second(room), work)
+        };
         let (lent, expected) = fitted(draw, lent, model);
         let mut inputs = inputs(&on);
         inputs.push(("fewer", &fewer));
@@ -111,7 +121,7 @@ impl Desk<u8> {
         let rooms = (lent.room, second(lent.room));
         let list = lent_terms(on.terms);
         let show = |first: &mut _, second: &mut _, work: &mut _| {
-            raw::show_on(on.question, on.catalogue, &list, on.day, first, second, work)
+            raw::show_on(on.question, on.catalogue, on.one_way, &list, on.day, first, second, work)
         };
         self.two(notes, draw, asked, rooms, expected, show)
     }
@@ -125,14 +135,15 @@ impl Desk<u8> {
         on: OnDay,
         book: &[u8],
     ) -> Result<TwoFiles, Difference> {
-        let expected = terms::part_on(on.question, on.catalogue, on.terms, on.day, book, first, lent.room, lent.work);
+        let OnDay { question, catalogue, one_way, terms, day } = on;
+        let expected = terms::part_on(question, catalogue, one_way, terms, day, book, first, lent.room, lent.work);
         let mut inputs = inputs(&on);
         inputs.extend([("book", &book as &dyn Debug), ("first", &first)]);
         let asked = Asked { call: Call::PartOn, inputs: &inputs, lent };
         let rooms = (first, lent.room);
         let list = lent_terms(on.terms);
         let part = |first: &mut _, second: &mut _, work: &mut _| {
-            raw::part_on(on.question, on.catalogue, &list, on.day, book, first, second, work)
+            raw::part_on(on.question, on.catalogue, on.one_way, &list, on.day, book, first, second, work)
         };
         self.two(notes, draw, asked, rooms, expected, part)
     }

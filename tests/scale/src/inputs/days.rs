@@ -67,7 +67,8 @@ impl Test {
         let catalogue = self.catalogue(draw, &subject, 16);
         let terms = draw_terms(draw, subject.catalogue.len());
         let day = draw_day(draw, &terms);
-        let on = OnDay { question: &question, catalogue: &catalogue, terms: &terms, day };
+        let one_way = subject.any_one_way(draw);
+        let on = OnDay { question: &question, catalogue: &catalogue, one_way, terms: &terms, day };
         match draw.below(5) {
             0 => {
                 let _ = self.bytes.quote_on(&mut self.notes, draw, lent, on)?;
@@ -92,7 +93,8 @@ impl Test {
         Ok(())
     }
 
-    /// What is shown: the lists of each extract in force are the same on both records, and the question's sheets are not.
+    /// What is shown: the lists of each extract in force, by its own rule, are the same on both records, and the question's sheets are
+    /// not.
     fn show_on(&mut self, draw: &mut Draw, lent: Lent, on: OnDay) -> Result<(), Difference> {
         let Ok((first, second)) = self.bytes.show_on(&mut self.notes, draw, lent, on)? else {
             return Ok(());
@@ -101,9 +103,10 @@ impl Test {
         let extracts = files::judge_catalogue(on.catalogue).unwrap();
         let mut others = 0;
         for (a, extract) in extracts.iter().enumerate() {
-            let pattern = of_pattern(extract).bytes();
-            let sheet = reply!(self.bytes, draw, exactly(whole), Search, matching::search(pattern, first))?;
-            let same = reply!(self.bytes, draw, exactly(whole), Search, matching::search(pattern, second))?;
+            let alone = of_catalogue(std::slice::from_ref(extract)).bytes();
+            let one_way = on.one_way >> a & 1;
+            let sheet = reply!(self.bytes, draw, exactly(whole), MakeBook, matching::make_book(alone [one_way] first))?;
+            let same = reply!(self.bytes, draw, exactly(whole), MakeBook, matching::make_book(alone [one_way] second))?;
             if sheet.outcome != same.outcome {
                 if in_force(on.terms, on.day).contains(&a) {
                     return Err(format!("extract {a} is in force, and lists differ: {first:02x?}\n{second:02x?}\n"));
@@ -124,7 +127,8 @@ impl Test {
 
     /// The part with about so much lent for both outputs as they need: with what it gives stands how much was lent.
     fn part_on(&mut self, draw: &mut Draw, lent: Lent, on: OnDay, book: &[u8]) -> Result<(Lent, TwoFiles), Difference> {
-        let model = |first, room, work| part_on(on.question, on.catalogue, on.terms, on.day, book, first, room, work);
+        let OnDay { question, catalogue, one_way, terms, day } = on;
+        let model = |first, room, work| part_on(question, catalogue, one_way, terms, day, book, first, room, work);
         let needed = model(MOST, BOOK_BYTES, WORK_WORDS).map_or(1, |(part, _)| part.len());
         let first = match draw.below(16) {
             0 => needed - 1,
@@ -143,22 +147,24 @@ impl Test {
         subject.repeat();
         let question = of_pattern(&subject.question).bytes();
         let catalogue = of_catalogue(&subject.catalogue).bytes();
+        let one_way = subject.one_way(draw);
         let record = of_record(&draw_record(draw, &subject.kinds, subject.size, &[subject.question])).bytes();
         let whole = Lent { room: BOOK_BYTES, work: WORK_WORDS };
-        let made = reply!(self.bytes, draw, exactly(whole), MakeBook, matching::make_book(catalogue, record))?;
+        let made = reply!(self.bytes, draw, exactly(whole), MakeBook, matching::make_book(catalogue [one_way] record))?;
         let Ok(book) = made.outcome else {
             return Ok(());
         };
         let terms = draw_terms(draw, subject.catalogue.len());
         let day = draw_day(draw, &terms);
-        let on = OnDay { question: &question, catalogue: &catalogue, terms: &terms, day };
+        let on = OnDay { question: &question, catalogue: &catalogue, one_way, terms: &terms, day };
         let Ok(quote) = self.bytes.quote_on(&mut self.notes, draw, whole, on)? else {
             return Ok(());
         };
         let lent = Lent::draw(draw);
         if quote.covered {
             let searched = reply!(self.bytes, draw, fitted(lent), Search, matching::search(question, record))?;
-            let from = self.from_set(draw, searched.lent, &question, &catalogue, bits(&quote.chosen), &book)?;
+            let offer = Offer { catalogue: &catalogue, one_way };
+            let from = self.from_set(draw, searched.lent, &question, offer, bits(&quote.chosen), &book)?;
             if from != searched.outcome {
                 return Err(format!("on day {day}: {from:?}\nsearch: {:?}\n", searched.outcome));
             }

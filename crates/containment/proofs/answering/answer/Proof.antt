@@ -2,6 +2,7 @@
 use mathlib.Core.Path.{refl, _∙_}
 use mathlib.Core.List.{[], _∷_}
 use lib.ListN.{length}
+use Rattle.matching.specs.Offered.{brings}
 use Rattle.containment.specs.Quote.{quoted, usedBy}
 use Rattle.containment.specs.Answer.{answerFor, answerBy}
 use Rattle.containment.proofs.AnswerLaws.{judged-refused, judged-on, query-few, views-few}
@@ -27,7 +28,7 @@ unfolding answerBy
 returns c =
     let a = c .before .before .before .before .before .before .before .before .before .before .before .args in
     let e = c .enum-told2 .given .1 in
-    rw e (judged-refused (quoted (a .question .now) (a .catalogue .now)) (answerFor usedBy (a .book .now) (length (a .out .now))) (a .out .now ∷ []) ((rw e at (c .before .before .before .before .judge .ensures)) .0) refl)
+    rw e (judged-refused (quoted (a .question .now) (brings (a .catalogue .now) (a .one-way))) (answerFor usedBy (a .book .now) (length (a .out .now))) (a .out .now ∷ []) ((rw e at (c .before .before .before .before .judge .ensures)) .0) refl)
 
 lowest-unmatched-requires : tie.Need-lowest-unmatched-requires
 lowest-unmatched-requires c κs =
@@ -42,7 +43,7 @@ use-views-requires c κs =
 answer-book-requires : tie.Need-answer-book-requires
 answer-book-requires c κs =
     let h = rw (c .before .before .before .before .before .before .before .before .before .before .enum-told .given .1) at (c .before .before .before .before .before .before .before .before .before .before .before .before .before .before .judge .ensures) in
-    (h .query, h .views, used-lowest (h .query) (h .views) _ (h .table) (c .before .before .before .use-views .ensures) (c .before .before .before .before .before .lowest-unmatched .ensures), c .before .before .before .before .before .before .before .before .before .before .before .before .before .before .judge .kept .1 .1 .0 ∙ c .before .before .before .before .before .before .before .before .before .before .before .before .before .before .before .before .before .before .before .before .before .pre)
+    (h .query, h .views, used-lowest (h .query) (h .views) _ (h .table) (c .before .before .before .use-views .ensures) (c .before .before .before .before .before .lowest-unmatched .ensures), c .before .before .before .before .before .before .before .before .before .before .before .before .before .before .judge .kept .1 .1 .1 .0 ∙ c .before .before .before .before .before .before .before .before .before .before .before .before .before .before .before .before .before .before .before .before .before .pre)
 
 same-length-2 : tie.Need-same-length-2
 same-length-2 c = search needs
@@ -55,7 +56,7 @@ unfolding answerBy answerFor
 returns-2 c =
     let a = c .before .before .before .before .before .before .before .before .before .before .before .before .before .before .before .before .before .before .before .before .before .before .before .before .before .before .args in
     let h = rw (c .before .before .before .before .before .before .before .before .before .before .before .before .before .before .before .enum-told .given .1) at (c .before .before .before .before .before .before .before .before .before .before .before .before .before .before .before .before .before .before .before .judge .ensures) in
-    judged-on (quoted (a .question .now) (a .catalogue .now)) (answerFor usedBy (a .book .now) (length (a .out .now))) (h .on)
+    judged-on (quoted (a .question .now) (brings (a .catalogue .now) (a .one-way))) (answerFor usedBy (a .book .now) (length (a .out .now))) (h .on)
     (rw (used-is (h .query) (h .views) (c .before .before .before .before .before .before .before .before .before .before .before .before .before .before .before .before .before .before .before .judge .result .usable) (h .table) (c .before .before .before .before .before .before .before .before .use-views .ensures)) at (c .before .before .before .before .answer-book .ensures (h .query) (h .views) (c .before .before .before .before .before .before .before .before .before .before .before .before .before .before .before .before .before .before .before .judge .result .usable) (h .table)))
 
 pub answer-spec : {M : Type 1} → statement M

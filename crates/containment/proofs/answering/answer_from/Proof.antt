@@ -2,6 +2,7 @@
 use mathlib.Core.Path.{refl, _∙_}
 use mathlib.Core.List.{[], _∷_}
 use lib.ListN.{length}
+use Rattle.matching.specs.Offered.{brings}
 use Rattle.containment.specs.Quote.{quoted}
 use Rattle.containment.specs.Answer.{answerFor, answerBy}
 use Rattle.containment.proofs.AnswerLaws.{judged-refused, judged-on, query-few, views-few}
@@ -26,7 +27,7 @@ unfolding answerBy
 returns c =
     let a = c .before .before .before .before .before .before .before .before .before .before .before .args in
     let e = c .enum-told2 .given .1 in
-    rw e (judged-refused (quoted (a .question .now) (a .catalogue .now)) (answerFor (λ x. a .set) (a .book .now) (length (a .out .now))) (a .out .now ∷ []) ((rw e at (c .before .before .before .before .judge .ensures)) .0) refl)
+    rw e (judged-refused (quoted (a .question .now) (brings (a .catalogue .now) (a .one-way))) (answerFor (λ x. a .set) (a .book .now) (length (a .out .now))) (a .out .now ∷ []) ((rw e at (c .before .before .before .before .judge .ensures)) .0) refl)
 
 lowest-unmatched-requires : tie.Need-lowest-unmatched-requires
 lowest-unmatched-requires c κs =
@@ -36,7 +37,7 @@ lowest-unmatched-requires c κs =
 answer-book-requires : tie.Need-answer-book-requires
 answer-book-requires c κs =
     let h = rw (c .before .before .before .before .before .before .before .before .enum-told .given .1) at (c .before .before .before .before .before .before .before .before .before .before .before .before .judge .ensures) in
-    (h .query, h .views, c .before .before .before .lowest-unmatched .ensures, c .before .before .before .before .before .before .before .before .before .before .before .before .judge .kept .1 .1 .0 ∙ c .before .before .before .before .before .before .before .before .before .before .before .before .before .before .before .before .before .before .before .pre)
+    (h .query, h .views, c .before .before .before .lowest-unmatched .ensures, c .before .before .before .before .before .before .before .before .before .before .before .before .judge .kept .1 .1 .1 .0 ∙ c .before .before .before .before .before .before .before .before .before .before .before .before .before .before .before .before .before .before .before .pre)
 
 same-length-2 : tie.Need-same-length-2
 same-length-2 c = search needs
@@ -49,7 +50,7 @@ unfolding answerBy answerFor
 returns-2 c =
     let a = c .before .before .before .before .before .before .before .before .before .before .before .before .before .before .before .before .before .before .before .before .before .before .before .before .args in
     let h = rw (c .before .before .before .before .before .before .before .before .before .before .before .before .before .enum-told .given .1) at (c .before .before .before .before .before .before .before .before .before .before .before .before .before .before .before .before .before .judge .ensures) in
-    judged-on (quoted (a .question .now) (a .catalogue .now)) (answerFor (λ x. a .set) (a .book .now) (length (a .out .now))) (h .on)
+    judged-on (quoted (a .question .now) (brings (a .catalogue .now) (a .one-way))) (answerFor (λ x. a .set) (a .book .now) (length (a .out .now))) (h .on)
     (c .before .before .before .before .answer-book .ensures (h .query) (h .views) _ (h .table))
 
 pub answer-from-spec : {M : Type 1} → statement M

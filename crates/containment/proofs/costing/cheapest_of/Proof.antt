@@ -1,12 +1,10 @@
 -- `containment::costing::cheapest_of` meets its contract.
 use mathlib.Core.Path.{subst}
 use mathlib.Core.List.{List}
-use Prim.Native.Nat.{ℕ, _<_}
-use lib.ListN.{getD}
+use Prim.Native.Nat.{ℕ}
 use native.Mathlib.Omega.{arith}
-use Rattle.matching.specs.Masks.{Mask}
 use Rattle.containment.specs.Choice.{columnsIn}
-use Rattle.containment.specs.Tries.{EdgeMatchedBy}
+use Rattle.containment.specs.Masked.{Masked}
 use Rattle.containment.proofs.ChoiceLaws.{lowest-leaves, lowest-covers}
 use Rattle.containment.proofs.TriesLaws.{settled-cheapest}
 use Rattle.containment.proofs.CostingLaws.{found-told, lacking-told, found-small, chosen-fits}
@@ -43,7 +41,7 @@ choose-requires c κs = (c .before .before .before .before .before .before .befo
 cast-t20 : tie.Need-cast-t20
 cast-t20 c =
     let a = c .before .before .before .before .before .before .before .before .before .before .before .args in
-    let masks : (i : ℕ) → i < a .k → Mask (EdgeMatchedBy (columnsIn (a .usable) (a .mapping .now)) i (a .m)) (getD (c .before .before .before .before .before .masks-of .result) i 0) = subst (λ (t : List ℕ). (i : ℕ) → i < a .k → Mask (EdgeMatchedBy t i (a .m)) (getD (c .before .before .before .before .before .masks-of .result) i 0)) (c .before .before .before .before .before .before .before .columns-in .ensures) (c .before .before .before .before .before .masks-of .ensures) in
+    let masks : Masked (columnsIn (a .usable) (a .mapping .now)) (a .k) (a .m) (c .before .before .before .before .before .masks-of .result) = subst (λ (t : List ℕ). Masked t (a .k) (a .m) (c .before .before .before .before .before .masks-of .result)) (c .before .before .before .before .before .before .before .columns-in .ensures) (c .before .before .before .before .before .masks-of .ensures) in
     let x = settled-cheapest (columnsIn (a .usable) (a .mapping .now)) (a .m) (a .charges .now) (a .k) (c .before .before .before .before .before .masks-of .result) masks (c .before .before .before .first-edges .result) (c .before .before .settle .result) (c .before .before .before .first-edges .ensures) (c .before .before .settle .ensures) in
     omega (arith, found-small (a .mapping .now) (a .usable) (a .m) (a .charges .now) (a .k) (c .before .before .settle .result) (c .before .before .before .before .before .before .before .before .before .before .before .pre .0) x)
 
@@ -55,7 +53,7 @@ cast-t21 c =
 returns-2 : tie.Need-returns-2
 returns-2 c =
     let a = c .before .before .before .before .before .before .before .before .before .before .before .args in
-    let masks : (i : ℕ) → i < a .k → Mask (EdgeMatchedBy (columnsIn (a .usable) (a .mapping .now)) i (a .m)) (getD (c .before .before .before .before .before .masks-of .result) i 0) = subst (λ (t : List ℕ). (i : ℕ) → i < a .k → Mask (EdgeMatchedBy t i (a .m)) (getD (c .before .before .before .before .before .masks-of .result) i 0)) (c .before .before .before .before .before .before .before .columns-in .ensures) (c .before .before .before .before .before .masks-of .ensures) in
+    let masks : Masked (columnsIn (a .usable) (a .mapping .now)) (a .k) (a .m) (c .before .before .before .before .before .masks-of .result) = subst (λ (t : List ℕ). Masked t (a .k) (a .m) (c .before .before .before .before .before .masks-of .result)) (c .before .before .before .before .before .before .before .columns-in .ensures) (c .before .before .before .before .before .masks-of .ensures) in
     let x = settled-cheapest (columnsIn (a .usable) (a .mapping .now)) (a .m) (a .charges .now) (a .k) (c .before .before .before .before .before .masks-of .result) masks (c .before .before .before .first-edges .result) (c .before .before .settle .result) (c .before .before .before .first-edges .ensures) (c .before .before .settle .ensures) in
     found-told (a .mapping .now) (a .usable) (a .m) (a .charges .now) (a .k) (c .before .before .settle .result) (c .before .choose .result) (lowest-covers _ _ _ _ (c .before .before .before .before .before .before .before .before .before .lowest-unmatched .ensures) (c .before .before .before .before .before .before .before .before .if1 .left)) x (c .before .choose .ensures)
 

@@ -1,4 +1,5 @@
 -- `containment::costing::find_cheapest` meets its contract.
+use Rattle.matching.specs.Offered.{brings}
 use Rattle.containment.specs.Quote.{quoted}
 use Rattle.containment.specs.Cheapest.{cheapestOutcome}
 use borrow.Author.Needs.{needs}
@@ -11,7 +12,7 @@ judge-requires c κs = search needs
 cheapest-judged-requires : tie.Need-cheapest-judged-requires
 cheapest-judged-requires c κs =
     let a = c .before .before .before .before .before .before .before .before .args in
-    (quoted (a .question .now) (a .catalogue .now), c .before .before .judge .ensures)
+    (quoted (a .question .now) (brings (a .catalogue .now) (a .one-way)), c .before .before .judge .ensures)
 
 same-length : tie.Need-same-length
 same-length c = search needs
@@ -20,7 +21,7 @@ returns : tie.Need-returns
 unfolding cheapestOutcome
 returns c =
     let a = c .before .before .before .before .before .before .before .before .before .args in
-    c .cheapest-judged .ensures (quoted (a .question .now) (a .catalogue .now)) (c .before .before .before .judge .ensures)
+    c .cheapest-judged .ensures (quoted (a .question .now) (brings (a .catalogue .now) (a .one-way))) (c .before .before .before .judge .ensures)
 
 pub find-cheapest-spec : {M : Type 1} → statement M
 find-cheapest-spec =

@@ -1,4 +1,5 @@
 -- `containment::costing::find_cheapest_on` meets its contract.
+use Rattle.matching.specs.Offered.{brings}
 use Rattle.containment.specs.Terms.{quotedOn, cheapestOn}
 use borrow.Author.Needs.{needs}
 use Rattle.containment.proofs.costing.find_cheapest_on.Statement.{statement}
@@ -10,7 +11,7 @@ judge-on-requires c κs = search needs
 cheapest-judged-requires : tie.Need-cheapest-judged-requires
 cheapest-judged-requires c κs =
     let a = c .before .before .before .before .before .before .before .before .args in
-    (quotedOn (a .question .now) (a .catalogue .now) (a .terms) (a .day), c .before .before .judge-on .ensures)
+    (quotedOn (a .question .now) (brings (a .catalogue .now) (a .one-way)) (a .terms) (a .day), c .before .before .judge-on .ensures)
 
 same-length : tie.Need-same-length
 same-length c = search needs
@@ -19,7 +20,7 @@ returns : tie.Need-returns
 unfolding cheapestOn
 returns c =
     let a = c .before .before .before .before .before .before .before .before .before .args in
-    c .cheapest-judged .ensures (quotedOn (a .question .now) (a .catalogue .now) (a .terms) (a .day)) (c .before .before .before .judge-on .ensures)
+    c .cheapest-judged .ensures (quotedOn (a .question .now) (brings (a .catalogue .now) (a .one-way)) (a .terms) (a .day)) (c .before .before .before .judge-on .ensures)
 
 pub find-cheapest-on-spec : {M : Type 1} → statement M
 find-cheapest-on-spec =

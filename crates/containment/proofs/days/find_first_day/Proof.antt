@@ -1,6 +1,7 @@
 -- `containment::days::find_first_day` meets its contract.
 use mathlib.Core.Path.{refl}
 use mathlib.Core.List.{[]}
+use Rattle.matching.specs.Offered.{brings}
 use Rattle.containment.specs.Terms.{quotedOn, firstDayFor, firstDay}
 use Rattle.containment.proofs.AnswerLaws.{judged-refused, judged-on, query-few, views-few}
 use Rattle.containment.proofs.TermsLaws.{day-told, never-told}
@@ -21,7 +22,7 @@ returns : tie.Need-returns
 unfolding firstDay
 returns c =
     let a = c .before .before .before .before .before .before .before .before .before .before .args in
-    judged-refused (quotedOn (a .question .now) (a .catalogue .now) (a .t) (a .day)) (firstDayFor (a .t) (a .day)) [] ((rw (c .before .verdict .given .1) at (c .before .before .before .before .before .judge-on .ensures)) .0) refl
+    judged-refused (quotedOn (a .question .now) (brings (a .catalogue .now) (a .one-way)) (a .t) (a .day)) (firstDayFor (a .t) (a .day)) [] ((rw (c .before .verdict .given .1) at (c .before .before .before .before .before .judge-on .ensures)) .0) refl
 
 enum-told : tie.Need-enum-told
 enum-told c = search needs
@@ -31,8 +32,8 @@ earliest-of-requires c κs =
     let h = rw (c .before .before .before .enum-told .given .1) at (c .before .before .before .before .before .before .before .judge-on .ensures) in
     (views-few (h .views .views), query-few (h .query))
 
-cast-t16 : tie.Need-cast-t16
-cast-t16 c = search needs
+cast-t17 : tie.Need-cast-t17
+cast-t17 c = search needs
 
 same-length-2 : tie.Need-same-length-2
 same-length-2 c = search needs
@@ -42,7 +43,7 @@ unfolding firstDay
 returns-2 c =
     let a = c .before .before .before .before .before .before .before .before .before .before .before .before .before .before .args in
     let h = rw (c .before .before .before .before .before .enum-told .given .1) at (c .before .before .before .before .before .before .before .before .before .judge-on .ensures) in
-    judged-on (quotedOn (a .question .now) (a .catalogue .now) (a .t) (a .day)) (firstDayFor (a .t) (a .day)) (h .on) (day-told (h .query) (h .views) _ (h .table) (a .t) (a .day) (c .before .earliest-of .ensures) (c .if1 .taken))
+    judged-on (quotedOn (a .question .now) (brings (a .catalogue .now) (a .one-way)) (a .t) (a .day)) (firstDayFor (a .t) (a .day)) (h .on) (day-told (h .query) (h .views) _ (h .table) (a .t) (a .day) (c .before .earliest-of .ensures) (c .if1 .taken))
 
 same-length-3 : tie.Need-same-length-3
 same-length-3 c = search needs
@@ -52,7 +53,7 @@ unfolding firstDay
 returns-3 c =
     let a = c .before .before .before .before .before .before .before .before .before .before .before .before .before .before .args in
     let h = rw (c .before .before .before .before .before .enum-told .given .1) at (c .before .before .before .before .before .before .before .before .before .judge-on .ensures) in
-    judged-on (quotedOn (a .question .now) (a .catalogue .now) (a .t) (a .day)) (firstDayFor (a .t) (a .day)) (h .on) (never-told (h .query) (h .views) _ (h .table) (a .t) (a .day) (c .before .earliest-of .ensures) (c .if1 .left))
+    judged-on (quotedOn (a .question .now) (brings (a .catalogue .now) (a .one-way)) (a .t) (a .day)) (firstDayFor (a .t) (a .day)) (h .on) (never-told (h .query) (h .views) _ (h .table) (a .t) (a .day) (c .before .earliest-of .ensures) (c .if1 .left))
 
 pub find-first-day-spec : {M : Type 1} → statement M
 find-first-day-spec =
@@ -64,7 +65,7 @@ find-first-day-spec =
     returns
     enum-told
     earliest-of-requires
-    cast-t16
+    cast-t17
     same-length-2
     returns-2
     same-length-3

@@ -1,8 +1,9 @@
 -- `containment::judging::judge` meets its contract.
 use mathlib.Core.Path.{sym, subst, _∙_}
+use Rattle.matching.proofs.OfferedLaws.{judged-rejected}
 use Rattle.containment.specs.Steps.{JudgedTo}
 use Rattle.packed.proofs.CallLaws.{judged-accepted}
-use Rattle.containment.proofs.AnswerLaws.{judged-rejected, judged-by, query-by}
+use Rattle.containment.proofs.AnswerLaws.{judged-by, query-by}
 use borrow.Author.Needs.{needs}
 use Rattle.containment.proofs.judging.judge.Statement.{statement}
 use Rattle.containment.proofs.judging.judge.Tie as tie

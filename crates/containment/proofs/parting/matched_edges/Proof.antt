@@ -4,7 +4,7 @@ use mathlib.Core.Logic.{⊎-elim}
 use mathlib.Core.Path.{_≡_, sym, subst, _∙_}
 use Prim.Native.Nat.{ℕ, _+_, _≤_, _-_}
 use native.Mathlib.Omega.{arith}
-use Rattle.matching.specs.Masks.{Mask}
+use Rattle.engine.specs.Masks.{Mask}
 use Rattle.containment.specs.Choice.{Passing, matchedIn}
 use Rattle.containment.proofs.SetBits.{passing-none, passing-more, passing-same}
 use Rattle.containment.proofs.parting.matched_edges.Statement.{statement}

@@ -4,8 +4,8 @@ use mathlib.Core.Logic.{⊎-elim}
 use mathlib.Core.Path.{_≡_, sym, subst, _∙_}
 use Prim.Native.Nat.{ℕ, _+_, _≤_, _-_}
 use native.Mathlib.Omega.{arith}
-use Rattle.matching.specs.Masks.{Mask}
-use Rattle.matching.proofs.MaskBits.{union-start}
+use Rattle.engine.specs.Masks.{Mask}
+use Rattle.engine.proofs.MaskBits.{union-start}
 use Rattle.containment.specs.Parting.{EndTaken}
 use Rattle.containment.proofs.PartingLaws.{ends-more, ends-same}
 use Rattle.containment.proofs.parting.nodes_at.Statement.{statement}

@@ -4,7 +4,7 @@ use mathlib.Core.Logic.{⊎-elim}
 use mathlib.Core.Path.{_≡_, refl, sym, ap, _∙_}
 use Prim.Native.Nat.{_≤_, _-_}
 use native.Mathlib.Omega.{arith}
-use Rattle.matching.specs.Simulation.{bit}
+use Rattle.engine.specs.Simulation.{bit}
 use Rattle.matching.specs.Part.{rank}
 use Rattle.matching.proofs.PlaceLaws.{rank-most}
 use Rattle.containment.proofs.PartingLaws.{number-more, number-same}

@@ -7,7 +7,7 @@ use mathlib.Core.Path.{_≡_, sym, subst, _∙_}
 use Prim.Native.Nat.{_+_, _≤_, _<_, _-_}
 use lib.ListN.{take}
 use native.Mathlib.Omega.{arith}
-use Rattle.matching.specs.Simulation.{bit}
+use Rattle.engine.specs.Simulation.{bit}
 use Rattle.matching.specs.Part.{atPlaces}
 use Rattle.containment.specs.Parting.{Adds}
 use Rattle.containment.proofs.PartingLaws.{labels-none, labels-more, labels-same}

@@ -4,9 +4,11 @@ use mathlib.Core.List.{[], _∷_}
 use lib.ListN.{length}
 use native.Mathlib.Omega.{arith}
 use Rattle.packed.proofs.CallLaws.{refusal-answered}
-use Rattle.matching.proofs.RowLaws.{blank-long}
+use Rattle.matching.specs.Offered.{brings}
+use Rattle.engine.proofs.RowLaws.{blank-long}
+use Rattle.matching.proofs.OfferedLaws.{offered-on}
 use Rattle.containment.proofs.AnswerLaws.{views-small, views-by, counts-by}
-use Rattle.containment.proofs.SeveralLaws.{some-few, asked-by, miscounted, questions-refused, catalogue-refused, several-on}
+use Rattle.containment.proofs.SeveralLaws.{some-few, asked-by, miscounted, questions-refused, offer-refused, several-on}
 use borrow.Author.Needs.{needs}
 use Rattle.containment.proofs.several.answer_several.Statement.{statement}
 use Rattle.containment.proofs.several.answer_several.Tie as tie
@@ -14,7 +16,7 @@ use Rattle.containment.proofs.several.answer_several.Tie as tie
 returns : tie.Need-returns
 returns c =
     let a = c .before .before .before .before .before .before .args in
-    refusal-answered (a .out .now ∷ []) (miscounted (a .questions .now) (a .catalogue .now) (a .book .now) (a .number) (length (a .out .now)) (c .if1 .taken)) refl
+    refusal-answered (a .out .now ∷ []) (miscounted (a .questions .now) (brings (a .catalogue .now) (a .one-way)) (a .book .now) (a .number) (length (a .out .now)) (c .if1 .taken)) refl
 
 accept-questions-requires : tie.Need-accept-questions-requires
 accept-questions-requires c κs = (some-few (c .before .before .before .before .before .before .before .args .number) (c .before .if1 .left) .1, c .before .before .before .before .before .before .before .pre)
@@ -28,13 +30,13 @@ same-length c = search needs
 returns-2 : tie.Need-returns-2
 returns-2 c =
     let a = c .before .before .before .before .before .before .before .before .before .before .before .before .before .args in
-    refusal-answered (a .out .now ∷ []) (questions-refused (a .questions .now) (a .catalogue .now) (a .book .now) (a .number) (length (a .out .now)) (c .before .before .before .before .before .before .before .if1 .left) (rw (c .before .asked .given .1) at (c .before .before .before .before .before .accept-questions .ensures))) refl
+    refusal-answered (a .out .now ∷ []) (questions-refused (a .questions .now) (brings (a .catalogue .now) (a .one-way)) (a .book .now) (a .number) (length (a .out .now)) (c .before .before .before .before .before .before .before .if1 .left) (rw (c .before .asked .given .1) at (c .before .before .before .before .before .accept-questions .ensures))) refl
 
 enum-told : tie.Need-enum-told
 enum-told c = search needs
 
-accept-catalogue-requires : tie.Need-accept-catalogue-requires
-accept-catalogue-requires c κs = c .before .before .before .before .before .accept-questions .kept .1 .1 .0 ∙ c .before .before .before .before .before .before .before .before .before .before .before .before .before .pre
+accept-offer-requires : tie.Need-accept-offer-requires
+accept-offer-requires c κs = c .before .before .before .before .before .accept-questions .kept .1 .1 .0 ∙ c .before .before .before .before .before .before .before .before .before .before .before .before .before .pre
 
 enum-known-verdict : tie.Need-enum-known-verdict
 enum-known-verdict c = search needs
@@ -46,7 +48,7 @@ returns-3 : tie.Need-returns-3
 returns-3 c =
     let a = c .before .before .before .before .before .before .before .before .before .before .before .before .before .before .before .before .before .before .before .before .args in
     let q = rw (c .before .before .before .before .before .before .before .before .enum-told .given .1) at (c .before .before .before .before .before .before .before .before .before .before .before .before .accept-questions .ensures) in
-    refusal-answered (a .out .now ∷ []) (catalogue-refused (a .questions .now) (a .catalogue .now) (a .book .now) (a .number) (length (a .out .now)) (c .before .before .before .before .before .before .before .before .before .before .before .before .before .before .if1 .left) (q .is) ((rw (c .before .verdict .given .1) at (c .before .before .before .before .before .before .accept-catalogue .ensures)) .0)) refl
+    refusal-answered (a .out .now ∷ []) (offer-refused (a .questions .now) (brings (a .catalogue .now) (a .one-way)) (a .book .now) (a .number) (length (a .out .now)) (c .before .before .before .before .before .before .before .before .before .before .before .before .before .before .if1 .left) (q .is) ((rw (c .before .verdict .given .1) at (c .before .before .before .before .before .before .accept-offer .ensures)) .0)) refl
 
 enum-told-2 : tie.Need-enum-told-2
 enum-told-2 c = search needs
@@ -58,30 +60,30 @@ map-queries-requires : tie.Need-map-queries-requires
 map-queries-requires c κs =
     let a = c .before .before .before .before .before .before .before .before .before .before .before .before .before .before .before .before .before .before .before .before .before .before .args in
     let q = rw (c .before .before .before .before .before .before .before .before .before .before .enum-told .given .1) at (c .before .before .before .before .before .before .before .before .before .before .before .before .before .before .accept-questions .ensures) in
-    let h = rw (c .before .before .before .enum-told2 .given .1) at (c .before .before .before .before .before .before .before .before .accept-catalogue .ensures) in
-    (asked-by (a .questions .now) (a .number) q (some-few (a .number) (c .before .before .before .before .before .before .before .before .before .before .before .before .before .before .before .before .if1 .left) .1), views-by (a .catalogue .now) h, omega (arith, views-small (a .catalogue .now) h), blank-long 4096 (c .before .before .no-tables .ensures), c .before .before .before .before .before .before .before .before .accept-catalogue .kept .1 .0 ∙ c .before .before .before .before .before .before .before .before .before .before .before .before .before .before .accept-questions .kept .1 .1 .0 ∙ c .before .before .before .before .before .before .before .before .before .before .before .before .before .before .before .before .before .before .before .before .before .before .pre)
+    let h = rw (c .before .before .before .enum-told2 .given .1) at (c .before .before .before .before .before .before .before .before .accept-offer .ensures) in
+    (asked-by (a .questions .now) (a .number) q (some-few (a .number) (c .before .before .before .before .before .before .before .before .before .before .before .before .before .before .before .before .if1 .left) .1), views-by (a .catalogue .now) (h .is) (h .holds), omega (arith, views-small (a .catalogue .now) (h .is)), blank-long 4096 (c .before .before .no-tables .ensures), c .before .before .before .before .before .before .before .before .accept-offer .kept .1 .1 .0 ∙ c .before .before .before .before .before .before .before .before .before .before .before .before .before .before .accept-questions .kept .1 .1 .0 ∙ c .before .before .before .before .before .before .before .before .before .before .before .before .before .before .before .before .before .before .before .before .before .before .pre)
 
 answer-book-requires : tie.Need-answer-book-requires
 answer-book-requires c κs =
     let a = c .before .before .before .before .before .before .before .before .before .before .before .before .before .before .before .before .before .before .before .before .before .before .before .before .before .before .before .before .args in
     let q = rw (c .before .before .before .before .before .before .before .before .before .before .before .before .before .before .before .before .enum-told .given .1) at (c .before .before .before .before .before .before .before .before .before .before .before .before .before .before .before .before .before .before .before .before .accept-questions .ensures) in
-    let h = rw (c .before .before .before .before .before .before .before .before .before .enum-told2 .given .1) at (c .before .before .before .before .before .before .before .before .before .before .before .before .before .before .accept-catalogue .ensures) in
+    let h = rw (c .before .before .before .before .before .before .before .before .before .enum-told2 .given .1) at (c .before .before .before .before .before .before .before .before .before .before .before .before .before .before .accept-offer .ensures) in
     let s = asked-by (a .questions .now) (a .number) q (some-few (a .number) (c .before .before .before .before .before .before .before .before .before .before .before .before .before .before .before .before .before .before .before .before .before .before .if1 .left) .1) in
-    (c .before .before .before .before .before .map-queries .kept .1 .1 .1 .1 .1 .0 ∙ c .before .before .before .before .before .before .before .before .before .before .before .before .before .before .accept-catalogue .kept .1 .0 ∙ c .before .before .before .before .before .before .before .before .before .before .before .before .before .before .before .before .before .before .before .before .accept-questions .kept .1 .1 .0 ∙ c .before .before .before .before .before .before .before .before .before .before .before .before .before .before .before .before .before .before .before .before .before .before .before .before .before .before .before .before .pre, some-few (a .number) (c .before .before .before .before .before .before .before .before .before .before .before .before .before .before .before .before .before .before .before .before .before .before .if1 .left) .0, (s, counts-by (a .catalogue .now) h, c .before .before .before .before .before .map-queries .ensures s (views-by (a .catalogue .now) h)))
+    (c .before .before .before .before .before .map-queries .kept .1 .1 .1 .1 .1 .1 .0 ∙ c .before .before .before .before .before .before .before .before .before .before .before .before .before .before .accept-offer .kept .1 .1 .0 ∙ c .before .before .before .before .before .before .before .before .before .before .before .before .before .before .before .before .before .before .before .before .accept-questions .kept .1 .1 .0 ∙ c .before .before .before .before .before .before .before .before .before .before .before .before .before .before .before .before .before .before .before .before .before .before .before .before .before .before .before .before .pre, some-few (a .number) (c .before .before .before .before .before .before .before .before .before .before .before .before .before .before .before .before .before .before .before .before .before .before .if1 .left) .0, (s, counts-by (a .catalogue .now) (h .is) (h .holds) (a .one-way), c .before .before .before .before .before .map-queries .ensures s (views-by (a .catalogue .now) (h .is) (h .holds))))
 
 same-length-3 : tie.Need-same-length-3
 same-length-3 c = search needs
 
 same-length-4 : tie.Need-same-length-4
-same-length-4 c = c .before .before .before .before .answer-book .kept .1 .1 .1 .1 .1 .1 .1 .1 .0 ∙ c .before .before .before .before .before .before .before .before .before .before .map-queries .kept .1 .1 .1 .1 .1 .0 ∙ c .before .before .before .before .before .before .before .before .before .before .before .before .before .before .before .before .before .before .before .accept-catalogue .kept .1 .0 ∙ c .before .before .before .before .before .before .before .before .before .before .before .before .before .before .before .before .before .before .before .before .before .before .before .before .before .accept-questions .kept .1 .1 .0
+same-length-4 c = c .before .before .before .before .answer-book .kept .1 .1 .1 .1 .1 .1 .1 .1 .0 ∙ c .before .before .before .before .before .before .before .before .before .before .map-queries .kept .1 .1 .1 .1 .1 .1 .0 ∙ c .before .before .before .before .before .before .before .before .before .before .before .before .before .before .before .before .before .before .before .accept-offer .kept .1 .1 .0 ∙ c .before .before .before .before .before .before .before .before .before .before .before .before .before .before .before .before .before .before .before .before .before .before .before .before .before .accept-questions .kept .1 .1 .0
 
 returns-4 : tie.Need-returns-4
 returns-4 c =
     let a = c .before .before .before .before .before .before .before .before .before .before .before .before .before .before .before .before .before .before .before .before .before .before .before .before .before .before .before .before .before .before .before .before .before .args in
     let q = rw (c .before .before .before .before .before .before .before .before .before .before .before .before .before .before .before .before .before .before .before .before .before .enum-told .given .1) at (c .before .before .before .before .before .before .before .before .before .before .before .before .before .before .before .before .before .before .before .before .before .before .before .before .before .accept-questions .ensures) in
-    let h = rw (c .before .before .before .before .before .before .before .before .before .before .before .before .before .before .enum-told2 .given .1) at (c .before .before .before .before .before .before .before .before .before .before .before .before .before .before .before .before .before .before .before .accept-catalogue .ensures) in
+    let h = rw (c .before .before .before .before .before .before .before .before .before .before .before .before .before .before .enum-told2 .given .1) at (c .before .before .before .before .before .before .before .before .before .before .before .before .before .before .before .before .before .before .before .accept-offer .ensures) in
     let s = asked-by (a .questions .now) (a .number) q (some-few (a .number) (c .before .before .before .before .before .before .before .before .before .before .before .before .before .before .before .before .before .before .before .before .before .before .before .before .before .before .before .if1 .left) .1) in
-    several-on (a .questions .now) (a .catalogue .now) (a .book .now) (a .number) (length (a .out .now)) (c .before .before .before .before .before .before .before .before .before .before .before .before .before .before .before .before .before .before .before .before .before .before .before .before .before .before .before .if1 .left) (q .is) (h .is) (c .before .before .before .before .answer-book .ensures s (counts-by (a .catalogue .now) h) (c .before .before .before .before .before .before .before .before .before .before .map-queries .ensures s (views-by (a .catalogue .now) h)))
+    several-on (a .questions .now) (brings (a .catalogue .now) (a .one-way)) (a .book .now) (a .number) (length (a .out .now)) (c .before .before .before .before .before .before .before .before .before .before .before .before .before .before .before .before .before .before .before .before .before .before .before .before .before .before .before .if1 .left) (q .is) (offered-on h) (c .before .before .before .before .answer-book .ensures s (counts-by (a .catalogue .now) (h .is) (h .holds) (a .one-way)) (c .before .before .before .before .before .before .before .before .before .before .map-queries .ensures s (views-by (a .catalogue .now) (h .is) (h .holds))))
 
 pub answer-several-spec : {M : Type 1} → statement M
 answer-several-spec =
@@ -93,7 +95,7 @@ answer-several-spec =
     same-length
     returns-2
     enum-told
-    accept-catalogue-requires
+    accept-offer-requires
     enum-known-verdict
     same-length-2
     returns-3

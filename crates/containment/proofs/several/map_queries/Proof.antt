@@ -12,10 +12,10 @@ use Rattle.containment.proofs.several.map_queries.Statement.{statement}
 use Rattle.containment.proofs.several.map_queries.Tie as tie
 
 abbrev Inv-loop : tie.InvT-loop
-Inv-loop questions number catalogue k tables₀ work₀ used₀ needed₀ lowest₀ byte₀ i₀ tables work used needed lowest byte i = (i ≤ number) × (length work ≡ length work₀) × AskedFrom questions number i byte × ((a : Asked questions number) (v : Views catalogue k) → Mapped (askedAt a v) i tables used needed lowest)
+Inv-loop questions number catalogue one k tables₀ work₀ used₀ needed₀ lowest₀ byte₀ i₀ tables work used needed lowest byte i = (i ≤ number) × (length work ≡ length work₀) × AskedFrom questions number i byte × ((a : Asked questions number) (v : Views catalogue k) → Mapped (askedAt a v one) i tables used needed lowest)
 
 abbrev μ-loop : tie.MeasureT-loop
-μ-loop questions number catalogue k tables₀ work₀ used₀ needed₀ lowest₀ byte₀ i₀ tables work used needed lowest byte i = number - i
+μ-loop questions number catalogue one k tables₀ work₀ used₀ needed₀ lowest₀ byte₀ i₀ tables work used needed lowest byte i = number - i
 
 -- a turn: that of one of at most eight queries, which is accepted and has at most 32 edges
 turn : (e : tie.In-loop Inv-loop μ-loop) → e .before .loop .i < 8
@@ -31,7 +31,7 @@ no-sets-requires : tie.Need-no-sets-requires Inv-loop μ-loop
 no-sets-requires c κs = search needs
 
 loop-holds : tie.Need-loop-holds Inv-loop μ-loop
-loop-holds c = (search needs, refl, asked-start, λ a v. mapped-start (askedAt a v) (c .before .before .before .before .pre .3) (c .no-sets .ensures))
+loop-holds c = (search needs, refl, asked-start, λ a v. mapped-start (askedAt a v (c .before .before .before .before .args .one-way)) (c .before .before .before .before .pre .3) (c .no-sets .ensures))
 
 view-at-requires : tie.Need-view-at-requires Inv-loop μ-loop
 view-at-requires c κs =
@@ -51,7 +51,7 @@ put-table-requires : tie.Need-put-table-requires Inv-loop μ-loop
 put-table-requires c κs = (turn (c .before .before .before .before .before .before .before .before .before .before .before .before), c .before .before .before .before .before .before .before .before .before .before .before .before .before .loop .inv .3 (c .before .before .before .before .before .before .before .before .before .before .before .before .before .before .before .before .before .before .pre .0) (c .before .before .before .before .before .before .before .before .before .before .before .before .before .before .before .before .before .before .pre .1) .long)
 
 mul-used : tie.Need-mul-used Inv-loop μ-loop
-mul-used c = search needs
+mul-used c = omega (arith, turn (c .before .before .before .before .before .before .before .before .before .before .before .before .before))
 
 array-write-used : tie.Need-array-write-used Inv-loop μ-loop
 array-write-used c = turn (c .before .before .before .before .before .before .before .before .before .before .before .before .before)
@@ -73,10 +73,10 @@ loop-again c =
     let w = c .before .before .before .before .before .before .before .before .before .before .before .before .before .view-at .ensures in
     let m = c .before .before .before .before .before .before .before .before .before .before .map-views in (
       omega arith,
-      m .kept .1 .1 .1 .0 ∙ l .1,
+      m .kept .1 .1 .1 .1 .0 ∙ l .1,
       asked-more (l .2) t r w,
       λ a v. mapped-more (l .3 a v) (turn (c .before .before .before .before .before .before .before .before .before .before .before .before .before .before))
-          (asked-found a v _ (asked-next (l .2) t r w a .holds) (m .ensures (asked-query (l .2) t r w a) v) (few (c .before .before .before .before .before .before .before .before .before .before .before .before .before)) (c .before .before .before .before .before .before .lowest-unmatched .ensures) (c .before .before .before .before .use-views .ensures))
+          (asked-found a v (c .before .before .before .before .before .before .before .before .before .before .before .before .before .before .before .before .before .before .before .before .args .one-way) _ (asked-next (l .2) t r w a .holds) (m .ensures (asked-query (l .2) t r w a) v) (few (c .before .before .before .before .before .before .before .before .before .before .before .before .before)) (c .before .before .before .before .before .before .lowest-unmatched .ensures) (c .before .before .before .before .use-views .ensures))
           (c .before .put-table .ensures) (c .first-lowest .ensures),
     )
 

@@ -1,5 +1,6 @@
 -- `containment::showing::show` meets its contract.
 use mathlib.Core.Path.{_∙_}
+use Rattle.matching.specs.Offered.{brings}
 use Rattle.containment.specs.Quote.{quoted}
 use Rattle.containment.specs.Show.{showOutcome}
 use borrow.Author.Needs.{needs}
@@ -12,7 +13,7 @@ judge-requires c κs = search needs
 show-judged-requires : tie.Need-show-judged-requires
 show-judged-requires c κs =
     let a = c .before .before .before .before .before .before .before .before .before .before .before .before .args in
-    ((quoted (a .question .now) (a .catalogue .now), c .before .before .before .before .before .judge .ensures), c .before .before .before .before .before .judge .kept .1 .1 .0 ∙ c .before .before .before .before .before .before .before .before .before .before .before .before .pre)
+    ((quoted (a .question .now) (brings (a .catalogue .now) (a .one-way)), c .before .before .before .before .before .judge .ensures), c .before .before .before .before .before .judge .kept .1 .1 .1 .0 ∙ c .before .before .before .before .before .before .before .before .before .before .before .before .pre)
 
 same-length : tie.Need-same-length
 same-length c = search needs
@@ -27,7 +28,7 @@ returns : tie.Need-returns
 unfolding showOutcome
 returns c =
     let a = c .before .before .before .before .before .before .before .before .before .before .before .before .before .before .before .before .before .before .before .args in
-    c .before .before .before .before .before .before .show-judged .ensures (quoted (a .question .now) (a .catalogue .now)) (c .before .before .before .before .before .before .before .before .before .before .before .before .judge .ensures)
+    c .before .before .before .before .before .before .show-judged .ensures (quoted (a .question .now) (brings (a .catalogue .now) (a .one-way))) (c .before .before .before .before .before .before .before .before .before .before .before .before .judge .ensures)
 
 pub show-spec : {M : Type 1} → statement M
 show-spec =

@@ -1,7 +1,7 @@
 -- `containment::showing::show_both` meets its contract.
 use mathlib.Core.Path.{refl}
 use Rattle.packed.proofs.CallLaws.{none-lent}
-use Rattle.containment.proofs.AnswerLaws.{first-tight, second-tight, both-given}
+use Rattle.packed.proofs.TwoOutputs.{first-tight, second-tight, both-given}
 use borrow.Author.Needs.{needs}
 use Rattle.containment.proofs.showing.show_both.Statement.{statement}
 use Rattle.containment.proofs.showing.show_both.Tie as tie

@@ -1,5 +1,5 @@
 -- `listing::has` meets its contract.
-use Rattle.matching.specs.Simulation.{bit}
+use Rattle.engine.specs.Simulation.{bit}
 use borrow.Author.Needs.{needs}
 use Rattle.listing.proofs.lines.has.Statement.{statement}
 use Rattle.listing.proofs.lines.has.Tie as tie

@@ -1,16 +1,18 @@
 -- `matching::calls::make_book` meets its contract.
 use mathlib.Core.Path.{refl, _∙_}
 use native.Mathlib.Omega.{arith}
+use mathlib.Core.List.{[], _∷_}
 use lib.ListN.{length}
 use Rattle.packed.proofs.Accepted.{catalogue-read}
-use Rattle.packed.proofs.CallLaws.{body-refused, body-goes-on}
+use Rattle.packed.proofs.CallLaws.{refusal-answered}
 use Rattle.matching.specs.Search.{bookFor, makeBookOutcome}
+use Rattle.matching.proofs.OfferedLaws.{offered-on}
 use borrow.Author.Needs.{needs}
 use Rattle.matching.proofs.calls.make_book.Statement.{statement}
 use Rattle.matching.proofs.calls.make_book.Tie as tie
 
-accept-catalogue-requires : tie.Need-accept-catalogue-requires
-accept-catalogue-requires c κs = search needs
+accept-offer-requires : tie.Need-accept-offer-requires
+accept-offer-requires c κs = search needs
 
 enum-told : tie.Need-enum-told
 enum-told c = search needs
@@ -25,20 +27,20 @@ returns : tie.Need-returns
 unfolding makeBookOutcome
 returns c =
     let args = c .before .before .before .before .before .before .before .before .before .before .args in
-    let accept-catalogue = c .before .before .before .before .accept-catalogue in
+    let accept-offer = c .before .before .before .before .accept-offer in
     let a = args in
     let e = c .enum-told2 .given .1 in
-    rw e (body-refused (λ cs. bookFor cs (a .«record» .now) (length (a .out .now))) (a .out .now) refl (c .enum-told2 .given .0 .0) ((rw e at (accept-catalogue .ensures)) .0))
+    rw e (refusal-answered (a .out .now ∷ []) ((rw e at (accept-offer .ensures)) .0 (λ o. bookFor o (a .«record» .now) (length (a .out .now)))) refl)
 
 make-book-of-requires : tie.Need-make-book-of-requires
 make-book-of-requires c κs =
     let args = c .before .before .before .before .before .before .before .before .before .before .before .before .args in
     let pre = c .before .before .before .before .before .before .before .before .before .before .before .before .pre in
-    let accept-catalogue = c .before .before .before .before .before .before .accept-catalogue in
+    let accept-offer = c .before .before .before .before .before .before .accept-offer in
     let enum-told = c .before .before .enum-told in
-    let q = rw (enum-told .given .1) at (accept-catalogue .ensures) in
+    let q = rw (enum-told .given .1) at (accept-offer .ensures) in
     let d = catalogue-read (args .catalogue .now) (q .fields) .0 (q .is) in
-    (accept-catalogue .kept .1 .0 ∙ pre, record { small = omega (arith, d .0); fields = q .fields; is = q .is; number = q .holds .number })
+    (accept-offer .kept .1 .1 .0 ∙ pre, record { small = omega (arith, d .0); fields = q .fields; is = q .is; number = q .holds .number })
 
 same-length-2 : tie.Need-same-length-2
 same-length-2 c = search needs
@@ -50,18 +52,18 @@ returns-2 : tie.Need-returns-2
 unfolding makeBookOutcome
 returns-2 c =
     let args = c .before .before .before .before .before .before .before .before .before .before .before .before .before .before .before .before .before .args in
-    let accept-catalogue = c .before .before .before .before .before .before .before .before .before .before .before .accept-catalogue in
+    let accept-offer = c .before .before .before .before .before .before .before .before .before .before .before .accept-offer in
     let enum-told = c .before .before .before .before .before .before .before .enum-told in
     let make-book-of = c .before .before .before .before .make-book-of in
     let a = args in
-    let q = rw (enum-told .given .1) at (accept-catalogue .ensures) in
-    body-goes-on (λ cs. bookFor cs (a .«record» .now) (length (a .out .now))) (q .is) (make-book-of .ensures (q .fields) (q .is))
+    let q = rw (enum-told .given .1) at (accept-offer .ensures) in
+    rw (offered-on q (λ o. bookFor o (a .«record» .now) (length (a .out .now)))) (make-book-of .ensures (q .fields) (q .is))
 
 pub make-book-spec : {M : Type 1} → statement M
 make-book-spec =
     tie.close
     (tie.spec
-    accept-catalogue-requires
+    accept-offer-requires
     enum-told
     enum-told-2
     same-length

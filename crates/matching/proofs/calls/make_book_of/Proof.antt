@@ -4,13 +4,14 @@ use native.Mathlib.Omega.{arith}
 use lib.ListN.{length}
 use Rattle.packed.specs.Calls.{fitFile}
 use Rattle.packed.proofs.CallLaws.{overFile-no, fitFile-fits, fitted-tight, fitted-given, body-refused}
-use Rattle.matching.specs.Simulation.{graphOf}
+use Rattle.engine.specs.Simulation.{graphOf}
 use Rattle.matching.specs.Search.{bookBytes, viewSheets}
 use Rattle.matching.proofs.BookLaws.{bookable-by, sized-filled, sized-again, sized-fits, sized-sizes}
+use Rattle.matching.specs.Offered.{offers}
 use Rattle.matching.proofs.AnswerFits.{book-found}
 use borrow.Author.Needs.{needs}
-use Rattle.matching.proofs.StartLaws.{room-blank}
-use Rattle.matching.proofs.RowLaws.{blank-long}
+use Rattle.engine.proofs.StartLaws.{room-blank}
+use Rattle.engine.proofs.RowLaws.{blank-long}
 use Rattle.matching.proofs.calls.make_book_of.Statement.{statement}
 use Rattle.matching.proofs.calls.make_book_of.Tie as tie
 
@@ -65,7 +66,7 @@ returns c =
     let book-size = c .before .before .before .before .before .before .book-size in
     let a = args in
     let h = rw (g .given .1) at (load-record .ensures) in
-    λ cs e. fitted-tight fitFile-fits (a .out .now) _ refl (book-found cs (length (a .out .now)) (h .1) (h .0)) (book-size .ensures .0 .is cs e) (c .if1 .taken)
+    λ cs e. fitted-tight fitFile-fits (a .out .now) _ refl (book-found (offers cs (a .one-way)) (length (a .out .now)) (h .1) (h .0)) (book-size .ensures .0 .is cs e) (c .if1 .taken)
 
 slice-aggregate-write-book : tie.Need-slice-aggregate-write-book
 slice-aggregate-write-book c = search needs
@@ -100,7 +101,7 @@ same-length-3 c =
     let load-record = c .before .before .before .before .before .before .before .before .before .before .before .before .before .before .before .before .before .before .before .before .before .before .before .before .before .before .before .before .before .before .before .before .before .before .load-record in
     let book-size = c .before .before .before .before .before .before .before .before .before .before .before .before .before .before .before .before .before .before .before .book-size in
     let write-book = c .before .before .before .before .before .before .before .write-book in
-    write-book .kept .1 .1 .1 .1 .1 .1 .1 .0 ∙ book-size .kept .1 .1 .1 .1 .1 .1 .0 ∙ load-record .kept .1 .0
+    write-book .kept .1 .1 .1 .1 .1 .1 .1 .1 .0 ∙ book-size .kept .1 .1 .1 .1 .1 .1 .1 .0 ∙ load-record .kept .1 .0
 
 returns-2 : tie.Need-returns-2
 returns-2 c =
@@ -115,7 +116,7 @@ returns-2 c =
     let h = rw (g .given .1) at (load-record .ensures) in
     let z = book-size .ensures .0 in
     let b = bookable-by (pre .1) (h .0) (omega (arith, h .1)) in
-    λ cs e. fitted-given fitFile-fits (a .out .now) _ refl (book-found cs (length (a .out .now)) (h .1) (h .0)) (z .is cs e) (if1 .left) (sized-filled z (b .ready .edges) (a .out .now) (write-book .ensures) cs e)
+    λ cs e. fitted-given fitFile-fits (a .out .now) _ refl (book-found (offers cs (a .one-way)) (length (a .out .now)) (h .1) (h .0)) (z .is cs e) (if1 .left) (sized-filled z (b .ready .edges) (a .out .now) (write-book .ensures) cs e)
 
 same-length-4 : tie.Need-same-length-4
 same-length-4 c = search needs
@@ -127,7 +128,7 @@ returns-3 c =
     let g2 = c .before .g2 in
     let a = args in
     let q = rw (g2 .given .1) at (load-record .ensures) in
-    λ cs e. body-refused (λ rs. fitFile (length (a .out .now)) (bookBytes (viewSheets cs (graphOf rs)))) (a .out .now) refl (g2 .given .0 .0) q
+    λ cs e. body-refused (λ rs. fitFile (length (a .out .now)) (bookBytes (viewSheets (offers cs (a .one-way)) (graphOf rs)))) (a .out .now) refl (g2 .given .0 .0) q
 
 pub make-book-of-spec : {M : Type 1} → statement M
 make-book-of-spec = tie.close (tie.spec load-record-requires enum-known-g no-words-requires no-words-requires-2 no-words-requires-3 no-sizes-requires slice-aggregate-book-size slice-aggregate-book-size-2 slice-aggregate-book-size-3 book-size-requires same-length returns slice-aggregate-write-book slice-aggregate-write-book-2 slice-aggregate-write-book-3 write-book-requires enum-known-g-2 same-length-2 same-length-3 returns-2 same-length-4 returns-3)

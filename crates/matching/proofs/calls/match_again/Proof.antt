@@ -8,7 +8,7 @@ use Rattle.matching.proofs.calls.match_again.Tie as tie
 returns : tie.Need-returns
 returns c =
     let pre = c .before .before .before .before .before .before .pre in
-    (sheeted-none _ _ _ _ _ (pre .2) (sym (pre .5) ∙ c .if1 .taken), pre .4)
+    (sheeted-none _ _ _ _ _ _ (pre .2) (sym (pre .5) ∙ c .if1 .taken), pre .4)
 
 match-edges-requires : tie.Need-match-edges-requires
 match-edges-requires c κs = search needs

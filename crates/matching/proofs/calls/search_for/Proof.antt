@@ -4,14 +4,14 @@ use native.Mathlib.Omega.{arith}
 use lib.ListN.{length}
 use Rattle.packed.specs.Calls.{fitFile}
 use Rattle.packed.proofs.CallLaws.{body-refused}
-use Rattle.matching.specs.Simulation.{graphOf, matchSets}
+use Rattle.engine.specs.Simulation.{graphOf, matchSets}
+use Rattle.engine.specs.Loaded.{patternIn}
 use Rattle.matching.specs.Search.{sheetBytes}
-use Rattle.matching.specs.Loaded.{patternIn}
 use Rattle.matching.proofs.RecordLaws.{ready-by, rises-by}
-use Rattle.matching.proofs.BookLaws.{sheeted-by, encodes}
+use Rattle.matching.proofs.BookLaws.{encodes}
 use Rattle.matching.proofs.AnswerFits.{search-found}
 use borrow.Author.Needs.{needs}
-use Rattle.matching.proofs.StartLaws.{room-blank}
+use Rattle.engine.proofs.StartLaws.{room-blank}
 use Rattle.matching.proofs.calls.search_for.Statement.{statement}
 use Rattle.matching.proofs.calls.search_for.Tie as tie
 
@@ -77,7 +77,7 @@ returns c =
     let match-edges = c .before .before .before .before .before .before .before .before .before .before .before .match-edges in
     let give-sheet = c .before .before .give-sheet in
     let h = rw (g .given .1) at (load-record .ensures) in
-    rw (search-found (patternIn (args .p)) (length (args .out .now)) (h .1) (h .0)) (give-sheet .ensures _ (encodes (sheeted-by (match-edges .ensures .0))))
+    rw (search-found (patternIn (args .p)) (length (args .out .now)) (h .1) (h .0)) (give-sheet .ensures _ (encodes (match-edges .ensures .0)))
 
 same-length-3 : tie.Need-same-length-3
 same-length-3 c = search needs

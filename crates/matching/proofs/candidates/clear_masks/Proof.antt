@@ -3,7 +3,7 @@ use borrow.Author.Needs.{needs}
 use mathlib.Core.Path.{_≡_, refl}
 use Prim.Native.Nat.{_-_}
 use native.Mathlib.Omega.{arith}
-use Rattle.matching.proofs.Filling.{Filling, filling-start, filling-more, filling-around, filling-each}
+use Rattle.engine.proofs.Filling.{Filling, filling-start, filling-more, filling-around, filling-each}
 use Rattle.matching.proofs.candidates.clear_masks.Statement.{statement}
 use Rattle.matching.proofs.candidates.clear_masks.Tie as tie
 

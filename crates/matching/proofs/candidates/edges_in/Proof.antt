@@ -1,7 +1,7 @@
 -- `matching::candidates::edges_in` meets its contract.
 use borrow.Author.Needs.{needs}
 use native.Mathlib.Omega.{arith}
-use Rattle.matching.proofs.MaskBits.{has-say, has-by}
+use Rattle.engine.proofs.MaskBits.{has-say, has-by}
 use Rattle.matching.proofs.candidates.edges_in.Statement.{statement}
 use Rattle.matching.proofs.candidates.edges_in.Tie as tie
 

@@ -5,8 +5,8 @@ use Prim.Native.Nat.{_≤_, _+_, _*_, _-_}
 use native.Mathlib.Omega.{arith}
 use lib.ListN.{getD}
 use denote.Ref.{now}
-use Rattle.matching.specs.Masks.{Has, Mask, OneOf}
-use Rattle.matching.proofs.MaskBits.{union-start, union-more}
+use Rattle.engine.specs.Masks.{Has, Mask, OneOf}
+use Rattle.engine.proofs.MaskBits.{union-start, union-more}
 use Rattle.matching.proofs.TakingSheets.{union-own}
 use Rattle.matching.proofs.candidates.matched_by.Statement.{statement}
 use Rattle.matching.proofs.candidates.matched_by.Tie as tie

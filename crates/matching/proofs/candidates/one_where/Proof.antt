@@ -2,7 +2,7 @@
 use Prim.Native.Nat.{_^_}
 use native.Mathlib.Nat.{one-mul, mod-eq-of-lt}
 use lib.Pow.{pow-lt}
-use Rattle.matching.proofs.MaskBits.{has-by, has-say, mask-one, mask-none}
+use Rattle.engine.proofs.MaskBits.{has-by, has-say, mask-one, mask-none}
 use borrow.Author.Needs.{needs}
 use Rattle.matching.proofs.candidates.one_where.Statement.{statement}
 use Rattle.matching.proofs.candidates.one_where.Tie as tie

@@ -5,8 +5,8 @@ use Prim.Native.Nat.{_≤_, _-_}
 use native.Mathlib.Omega.{arith}
 use lib.ListN.{getD}
 use denote.Ref.{now}
-use Rattle.matching.specs.Masks.{Has, Mask, OneOf}
-use Rattle.matching.proofs.MaskBits.{union-start, union-more, union-end}
+use Rattle.engine.specs.Masks.{Has, Mask, OneOf}
+use Rattle.engine.proofs.MaskBits.{union-start, union-more, union-end}
 use Rattle.matching.proofs.components.back.Statement.{statement}
 use Rattle.matching.proofs.components.back.Tie as tie
 

@@ -6,9 +6,9 @@ use native.Mathlib.Nat.{zero-add}
 use native.Mathlib.Omega.{arith}
 use lib.ListN.{getD}
 use denote.Ref.{now}
-use Rattle.matching.specs.Masks.{Has, Mask}
-use Rattle.matching.proofs.Filling.{Filling, filling-start, filling-more, filling-front}
-use Rattle.matching.proofs.RowLaws.{blank-long}
+use Rattle.engine.specs.Masks.{Has, Mask}
+use Rattle.engine.proofs.Filling.{Filling, filling-start, filling-more, filling-front}
+use Rattle.engine.proofs.RowLaws.{blank-long}
 use Rattle.matching.proofs.ReachLaws.{component-mask}
 use Rattle.matching.proofs.components.components.Statement.{statement}
 use Rattle.matching.proofs.components.components.Tie as tie

@@ -5,9 +5,9 @@ use Prim.Native.Nat.{_≤_, _-_}
 use native.Mathlib.Omega.{arith}
 use lib.ListN.{getD}
 use denote.Ref.{now}
-use Rattle.matching.specs.Masks.{Has}
+use Rattle.engine.specs.Masks.{Has}
 use Rattle.matching.specs.Stepping.{LeavingLinks}
-use Rattle.matching.proofs.MaskBits.{union-start, union-more, union-end}
+use Rattle.engine.proofs.MaskBits.{union-start, union-more, union-end}
 use Rattle.matching.proofs.components.leaving.Statement.{statement}
 use Rattle.matching.proofs.components.leaving.Tie as tie
 

@@ -2,7 +2,7 @@
 use mathlib.Core.Path.{refl}
 use Prim.Native.Nat.{_-_, _^_}
 use native.Mathlib.Omega.{arith}
-use Rattle.matching.proofs.MaskBits.{has-by}
+use Rattle.engine.proofs.MaskBits.{has-by}
 use Rattle.matching.proofs.ReachLaws.{Within, within-start, within-more, within-less, within-end}
 use Rattle.matching.proofs.components.reach.Statement.{statement}
 use Rattle.matching.proofs.components.reach.Tie as tie

@@ -5,8 +5,8 @@ use Prim.Native.Nat.{_-_}
 use native.Mathlib.Nat.{zero-add}
 use native.Mathlib.Omega.{arith}
 use Rattle.matching.specs.Stepping.{ReachedFrom}
-use Rattle.matching.proofs.Filling.{Filling, filling-start, filling-more, filling-front}
-use Rattle.matching.proofs.RowLaws.{blank-long}
+use Rattle.engine.proofs.Filling.{Filling, filling-start, filling-more, filling-front}
+use Rattle.engine.proofs.RowLaws.{blank-long}
 use Rattle.matching.proofs.components.reaches.Statement.{statement}
 use Rattle.matching.proofs.components.reaches.Tie as tie
 

@@ -5,8 +5,9 @@ use native.Mathlib.Omega.{arith}
 use lib.ListN.{length}
 use Rattle.packed.specs.Calls.{give}
 use Rattle.packed.proofs.CallLaws.{answers-refused}
-use Rattle.matching.specs.Simulation.{graphOf}
-use Rattle.matching.specs.Index.{indexOf, ownIndex, checkIndexOutcome}
+use Rattle.engine.specs.Simulation.{graphOf}
+use Rattle.engine.specs.Index.{indexOf, ownIndex}
+use Rattle.matching.specs.Index.{checkIndexOutcome}
 use Rattle.matching.proofs.RecordLaws.{ready-by, ready-ends, order-by}
 use Rattle.matching.proofs.AnswerFits.{checked-by}
 use borrow.Author.Needs.{needs}

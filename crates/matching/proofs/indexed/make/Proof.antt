@@ -4,8 +4,9 @@ use native.Mathlib.Omega.{arith}
 use lib.ListN.{length}
 use Rattle.packed.specs.Calls.{fit}
 use Rattle.packed.proofs.CallLaws.{body-refused}
-use Rattle.matching.specs.Simulation.{graphOf}
-use Rattle.matching.specs.Index.{indexOf, makeIndexOutcome}
+use Rattle.engine.specs.Simulation.{graphOf}
+use Rattle.engine.specs.Index.{indexOf}
+use Rattle.matching.specs.Index.{makeIndexOutcome}
 use Rattle.matching.proofs.RecordLaws.{ready-by, order-by}
 use Rattle.matching.proofs.AnswerFits.{made-tight, made-given}
 use borrow.Author.Needs.{needs}

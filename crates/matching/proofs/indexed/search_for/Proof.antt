@@ -4,14 +4,14 @@ use native.Mathlib.Omega.{arith}
 use lib.ListN.{length}
 use Rattle.packed.specs.Calls.{fitFile}
 use Rattle.packed.proofs.CallLaws.{body-refused}
-use Rattle.matching.specs.Simulation.{graphOf, matchSets}
+use Rattle.engine.specs.Simulation.{graphOf, matchSets}
+use Rattle.engine.specs.Index.{indexOf, ownIndex}
+use Rattle.engine.specs.Loaded.{patternIn}
 use Rattle.matching.specs.Search.{sheetBytes}
-use Rattle.matching.specs.Index.{indexOf, ownIndex}
-use Rattle.matching.specs.Loaded.{patternIn}
+use Rattle.engine.proofs.StartLaws.{room-blank}
 use Rattle.matching.proofs.RecordLaws.{ready-by, ready-ends, rises-by, order-by}
-use Rattle.matching.proofs.BookLaws.{sheeted-by, encodes}
+use Rattle.matching.proofs.BookLaws.{encodes}
 use Rattle.matching.proofs.AnswerFits.{indexed-found, indexed-refused}
-use Rattle.matching.proofs.StartLaws.{room-blank}
 use borrow.Author.Needs.{needs}
 use Rattle.matching.proofs.indexed.search_for.Statement.{statement}
 use Rattle.matching.proofs.indexed.search_for.Tie as tie
@@ -120,7 +120,7 @@ returns-2 c =
     let give-sheet = c .before .before .give-sheet in
     let h = rw (g .given .1) at (load-record .ensures) in
     let j = rw (enum-told .given .1) at (judge .ensures) in
-    rw (indexed-found (h .1) (h .0) (j .3) (patternIn (args .p)) (length (args .out .now))) (give-sheet .ensures _ (encodes (sheeted-by (match-indexed .ensures .0))))
+    rw (indexed-found (h .1) (h .0) (j .3) (patternIn (args .p)) (length (args .out .now))) (give-sheet .ensures _ (encodes (match-indexed .ensures .0)))
 
 same-length-4 : tie.Need-same-length-4
 same-length-4 c = search needs

@@ -5,7 +5,7 @@ use mathlib.Core.Logic.{⊎-elim}
 use Prim.Native.Nat.{ℕ, _≤_, _<_, _+_, _-_}
 use native.Mathlib.Omega.{arith}
 use Rattle.packed.proofs.OrderCases.{lt-or-ge}
-use Rattle.matching.specs.Sweeping.{toOf}
+use Rattle.engine.specs.Sweeping.{toOf}
 use Rattle.matching.proofs.steps.last_end.Statement.{statement}
 use Rattle.matching.proofs.steps.last_end.Tie as tie
 

@@ -4,7 +4,7 @@ use Prim.Native.Nat.{_≤_, _-_}
 use native.Mathlib.Omega.{arith}
 use denote.Ref.{now}
 use Rattle.matching.specs.Stepping.{LooseLinks}
-use Rattle.matching.proofs.MaskBits.{union-start, union-end}
+use Rattle.engine.proofs.MaskBits.{union-start, union-end}
 use Rattle.matching.proofs.SteppingLaws.{loose-more}
 use Rattle.matching.proofs.steps.loose.Statement.{statement}
 use Rattle.matching.proofs.steps.loose.Tie as tie

@@ -1,5 +1,5 @@
 -- `matching::steps::start` meets its contract.
-use Rattle.matching.proofs.RoundLaws.{fixed-prepared}
+use Rattle.engine.proofs.RoundLaws.{fixed-prepared}
 use Rattle.matching.proofs.SteppingLaws.{fresh-prepared, prepared-looked, started-by}
 use mathlib.Core.Path.{refl}
 use borrow.Author.Needs.{needs}

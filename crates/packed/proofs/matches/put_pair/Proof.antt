@@ -27,21 +27,21 @@ cast-e c =
     let s = next-bit (c .before .before .before .args .x) (c .before .loop .k) (c .before .loop .left) (omega arith) (c .before .loop .inv .rest) (c .loop-test .taken) in
     omega (arith, s .inside)
 
-mul-put-bits : tie.Need-mul-put-bits Inv-loop μ-loop
-mul-put-bits c =
+mul-put-three : tie.Need-mul-put-three Inv-loop μ-loop
+mul-put-three c =
     let s = next-bit (c .before .before .before .before .args .x) (c .before .before .loop .k) (c .before .before .loop .left) (omega arith) (c .before .before .loop .inv .rest) (c .before .loop-test .taken) in
     omega (arith, s .inside)
 
-element-copy-out-put-bits : tie.Need-element-copy-out-put-bits Inv-loop μ-loop
-element-copy-out-put-bits c =
+element-copy-out-put-three : tie.Need-element-copy-out-put-three Inv-loop μ-loop
+element-copy-out-put-three c =
     let s = next-bit (c .before .before .before .before .args .x) (c .before .before .loop .k) (c .before .before .loop .left) (omega arith) (c .before .before .loop .inv .rest) (c .before .loop-test .taken) in
     omega (arith, s .inside, c .before .before .loop .inv .long, c .before .before .before .before .pre .1)
 
-put-bits-requires : tie.Need-put-bits-requires Inv-loop μ-loop
-put-bits-requires c κs =
+put-three-requires : tie.Need-put-three-requires Inv-loop μ-loop
+put-three-requires c κs =
     let s = next-bit (c .before .before .before .before .before .args .x) (c .before .before .before .loop .k) (c .before .before .before .loop .left) (omega arith) (c .before .before .before .loop .inv .rest) (c .before .before .loop-test .taken) in
     let e = c .before .before .before .loop .k + trailingZeros 32 (c .before .before .before .loop .left) in
-    (omega arith, omega (arith, c .before .before .before .before .before .pre .2 e (s .inside), c .before .before .before .loop .inv .ahead e (omega arith)), c .before .before .before .before .before .pre .0)
+    (omega (arith, c .before .before .before .before .before .pre .2 e (s .inside), c .before .before .before .loop .inv .ahead e (omega arith)), c .before .before .before .before .before .pre .0)
 
 mul-places : tie.Need-mul-places Inv-loop μ-loop
 mul-places c =
@@ -92,7 +92,7 @@ loop-less c =
 loop-again : tie.Need-loop-again Inv-loop μ-loop
 loop-again c =
     let s = next-bit (c .before .before .before .before .before .before .before .before .before .args .x) (c .before .before .before .before .before .before .before .loop .k) (c .before .before .before .before .before .before .before .loop .left) (omega arith) (c .before .before .before .before .before .before .before .loop .inv .rest) (c .before .before .before .before .before .before .loop-test .taken) in
-    putting-next (trailingZeros 32 (c .before .before .before .before .before .before .before .loop .left)) _ (c .before .before .before .before .before .before .before .loop .inv) (c .before .before .before .before .before .before .before .before .before .pre .1) s (omega (arith, c .before .before .before .put-bits .kept)) (c .before .before .before .put-bits .ensures)
+    putting-next (trailingZeros 32 (c .before .before .before .before .before .before .before .loop .left)) _ (c .before .before .before .before .before .before .before .loop .inv) (c .before .before .before .before .before .before .before .before .before .pre .1) s (omega (arith, c .before .before .before .put-three .kept)) (c .before .before .before .put-three .ensures)
 
 same-length : tie.Need-same-length Inv-loop μ-loop
 same-length c = search needs
@@ -109,9 +109,9 @@ put-pair-spec =
     loop-holds
     add-e
     cast-e
-    mul-put-bits
-    element-copy-out-put-bits
-    put-bits-requires
+    mul-put-three
+    element-copy-out-put-three
+    put-three-requires
     mul-places
     element-copy-out-places
     add-places

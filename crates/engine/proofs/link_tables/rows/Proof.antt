@@ -1,0 +1,74 @@
+use borrow.Author.Needs.{needs}
+use borrow.Author.Needs.{needs}
+use mathlib.Core.Path.{sym}
+use Prim.Native.Nat.{_-_}
+use native.Mathlib.Nat.{zero-add}
+use native.Mathlib.Omega.{arith}
+use lib.ListN.{getD}
+use Rattle.engine.proofs.Filling.{Filling, filling-start, filling-more}
+use Rattle.engine.specs.Rows.{RowOf}
+use Rattle.engine.proofs.RowLaws.{rows-of, blank-long}
+use Rattle.engine.proofs.link_tables.rows.Statement.{statement}
+use Rattle.engine.proofs.link_tables.rows.Tie as tie
+
+abbrev Inv-loop : tie.InvT-loop
+Inv-loop a b m t₀ e₀ t e = Filling 0 m (λ j x. RowOf b m (getD a j 0) x) t₀ t e
+
+abbrev μ-loop : tie.MeasureT-loop
+μ-loop a b m t₀ e₀ t e = m - e
+
+no-rows-requires : tie.Need-no-rows-requires Inv-loop μ-loop
+no-rows-requires c κs = search needs
+
+loop-holds : tie.Need-loop-holds Inv-loop μ-loop
+loop-holds c = filling-start _ _ _ _
+
+mul-row : tie.Need-mul-row Inv-loop μ-loop
+mul-row c = search needs
+
+element-copy-out-row : tie.Need-element-copy-out-row Inv-loop μ-loop
+element-copy-out-row c = search needs
+
+row-requires : tie.Need-row-requires Inv-loop μ-loop
+row-requires c κs = search needs
+
+mul-t : tie.Need-mul-t Inv-loop μ-loop
+mul-t c = search needs
+
+array-write-t : tie.Need-array-write-t Inv-loop μ-loop
+array-write-t c = search needs
+
+add-e : tie.Need-add-e Inv-loop μ-loop
+add-e c = search needs
+
+loop-less : tie.Need-loop-less Inv-loop μ-loop
+loop-less c = search needs
+
+loop-again : tie.Need-loop-again Inv-loop μ-loop
+loop-again c =
+    let pre = c .before .before .before .before .before .pre in
+    let no-rows = c .before .before .before .before .no-rows in
+    let loop = c .before .before .before .loop in
+    let loop-test = c .before .before .loop-test in
+    filling-more _ _ _ (loop .inv) _ _ (loop-test .taken) (omega (arith, blank-long 32 (no-rows .ensures), pre)) (sym (zero-add _)) (c .row .ensures)
+
+returns : tie.Need-returns Inv-loop μ-loop
+returns c = rows-of _ _ _ (c .before .before .no-rows .ensures) (c .before .loop .inv) (c .loop-test .left)
+
+pub rows-spec : {M : Type 1} → statement M
+rows-spec =
+    tie.close
+    (tie.spec
+    Inv-loop
+    μ-loop
+    no-rows-requires
+    loop-holds
+    mul-row
+    element-copy-out-row
+    row-requires
+    mul-t
+    array-write-t
+    add-e
+    loop-less
+    loop-again
+    returns)

@@ -1,0 +1,55 @@
+-- inner: what matching a pattern leaves in the workspace, and a view of an accepted catalogue by value.
+use Prim.Native.Nat.{ℕ, _+_, _*_, _<_, _≤_}
+use mathlib.Core.Path.{_≡_}
+use mathlib.Core.Bool.{Bool, cond}
+use mathlib.Core.List.{List}
+use lib.ListN.{length, drop, getD}
+use lib.Dec.{T}
+use Rattle.packed.specs.Bits.{bits}
+use Rattle.packed.specs.Format.{whole, got}
+use Rattle.packed.specs.Formats.{pattern}
+use Rattle.packed.specs.Contents.{wordKind, wordRank}
+use Rattle.packed.specs.ByValue.{HoldsPattern}
+use Rattle.packed.specs.Reading.{from}
+use Rattle.packed.specs.Matches.{matchesOf}
+use Rattle.packed.specs.Matches.{Marked as MarkedPairs}
+use Rattle.packed.specs.declared.by_value.Pattern.{Pattern as Given}
+use Rattle.engine.specs.Simulation.{bit, Rule, oneWay, bothWays, ruled, sound, matchSets}
+use Rattle.engine.specs.Loaded.{patternIn, graphIn, Edges}
+use Rattle.engine.specs.declared.views.View.{View}
+
+-- the pattern has edges, and each node is an end of one
+pub record Proper (p : Given) : Type 0 where
+  pub some : 1 ≤ p .edges
+  pub sound : T (sound (patternIn p))
+
+-- the m edges ascend, each once
+abbrev pub Rises : ℕ → List ℕ → Type 0
+Rises m w = (i j : ℕ) → i < j → j < m → wordRank (getD w i 0) < wordRank (getD w j 0)
+
+-- the rule by which the code is asked to match: both ways or not
+abbrev pub ruleOf : Bool → Rule
+ruleOf both = cond both bothWays oneWay
+
+-- the m edges of the record s, at the front of the workspace, are marked with the edges of the pattern that list them, by the rule r
+pub record EdgesMatched (r : Rule) (p : Given) (s : List ℕ) (n m : ℕ) (w w′ : List ℕ) : Type 0 where
+  pub edges : Edges w w′
+  pub marked : MarkedPairs m w′
+  pub sets : matchesOf m (p .edges) w′ ≡ matchSets (ruled r (patternIn p)) (graphIn s n m w)
+  pub only : (i e : ℕ) → i < m → e < 32 → T (bit (getD w′ (8192 + i) 0) e) → (e < p .edges) × (getD (p .kind) e 0 ≡ wordKind (getD w i 0))
+
+-- the first d pairs of the workspace make the pattern's sheet, by the rule r
+pub record SheetSized (r : Rule) (p : Given) (s : List ℕ) (n m : ℕ) (w : List ℕ) (d : ℕ) (w′ : List ℕ) : Type 0 where
+  pub edges : Edges w w′
+  pub marked : MarkedPairs d w′
+  pub sets : matchesOf d (p .edges) w′ ≡ matchSets (ruled r (patternIn p)) (graphIn s n m w)
+
+-- a pattern with the content ws stands from a byte on, up to the bit offset end
+pub record PatternAt (s : List ℕ) (byte : ℕ) (ws : List ℕ) (end : ℕ) : Type 0 where
+  pub inside : byte ≤ length s
+  pub within : end ≤ 8 * length s
+  pub reads : from (whole pattern) s (8 * byte) ≡ got ws (drop end (bits s))
+
+-- the pattern from a byte on, if one is there: its fields by value, and the byte after it
+abbrev pub ViewAt : List ℕ → ℕ → View → Type 0
+ViewAt s byte r = (ws : List ℕ) (end : ℕ) → PatternAt s byte ws end → HoldsPattern ws (r .pattern) × (8 * r .next ≡ end)
