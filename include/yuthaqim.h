@@ -103,14 +103,17 @@ enum {
     YUTHAQIM_QUESTIONS = 17, /* questions: none is sent, or more than YUTHAQIM_QUESTIONS_MOST */
     YUTHAQIM_TERMS = 18,     /* terms: there isn't one entry for each extract of the catalogue, or an entry's from-day isn't
                               * below its to-day */
-    YUTHAQIM_SET = 19        /* set: one_way names an extract that the catalogue doesn't have */
+    YUTHAQIM_SET = 19,       /* set: one_way names an extract that the catalogue doesn't have */
+    YUTHAQIM_OLD_SLIP = 20,  /* old slip: its change number isn't the state's */
+    YUTHAQIM_LAST_CHANGE = 21 /* last change: the state's change number is 4,294,967,295, and no other follows */
 };
 
 /* The detail of a refusal: of 1 to 10 one of these, the file at fault; of 11 the lowest unmatched link; of 12 the bytes
  * that the first output without room needs, or the words where content is the output, or the entries where an index is,
  * or the bytes of all answers where several questions are answered; of 13 and 14 zero; of 15 the number of charges; of 16
  * the number of entries if that is wrong, else the first position, from 0, that differs; of 17 the number that was sent;
- * of 18 the number of entries if that is wrong, else the first position, from 0, that is; of 19 the lowest such number. */
+ * of 18 the number of entries if that is wrong, else the first position, from 0, that is; of 19 the lowest such number;
+ * of 20 and 21 the state's change number. A fault of a link that is to enter has YUTHAQIM_IN_RECORD. */
 enum {
     YUTHAQIM_IN_PATTERN = 1, /* the question, or several, or another lone pattern */
     YUTHAQIM_IN_CATALOGUE = 2,
@@ -188,6 +191,43 @@ struct yuthaqim_first_day {
     size_t detail;
     uint16_t found; /* 1 if there is such a day, else 0 */
     uint16_t day;   /* the day, if there is one */
+};
+
+/* The small running state beside a record. Whoever begins takes the record's link count and any change number. */
+struct yuthaqim_state {
+    uint32_t links;  /* how many links the record has */
+    uint32_t change; /* the number of its last change */
+};
+
+/* A link that is to enter a record. */
+struct yuthaqim_link {
+    uint32_t from;
+    uint32_t to;
+    uint32_t kind;
+};
+
+/* What asking gives for the commit: the link, and the change number of the state that it was asked by. */
+struct yuthaqim_slip {
+    uint32_t from;
+    uint32_t to;
+    uint32_t kind;
+    uint32_t change;
+};
+
+/* What a link would change. What has no meaning is zero. */
+struct yuthaqim_asked {
+    size_t number; /* 0, or the refusal's number */
+    size_t detail;
+    uint16_t set; /* the extracts whose lists the link would change: the bit worth 2^a says extract a */
+    struct yuthaqim_slip slip;
+};
+
+/* The answer of a commit. What has no meaning is zero. */
+struct yuthaqim_entered {
+    size_t number; /* 0, or the refusal's number */
+    size_t detail;
+    size_t first;  /* the bytes of the record with the link */
+    size_t second; /* the entries of its index */
 };
 
 /* Reading: from a file to its content. */
@@ -359,6 +399,26 @@ struct yuthaqim_showing yuthaqim_show_on(const uint8_t *question, size_t questio
 struct yuthaqim_first_day yuthaqim_first_day(const uint8_t *question, size_t question_length, const uint8_t *catalogue,
                                              size_t catalogue_length, uint16_t one_way, struct yuthaqim_terms terms,
                                              uint16_t day, uint32_t *work, size_t work_length);
+
+/* First see, then enter. Before a link enters a record one asks which extracts' sheets it would change. Commit enters it, and
+ * keeps a small running state beside the record: it adds 1 to both of its numbers, and on a refusal leaves them as they came.
+ * Both calls give YUTHAQIM_COUNT if the state's link count isn't the record's, then YUTHAQIM_STRAY for an end that is no item,
+ * YUTHAQIM_COUNT for a kind above 7, YUTHAQIM_ORDER for a link already there, YUTHAQIM_COUNT for a record of 8,192 links. */
+
+/* Asks which extracts' lists a link would change, each by its own rule, also where a sheet is too long to write. It alters
+ * nothing, has no output and never gives 12. */
+struct yuthaqim_asked yuthaqim_ask(const uint8_t *catalogue, size_t catalogue_length, uint16_t one_way,
+                                   const uint8_t *record, size_t record_length, struct yuthaqim_state state,
+                                   struct yuthaqim_link link, uint32_t *work, size_t work_length);
+
+/* Enters a slip's link: writes the record with the link at its place in order, and its index. While the record, the
+ * catalogue and the set are those that were asked about, the sheets that this changes are those of the set that came with the
+ * slip, and no others. A slip may be made by hand: the link is judged again. 12 has the bytes of the record if these don't fit,
+ * else the entries of the index; nothing is written unless both fit. The pointer to the state is aligned to 4, and the state
+ * overlaps nothing else that the call is lent. */
+struct yuthaqim_entered yuthaqim_commit(const uint8_t *record, size_t record_length, struct yuthaqim_state *state,
+                                        struct yuthaqim_slip slip, uint8_t *out, size_t out_length, uint16_t *index,
+                                        size_t index_length, uint32_t *work, size_t work_length);
 
 #ifdef __cplusplus
 }

@@ -1,6 +1,6 @@
 //! The calls that are measured, by the library and by the baseline.
 
-use crate::baseline;
+use crate::baseline::{self, Ways};
 use std::hint::black_box;
 use yuthaqim::{BOOK_BYTES, BOOK_WORDS, INDEX_ENTRIES, PATTERN_BYTES, QUESTIONS_MOST, WORK_WORDS};
 
@@ -12,6 +12,7 @@ pub enum Call {
     Search,
     SearchIndexed,
     MakeBook,
+    MakeOneWay,
     ReadBook,
     Answer,
     AnswerBySort,
@@ -23,16 +24,21 @@ pub enum Call {
     QuoteOn,
     FirstDay,
     Cheapest,
+    Ask,
+    AskByBook,
+    Commit,
+    CommitByParts,
 }
 
 /// Those that are measured on the workloads. The cheapest set has workloads of its own.
-pub const CALLS: [Call; 16] = [
+pub const CALLS: [Call; 21] = [
     Call::ReadRecord,
     Call::MakeIndex,
     Call::CheckIndex,
     Call::Search,
     Call::SearchIndexed,
     Call::MakeBook,
+    Call::MakeOneWay,
     Call::ReadBook,
     Call::Answer,
     Call::AnswerBySort,
@@ -43,6 +49,10 @@ pub const CALLS: [Call; 16] = [
     Call::Quote,
     Call::QuoteOn,
     Call::FirstDay,
+    Call::Ask,
+    Call::AskByBook,
+    Call::Commit,
+    Call::CommitByParts,
 ];
 
 impl Call {
@@ -54,6 +64,7 @@ impl Call {
             Call::Search => "search",
             Call::SearchIndexed => "search by index, beside without",
             Call::MakeBook => "make a book",
+            Call::MakeOneWay => "make a book one-way, beside both ways",
             Call::ReadBook => "read a book",
             Call::Answer => "answer",
             Call::AnswerBySort => "answer, sorting",
@@ -65,6 +76,10 @@ impl Call {
             Call::QuoteOn => "quote for a day, beside quote",
             Call::FirstDay => "first day, beside quote",
             Call::Cheapest => "cheapest set",
+            Call::Ask => "ask",
+            Call::AskByBook => "ask, beside making a book",
+            Call::Commit => "commit",
+            Call::CommitByParts => "commit, beside read, write and index",
         }
     }
 }
@@ -84,6 +99,18 @@ pub struct Files {
     /// A term for each extract, all different, and a day on which all are in force.
     pub terms: Vec<yuthaqim::Term>,
     pub day: u16,
+    /// The record without one of its links, that link, and the content of the record.
+    pub before: Vec<u8>,
+    pub link: Option<yuthaqim::Link>,
+    pub content: Vec<u32>,
+}
+
+/// A change number.
+const CHANGE: u32 = 7;
+
+/// The set of all extracts of a catalogue, whose first five bits say how many there are.
+pub fn all_one_way(catalogue: &[u8]) -> u16 {
+    ((1u32 << (catalogue[0] >> 3)) - 1) as u16
 }
 
 /// What the library is lent beside files. It clears its own work words at the end of each call; the outputs keep what the
@@ -109,7 +136,26 @@ pub enum Outcome {
     Quote(Box<baseline::Quote>),
     Day(Option<u16>),
     Cheapest(yuthaqim::Cheapest),
+    Asked(u16),
+    Entered(Vec<u8>, Vec<u16>),
     Refused(usize, usize),
+}
+
+impl Files {
+    pub fn link(&self) -> yuthaqim::Link {
+        self.link.expect("the record has a link")
+    }
+
+    /// That of the record without the link: its number of links stands in bits 13 to 26.
+    pub fn state(&self) -> yuthaqim::State {
+        let head = u32::from_be_bytes(self.before[..4].try_into().expect("a record has four bytes"));
+        yuthaqim::State { links: head >> 5 & 0x3fff, change: CHANGE }
+    }
+
+    pub fn slip(&self) -> yuthaqim::Slip {
+        let yuthaqim::Link { from, to, kind } = self.link();
+        yuthaqim::Slip { from, to, kind, change: CHANGE }
+    }
 }
 
 impl Desk {
@@ -130,10 +176,12 @@ impl Desk {
             Call::Search => yuthaqim::search(question, record, bytes, work),
             Call::SearchIndexed => yuthaqim::search_indexed(question, record, index, bytes, work),
             Call::MakeBook => yuthaqim::make_book(catalogue, 0, record, bytes, work),
+            Call::MakeOneWay => yuthaqim::make_book(catalogue, all_one_way(catalogue), record, bytes, work),
             Call::ReadBook => yuthaqim::read_book(catalogue, book, words, work),
             Call::Answer | Call::AnswerBySort => yuthaqim::answer(question, catalogue, 0, book, bytes, work),
             Call::Quote | Call::QuoteOn | Call::FirstDay | Call::Cheapest => unreachable!("it has no output"),
-            Call::Part | Call::PartOfCovered | Call::OneOfSeveral | Call::Several => {
+            Call::Ask | Call::AskByBook => unreachable!("it has no output"),
+            Call::Part | Call::PartOfCovered | Call::OneOfSeveral | Call::Several | Call::Commit | Call::CommitByParts => {
                 unreachable!("it gives two values")
             }
         }
@@ -165,6 +213,24 @@ impl Desk {
         yuthaqim::raw::answer_several(paper, number as u32, catalogue, 0, book, &mut self.answers, &mut self.work)
     }
 
+    fn ask(&mut self, files: &Files) -> Result<(u16, yuthaqim::Slip), yuthaqim::Refusal> {
+        yuthaqim::ask(&files.catalogue, 0, &files.before, files.state(), files.link(), &mut self.work)
+    }
+
+    /// The state is made anew for each turn.
+    fn commit(&mut self, files: &Files) -> Result<(usize, usize), yuthaqim::Refusal> {
+        let Desk { bytes, entries, work, .. } = self;
+        yuthaqim::commit(&files.before, &mut files.state(), files.slip(), bytes, entries, work)
+    }
+
+    /// The record with the link read, written, and its index made, as it is timed.
+    pub fn run_parts(&mut self, files: &Files) {
+        let Desk { words, bytes, entries, work, .. } = self;
+        let _ = black_box(yuthaqim::read_record(&files.record, words, work));
+        let _ = black_box(yuthaqim::write_record(&files.content, bytes, work));
+        let _ = black_box(yuthaqim::make_index(&files.record, entries, work));
+    }
+
     /// Each question answered by itself, as it is timed.
     pub fn run_answers(&mut self, files: &Files) {
         for question in &files.questions {
@@ -182,6 +248,8 @@ impl Desk {
             Call::Cheapest => drop(black_box(self.cheapest(files))),
             Call::Part | Call::PartOfCovered => drop(black_box(self.part(files))),
             Call::OneOfSeveral | Call::Several => drop(black_box(self.several(call, files))),
+            Call::Ask | Call::AskByBook => drop(black_box(self.ask(files))),
+            Call::Commit | Call::CommitByParts => drop(black_box(self.commit(files))),
             _ => drop(black_box(self.length(call, files))),
         }
     }
@@ -201,6 +269,10 @@ impl Desk {
                 .several(call, files)
                 .result()
                 .map(|given| Outcome::Several(self.answers[..given.bytes].to_vec(), given.sheets)),
+            Call::Ask | Call::AskByBook => self.ask(files).map(|(set, _)| Outcome::Asked(set)),
+            Call::Commit | Call::CommitByParts => self
+                .commit(files)
+                .map(|(first, second)| Outcome::Entered(self.bytes[..first].to_vec(), self.entries[..second].to_vec())),
             Call::ReadRecord | Call::ReadBook => {
                 self.length(call, files).map(|length| Outcome::Words(self.words[..length].to_vec()))
             }
@@ -245,7 +317,8 @@ pub fn baseline_outcome(call: Call, files: &Files) -> Outcome {
         Call::MakeIndex => baseline::make_index(record, INDEX_ENTRIES).map(Outcome::Entries),
         Call::CheckIndex => baseline::check_index(record, index).map(Outcome::Checked),
         Call::Search | Call::SearchIndexed => baseline::search(question, record, BOOK_BYTES).map(Outcome::Bytes),
-        Call::MakeBook => baseline::make_book(catalogue, record, BOOK_BYTES).map(Outcome::Bytes),
+        Call::MakeBook => baseline::make_book(catalogue, Ways::Both, record, BOOK_BYTES).map(Outcome::Bytes),
+        Call::MakeOneWay => baseline::make_book(catalogue, Ways::One, record, BOOK_BYTES).map(Outcome::Bytes),
         Call::ReadBook => baseline::read_book(catalogue, book, BOOK_WORDS).map(Outcome::Words),
         Call::Answer => baseline::answer(question, catalogue, book, BOOK_BYTES).map(Outcome::Bytes),
         Call::AnswerBySort => baseline::answer_by_sorting(question, catalogue, book, BOOK_BYTES).map(Outcome::Bytes),
@@ -256,6 +329,9 @@ pub fn baseline_outcome(call: Call, files: &Files) -> Outcome {
         Call::Quote | Call::QuoteOn => baseline::quote(question, catalogue).map(|quote| Outcome::Quote(quote.into())),
         Call::FirstDay => baseline::first_day(question, catalogue, terms, 0).map(Outcome::Day),
         Call::Cheapest => baseline::cheapest(question, catalogue, charges).map(Outcome::Cheapest),
+        Call::Ask | Call::AskByBook => baseline::ask(catalogue, &files.before, files.link()).map(Outcome::Asked),
+        Call::Commit | Call::CommitByParts => baseline::commit(&files.before, files.link())
+            .map(|(record, index)| Outcome::Entered(record, index)),
     };
     outcome.unwrap_or_else(|(number, detail)| Outcome::Refused(number, detail))
 }

@@ -44,7 +44,25 @@ fn files_of(workload: &Workload, desk: &mut Desk) -> Files {
     (files.book, files.index) = (book, index);
     files.questions = workload.questions(yuthaqim::QUESTIONS_MOST as usize);
     files.paper = files.questions.concat();
+    take_link(&mut files, desk);
     files
+}
+
+/// The record without the link in its middle, which is then asked about and entered.
+fn take_link(files: &mut Files, desk: &mut Desk) {
+    let Outcome::Words(content) = desk.outcome(Call::ReadRecord, files) else {
+        panic!("a record of a workload is refused");
+    };
+    let (items, links) = (content[0] as usize, content[1] as usize);
+    let at = 2 + items + 3 * (links / 2);
+    files.link = Some(yuthaqim::Link { from: content[at], to: content[at + 1], kind: content[at + 2] });
+    let mut fewer = content.clone();
+    fewer.drain(at..at + 3);
+    fewer[1] -= 1;
+    let mut before = vec![0; yuthaqim::RECORD_BYTES];
+    let length = yuthaqim::write_record(&fewer, &mut before, &mut vec![0; yuthaqim::WORK_WORDS]).expect("a record");
+    before.truncate(length);
+    (files.before, files.content) = (before, content);
 }
 
 /// Ends the run if the two don't give the same.
@@ -100,6 +118,10 @@ fn call_case<'a>(
         files = Rc::new(Files { catalogue, question, terms, day, ..Files::default() });
         size = format!("{extracts} extracts");
     }
+    // One-way more is listed, and a book may be too long.
+    if call == Call::MakeOneWay && matches!(baseline_outcome(call, &files), Outcome::Refused(..)) {
+        return None;
+    }
     if call == Call::Answer {
         let what = format!("{}, {}, {size}, beside a search", call.name(), workload.name);
         compare(&what, desk.borrow_mut().outcome(Call::Search, &files), baseline_outcome(call, &files));
@@ -137,10 +159,14 @@ fn case_of<'a>(
         let product = || timed(number, || desk.borrow_mut().run(call, &files));
         let first = product_first.then(product);
         let baseline = match call {
-            // Beside the library's own search without an index, its own answers, and its own quote.
+            // Beside the library's own search without an index, its own book, its own answers, its own quote, and its own
+            // reading and writing of a record.
             Call::SearchIndexed => timed(number, || desk.borrow_mut().run(Call::Search, &files)),
+            Call::MakeOneWay => timed(number, || desk.borrow_mut().run(Call::MakeBook, &files)),
             Call::PartOfCovered | Call::OneOfSeveral => timed(number, || desk.borrow_mut().run(Call::Answer, &files)),
             Call::Several => timed(number, || desk.borrow_mut().run_answers(&files)),
+            Call::AskByBook => timed(number, || desk.borrow_mut().run(Call::MakeBook, &files)),
+            Call::CommitByParts => timed(number, || desk.borrow_mut().run_parts(&files)),
             Call::QuoteOn | Call::FirstDay => timed(number, || desk.borrow_mut().run(Call::Quote, &files)),
             _ => timed(number, || drop(black_box(baseline_outcome(call, &files)))),
         };

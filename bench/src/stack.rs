@@ -121,6 +121,8 @@ fn depths(files: &Files) -> Vec<(&'static str, usize)> {
         "show for a day": show_on(question, catalogue, 0, &terms, 20, &mut bytes, &mut more, &mut work);
         "show": show_uncovered(question, catalogue, 0, &mut bytes, &mut more, &mut work);
         "show": show_uncovered(question, NO_VIEWS, 0, &mut bytes, &mut more, &mut work);
+        "ask": ask(catalogue, 0, &files.before, files.state(), files.link(), &mut work);
+        "commit": commit(&files.before, &mut files.state(), files.slip(), &mut bytes, &mut entries, &mut work);
     }
     found
 }

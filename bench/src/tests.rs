@@ -1,10 +1,11 @@
 //! The baseline beside the plain model of the requirements, on the workloads at their least size, on small graphs drawn
 //! at random and on books that belong to no record.
 
-use crate::baseline;
+use crate::baseline::{self, Ways};
+use crate::calls::all_one_way;
 use crate::workloads::*;
 use model::files::{pack_record, read_book, read_record, Refusal, BOOK_BYTES, WORK_WORDS};
-use model::{answering, cheapest, indexing, matching, part, quoting};
+use model::{answering, cheapest, entering, indexing, matching, part, quoting};
 
 const ROOM: usize = BOOK_BYTES;
 
@@ -56,6 +57,29 @@ fn without_record(question: &[u8], catalogue: &[u8], book: &[u8]) -> Option<Vec<
     same("answer", baseline::answer(question, catalogue, book, ROOM), answer)
 }
 
+/// A link that enters: one of the record is taken out of it, asked about and entered again.
+fn enters(record: &[u8], catalogue: &[u8]) {
+    let mut content = read_record(record, ROOM, WORK_WORDS).unwrap();
+    let (items, links) = (content[0] as usize, content[1]);
+    let at = 2 + items + 3 * (links as usize / 2);
+    if links == 0 {
+        return;
+    }
+    let taken: Vec<u32> = content.drain(at..at + 3).collect();
+    content[1] -= 1;
+    let before = model::files::write_record(&content, ROOM, WORK_WORDS).unwrap();
+    let link = (taken[0], taken[1], taken[2]);
+    let own = yuthaqim::Link { from: link.0, to: link.1, kind: link.2 };
+    let mut state = entering::State { links: links - 1, change: 7 };
+    let asked = entering::ask(catalogue, 0, &before, state, link, WORK_WORDS);
+    let set = asked.map(|(extracts, _)| extracts.iter().map(|a| 1 << a).sum::<u16>());
+    same("ask", baseline::ask(catalogue, &before, own), set);
+    let slip = entering::Slip { link, change: 7 };
+    let entered = entering::commit(&before, &mut state, slip, ROOM, ROOM, WORK_WORDS);
+    let given = same("commit", baseline::commit(&before, own), entered).unwrap();
+    assert_eq!(given.0, record);
+}
+
 /// Every call. Gives whether the question was answered.
 fn agree(record: &[u8], question: &[u8], catalogue: &[u8]) -> bool {
     same("read a record", baseline::read_record(record, ROOM), read_record(record, ROOM, WORK_WORDS));
@@ -69,10 +93,14 @@ fn agree(record: &[u8], question: &[u8], catalogue: &[u8]) -> bool {
             _ => drop(index.pop()),
         }
     }
+    enters(record, catalogue);
     let search = matching::search(question, record, ROOM, WORK_WORDS);
     let sheet = same("search", baseline::search(question, record, ROOM), search);
     let made = matching::make_book(catalogue, 0, record, ROOM, WORK_WORDS);
-    let Some(book) = same("make a book", baseline::make_book(catalogue, record, ROOM), made) else {
+    let own = |ways| baseline::make_book(catalogue, ways, record, ROOM);
+    let old = matching::make_book(catalogue, all_one_way(catalogue), record, ROOM, WORK_WORDS);
+    same("make a book one-way", own(Ways::One), old);
+    let Some(book) = same("make a book", own(Ways::Both), made) else {
         return false;
     };
     let answer = without_record(question, catalogue, &book);

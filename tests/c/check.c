@@ -991,6 +991,85 @@ static void refusals(void) {
     expect_refusal("read_book: marks", r.number, r.value, YUTHAQIM_ORDER, YUTHAQIM_IN_BOOK);
 }
 
+/* What asking about a link of K6 gives: the set, and the slip that has the link and the change number. */
+static void expect_asked(const char *what, struct yuthaqim_asked a, struct yuthaqim_link link, uint32_t change, uint16_t set) {
+    expect(what, a.number, a.set,
+           a.number == 0 && a.detail == 0 && a.set == set && a.slip.from == link.from && a.slip.to == link.to &&
+               a.slip.kind == link.kind && a.slip.change == change && is_cleared());
+}
+
+/* A refusal, by which the state stays and both outputs do. */
+static void expect_not_entered(const char *what, struct yuthaqim_entered e, struct yuthaqim_state state,
+                               struct yuthaqim_state before, size_t number, size_t detail) {
+    expect(what, e.number, e.detail,
+           e.number == number && e.detail == detail && e.first == 0 && e.second == 0 && state.links == before.links &&
+               state.change == before.change && are_marks(bytes, 0, sizeof bytes) && are_marks(entries, 0, sizeof entries) &&
+               is_cleared());
+}
+
+/* A link enters K6, whose state is 3 links and change 7: first it is asked which sheets it changes, then committed. */
+static void entering(void) {
+    static const uint8_t after[] = {0x00, 0x20, 0x00, 0x80, 0x00, 0x00, 0x00, 0x20, 0x00, 0x00, 0x00,
+                                    0x40, 0x00, 0x00, 0x01, 0x00, 0x00, 0x00, 0x00, 0x40, 0x00, 0x00,
+                                    0x20, 0x00, 0x00, 0x0c, 0x00, 0x08, 0x01, 0x00, 0x03, 0x00, 0x20};
+    static const uint16_t index[] = {0, 2, 3, 3, 4};
+    static const struct yuthaqim_state before = {3, 7}, last = {3, UINT32_MAX}, wrong = {2, 7};
+    static const struct yuthaqim_link reading = {3, 2, 0}, other_kind = {3, 2, 1}, back = {2, 0, 0}, there = {0, 1, 0},
+                                      stray = {4, 2, 0}, kind_8 = {3, 2, 8};
+    static const struct yuthaqim_slip slip = {3, 2, 0, 7}, old = {3, 2, 0, 6}, latest = {3, 2, 0, UINT32_MAX};
+    struct yuthaqim_state state = before;
+    struct yuthaqim_entered e;
+    struct yuthaqim_asked a;
+
+    mark();
+    expect_asked("ask: a reading for the second run",
+                 yuthaqim_ask(C, sizeof C, 0, K6, sizeof K6, before, reading, work, LENGTH(work)), reading, 7, 1 << 1);
+    expect_asked("ask: the same of another kind",
+                 yuthaqim_ask(C, sizeof C, 0, K6, sizeof K6, before, other_kind, work, LENGTH(work)), other_kind, 7, 0);
+    expect_asked("ask: a link that no extract has",
+                 yuthaqim_ask(C, sizeof C, 7, K6, sizeof K6, before, back, work, LENGTH(work)), back, 7, 0);
+    expect_asked("ask: at the last change number",
+                 yuthaqim_ask(C, sizeof C, 0, K6, sizeof K6, last, reading, work, LENGTH(work)), reading, UINT32_MAX, 1 << 1);
+    a = yuthaqim_ask(C, sizeof C, 0, K6, sizeof K6, wrong, reading, work, LENGTH(work));
+    expect_refusal("ask: another link count", a.number, a.detail, YUTHAQIM_COUNT, YUTHAQIM_IN_RECORD);
+    a = yuthaqim_ask(C, sizeof C, 0, K6, sizeof K6, before, stray, work, LENGTH(work));
+    expect_refusal("ask: an end that is no item", a.number, a.detail, YUTHAQIM_STRAY, YUTHAQIM_IN_RECORD);
+    a = yuthaqim_ask(C, sizeof C, 0, K6, sizeof K6, before, kind_8, work, LENGTH(work));
+    expect_refusal("ask: a kind above 7", a.number, a.detail, YUTHAQIM_COUNT, YUTHAQIM_IN_RECORD);
+    a = yuthaqim_ask(C, sizeof C, 0, K6, sizeof K6, before, there, work, LENGTH(work));
+    expect_refusal("ask: a link already there", a.number, a.detail, YUTHAQIM_ORDER, YUTHAQIM_IN_RECORD);
+    a = yuthaqim_ask(C, sizeof C, 8, K6, 1, before, there, work, LENGTH(work));
+    expect("ask: no extract 3", a.number, a.detail,
+           a.number == YUTHAQIM_SET && a.detail == 3 && a.set == 0 && a.slip.from == 0 && a.slip.change == 0);
+
+    mark();
+    e = yuthaqim_commit(K6, sizeof K6, &state, old, bytes, sizeof bytes, entries, LENGTH(entries), work, LENGTH(work));
+    expect_not_entered("commit: an old slip", e, state, before, YUTHAQIM_OLD_SLIP, 7);
+    state = last;
+    e = yuthaqim_commit(K6, sizeof K6, &state, latest, bytes, sizeof bytes, entries, LENGTH(entries), work, LENGTH(work));
+    expect_not_entered("commit: the last change", e, state, last, YUTHAQIM_LAST_CHANGE, UINT32_MAX);
+    state = wrong;
+    e = yuthaqim_commit(K6, sizeof K6, &state, slip, bytes, sizeof bytes, entries, LENGTH(entries), work, LENGTH(work));
+    expect_not_entered("commit: another link count", e, state, wrong, YUTHAQIM_COUNT, YUTHAQIM_IN_RECORD);
+    state = before;
+    e = yuthaqim_commit(K6, sizeof K6, &state, slip, bytes, sizeof after - 1, entries, 4, work, LENGTH(work));
+    expect_not_entered("commit: a byte short", e, state, before, YUTHAQIM_NO_FIT, sizeof after);
+    e = yuthaqim_commit(K6, sizeof K6, &state, slip, bytes, sizeof after, entries, 4, work, LENGTH(work));
+    expect_not_entered("commit: an entry short", e, state, before, YUTHAQIM_NO_FIT, 5);
+    e = yuthaqim_commit(K6, sizeof K6, &state, slip, bytes, sizeof after, entries, LENGTH(index), work, LENGTH(work));
+    expect("commit: the link enters", e.number, e.first,
+           e.number == 0 && e.detail == 0 && e.first == sizeof after && e.second == LENGTH(index) && state.links == 4 &&
+               state.change == 8 && memcmp(bytes, after, sizeof after) == 0 && memcmp(entries, index, sizeof index) == 0 &&
+               are_marks(bytes, sizeof after, sizeof bytes) && are_marks(entries, sizeof index, sizeof entries) &&
+               is_cleared());
+    mark();
+    e = yuthaqim_commit(K6, 1, &state, slip, bytes, sizeof after, entries, LENGTH(index), work, YUTHAQIM_WORK_WORDS - 1);
+    expect("commit: too few words", e.number, e.detail,
+           e.number == YUTHAQIM_DESK && e.detail == 0 && state.links == 4 && state.change == 8 &&
+               are_marks(bytes, 0, sizeof bytes) && are_marks(entries, 0, sizeof entries) &&
+               are_marks(work, 0, sizeof work));
+}
+
 int main(void) {
     files();
     sorting();
@@ -1009,6 +1088,7 @@ int main(void) {
     days();
     both_ways();
     one_way();
+    entering();
     refusals();
     printf("%d wrong\n", failures);
     return failures != 0;

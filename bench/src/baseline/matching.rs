@@ -147,8 +147,15 @@ impl Counters {
     }
 }
 
+/// The links by which an item stands for another: those that leave it, or those that arrive at it too.
+#[derive(Clone, Copy, PartialEq, Eq)]
+pub enum Ways {
+    One,
+    Both,
+}
+
 /// The greatest simulation: for each item of the graph the items of the pattern that it may stand for.
-fn simulate(pattern: &Pattern, graph: &Graph) -> Vec<Items> {
+fn simulate(pattern: &Pattern, ways: Ways, graph: &Graph) -> Vec<Items> {
     // All items of its kind, at first.
     let at_first = |kinds: &u32| {
         let fits = |(u, kind): (usize, &u32)| ((kinds >> kind & 1) << u) as Items;
@@ -156,7 +163,8 @@ fn simulate(pattern: &Pattern, graph: &Graph) -> Vec<Items> {
     };
     let mut held: Vec<Items> = graph.kinds.iter().map(at_first).collect();
     let mut leaving = Counters::new(Goals::new(pattern.links.iter().copied()), held.len());
-    let turned = pattern.links.iter().map(|&(u, next, kind)| (next, u, kind));
+    let asked = if ways == Ways::Both { &pattern.links[..] } else { &[] };
+    let turned = asked.iter().map(|&(u, next, kind)| (next, u, kind));
     let mut arriving = Counters::new(Goals::new(turned), held.len());
     for &link in &graph.links {
         let ((v, w), kind) = (ends(pair_of(link)), kind_of(link));
@@ -188,8 +196,8 @@ fn simulate(pattern: &Pattern, graph: &Graph) -> Vec<Items> {
 }
 
 /// For each link of the graph the links of the pattern that list it: none, if an item of the pattern is held nowhere.
-pub fn matches(pattern: &Pattern, graph: &Graph) -> Vec<Links> {
-    let held = simulate(pattern, graph);
+pub fn matches(pattern: &Pattern, ways: Ways, graph: &Graph) -> Vec<Links> {
+    let held = simulate(pattern, ways, graph);
     let somewhere = held.iter().fold(0, |all, held| all | u32::from(*held));
     if somewhere != (1 << pattern.kinds.len()) - 1 {
         return vec![0; graph.links.len()];
@@ -226,8 +234,8 @@ fn graph(record: &[u8]) -> Result<Graph, Refusal> {
     Ok(Graph::new(record.kinds, record.links))
 }
 
-fn write_matches(pattern: &Pattern, graph: &Graph, writer: &mut Writer) {
-    let sets = matches(pattern, graph);
+fn write_matches(pattern: &Pattern, ways: Ways, graph: &Graph, writer: &mut Writer) {
+    let sets = matches(pattern, ways, graph);
     let pairs = graph.links.iter().map(|&link| pair_of(link)).zip(sets);
     write_sheet(&sheet(pattern.links.len(), pairs), writer);
 }
@@ -237,21 +245,21 @@ pub fn search(pattern: &[u8], record: &[u8], room: usize) -> Result<Vec<u8>, Ref
     let pattern = parse_question(pattern)?;
     let graph = graph(record)?;
     let mut writer = Writer::default();
-    write_matches(&pattern, &graph, &mut writer);
+    write_matches(&pattern, Ways::Both, &graph, &mut writer);
     give(writer.bytes(), room.min(SHEET_BYTES))
 }
 
-/// Makes the book of a catalogue from a record.
-pub fn make_book(catalogue: &[u8], record: &[u8], room: usize) -> Result<Vec<u8>, Refusal> {
+/// Makes the book of a catalogue from a record, all extracts matched one-way, or all both ways.
+pub fn make_book(catalogue: &[u8], ways: Ways, record: &[u8], room: usize) -> Result<Vec<u8>, Refusal> {
     let catalogue = parse_catalogue(catalogue)?;
     let graph = graph(record)?;
     let mut writer = Writer::default();
-    catalogue.iter().for_each(|extract| write_matches(extract, &graph, &mut writer));
+    catalogue.iter().for_each(|extract| write_matches(extract, ways, &graph, &mut writer));
     give(writer.bytes(), room.min(SHEET_BYTES))
 }
 
 /// For each item the number of links that begin at lower items, then the number of all.
-fn index_of(record: &Record) -> Vec<u16> {
+pub fn index_of(record: &Record) -> Vec<u16> {
     let mut index = vec![0; record.kinds.len() + 1];
     record.links.iter().for_each(|&link| index[ends(pair_of(link)).0 + 1] += 1);
     for v in 1..index.len() {

@@ -6,14 +6,16 @@
 
 mod answering;
 mod bits;
+mod entering;
 mod files;
 mod matching;
 mod quoting;
 
 pub use answering::{answer, answer_by_sorting, part};
 pub use bits::Writer;
+pub use entering::{ask, commit};
 pub use files::{different_pairs, parse_book, parse_catalogue, read_book, read_record};
-pub use matching::{check_index, make_book, make_index, search};
+pub use matching::{check_index, make_book, make_index, search, Ways};
 pub use quoting::{cheapest, first_day, quote, Quote};
 
 /// A refusal's number and detail.

@@ -53,8 +53,11 @@ use Rattle.containment.proofs.ColumnLaws.{column-in, column-out}
 use Rattle.containment.proofs.QuoteLaws.{test-is, mapping-exactly, quote-says-covered}
 use Rattle.containment.proofs.DemandRules.{number-same, not-refused, bytes-by, few-words, enough-words, enough-for, full-words, full-judged, full-twice, full-offered, full-within-pairs, fitted, fitted-file, fitted-both, pattern-reads, catalogue-reads, record-reads, sheet-reads, book-reads, pattern-writes, catalogue-writes, record-writes, sheet-writes, book-writes, many-pairs-read, many-pairs-written, many-pairs-answer, listed-matched, matched-listed, covers-plain, given-by, full-answered, full-same, choice-among, shows-both, shows-full}
 use Rattle.containment.proofs.DemandFiles.{hands-up, says-judged, says-offered, says-quoted, says-give, says-fit, says-fit-file, says-within-pairs, says-own, says-quote, says-cheapest, says-answer, says-show, Says}
+use Rattle.containment.proofs.Entering.{commit-settles, commit-says}
 use Rattle.containment.proofs.Parts.{many-pairs-part}
 use Rattle.containment.proofs.Severals.{several-hands-up, several-reads-none, many-pairs-several, several-19}
+use Rattle.matching.specs.Ask.{askOf, askOutcome}
+use Rattle.containment.proofs.Asking.{ask-settles-on, ask-says, ask-19}
 use Rattle.containment.proofs.WhenLaws.{terms-judges, byWhen, goes-on-when, quote-by, cheapest-by, part-by, show-by, show-goes-on, full-when, says-when, says-part, refused-when, make-book-19, quote-19, cheapest-19, part-19, show-19, first-day-19, answer-19}
 use Rattle.containment.proofs.DemandIndex.{index-made, check-exactly, check-yes, search-exactly, check-whole, search-whole, way-same, way-searched}
 use Rattle.containment.proofs.DemandSheets.{pair-fields, searched-back, searched-length, book-made, views-sound}
@@ -194,6 +197,8 @@ demand-1 = record {
   check-index = λ r index words. workspace-settles words (record-first r (λ rs. own-settles (ownOf rs) index (gives _ [])));
   search-indexed = λ p r index room words. workspace-settles words (pattern-first p (λ ps. record-first r (λ rs. own-settles (ownOf rs) index (fitFile-settles room _))));
   make-book = λ c r room words. workspace-settles words (offered-first c (λ cs. bookFor cs r room) (λ cs. record-first r (λ rs. fitFile-settles room _)));
+  ask = λ c r s l words. workspace-settles words (unfold askOutcome in offered-first c (λ o. askOf o r s l) (ask-settles-on r s l));
+  commit = λ r s p room room′ words. workspace-settles words (commit-settles r s p room room′);
   quote = λ w q c words. workspace-settles words (subst Settles (sym (quote-by q c w)) (when-settles w q c quoteFor (λ x. gives _ [])));
   cheapest = λ w q c charges words. workspace-settles words (subst Settles (sym (cheapest-by q c w charges)) (when-settles w q c (cheapestFor charges) (cheapest-settles charges)));
   first-day = λ q c t day words. workspace-settles words (when-settles (on t day) q c (firstDayFor t day) (λ x. gives _ []));
@@ -221,6 +226,8 @@ demand-1 = record {
   check-index-files = λ r index. hands-up (says-judged (readRecord r) (λ rs _. says-own (ownOf rs) index (says-give _ _)));
   search-indexed-files = λ p r index room. hands-up (says-judged (readPattern p) (λ ps _. says-judged (readRecord r) (λ rs _. says-own (ownOf rs) index (says-fit-file room _))));
   make-book-files = λ c r room. hands-up (says-offered c (λ cs. bookFor cs r room) (λ cs. says-judged (readRecord r) (λ rs _. says-fit-file room _)));
+  ask-files = λ c r s l. hands-up (ask-says r s l c);
+  commit-files = λ r s p room room′. hands-up (commit-says r s p room room′);
   quote-files = λ w q c. hands-up (subst (Says _) (sym (quote-by q c w)) (says-when w q c thenNone quoteFor says-quote));
   cheapest-files = λ w q c charges. hands-up (subst (Says _) (sym (cheapest-by q c w charges)) (says-when w q c thenNone (cheapestFor charges) (says-cheapest charges)));
   first-day-files = λ q c t day. hands-up (says-when (on t day) q c thenNone (firstDayFor t day) (λ x. says-give _ _));
@@ -233,6 +240,7 @@ demand-1 = record {
   never-long = λ ws d. (write-short 1 pattern-faults ws d, write-short 2 catalogue-faults ws d, write-short 3 record-faults ws d);
   never-long-beside = λ cs ws d. (write-short 4 (sheet-faults (edgesOf cs)) ws d, write-short 4 (book-faults (edgeCounts cs)) ws d);
   make-book-set = make-book-19;
+  ask-set = λ c r cs s l d. ask-19 r s l c cs d;
   quote-set = λ w q c qs cs p d y. quote-19 q c qs cs p d w y;
   cheapest-set = λ w q c qs cs charges p d y. cheapest-19 q c qs cs p d w y charges;
   first-day-set = λ q c qs cs t day p d y. first-day-19 q c qs cs p d t day y;

@@ -48,6 +48,9 @@ pub mod Sorting
 pub mod Parts
 pub mod Severals
 pub mod OnDays
+-- links that enter
+pub mod Entering
+pub mod Asking
 -- the listing
 pub mod ListingLaws
 pub mod Listings

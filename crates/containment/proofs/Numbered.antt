@@ -1,4 +1,4 @@
--- Every refusal has a number from 1 to 19: a file's by its format, and the others by the calls that give them.
+-- Every refusal has a number from 1 to 21: a file's by its format, and the others by the calls that give them.
 use Prim.Native.Nat.{ℕ, zero, suc, _+_, _%_, _^_, _≤_}
 use mathlib.Core.Path.{_≡_, refl}
 use mathlib.Core.Logic.{inl, inr}
@@ -19,10 +19,10 @@ use Rattle.containment.specs.Demands.{Settles}
 
 pub record Numbered (n : ℕ) : Type 0 where
   pub least : 1 ≤ n
-  pub most : n ≤ 19
+  pub most : n ≤ 21
 
-pub numbered : (n : ℕ) → leb 1 n ≡ true → leb n 19 ≡ true → Numbered n
-numbered n p q = record { least = leb-true 1 n p; most = leb-true n 19 q }
+pub numbered : (n : ℕ) → leb 1 n ≡ true → leb n 21 ≡ true → Numbered n
+numbered n p q = record { least = leb-true 1 n p; most = leb-true n 21 q }
 
 -- the numbers that fall to what stands in a file, or in content
 pub record FileFault (n : ℕ) : Type 0 where

@@ -5,8 +5,8 @@
 -- An answer is a function of the bytes, fields and sets that are lent, of the length of each output (`room`) and of the workspace (`words`).
 -- Proofs: proofs/DemandsOneTwo.antt and proofs/DemandThree.antt, by proofs/DemandRules.antt, DemandSheets.antt, DemandIndex.antt and DemandJoin.antt; of the
 -- join by steps, proofs/DemandSteps.antt; of the empty catalogue, proofs/EmptyCatalogues.antt; of the part, proofs/Parts.antt; of several
--- questions, proofs/Severals.antt; of the cheapest set, proofs/CheapestSets.antt; of calls for a day, proofs/OnDays.antt, by proofs/WhenLaws.antt; of the
--- listing, proofs/Listings.antt.
+-- questions, proofs/Severals.antt; of the cheapest set, proofs/CheapestSets.antt; of calls for a day, proofs/OnDays.antt, by proofs/WhenLaws.antt; of links
+-- that enter, proofs/Entering.antt; of asking, proofs/Asking.antt; of the listing, proofs/Listings.antt.
 use Prim.Native.Nat.{ℕ, _+_, _-_, _*_, _^_, _<_, _≤_, _/_}
 use mathlib.Core.Path.{_≡_}
 use mathlib.Core.Logic.{_⊎_, _↔_}
@@ -18,6 +18,7 @@ use Rattle.packed.specs.Limits.{patternMost, questionsMost, catalogueMost, reco
 use Rattle.packed.specs.Formats.{code, pattern, catalogue, record′}
 use Rattle.packed.specs.Plain.{Below, PatternFile, CatalogueFile, EmptyCatalogue, RecordFile, SheetFile, BookFile}
 use Rattle.packed.specs.Contents.{edgesOf, viewsOf, edgeCounts, sheetsIn, ends, fieldsOf, pairCount, sheetFields, sheetLength, nodesOf}
+use Rattle.packed.specs.Entered.{entered}
 use Rattle.packed.specs.Refusals.{Told, told}
 use Rattle.packed.specs.declared.by_value.Pattern.{Pattern as Given}
 use Rattle.packed.specs.OldRecord.{readOldRecord, OldRecordFile, sortedFields, recordSorted}
@@ -31,6 +32,11 @@ use Rattle.matching.specs.Part.{rank, number, partOf, patternFields, patternByt
 use Rattle.matching.specs.Offered.{Brought, brings, Offered, offers, viewPatterns, judgeSet, RightSet, WrongSet}
 use Rattle.matching.specs.Search.{sheetBytes, bookBytes, viewSheets, searchOutcome, makeBookOutcome}
 use Rattle.matching.specs.Index.{makeIndexOutcome, checkIndexOutcome, searchIndexedOutcome}
+use Rattle.matching.specs.Enter.{judgeLink, changeMost, judgeSlip, linkOn, commitOutcome, stateAfter}
+use Rattle.matching.specs.Ask.{changedViews, askOutcome}
+use Rattle.matching.specs.declared.state.State.{State}
+use Rattle.matching.specs.declared.state.Link.{Link}
+use Rattle.matching.specs.declared.state.Slip.{Slip}
 use Rattle.containment.specs.Choice.{everyView, coversIn, columnsIn, lowestUnmatched, chosen}
 use Rattle.containment.specs.Quote.{noPattern, mapping, quotedBy, viewsInSet, usedBy, QuoteValues, flat, blank, quoteOutcome, quoteTold}
 use Rattle.containment.specs.Answer.{viewsIn, Choose, answerBy, answerFrom, answerOutcome}
@@ -238,13 +244,13 @@ pub record Full (a : Outcome) : Type 0 where
   pub outputs : List (List ℕ)
   pub is : a ≡ give values outputs
 
--- a refusal with a number from 1 to 19
+-- a refusal with a number from 1 to 21
 pub record Refused (a : Outcome) : Type 0 where
   pub number : ℕ
   pub detail : ℕ
   pub is : a ≡ refuse number detail
   pub least : 1 ≤ number
-  pub most : number ≤ 19
+  pub most : number ≤ 21
 
 abbrev pub Settles : Outcome → Type 0
 Settles a = Full a ⊎ Refused a
@@ -301,6 +307,14 @@ filesWhen (on t day) q c next =
 -- the files of the call that answers several questions: "its first fault decides the refusal, .., then catalogue, book"
 abbrev pub severalFiles : ℕ → List ℕ → Brought → List ℕ → Files
 severalFiles number q c b = first (readQuestions number q) (λ ws. offeredFiles c (λ cs. first (readBook cs b) thenNone))
+
+-- those of asking: the link is judged with them, "3 if the state's link count isn't the record's, then .."
+abbrev pub askFiles : Brought → List ℕ → State → Link → Files
+askFiles c r s l = offeredFiles c (λ cs. first (readRecord r) (λ rs. first (judgeLink (s .links) rs l) thenNone))
+
+-- those of a commit
+abbrev pub commitFiles : List ℕ → State → Slip → Files
+commitFiles r s p = first (readRecord r) (λ rs. first (judgeSlip s p) (λ _. first (judgeLink (s .links) rs (linkOn p)) thenNone))
 
 -- 17: "when no question or more than eight are sent", and else
 abbrev pub WrongNumber : ℕ → Type 0
@@ -383,6 +397,8 @@ pub record Demand1 : Type 0 where
   pub check-index : (r index : List ℕ) (words : ℕ) → Settles (withWorkspace words (checkIndexOutcome r index))
   pub search-indexed : (p r index : List ℕ) (room words : ℕ) → Settles (withWorkspace words (searchIndexedOutcome p r index room))
   pub make-book : (c : Brought) (r : List ℕ) (room words : ℕ) → Settles (withWorkspace words (makeBookOutcome c r room))
+  pub ask : (c : Brought) (r : List ℕ) (s : State) (l : Link) (words : ℕ) → Settles (withWorkspace words (askOutcome c r s l))
+  pub commit : (r : List ℕ) (s : State) (p : Slip) (room room′ words : ℕ) → Settles (withWorkspace words (commitOutcome r s p room room′))
   -- a call that there is for a day too is meant both ways
   pub quote : (w : When) (q : List ℕ) (c : Brought) (words : ℕ) → Settles (withWorkspace words (quoteWhen w q c))
   -- both calls that answer: `answerFrom` and `answerOutcome` are `answerBy` with the set that the client names and with the one that is used else
@@ -409,6 +425,9 @@ pub record Demand1 : Type 0 where
   pub check-index-files : (r index : List ℕ) → HandsUp (first (readRecord r) thenNone) (checkIndexOutcome r index)
   pub search-indexed-files : (p r index : List ℕ) (room : ℕ) → HandsUp (first (readPattern p) (λ ps. first (readRecord r) thenNone)) (searchIndexedOutcome p r index room)
   pub make-book-files : (c : Brought) (r : List ℕ) (room : ℕ) → HandsUp (offeredFiles c (λ cs. first (readRecord r) thenNone)) (makeBookOutcome c r room)
+  pub ask-files : (c : Brought) (r : List ℕ) (s : State) (l : Link) → HandsUp (askFiles c r s l) (askOutcome c r s l)
+  -- the slip and the link are judged with the record: "20 .., then 21 .., both right after the papers and before that 3"
+  pub commit-files : (r : List ℕ) (s : State) (p : Slip) (room room′ : ℕ) → HandsUp (commitFiles r s p) (commitOutcome r s p room room′)
   pub quote-files : (w : When) (q : List ℕ) (c : Brought) → HandsUp (filesWhen w q c thenNone) (quoteWhen w q c)
   pub cheapest-files : (w : When) (q : List ℕ) (c : Brought) (charges : List ℕ) → HandsUp (filesWhen w q c thenNone) (cheapestWhen w q c charges)
   pub first-day-files : (q : List ℕ) (c : Brought) (t : Terms) (day : ℕ) → HandsUp (filesWhen (on t day) q c thenNone) (firstDay q c t day)
@@ -425,6 +444,7 @@ pub record Demand1 : Type 0 where
   -- 19, "when the set names an extract not in the catalogue, right after the catalogue is read, after 18 and before 15, detail the lowest such number": exactly
   -- then, in each call, once the question, the paper of the catalogue and the terms are accepted
   pub make-book-set : (c : Brought) (r cs : List ℕ) (room : ℕ) → CataloguePaper (c .file) cs → Refuses19 c cs (makeBookOutcome c r room)
+  pub ask-set : (c : Brought) (r cs : List ℕ) (s : State) (l : Link) → CataloguePaper (c .file) cs → Refuses19 c cs (askOutcome c r s l)
   pub quote-set : (w : When) (q : List ℕ) (c : Brought) (qs cs : List ℕ) → Question q qs → CataloguePaper (c .file) cs → RightWhen cs w → Refuses19 c cs (quoteWhen w q c)
   pub cheapest-set : (w : When) (q : List ℕ) (c : Brought) (qs cs charges : List ℕ) → Question q qs → CataloguePaper (c .file) cs → RightWhen cs w
       → Refuses19 c cs (cheapestWhen w q c charges)
@@ -1254,6 +1274,104 @@ pub record OnDays : Type 0 where
   pub show-as-always : (q : List ℕ) (c : Brought) (cs : Offered) → Catalogue c cs → (t : Terms) (day room room′ : ℕ) → RightTerms t (length (viewsOf (cs .content)))
       → AllInForce t day cs
       → showOn q c t day room room′ ≡ showOutcome q c room room′
+
+-- ---- Links that enter. "Commit enters the link at its place in order and adds 1 to both numbers of a small running state, the link count and change number."
+
+-- a link, as an edge of the record's graph
+abbrev pub asEdge : Link → Edge
+asEdge l = between (l .from) (l .to) (l .kind)
+
+-- the content of "the record with this link"
+abbrev pub withLink : List ℕ → Link → List ℕ
+withLink rs l = entered rs (l .from) (l .to) (l .kind)
+
+-- the ends of a link are items of the record
+abbrev pub BothItems : List ℕ → Link → Type 0
+BothItems rs l = (l .from < nodesOf rs) × (l .to < nodesOf rs)
+
+-- a link that may enter a record of the content rs, where a state has its link count
+pub record Fit (links : ℕ) (rs : List ℕ) (l : Link) : Type 0 where
+  pub count : links ≡ edgesOf rs
+  pub items : BothItems rs l
+  pub kind : l .kind ≤ 7
+  pub new : In (asEdge l) (graphOf rs .edges) → ⊥
+  pub room : edgesOf rs < edgesMost
+
+-- why one doesn't: "3 if the state's link count isn't the record's, then 4 for an end, 3 for a kind above 7, 6 for a link already there, 3 for a full record"
+pub data Unfit (links : ℕ) (rs : List ℕ) (l : Link) : ℕ → Type 0 where
+  wrong-count : (links ≡ edgesOf rs → ⊥) → Unfit links rs l 3
+  no-item : links ≡ edgesOf rs → (BothItems rs l → ⊥) → Unfit links rs l 4
+  no-kind : links ≡ edgesOf rs → BothItems rs l → 7 < l .kind → Unfit links rs l 3
+  there-already : links ≡ edgesOf rs → BothItems rs l → l .kind ≤ 7 → In (asEdge l) (graphOf rs .edges) → Unfit links rs l 6
+  full : links ≡ edgesOf rs → BothItems rs l → l .kind ≤ 7 → (In (asEdge l) (graphOf rs .edges) → ⊥) → edgesMost ≤ edgesOf rs → Unfit links rs l 3
+
+-- "a slip whose change number" is "the current one", which isn't the last
+pub record Current (s : State) (p : Slip) : Type 0 where
+  pub same : p .change ≡ s .change
+  pub not-last : s .change ≡ changeMost → ⊥
+
+-- the link stands at its place: those before it and those after it are the old ones, in their order
+pub record AtPlace (rs : List ℕ) (l : Link) : Type 0 where
+  pub before : List Edge
+  pub after : List Edge
+  pub old : graphOf rs .edges ≡ before ++ after
+  pub new : graphOf (withLink rs l) .edges ≡ before ++ (asEdge l ∷ after)
+
+pub record Entering : Type 0 where
+  -- the link is judged so, "each with detail 3"
+  pub fit : (links : ℕ) (rs : List ℕ) (l : Link) (ws : List ℕ) → (judgeLink links rs l ≡ accepted ws) ↔ (Fit links rs l × (ws ≡ withLink rs l))
+  pub unfit : (links : ℕ) (rs : List ℕ) (l : Link) (n d : ℕ) → (judgeLink links rs l ≡ rejected n d) ↔ (Unfit links rs l n × (d ≡ 3))
+  -- "commit refuses with 20 a slip whose change number isn't the current one, then with 21 if that number is 4,294,967,295", "detail the current number"
+  pub old-slip : (r rs : List ℕ) → Record r rs → (s : State) (p : Slip) (room room′ words d : ℕ)
+      → (withWorkspace words (commitOutcome r s p room room′) ≡ refuse 20 d) ↔ ((workspace ≤ words) × (p .change ≡ s .change → ⊥) × (d ≡ s .change))
+  pub last-change : (r rs : List ℕ) → Record r rs → (s : State) (p : Slip) (room room′ words d : ℕ)
+      → (withWorkspace words (commitOutcome r s p room room′) ≡ refuse 21 d) ↔ ((workspace ≤ words) × (p .change ≡ s .change) × (s .change ≡ changeMost) × (d ≡ s .change))
+  -- "commit gives 12 last": for the record's bytes, else for the index's entries; else both are given, whole
+  pub gives : (r rs : List ℕ) → Record r rs → (s : State) (p : Slip) → Current s p → Fit (s .links) rs (linkOn p) → (room room′ words : ℕ)
+      → Fitted words (OverEither room room′ (recordBytes (withLink rs (linkOn p))) (ownOf (withLink rs (linkOn p)))) (recordBytes (withLink rs (linkOn p)) ∷ ownOf (withLink rs (linkOn p)) ∷ [])
+      (withWorkspace words (commitOutcome r s p room room′))
+  pub only : (r : List ℕ) (s : State) (p : Slip) (room room′ words : ℕ) → Full (withWorkspace words (commitOutcome r s p room room′))
+      → (rs : List ℕ) × Record r rs × Current s p × Fit (s .links) rs (linkOn p)
+  -- "the record's bytes after it are those of the record with this link": a record is accepted that has the same items, the old links and this one, "at its
+  -- place in order"
+  pub is-record : (r rs : List ℕ) → Record r rs → (links : ℕ) (l : Link) → Fit links rs l → Record (recordBytes (withLink rs l)) (withLink rs l)
+  pub items : (r rs : List ℕ) → Record r rs → (links : ℕ) (l : Link) → Fit links rs l → graphOf (withLink rs l) .labels ≡ graphOf rs .labels
+  pub links : (r rs : List ℕ) → Record r rs → (links : ℕ) (l : Link) → Fit links rs l → (f : Edge)
+      → In f (graphOf (withLink rs l) .edges) ↔ ((f ≡ asEdge l) ⊎ In f (graphOf rs .edges))
+  pub at-place : (r rs : List ℕ) → Record r rs → (links : ℕ) (l : Link) → Fit links rs l → AtPlace rs l
+  -- commit "adds 1 to both numbers", so that the link count is again the record's; "a refusal leaves the state as it came", 14 among them
+  pub counts : (a : Outcome) (s : State) → Full a → (stateAfter a s .links ≡ s .links + 1) × (stateAfter a s .change ≡ s .change + 1)
+  pub count-again : (r rs : List ℕ) → Record r rs → (s : State) (l : Link) → Fit (s .links) rs l → s .links + 1 ≡ edgesOf (withLink rs l)
+  pub stays : (a : Outcome) (s : State) → Refused a → stateAfter a s ≡ s
+
+-- ---- Asking "before a link enters the record".
+
+-- the set of the extracts whose lists are others on the record with the link
+abbrev pub changedOf : Offered → List ℕ → Link → ℕ
+changedOf cs rs l = changedViews cs (graphOf rs) (graphOf (withLink rs l)) (length (viewsOf (cs .content)))
+
+-- "asking alters nothing and gives that set .. and a slip with the link and the record's change number": it is lent no output, and the state by value
+abbrev pub askGiven : ℕ → Link → State → List ℕ
+askGiven set l s = set ∷ l .from ∷ l .to ∷ l .kind ∷ s .change ∷ []
+
+pub record Asking : Type 0 where
+  -- it gives that of accepted files and a link that may enter, and nothing of others
+  pub gives : (c : Brought) (r : List ℕ) (cs : Offered) (rs : List ℕ) → Catalogue c cs → Record r rs → (s : State) (l : Link) → Fit (s .links) rs l → (words : ℕ) → workspace ≤ words
+      → withWorkspace words (askOutcome c r s l) ≡ give (askGiven (changedOf cs rs l) l s) []
+  pub only : (c : Brought) (r : List ℕ) (s : State) (l : Link) (words : ℕ) → Full (withWorkspace words (askOutcome c r s l))
+      → (cs : Offered) × (rs : List ℕ) × Catalogue c cs × Record r rs × Fit (s .links) rs l
+  -- what it refuses has a number of a file's or of the link's, 14 or 19: so never 12, and no number of a slip
+  pub refuses : (c : Brought) (r : List ℕ) (s : State) (l : Link) (words n d : ℕ) → withWorkspace words (askOutcome c r s l) ≡ refuse n d → (n ≤ 9) ⊎ ((n ≡ 14) ⊎ (n ≡ 19))
+  -- "while the record and catalogue are those asked about, the sheets that the commit changes are those of the set given with the slip, and no others", "judged
+  -- by the lists under each extract's rule": an extract's lists on the record after differ from those before exactly if it is in the set, and no number but an
+  -- extract's is there
+  pub changes : (c : Brought) (r : List ℕ) (cs : Offered) (rs : List ℕ) → Catalogue c cs → Record r rs → (links : ℕ) (l : Link) → Fit links rs l → (a : ℕ)
+      → T (bit (changedOf cs rs l) a)
+      ↔ ((a < length (viewPatterns cs)) × (viewSheet (extractOf cs a) (graphOf rs) ≡ viewSheet (extractOf cs a) (graphOf (withLink rs l)) → ⊥))
+  -- and so in bytes
+  pub changes-bytes : (c : Brought) (r : List ℕ) (cs : Offered) (rs : List ℕ) → Catalogue c cs → Record r rs → (links : ℕ) (l : Link) → Fit links rs l → (a : ℕ)
+      → T (bit (changedOf cs rs l) a)
+      ↔ ((a < length (viewPatterns cs)) × (extractSheetOf (extractOf cs a) rs ≡ extractSheetOf (extractOf cs a) (withLink rs l) → ⊥))
 
 -- ---- what holds of the listing of a quote
 

@@ -1,7 +1,7 @@
 // Judges the files that it finds in the folder it is run in: `question`, `catalogue`, `record`, a `sheet` and an `answer` beside the question, a
 // `book`, `charges`, `terms` and the set `one_way` beside the catalogue, a `part` and a `part_answer` beside it, `questions` beside their `number`,
-// the records `first` and `second`, an `index` beside the record, a `set`, a `day`, and a record `old`, stored before links had kinds. One that is not
-// there gets no line.
+// the records `first` and `second`, an `index` and a `state` beside the record, a `set`, a `day`, a `link`, a `slip`, and a record `old`, stored before
+// links had kinds. One that is not there gets no line.
 ghost use mathlib.Core.Path.{_≡_};
 ghost use lib.ListN.{length};
 use folder::days;
@@ -229,6 +229,56 @@ fn judge_set() {
     }
 }
 
+// Beside an accepted record the state has its number of links.
+fn stated(reply: Reply, links: u32, state: u32) -> Reply {
+    match reply {
+        Reply::Done(_) => {
+            if links == state {
+                reply
+            } else {
+                Reply::Refused(Refusal::OutOfRange(3))
+            }
+        }
+        Reply::Refused(_) => reply,
+    }
+}
+
+fn judge_state() {
+    if !files::is_there(b"state") {
+        return;
+    }
+    let mut state = [0u32; 2];
+    if !folder::list(b"state", &mut state) {
+        return;
+    }
+    let mut record = lent::record_bytes();
+    let n = files::read(b"record", &mut record);
+    let mut content = lent::content_words();
+    let mut work = lent::work_words();
+    let reply = packed::read_record(&record[0..n], &mut content, &mut work);
+    say(b"state", stated(reply, content[1], state[0]));
+}
+
+fn judge_link() {
+    if !files::is_there(b"link") {
+        return;
+    }
+    let mut link = [0u32; 3];
+    if folder::list(b"link", &mut link) {
+        lines::say(b"link accepted\n");
+    }
+}
+
+fn judge_slip() {
+    if !files::is_there(b"slip") {
+        return;
+    }
+    let mut slip = [0u32; 4];
+    if folder::list(b"slip", &mut slip) {
+        lines::say(b"slip accepted\n");
+    }
+}
+
 fn judge_old() {
     if files::is_there(b"old") {
         let mut old = lent::old_record_bytes();
@@ -257,6 +307,9 @@ fn judge(question: &[u8], catalogue: &[u8]) {
     judge_one_way(catalogue);
     judge_day();
     judge_set();
+    judge_state();
+    judge_link();
+    judge_slip();
     judge_old();
 }
 

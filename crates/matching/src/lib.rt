@@ -13,15 +13,22 @@ pub mod steps;
 
 ghost use mathlib.Core.List.{[]};
 ghost use lib.ListN.{length};
-ghost use Rattle.packed.specs.Refusals.{replyTold};
+ghost use Rattle.packed.specs.Refusals.{replyTold, bothTold};
 ghost use Rattle.packed.specs.Calls.{OneOutput, Settled, withWorkspace};
 ghost use Rattle.matching.specs.Offered.{brings};
 ghost use Rattle.matching.specs.Search.{searchOutcome, makeBookOutcome};
+ghost use Rattle.matching.specs.Ask.{askOutcome, askTold};
 ghost use Rattle.matching.specs.Index.{makeIndexOutcome, checkIndexOutcome, searchIndexedOutcome};
+ghost use Rattle.matching.specs.Enter.{Commits};
+use asking::Asked;
 use packed::limits;
+use packed::reply::Both;
 use packed::reply::Refusal;
 use packed::reply::Reply;
 use packed::workspace;
+use state::Link;
+use state::Slip;
+use state::State;
 
 // How many words of the workspace a call leaves zero.
 const CLEARED: usize = limits::WORKSPACE;
@@ -102,4 +109,50 @@ pub fn search_indexed(
     let r = indexed::search(pattern, record, index, out, &mut work[0..limits::WORKSPACE]);
     workspace::clear(work, CLEARED);
     r
+}
+
+// Asks which views' lists a link would change, before it enters a record, each view by its own rule: answers the set of those views, the bit worth 2^j for
+// view j, and the slip that commit takes.
+pub fn ask(
+    catalogue: &[u8],
+    one_way: u16,
+    record: &[u8],
+    state: State,
+    link: Link,
+    work: &mut [u32],
+) -> Asked
+    ensures { λ r. ⌜ Settled [] (withWorkspace (length (now (work .entry))) (askOutcome (brings (now (catalogue .entry)) «one_way») (now («record» .entry)) state link)) (askTold r) [] [] (now (work .entry)) (now (work .exit)) ⌝ }
+{
+    if work.len() < limits::WORKSPACE {
+        return Asked::Refused(Refusal::SmallWorkspace);
+    }
+    let r = asking::ask(
+        catalogue,
+        one_way as u32,
+        record,
+        state,
+        link,
+        &mut work[0..limits::WORKSPACE],
+    );
+    workspace::clear(work, CLEARED);
+    r
+}
+
+// Enters the link of a slip into a record: writes the record with it and the index of that, and counts on both numbers of the state, which it alone is lent.
+pub fn commit(
+    record: &[u8],
+    state: &mut State,
+    slip: Slip,
+    out: &mut [u8],
+    index_out: &mut [u16],
+    work: &mut [u32],
+) -> Both
+    ensures { λ r. ⌜ Commits (now («record» .entry)) (now (state .entry)) slip (bothTold r) (now (state .exit)) (now (out .entry)) (now (out .exit)) (now («index_out» .entry)) (now («index_out» .exit)) (now (work .entry)) (now (work .exit)) ⌝ }
+{
+    let links = state.links;
+    let change = state.change;
+    let done = entering::commit(record, links, change, slip, out, index_out, work);
+    state.links = done.links;
+    state.change = done.change;
+    done.answer
 }

@@ -6,6 +6,7 @@ use crate::beside;
 use crate::both;
 use crate::cells;
 use crate::digest;
+use crate::entering;
 use crate::indexed;
 use crate::outcome;
 use crate::outcome::Outcome;
@@ -65,6 +66,11 @@ pub const PART_ON: usize = 25;
 pub const SHOW_ON: usize = 26;
 
 const FIRST_DAY: usize = 27;
+
+// A link that enters.
+const ASK: usize = 28;
+
+const COMMIT: usize = 29;
 
 // The states of a join after each of its steps, which no client sees.
 const STEPS: usize = 62;
@@ -344,6 +350,12 @@ fn on_parts(
     if k == ANSWER_SEVERAL {
         let number = cells::thirty_two(registers, cells::QUESTIONS);
         return several(a, number, b, one_way, d, &mut out[0..n], work);
+    }
+    if k == ASK {
+        return entering::ask(b, one_way, c, registers, work);
+    }
+    if k == COMMIT {
+        return entering::commit(c, registers, out, work);
     }
     if k == STEPS {
         let links = cells::number(registers, cells::LINKS);

@@ -12,6 +12,7 @@ mod content;
 mod counts;
 mod digest;
 mod draw;
+mod entering;
 mod indexed;
 mod instructions;
 mod marks;

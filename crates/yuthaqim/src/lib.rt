@@ -9,16 +9,22 @@ ghost use Rattle.packed.specs.OldRecord.{recordSorted};
 ghost use Rattle.matching.specs.Offered.{brings};
 ghost use Rattle.matching.specs.Search.{searchOutcome, makeBookOutcome};
 ghost use Rattle.matching.specs.Index.{makeIndexOutcome, checkIndexOutcome, searchIndexedOutcome};
+ghost use Rattle.matching.specs.Enter.{Commits};
+ghost use Rattle.matching.specs.Ask.{askOutcome};
 ghost use Rattle.containment.specs.Quote.{quoteOutcome, blank};
 ghost use Rattle.containment.specs.Answer.{answerOutcome, answerFrom};
 ghost use Rattle.containment.specs.Part.{partOutcome};
 ghost use Rattle.containment.specs.Several.{severalOutcome};
 ghost use Rattle.containment.specs.Show.{showOutcome};
 ghost use Rattle.containment.specs.Cheapest.{cheapestOutcome};
-ghost use Rattle.yuthaqim.specs.Numbered.{numberedReplyTold, numberedQuoteTold, numberedBothTold, numberedSeveralTold, numberedCheapestTold, QuoteZeros, BothZeros, SeveralZeros, CheapestZeros, numberedFirstDayTold, FirstDayZeros};
+ghost use Rattle.yuthaqim.specs.Numbered.{numberedReplyTold, numberedQuoteTold, numberedBothTold, numberedSeveralTold, numberedCheapestTold, QuoteZeros, BothZeros, SeveralZeros, CheapestZeros, numberedFirstDayTold, FirstDayZeros, numberedAskedTold, AskedZeros};
 ghost use Rattle.containment.specs.Terms.{spreadOf, quoteOn, cheapestOn, partOn, showOn, firstDay};
 use containment::terms::Term;
 use containment::terms::Terms;
+use matching::state::Link;
+use matching::state::Slip;
+use matching::state::State;
+use numbered::NumberedAsked;
 use numbered::NumberedBoth;
 use numbered::NumberedCheapest;
 use numbered::NumberedFirstDay;
@@ -454,4 +460,35 @@ pub extern "C" fn yuthaqim_first_day(
     ensures { λ r. ⌜ Settled [] (withWorkspace (length (now (work .entry))) (firstDay (now (question .entry)) (brings (now (catalogue .entry)) «one_way») terms day)) (numberedFirstDayTold r) [] [] (now (work .entry)) (now (work .exit)) × FirstDayZeros r ⌝ }
 {
     numbered::first_day(containment::first_day(question, catalogue, one_way, terms, day, work))
+}
+
+// Asks which extracts' lists a link would change, before it enters a record: the set of them, and the slip that commit takes.
+#[no_mangle]
+pub extern "C" fn yuthaqim_ask(
+    catalogue: &[u8],
+    one_way: u16,
+    record: &[u8],
+    state: State,
+    link: Link,
+    work: &mut [u32],
+) -> NumberedAsked
+    ensures { λ r. ⌜ Settled [] (withWorkspace (length (now (work .entry))) (askOutcome (brings (now (catalogue .entry)) «one_way») (now («record» .entry)) state link)) (numberedAskedTold r) [] [] (now (work .entry)) (now (work .exit)) × AskedZeros r ⌝ }
+{
+    numbered::asked(matching::ask(catalogue, one_way, record, state, link, work))
+}
+
+// Enters the link of a slip into a record: writes the record with it and the index of that, and counts on both numbers of the state.
+#[no_mangle]
+pub extern "C" fn yuthaqim_commit(
+    record: &[u8],
+    state: &mut State,
+    slip: Slip,
+    out: &mut [u8],
+    index_out: &mut [u16],
+    work: &mut [u32],
+) -> NumberedBoth
+    ensures { λ r. ⌜ Commits (now («record» .entry)) (now (state .entry)) slip (numberedBothTold r) (now (state .exit)) (now (out .entry)) (now (out .exit)) (now («index_out» .entry)) (now («index_out» .exit)) (now (work .entry)) (now (work .exit)) × BothZeros r ⌝ }
+{
+    let b = matching::commit(record, state, slip, out, index_out, work);
+    numbered::both(b)
 }

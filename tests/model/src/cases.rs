@@ -1,7 +1,8 @@
 //! The cases, by sections: the rules, each with its answer; files and contents written out, limits, damaged files, the worked
-//! cases, links with kinds, searches beside the plain one, questions and their answers, the steps of joins, and the refusals of every
-//! call.
+//! cases, links with kinds, searches beside the plain one, questions and their answers, the steps of joins, links that enter, and the
+//! refusals of every call.
 
+mod entering;
 mod kinds;
 mod questions;
 mod refusals;
@@ -24,6 +25,7 @@ pub fn written() -> (Vec<u8>, String) {
     searches::write(&mut script);
     questions::write(&mut script);
     steps::write(&mut script);
+    entering::write(&mut script);
     refusals::write(&mut script);
     script.name("all calls\n");
     script.all();

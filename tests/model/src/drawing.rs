@@ -233,7 +233,6 @@ pub fn draw_strange(rule: &mut Rule, extracts: usize) -> Option<u16> {
 
 /// A link for a record of items with these kinds: one of some that are wanted, one like that in another kind, one between any items; or one at
 /// fault.
-#[cfg(test)]
 pub fn draw_link(rule: &mut Rule, kinds: &[u32], wanted: &[Link]) -> Link {
     let items = kinds.len() as u32;
     let any = (rule.draw(items), rule.draw(items), rule.draw(8));

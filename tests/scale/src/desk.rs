@@ -1,6 +1,7 @@
 //! One call on both sides: what is lent, what the model says, what the library answers and leaves.
 
 pub mod days;
+pub mod entering;
 
 use crate::draw::Draw;
 use crate::tally::{Call, Tally};

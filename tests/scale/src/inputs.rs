@@ -42,6 +42,7 @@ macro_rules! reply {
 
 // After the macro, which it uses.
 mod days;
+mod entering;
 
 /// A question and a catalogue for it, of which the other files are made.
 struct Subject {
@@ -201,7 +202,8 @@ impl Test {
     pub fn input(&mut self, seed: u64) -> Result<(), Difference> {
         let draw = &mut Draw::new(seed);
         match draw.below(100) {
-            0..=19 => self.lone_file(draw),
+            0..=17 => self.lone_file(draw),
+            18..=19 => self.enter(draw),
             20 => self.another_one_way(draw),
             21..=22 => self.on_day(draw),
             23 => self.on_day_and_search(draw),

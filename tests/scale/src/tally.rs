@@ -34,6 +34,8 @@ pub enum Call {
     PartOn,
     ShowOn,
     FirstDay,
+    Ask,
+    Commit,
 }
 
 impl Call {
@@ -43,7 +45,7 @@ impl Call {
 }
 
 /// The refusals are numbered from 1 to this.
-const REFUSALS: usize = 19;
+const REFUSALS: usize = 21;
 
 /// At 0 how often a call succeeded, then how often it gave each refusal.
 type Counts = [u64; REFUSALS + 1];
@@ -107,6 +109,10 @@ pub struct Tally {
     pub shown_one_way: u64,
     pub other_sets: u64,
     pub not_searched: u64,
+    /// Links that entered with the slip that asking gave, those of them that change a sheet, and those that change some sheets and not all.
+    pub entered: u64,
+    pub changing: u64,
+    pub changing_some: u64,
     /// Old files that were sorted, and those of them whose links were not in order.
     pub sorted: u64,
     pub disordered: u64,
@@ -138,6 +144,7 @@ impl fmt::Display for Tally {
         let Tally { parts, parts_with_pairs, wider, whole, choices, smaller, .. } = self;
         let Tally { several, questions, questions_with_pairs, shared, empty, .. } = self;
         let Tally { on_days, parts_on, first_days, shown_on, others_differ, .. } = self;
+        let Tally { entered, changing, changing_some, .. } = self;
         let Tally { by_one_way, mixed, more_listed, shown_one_way, other_sets, not_searched, .. } = self;
         writeln!(
             f,
@@ -177,6 +184,11 @@ impl fmt::Display for Tally {
         )?;
         writeln!(f, "{apart} answers from books of no record that are not those of the chosen set")?;
         writeln!(f, "{cheapest} cheapest sets, {not_chosen} of them not the chosen one, {tied} tied with another up to the numbers")?;
+        writeln!(
+            f,
+            "{entered} links entered as asked, {changing} of them with other sheets after than before, as asked, {changing_some} with some of \
+             the catalogue's sheets alone"
+        )?;
         writeln!(
             f,
             "{sorted} old files sorted, {disordered} of them out of order, each with the links and the sheets it had"

@@ -9,7 +9,7 @@ use crate::terms::TERMS;
 
 /// The library's calls that read files, and which.
 fn calls() -> Vec<(usize, Vec<usize>)> {
-    (0..ASK).map(|call| (call, parts(call))).filter(|(_, parts)| !parts.is_empty()).collect()
+    (0..CALLS.len()).map(|call| (call, parts(call))).filter(|(_, parts)| !parts.is_empty()).collect()
 }
 
 /// A file for each refusal that falls to it.
@@ -264,7 +264,7 @@ fn lay_content(script: &mut Script, call: usize) {
 /// those that are there, the last of all; also where charges, the book and the record are at fault, which are judged later, and where the
 /// catalogue is, which is judged before.
 fn not_there(script: &mut Script) {
-    for call in (0..ASK).filter(|&call| takes_set(call)) {
+    for call in (0..CALLS.len()).filter(|&call| takes_set(call)) {
         let good = small(call);
         good.lay_all(script);
         lay_day(script, call);
@@ -295,7 +295,7 @@ fn not_there(script: &mut Script) {
 
 /// The same calls with sets of extracts that are there, on a catalogue that is cut at each byte and has each bit turned.
 fn one_way(script: &mut Script) {
-    for call in (0..ASK).filter(|&call| takes_set(call)) {
+    for call in (0..CALLS.len()).filter(|&call| takes_set(call)) {
         script.set(ONE_WAY, if of_uncovered(call) { 1 } else { 5 });
         of_kinds(call).lay_all(script);
         lay_day(script, call);
@@ -375,7 +375,7 @@ pub fn write(script: &mut Script) {
     script.group();
     large(MAKE_BOOK, pack_record).lay_all(script);
     script.content(&[u32::MAX]);
-    sweep_all(script, &[SEARCH, MAKE_BOOK, QUOTE, ANSWER, CHEAPEST, ANSWER_FROM, PART], 101);
+    sweep_all(script, &[SEARCH, MAKE_BOOK, QUOTE, ANSWER, CHEAPEST, ANSWER_FROM, PART, ASK, COMMIT], 101);
     sweep(script, CHEAPEST_ON, TERMS_PART, 1);
     sweep(script, PART_ON, TERMS_PART, 1);
     sweep(script, FIRST_DAY, TERMS_PART, 1);

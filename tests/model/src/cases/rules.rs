@@ -227,6 +227,6 @@ mod tests {
     fn every_call_answers_what_its_line_says() {
         write(&mut Script::new());
         let calls = lines().1.iter().filter(|line| matches!(line, Line::Call { .. })).count();
-        assert_eq!(calls, 654);
+        assert_eq!(calls, 724);
     }
 }
