@@ -1,7 +1,7 @@
 // Answers the questions of the file `questions`, as many as the file `number` says in decimal, from the file `book`, which belongs to the file
 // `catalogue` and to the set of its extracts that are matched one-way, which the file `one_way` has, all in the folder it is run in, and writes the
 // file `answers` there: the answers one after the other.
-use containment::several::Several;
+use answering::several::Several;
 use folder::files;
 use folder::lent;
 use folder::lines;
@@ -46,7 +46,7 @@ fn main() {
     let n = files::read(b"questions", &mut questions);
     let m = files::read(b"catalogue", &mut catalogue);
     let k = files::read(b"book", &mut book);
-    let found = containment::answer_several(
+    let found = answering::answer_several(
         &questions[0..n],
         number.value,
         &catalogue[0..m],

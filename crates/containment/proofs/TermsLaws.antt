@@ -24,8 +24,7 @@ use Rattle.matching.proofs.OfferedLaws.{judged-rejected}
 use Rattle.containment.specs.Choice.{coversIn}
 use Rattle.containment.specs.Quote.{Quoted, quotedIn, tableOf}
 use Rattle.containment.specs.Steps.{Query, Views, ViewCounts, quotedAs}
-use Rattle.containment.specs.Terms.{fromDay, toDay, firstTurned, judgeTerms, isInForce, inForce, offeredOn, sooner, earliest, dayValues, firstDayFor}
-use Rattle.containment.specs.Demands.{InForce}
+use Rattle.containment.specs.Terms.{InForce, fromDay, toDay, firstTurned, judgeTerms, isInForce, inForce, offeredOn, sooner, earliest, dayValues, firstDayFor}
 use Rattle.containment.specs.declared.terms.Terms.{Terms}
 use Rattle.packed.specs.declared.by_value.Pattern.{Pattern as Given}
 use Rattle.containment.proofs.SetBits.{test-cases, never, bit-over, more-self, more-other}

@@ -1,5 +1,5 @@
 -- Terms: the days on which each view is in force, and what is answered for a day.
-use Prim.Native.Nat.{ℕ, zero, suc, _+_, _^_, min}
+use Prim.Native.Nat.{ℕ, zero, suc, _+_, _^_, _<_, _≤_, min}
 use mathlib.Core.Path.{_≡_}
 use mathlib.Core.List.{List, [], _∷_}
 use mathlib.Core.Bool.{Bool, _&&_}
@@ -47,6 +47,10 @@ fromDay t a = getD (t .from) a 0
 
 abbrev pub toDay : Terms → ℕ → ℕ
 toDay t a = getD (t .to) a 0
+
+-- "the from-day counts, the to-day doesn't": the view a is in force on a day
+abbrev pub InForce : Terms → ℕ → ℕ → Type 0
+InForce t day a = (fromDay t a ≤ day) × (day < toDay t a)
 
 -- ---- what is judged
 

@@ -17,7 +17,7 @@ use Rattle.packed.proofs.Sets.{sets-append, sets-front}
 use Rattle.containment.specs.Listing.{decimal, concat, orNone, bytes, lineOf, lineOutcome}
 use Rattle.containment.specs.declared.quote_type.Quote.{Quote}
 use Rattle.containment.proofs.ListingLaws.{decimal-one, decimal-more}
-use Rattle.containment.proofs.Listings.{listings}
+use Rattle.answering.proofs.Listings.{listings}
 use Rattle.packed.proofs.RefusalNumbers.{refusal-numbered}
 use Rattle.listing.specs.Written.{TextWritten}
 

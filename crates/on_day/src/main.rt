@@ -80,7 +80,7 @@ fn part(question: &[u8], catalogue: &[u8], one_way: u16, t: Terms, day: u16) {
     let mut answer = lent::output_bytes();
     let mut work = lent::work_words();
     let k = files::read(b"book", &mut book);
-    let found = containment::part_on(
+    let found = answering::part_on(
         question,
         catalogue,
         one_way,
@@ -115,7 +115,7 @@ fn show(question: &[u8], catalogue: &[u8], one_way: u16, t: Terms, day: u16) {
     let mut first = lent::shown_bytes();
     let mut second = lent::shown_bytes();
     let mut work = lent::work_words();
-    let shown = containment::show_on(
+    let shown = answering::show_on(
         question,
         catalogue,
         one_way,

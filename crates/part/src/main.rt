@@ -38,7 +38,7 @@ fn main() {
     let n = files::read(b"question", &mut question);
     let m = files::read(b"catalogue", &mut catalogue);
     let k = files::read(b"book", &mut book);
-    let found = containment::part(
+    let found = answering::part(
         &question[0..n],
         &catalogue[0..m],
         one_way.set,

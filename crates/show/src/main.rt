@@ -35,7 +35,7 @@ fn main() {
     }
     let n = files::read(b"question", &mut question);
     let m = files::read(b"catalogue", &mut catalogue);
-    let shown = containment::show_uncovered(
+    let shown = answering::show_uncovered(
         &question[0..n],
         &catalogue[0..m],
         one_way.set,

@@ -14,7 +14,7 @@ ghost use Rattle.matching.specs.Ask.{askOutcome};
 ghost use Rattle.containment.specs.Quote.{quoteOutcome, blank};
 ghost use Rattle.containment.specs.Answer.{answerOutcome, answerFrom};
 ghost use Rattle.containment.specs.Part.{partOutcome};
-ghost use Rattle.containment.specs.Several.{severalOutcome};
+ghost use Rattle.answering.specs.Several.{severalOutcome};
 ghost use Rattle.containment.specs.Show.{showOutcome};
 ghost use Rattle.containment.specs.Cheapest.{cheapestOutcome};
 ghost use Rattle.yuthaqim.specs.Numbered.{numberedReplyTold, numberedQuoteTold, numberedBothTold, numberedSeveralTold, numberedCheapestTold, QuoteZeros, BothZeros, SeveralZeros, CheapestZeros, numberedFirstDayTold, FirstDayZeros, numberedAskedTold, AskedZeros};
@@ -258,7 +258,7 @@ pub extern "C" fn yuthaqim_answer(
 ) -> NumberedReply
     ensures { λ r. ⌜ OneOutput (answerOutcome (now (question .entry)) (brings (now (catalogue .entry)) «one_way») (now (book .entry))) (numberedReplyTold r) (now (out .entry)) (now (out .exit)) (now (work .entry)) (now (work .exit)) ⌝ }
 {
-    numbered::reply(containment::answer(question, catalogue, one_way, book, out, work))
+    numbered::reply(answering::answer(question, catalogue, one_way, book, out, work))
 }
 
 // Answers a question from a book by a set of extracts: writes the question's sheet.
@@ -274,7 +274,7 @@ pub extern "C" fn yuthaqim_answer_from(
 ) -> NumberedReply
     ensures { λ r. ⌜ OneOutput (answerFrom (now (question .entry)) (brings (now (catalogue .entry)) «one_way») set (now (book .entry))) (numberedReplyTold r) (now (out .entry)) (now (out .exit)) (now (work .entry)) (now (work .exit)) ⌝ }
 {
-    numbered::reply(containment::answer_from(question, catalogue, one_way, set, book, out, work))
+    numbered::reply(answering::answer_from(question, catalogue, one_way, set, book, out, work))
 }
 
 // Finds the part of a question that the extracts answer, and answers it from a book: writes the part as a pattern, and its sheet.
@@ -290,7 +290,7 @@ pub extern "C" fn yuthaqim_part(
 ) -> NumberedBoth
     ensures { λ r. ⌜ Settled [] (withWorkspace (length (now (work .entry))) (partOutcome (now (question .entry)) (brings (now (catalogue .entry)) «one_way») (now (book .entry)) (length (now (part .entry))) (length (now (answer .entry))))) (numberedBothTold r) (now (part .entry) ∷ now (answer .entry) ∷ []) (now (part .exit) ∷ now (answer .exit) ∷ []) (now (work .entry)) (now (work .exit)) × BothZeros r ⌝ }
 {
-    numbered::both(containment::part(question, catalogue, one_way, book, part, answer, work))
+    numbered::both(answering::part(question, catalogue, one_way, book, part, answer, work))
 }
 
 // Answers several questions from one book: writes their sheets one after the other.
@@ -306,7 +306,7 @@ pub extern "C" fn yuthaqim_answer_several(
 ) -> NumberedSeveral
     ensures { λ r. ⌜ Settled [] (withWorkspace (length (now (work .entry))) (severalOutcome (now (questions .entry)) number (brings (now (catalogue .entry)) «one_way») (now (book .entry)) (length (now (out .entry))))) (numberedSeveralTold r) (now (out .entry) ∷ []) (now (out .exit) ∷ []) (now (work .entry)) (now (work .exit)) × SeveralZeros r ⌝ }
 {
-    numbered::several(containment::answer_several(
+    numbered::several(answering::answer_several(
         questions,
         number,
         catalogue,
@@ -329,7 +329,7 @@ pub extern "C" fn yuthaqim_show_uncovered(
 ) -> NumberedBoth
     ensures { λ r. ⌜ Settled [] (withWorkspace (length (now (work .entry))) (showOutcome (now (question .entry)) (brings (now (catalogue .entry)) «one_way») (length (now (first .entry))) (length (now (second .entry))))) (numberedBothTold r) (now (first .entry) ∷ now (second .entry) ∷ []) (now (first .exit) ∷ now (second .exit) ∷ []) (now (work .entry)) (now (work .exit)) × BothZeros r ⌝ }
 {
-    numbered::both(containment::show_uncovered(question, catalogue, one_way, first, second, work))
+    numbered::both(answering::show_uncovered(question, catalogue, one_way, first, second, work))
 }
 
 // Finds the cheapest set of extracts that covers a question, by the charges of the extracts.
@@ -408,7 +408,7 @@ pub extern "C" fn yuthaqim_part_on(
 ) -> NumberedBoth
     ensures { λ r. ⌜ Settled [] (withWorkspace (length (now (work .entry))) (partOn (now (question .entry)) (brings (now (catalogue .entry)) «one_way») terms day (now (book .entry)) (length (now (part .entry))) (length (now (answer .entry))))) (numberedBothTold r) (now (part .entry) ∷ now (answer .entry) ∷ []) (now (part .exit) ∷ now (answer .exit) ∷ []) (now (work .entry)) (now (work .exit)) × BothZeros r ⌝ }
 {
-    numbered::both(containment::part_on(
+    numbered::both(answering::part_on(
         question,
         catalogue,
         one_way,
@@ -435,7 +435,7 @@ pub extern "C" fn yuthaqim_show_on(
 ) -> NumberedBoth
     ensures { λ r. ⌜ Settled [] (withWorkspace (length (now (work .entry))) (showOn (now (question .entry)) (brings (now (catalogue .entry)) «one_way») terms day (length (now (first .entry))) (length (now (second .entry))))) (numberedBothTold r) (now (first .entry) ∷ now (second .entry) ∷ []) (now (first .exit) ∷ now (second .exit) ∷ []) (now (work .entry)) (now (work .exit)) × BothZeros r ⌝ }
 {
-    numbered::both(containment::show_on(
+    numbered::both(answering::show_on(
         question,
         catalogue,
         one_way,

@@ -1,0 +1,5 @@
+pub mod Several
+pub mod Demands
+-- inner
+pub mod Parting
+pub mod SeveralSteps
