@@ -69,21 +69,21 @@ module _ (n : ℕ) (first : ℕ → ℕ → Bool)
       (lt-or-ge x (set + 2 ^ u))
 
 -- ---- one key, then what decides
-less-say : (x y : ℕ) (r : Bool) → lesser x y r ≡ true → Less x y (r ≡ true)
+pub less-say : (x y : ℕ) (r : Bool) → lesser x y r ≡ true → Less x y (r ≡ true)
 unfolding lesser
 less-say x y r h = ⊎-elim (λ p. inl (ltb-true x y p)) (λ p. let b = and-both _ _ p in inr (eqb-true x y (b .0), b .1)) (or-cases _ _ h)
 
-less-by : (x y : ℕ) (r : Bool) → Less x y (r ≡ true) → lesser x y r ≡ true
+pub less-by : (x y : ℕ) (r : Bool) → Less x y (r ≡ true) → lesser x y r ≡ true
 unfolding lesser
 less-by x y r (inl l) = rw (lt-ltb x y l) refl
 less-by x y r (inr p) = rw (eq-eqb x y (p .0), p .1) (or-true (ltb x y))
 
 module _ {R S : Type 0} where
-  less-map : {x y : ℕ} → (R → S) → Less x y R → Less x y S
+  pub less-map : {x y : ℕ} → (R → S) → Less x y R → Less x y S
   less-map f (inl l) = inl l
   less-map f (inr p) = inr (p .0, f (p .1))
 
-  less-never : {x y : ℕ} → (R → S → ⊥) → Less x y R → Less y x S → ⊥
+  pub less-never : {x y : ℕ} → (R → S → ⊥) → Less x y R → Less y x S → ⊥
   less-never f (inl p) (inl q) = omega arith
   less-never f (inl p) (inr q) = let e = q .0 in omega arith
   less-never f (inr p) (inl q) = let e = p .0 in omega arith

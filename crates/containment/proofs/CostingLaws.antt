@@ -1,6 +1,6 @@
 -- What the call for the cheapest set answers, from the table of a quote.
-use Prim.Native.Nat.{ℕ, _<_, _≤_}
-use mathlib.Core.Path.{_≡_, refl}
+use Prim.Native.Nat.{ℕ, _-_, _^_, _<_, _≤_}
+use mathlib.Core.Path.{_≡_, refl, _∙_}
 use mathlib.Core.Bool.{true, false}
 use mathlib.Core.List.{List, [], _∷_}
 use lib.ListN.{length}
@@ -15,10 +15,14 @@ use Rattle.containment.specs.Choice.{coversIn, columnsIn, lowestUnmatche
 use Rattle.containment.specs.Quote.{tableOf}
 use Rattle.containment.specs.Cheapest.{cheapest, cheapestFrom, cheapestFor}
 use Rattle.containment.specs.Steps.{Query, ViewCounts, quotedAs}
-use Rattle.containment.specs.Tries.{Tries}
+use Rattle.containment.specs.Masked.{Masked}
+use Rattle.containment.specs.Tries.{settled, bestOf, Tries}
 use Rattle.containment.specs.declared.costing.Tried.{Tried}
 use Rattle.containment.proofs.ChoiceLaws.{pick-cases, chosen-small}
+use Rattle.containment.proofs.ColumnLaws.{columns-agree, covers-same}
 use Rattle.containment.proofs.CheapestLaws.{cheapest-small}
+use Rattle.containment.proofs.TriesLaws.{none}
+use Rattle.containment.proofs.BoundedLaws.{best-cheapest}
 use Rattle.containment.proofs.AnswerLaws.{views-many}
 
 module _ (t : List ℕ) (usable m : ℕ) (charges : List ℕ) (k : ℕ) where
@@ -30,6 +34,12 @@ module _ (t : List ℕ) (usable m : ℕ) (charges : List ℕ) (k : ℕ) where
   pub lacking-told : (n : ℕ) → coversIn t usable k m ≡ false → n ≡ lowestUnmatched t usable k m → told 11 (n ∷ []) ≡ toldOf [] (cheapestFrom t usable m charges k)
   unfolding cheapestFrom toldOf
   lacking-told n h q = rw (h, q)
+
+  -- what the search leaves belongs to the cheapest set
+  pub found-cheapest : (masks : List ℕ) (all : ℕ) (r : Tried) → k ≤ 16 → coversIn t usable k m ≡ true → Masked (columnsIn usable t) k m masks → all ≡ 2 ^ m - 1
+      → r ≡ bestOf all none (settled masks charges all k none) → Tries (columnsIn usable t) m charges k (cheapest (columnsIn usable t) m charges k) r
+  found-cheapest masks all r few h each edges e =
+      best-cheapest (columnsIn usable t) m k masks each all edges charges usable r few (covers-same (columnsIn usable t) t usable k m (columns-agree usable t k few m) usable (λ a i. i) ∙ h) e
 
   -- the sets fit 16 bits
   pub found-small : (x : Tried) → k ≤ 16 → Tries (columnsIn usable t) m charges k (cheapest (columnsIn usable t) m charges k) x → x .set < 65536

@@ -5,6 +5,7 @@ pub mod MaskedLaws
 pub mod ColumnLaws
 pub mod CheapestLaws
 pub mod TriesLaws
+pub mod BoundedLaws
 -- a query read as a record
 pub mod QueryGraph
 pub mod FieldLaws

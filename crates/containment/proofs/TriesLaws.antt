@@ -56,17 +56,6 @@ module _ (u : ℕ) (x : Tried) (n : u ≡ 0 → ⊥) where
     pub room-after : (charge mask : ℕ) (y : Tried) → charge < 4294967296 → y ≡ taking (u - 1) charge mask x → TriedRoom (u - 1) y
     room-after charge mask y h e = subst (TriedRoom (u - 1)) (sym e) (room-taking charge mask h)
 
--- ---- a turn of the search
-module _ (masks charges : List ℕ) (all : ℕ) where
-  pub settled-none : {u : ℕ} (x : Tried) → u ≡ 0 → x ≡ settled masks charges all u x
-  unfolding settled
-  settled-none x e = rw e
-
-  pub settled-turn : (u a : ℕ) (x more with without r : Tried) → u ≡ suc a → more ≡ taking a (getD charges a 0) (getD masks a 0) x
-      → with ≡ settled masks charges all a more → without ≡ settled masks charges all a x → r ≡ foremostTried all with without → r ≡ settled masks charges all u x
-  unfolding settled
-  settled-turn u a x more with without r e p q s z = rw e (z ∙ rw (q, s, p))
-
 -- ---- a view taken
 module _ (w : ℕ → ℕ) (x a : ℕ) (out : bit x a ≡ false) where
   weigh-below : (k : ℕ) → k ≤ a → weigh w (x + 2 ^ a) k ≡ weigh w x k
@@ -102,6 +91,14 @@ module _ (t : List ℕ) (x a : ℕ) (out : bit x a ≡ false) (e k : ℕ) (l : a
   taken-by (inl h) = let o = matched-say t x e k h in matched-by t (x + 2 ^ a) e k (record { at = o .at; below = o .below; holds = (more-has x a out (o .at) (o .holds .0), o .holds .1) })
   taken-by (inr g) = matched-by t (x + 2 ^ a) e k (record { at = a; below = l; holds = (more-self x a out, g) })
 
+-- what matches all edges goes first
+pub by-misses : (p q r : Bool) → ((p && not q) || ((p || not q) && r)) ≡ lesser (pick p 0 1) (pick q 0 1) r
+unfolding lesser
+by-misses true true r = refl
+by-misses true false r = refl
+by-misses false true r = refl
+by-misses false false r = refl
+
 -- ---- what is carried
 
 -- of the set without views
@@ -125,15 +122,8 @@ module _ (t : List ℕ) (m : ℕ) (charges : List ℕ) (k : ℕ) (masks : List �
       }
 
   -- all edges are matched exactly if the mask is that of all edges
-  tries-covers : (set : ℕ) (x : Tried) → Tries t m charges k set x → eqb (x .matched) (2 ^ m - 1) ≡ coversIn t set k m
+  pub tries-covers : (set : ℕ) (x : Tried) → Tries t m charges k set x → eqb (x .matched) (2 ^ m - 1) ≡ coversIn t set k m
   tries-covers set x h = union-covers t m set k (h .edges)
-
-  by-misses : (p q r : Bool) → ((p && not q) || ((p || not q) && r)) ≡ lesser (pick p 0 1) (pick q 0 1) r
-  unfolding lesser
-  by-misses true true r = refl
-  by-misses true false r = refl
-  by-misses false true r = refl
-  by-misses false false r = refl
 
   tries-first : (a b : ℕ) (x y : Tried) → Tries t m charges k a x → Tries t m charges k b y → isFirst (2 ^ m - 1) x y ≡ ahead t m charges k a b
   unfolding isFirst ahead better misses

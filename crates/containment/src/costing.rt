@@ -1,15 +1,16 @@
-// The cheapest set of views that covers a query: the views still undecided are settled highest first, each taken or left.
+// The cheapest set of views that covers a query: the views still undecided are settled highest first, each taken or left, as far as that can still
+// give the best.
 ghost use mathlib.Core.Path.{_≡_};
 ghost use mathlib.Core.List.{[]};
-ghost use Prim.Native.Nat.{_+_, _≤_, _<_};
-ghost use lib.ListN.{length};
+ghost use Prim.Native.Nat.{ℕ, _+_, _≤_, _<_};
+ghost use lib.ListN.{length, getD};
 ghost use Rattle.packed.specs.Calls.{Outcome, Fulfils, toldOf};
 ghost use Rattle.matching.specs.Offered.{brings};
 ghost use Rattle.containment.specs.Quote.{Quoted};
 ghost use Rattle.containment.specs.Cheapest.{cheapestFrom, cheapestFor, cheapestOutcome, cheapestTold};
 ghost use Rattle.containment.specs.Steps.{JudgedTo, AnyJudged};
 ghost use Rattle.containment.specs.Terms.{cheapestOn};
-ghost use Rattle.containment.specs.Tries.{TriedRoom, taking, isFirst, foremostTried, settled};
+ghost use Rattle.containment.specs.Tries.{TriedRoom, taking, isFirst, foremostTried, settled, bestOf, isBehind, reached, Reaches};
 use crate::choose;
 use crate::judging;
 use crate::judging::Judged;
@@ -71,19 +72,56 @@ fn first_of(x: Tried, y: Tried, all: u32) -> Tried
     y
 }
 
-// The first of the sets that have the views taken and any of the u views still undecided.
-fn settle(masks: &[u32; 16], charges: &[u32], all: u32, u: usize, taken: Tried) -> Tried
-    requires { ⌜ (u ≤ 16) × (u ≤ length (now charges)) × TriedRoom u taken ⌝ }
-    ensures { λ r. ⌜ r ≡ settled (now (masks .entry)) (now (charges .entry)) all u taken ⌝ }
+// Whether no set beyond x can be the first, where x doesn't match all edges and the views still undecided match those of `reach`: these are too few, or
+// the best costs less than x, or as much with no more views.
+fn is_behind(x: Tried, best: Tried, reach: u32, all: u32) -> bool
+    ensures { λ r. ⌜ r ≡ isBehind all reach x best ⌝ }
 {
-    if u == 0 {
-        return taken;
+    ((x.matched | reach) != all)
+        | ((best.matched == all)
+            & ((best.sum < x.sum) | ((best.sum == x.sum) & (best.number <= x.number))))
+}
+
+// For each u, the edges that the views below u match.
+fn reach_of(masks: &[u32; 16]) -> [u32; 17]
+    ensures { λ r. ⌜ ((u : ℕ) → u ≤ 16 → getD r u 0 ≡ reached (now (masks .entry)) u) ⌝ }
+{
+    let mut reach = [0u32; 17];
+    let mut a: usize = 0;
+    while a < 16 {
+        reach[a + 1] = reach[a] | masks[a];
+        a += 1;
+    }
+    reach
+}
+
+// The first of `best` and of the sets that match all edges and have the views taken and any of the u views still undecided. Left out is what can't be the
+// first: more views than match all edges, what is behind the best, a view that adds no edge.
+fn settle(
+    masks: &[u32; 16],
+    reach: &[u32; 17],
+    charges: &[u32],
+    all: u32,
+    u: usize,
+    taken: Tried,
+    best: Tried,
+) -> Tried
+    requires { ⌜ (u ≤ 16) × (u ≤ length (now charges)) × TriedRoom u taken × Reaches (now masks) all u (now reach) ⌝ }
+    ensures { λ r. ⌜ r ≡ bestOf all best (settled (now (masks .entry)) (now (charges .entry)) all u taken) ⌝ }
+{
+    if taken.matched == all {
+        return first_of(best, taken, all);
+    }
+    if is_behind(taken, best, reach[u], all) {
+        return best;
     }
     let a = u - 1;
     let more = take_view(taken, a, charges[a], masks[a]);
-    let with = settle(masks, charges, all, a, more);
-    let without = settle(masks, charges, all, a, taken);
-    first_of(with, without, all)
+    if more.matched == taken.matched {
+        return settle(masks, reach, charges, all, a, taken, best);
+    }
+    let with = settle(masks, reach, charges, all, a, more, best);
+    settle(masks, reach, charges, all, a, taken, with)
 }
 
 // The cheapest set of usable views from the table of a quote, by the charges of k views; beside it the set that a quote by these chooses.
@@ -97,6 +135,7 @@ fn cheapest_of(mapping: &[u32; 512], usable: u32, charges: &[u32], k: usize, m: 
     }
     let columns = choose::columns_in(mapping, usable);
     let masks = choose::masks_of(&columns, k, m);
+    let reach = reach_of(&masks);
     let none = Tried {
         set: 0,
         sum: 0,
@@ -104,7 +143,15 @@ fn cheapest_of(mapping: &[u32; 512], usable: u32, charges: &[u32], k: usize, m: 
         turned: 0,
         matched: 0,
     };
-    let x = settle(&masks, charges, choose::first_edges(m), k, none);
+    let x = settle(
+        &masks,
+        &reach,
+        charges,
+        choose::first_edges(m),
+        k,
+        none,
+        none,
+    );
     let chosen = choose::choose(mapping, usable, k, m);
     Cheapest::Of(x.set as u16, x.sum, chosen as u16)
 }
