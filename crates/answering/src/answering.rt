@@ -107,8 +107,9 @@ pub fn answer(
     let q = f.query;
     let counts = f.edges;
     let k = f.views;
-    let lowest = choose::lowest_unmatched(&table, f.usable, k, q.edges);
-    let used = choose::use_views(&table, f.usable, lowest, k, q.edges);
+    let masks = choose::masks_of(&table, k, q.edges);
+    let lowest = choose::lowest_in(&masks, f.usable, k, q.edges);
+    let used = choose::use_views(&masks, f.usable, lowest, k, q.edges);
     answer_book(q, &table, used, lowest, counts, k, book, out, work)
 }
 

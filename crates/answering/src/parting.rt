@@ -43,15 +43,8 @@ pub fn matched_edges(table: &[u32; 512], set: u32, k: usize, m: usize) -> u32
     requires { ⌜ (m ≤ 32) × (k ≤ 16) ⌝ }
     ensures { λ r. ⌜ Mask (Passing (λ e. matchedIn (now (table .entry)) set e k) m) r ⌝ }
 {
-    let mut taken: u32 = 0;
-    let mut e: usize = 0;
-    while e < m {
-        if choose::is_matched(table, set, e, k) {
-            taken = taken | sets::only(e);
-        }
-        e += 1;
-    }
-    taken
+    let masks = choose::masks_of(table, k, m);
+    choose::union(&masks, set, k)
 }
 
 // The nodes at the edges that are taken.

@@ -130,8 +130,9 @@ fn map_queries(
         let v = views::view_at(questions, byte);
         let q = v.pattern;
         let table = mapping::map_views(q, catalogue, one_way, k, work);
-        let low = choose::lowest_unmatched(&table, choose::EVERY_VIEW, k, q.edges);
-        let set = choose::use_views(&table, choose::EVERY_VIEW, low, k, q.edges);
+        let masks = choose::masks_of(&table, k, q.edges);
+        let low = choose::lowest_in(&masks, choose::EVERY_VIEW, k, q.edges);
+        let set = choose::use_views(&masks, choose::EVERY_VIEW, low, k, q.edges);
         put_table(tables, i, &table);
         used[i] = set;
         needed = needed | set;

@@ -27,7 +27,7 @@ use Rattle.engine.proofs.MatchedLaws.{marks-bit}
 use Rattle.matching.proofs.MarkedLaws.{given-long, given-at, match-test}
 use Rattle.matching.proofs.JoinLaws.{match-say}
 use Rattle.containment.specs.Quote.{one, maskIn, matchMask, noPattern, maskAt, mapping}
-use Rattle.containment.specs.Steps.{PlaceOf, Within, Column, MaskOf, wordAt}
+use Rattle.containment.specs.Steps.{PlaceOf, Placed, Within, Column, MaskOf, wordAt}
 use Rattle.containment.proofs.SetBits.{test-cases, bit-by, bit-lt}
 
 -- ---- a column of the table
@@ -62,14 +62,18 @@ column-map f c = record { long = c .long; each = λ e l. f e _ l (c .each e l); 
 
 -- ---- the mask of a word
 module _ {w : List ℕ} {m c : ℕ} (o : OneOf m (λ i. getD w i 0 ≡ c)) {r : ℕ} (p : PlaceOf w m c r) where
-  pub place-below : r < m
+  place-below : r < m
   place-below =
       let b = o .below in
       let l = p .within in
       ⊎-elim (λ (h : r < m). h) (λ (h : m ≤ r). absurd (p .lower (o .at) (omega arith) (o .holds))) (lt-or-ge r m)
 
-  pub mask-found : {x : ℕ} → x ≡ getD w (8192 + r) 0 → x < 2 ^ 32 → MaskOf w m c x
-  mask-found e s = record { at = r; below = place-below; word = p .here place-below; is = e; small = s }
+  pub place-holds : (r < m) × (getD w r 0 ≡ c)
+  place-holds = (place-below, p .here place-below)
+
+pub mask-placed : {q : Given} {n m : ℕ} {w ps : List ℕ} → Placed q n m w ps → (e x : ℕ) → e < n → (x ≡ getD w (8192 + getD ps e 0) 0) × (x < 2 ^ 32)
+    → MaskOf w m (wordAt q e) x
+mask-placed {ps = ps} d e x l h = record { at = getD ps e 0; below = d .each e l .0; word = d .each e l .1; is = h .0; small = h .1 }
 
 -- ---- lists and masks
 one-marks : (f x : ℕ) → one (marks f x) ≡ x / 2 ^ f % 2

@@ -30,7 +30,7 @@ use Rattle.matching.proofs.MatchSetLaws.{view-sheet}
 use Rattle.matching.proofs.RecordLaws.{sets-same, graph-again}
 use Rattle.containment.specs.Quote.{maskIn, matchMask, mapping}
 use Rattle.containment.specs.Show.{graphFields}
-use Rattle.containment.specs.Steps.{Query, Views, Present, Within, Column, wordAt}
+use Rattle.containment.specs.Steps.{Query, Views, Present, Placed, Within, Column, wordAt}
 use Rattle.containment.proofs.QueryGraph.{graph-fields, graph-means}
 use Rattle.containment.proofs.QueryLaws.{plain, some-edges, few-edges, query-number, query-edge}
 use Rattle.containment.proofs.MappingLaws.{column-map, mapping-none, mapping-more, mapping-length, column-clear}
@@ -81,6 +81,15 @@ module _ {q : Given} {c : List ℕ} {one k a byte : ℕ} {table : List ℕ} (h :
 pub within-by : {way : Rule} {p : Given} {s : List ℕ} {n m : ℕ} {w w′ : List ℕ} → EdgesMatched way p s n m w w′ → m ≤ 8192 → Within p m w′
 unfolding Within
 within-by d b i e h l t = let r = d .only i e h l t in (r .0, r .1 ∙ ap (λ (x : ℕ). x / 2 ^ 24) (sym (d .edges .same i (omega arith))))
+
+-- the places stay where the edges do
+pub placed-again : {q : Given} {n m : ℕ} {w w′ ps : List ℕ} → Edges w w′ → m ≤ 8192 → Placed q n m w ps → Placed q n m w′ ps
+placed-again {ps = ps} g b d =
+    record {
+      fair = d .fair;
+      edges = d .edges;
+      each = λ e l. (let h = d .each e l in (h .0, g .same (getD ps e 0) (omega (arith, h .0)) ∙ h .1));
+    }
 
 -- ---- the query's record in the workspace
 in-place : {x : ℕ} {l : List ℕ} → In x l → OneOf (length l) (λ i. getD l i 0 ≡ x)

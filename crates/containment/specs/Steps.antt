@@ -11,14 +11,16 @@ use Rattle.packed.specs.Contents.{edgesOf, edgeCounts, edgeWord, wordKind, sort
 use Rattle.packed.specs.ByValue.{HoldsPattern, NoPattern, Small}
 use Rattle.packed.specs.Accepting.{NoViews}
 use Rattle.packed.specs.Calls.{Outcome, refuse, accepted, judged, readCatalogue, readBook, withinPairs, recordBytes}
+use Rattle.packed.specs.Matches.{matchesOf}
 use Rattle.packed.specs.Refusals.{numberOf, detailOf}
 use Rattle.packed.specs.declared.reply.Reply.{Reply}
 use Rattle.packed.specs.declared.reply.Reply.the-variants as reply-is
 use Rattle.packed.specs.declared.by_value.Pattern.{Pattern as Given}
 use Rattle.engine.specs.Masks.{OneOf, Has}
+use Rattle.engine.specs.Loaded.{Fair, givenEdge, patternIn}
 use Rattle.matching.specs.Candidates.{Booked}
 use Rattle.matching.specs.Offered.{Offered, offers}
-use Rattle.containment.specs.Quote.{Quoted, tableOf}
+use Rattle.containment.specs.Quote.{maskIn, Quoted, tableOf}
 use Rattle.containment.specs.Show.{graphFields, fewerFields}
 use Rattle.containment.specs.declared.query.Fields.{Fields}
 use Rattle.containment.specs.declared.judging.Judged.{Judged}
@@ -151,6 +153,12 @@ wordAt q e = edgeWord (getD (q .from) e 0) (getD (q .to) e 0) (getD (q .kind) e 
 unfoldable pub Present : Given → ℕ → List ℕ → Type 0
 Present q m w = (e : ℕ) → e < q .edges → OneOf m (λ i. getD w i 0 ≡ wordAt q e)
 
+-- these are the places of the n edges of the query among the first m words
+pub record Placed (q : Given) (n m : ℕ) (w ps : List ℕ) : Type 0 where
+  pub fair : Fair q
+  pub edges : n ≡ q .edges
+  pub each : (e : ℕ) → e < n → (getD ps e 0 < m) × (getD w (getD ps e 0) 0 ≡ wordAt q e)
+
 -- the masks name edges of the view p alone, each of the kind of the word
 unfoldable pub Within : Given → ℕ → List ℕ → Type 0
 Within p m w = (i e : ℕ) → i < m → e < 32 → Has (getD w (8192 + i) 0) e → (e < p .edges) × (getD (p .kind) e 0 ≡ wordKind (getD w i 0))
@@ -160,6 +168,11 @@ pub record Column (a n : ℕ) (g : ℕ → ℕ → Type 0) (t t′ : List ℕ) :
   pub long : length t′ ≡ length t
   pub each : (e : ℕ) → e < n → g e (getD t′ (16 * e + a) 0)
   pub rest : (k : ℕ) → ((k % 16 ≡ a) × (k / 16 < n) → ⊥) → getD t′ k 0 ≡ getD t k 0
+
+-- column a has the masks of the view p, whatever query has its edges at these places
+abbrev pub ViewNoted : ℕ → ℕ → ℕ → Given → List ℕ → List ℕ → List ℕ → List ℕ → Type 0
+ViewNoted a n m p w ps t t′ =
+    (q : Given) → Placed q n m w ps → Column a n (λ e x. x ≡ maskIn (givenEdge q e) (patternIn p .edges) (matchesOf m (p .edges) w)) t t′
 
 -- x is the mask of the word c in the workspace
 pub record MaskOf (w : List ℕ) (m c x : ℕ) : Type 0 where

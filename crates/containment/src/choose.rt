@@ -5,7 +5,7 @@ ghost use mathlib.Core.Bool.{true};
 ghost use mathlib.Core.List.{List};
 ghost use lib.ListN.{length};
 ghost use Rattle.engine.specs.Masks.{Mask};
-ghost use Rattle.containment.specs.Choice.{matchedIn, coversIn, columnsIn, lowestUnmatched, taken, kept, chosen, used};
+ghost use Rattle.containment.specs.Choice.{coversIn, columnsIn, lowestUnmatched, taken, kept, chosen, used};
 ghost use Rattle.containment.specs.Masked.{EdgeMatchedBy, EdgeMatchedIn, Masked};
 use crate::mapping;
 use matching::sets;
@@ -29,33 +29,15 @@ pub fn columns_in(table: &[u32; 512], set: u32) -> [u32; 512]
     columns
 }
 
-// Whether one of the first k views that are in the set matches the edge e.
-pub fn is_matched(mapping: &[u32; 512], set: u32, e: usize, k: usize) -> bool
-    requires { ⌜ (e < 32) × (k ≤ 16) ⌝ }
-    ensures { λ r. ⌜ r ≡ matchedIn (now (mapping .entry)) set e k ⌝ }
+// The same where the table need not be kept: where every view is in the set, it is the table.
+pub fn columns_of(table: [u32; 512], set: u32) -> [u32; 512]
+    requires { ⌜ length table ≡ 512 ⌝ }
+    ensures { λ r. ⌜ r ≡ columnsIn set table ⌝ }
 {
-    let mut found = false;
-    let mut a: usize = 0;
-    while a < k {
-        let at = 16 * e + a;
-        found = found | (sets::is_in(set, a) & (mapping[at] != 0));
-        a += 1;
+    if set == EVERY_VIEW {
+        return table;
     }
-    found
-}
-
-// Whether the views in the set, of k, match each of the first m edges.
-pub fn is_cover(mapping: &[u32; 512], set: u32, k: usize, m: usize) -> bool
-    requires { ⌜ (m ≤ 32) × (k ≤ 16) ⌝ }
-    ensures { λ r. ⌜ r ≡ coversIn (now (mapping .entry)) set k m ⌝ }
-{
-    let mut all = true;
-    let mut e: usize = 0;
-    while e < m {
-        all = all & is_matched(mapping, set, e, k);
-        e += 1;
-    }
-    all
+    columns_in(&table, set)
 }
 
 // The mask of those of the first m edges that the view a matches.
@@ -99,7 +81,7 @@ pub fn first_edges(m: usize) -> u32
 }
 
 // The edges that the views in the set match, from the masks of k views.
-fn union(masks: &[u32; 16], set: u32, k: usize) -> u32
+pub fn union(masks: &[u32; 16], set: u32, k: usize) -> u32
     requires { ⌜ k ≤ 16 ⌝ }
     ensures { λ r. ⌜ ((t : List ℕ) (m : ℕ) → Masked t k m (now (masks .entry)) → Mask (EdgeMatchedIn t m set k) r) ⌝ }
 {
@@ -114,13 +96,20 @@ fn union(masks: &[u32; 16], set: u32, k: usize) -> u32
     matched
 }
 
-// The lowest of m edges that no view in the set, of k, matches, or m.
-pub fn lowest_unmatched(mapping: &[u32; 512], set: u32, k: usize, m: usize) -> usize
+// Whether the views in the set, of k, match each of m edges.
+pub fn is_cover(masks: &[u32; 16], set: u32, k: usize, m: usize) -> bool
     requires { ⌜ (m ≤ 32) × (k ≤ 16) ⌝ }
-    ensures { λ r. ⌜ r ≡ lowestUnmatched (now (mapping .entry)) set k m ⌝ }
+    ensures { λ r. ⌜ ((t : List ℕ) → Masked t k m (now (masks .entry)) → r ≡ coversIn t set k m) ⌝ }
 {
-    let masks = masks_of(mapping, k, m);
-    let matched = union(&masks, set, k);
+    union(masks, set, k) == first_edges(m)
+}
+
+// The lowest of m edges that no view in the set, of k, matches, or m.
+pub fn lowest_in(masks: &[u32; 16], set: u32, k: usize, m: usize) -> usize
+    requires { ⌜ (m ≤ 32) × (k ≤ 16) ⌝ }
+    ensures { λ r. ⌜ ((t : List ℕ) → Masked t k m (now (masks .entry)) → r ≡ lowestUnmatched t set k m) ⌝ }
+{
+    let matched = union(masks, set, k);
     let mut e: usize = 0;
     while e < m {
         if sets::is_in(matched, e) {
@@ -130,6 +119,15 @@ pub fn lowest_unmatched(mapping: &[u32; 512], set: u32, k: usize, m: usize) -> u
         }
     }
     m
+}
+
+// The same from the table.
+pub fn lowest_unmatched(mapping: &[u32; 512], set: u32, k: usize, m: usize) -> usize
+    requires { ⌜ (m ≤ 32) × (k ≤ 16) ⌝ }
+    ensures { λ r. ⌜ r ≡ lowestUnmatched (now (mapping .entry)) set k m ⌝ }
+{
+    let masks = masks_of(mapping, k, m);
+    lowest_in(&masks, set, k, m)
 }
 
 // Going up the catalogue, each view of the set that matches an edge not matched before.
@@ -172,22 +170,30 @@ fn drop_views(masks: &[u32; 16], first: u32, k: usize, m: usize) -> u32
 }
 
 // The views chosen from a set that covers the query.
+pub fn choose_in(masks: &[u32; 16], set: u32, k: usize, m: usize) -> u32
+    requires { ⌜ (m ≤ 32) × (k ≤ 16) ⌝ }
+    ensures { λ r. ⌜ ((t : List ℕ) → Masked t k m (now (masks .entry)) → coversIn t set k m ≡ true → r ≡ chosen t set m k) ⌝ }
+{
+    drop_views(masks, take_views(masks, set, k), k, m)
+}
+
+// The same from the table.
 pub fn choose(mapping: &[u32; 512], set: u32, k: usize, m: usize) -> u32
     requires { ⌜ (m ≤ 32) × (k ≤ 16) × (coversIn (now mapping) set k m ≡ true) ⌝ }
     ensures { λ r. ⌜ r ≡ chosen (now (mapping .entry)) set m k ⌝ }
 {
     let masks = masks_of(mapping, k, m);
-    drop_views(&masks, take_views(&masks, set, k), k, m)
+    choose_in(&masks, set, k, m)
 }
 
 // The views that answer a query whose lowest edge that the set leaves unmatched is known: those chosen from the set, or all of it where it doesn't
 // cover the query.
-pub fn use_views(mapping: &[u32; 512], set: u32, lowest: usize, k: usize, m: usize) -> u32
-    requires { ⌜ (m ≤ 32) × (k ≤ 16) × (lowest ≡ lowestUnmatched (now mapping) set k m) ⌝ }
-    ensures { λ r. ⌜ r ≡ used (now (mapping .entry)) set m k ⌝ }
+pub fn use_views(masks: &[u32; 16], set: u32, lowest: usize, k: usize, m: usize) -> u32
+    requires { ⌜ (m ≤ 32) × (k ≤ 16) ⌝ }
+    ensures { λ r. ⌜ ((t : List ℕ) → Masked t k m (now (masks .entry)) → lowest ≡ lowestUnmatched t set k m → r ≡ used t set m k) ⌝ }
 {
     if lowest < m {
         return set;
     }
-    choose(mapping, set, k, m)
+    choose_in(masks, set, k, m)
 }

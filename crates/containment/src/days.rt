@@ -1,11 +1,12 @@
 // The first day on which a query is covered, with room to work in: 16,384 words, which are left in any state.
 ghost use mathlib.Core.Path.{_≡_};
-ghost use mathlib.Core.List.{[]};
-ghost use Prim.Native.Nat.{_≤_};
+ghost use mathlib.Core.List.{List, []};
+ghost use Prim.Native.Nat.{ℕ, _≤_};
 ghost use lib.ListN.{length};
 ghost use Rattle.packed.specs.Calls.{Fulfils};
 ghost use Rattle.matching.specs.Offered.{brings};
 ghost use Rattle.containment.specs.Choice.{coversIn};
+ghost use Rattle.containment.specs.Masked.{Masked};
 ghost use Rattle.containment.specs.Terms.{inForce, sooner, earliest, firstDay, firstDayTold};
 use crate::choose;
 use crate::judging;
@@ -25,9 +26,9 @@ pub enum FirstDay {
 const AFTER: u32 = 65536;
 
 // The day d, if it is not before the given day, is before the one found, and the views in force on it, of k, cover m edges; else the one found.
-fn sooner_of(table: &[u32; 512], t: Terms, day: u16, d: u16, found: u32, k: usize, m: usize) -> u32
+fn sooner_of(masks: &[u32; 16], t: Terms, day: u16, d: u16, found: u32, k: usize, m: usize) -> u32
     requires { ⌜ (k ≤ 16) × (m ≤ 32) ⌝ }
-    ensures { λ r. ⌜ r ≡ sooner (λ i. coversIn (now (table .entry)) (inForce t i k) k m) day d found ⌝ }
+    ensures { λ r. ⌜ ((b : List ℕ) → Masked b k m (now (masks .entry)) → r ≡ sooner (λ i. coversIn b (inForce t i k) k m) day d found) ⌝ }
 {
     if d < day {
         return found;
@@ -36,7 +37,7 @@ fn sooner_of(table: &[u32; 512], t: Terms, day: u16, d: u16, found: u32, k: usiz
         return found;
     }
     let set = terms::in_force(t, d, k);
-    if choose::is_cover(table, set, k, m) {
+    if choose::is_cover(masks, set, k, m) {
         return d as u32;
     }
     found
@@ -47,10 +48,11 @@ fn earliest_of(table: &[u32; 512], t: Terms, day: u16, k: usize, m: usize) -> u3
     requires { ⌜ (k ≤ 16) × (m ≤ 32) ⌝ }
     ensures { λ r. ⌜ r ≡ earliest (λ i. coversIn (now (table .entry)) (inForce t i k) k m) t day k ⌝ }
 {
-    let mut found = sooner_of(table, t, day, day, AFTER, k, m);
+    let masks = choose::masks_of(table, k, m);
+    let mut found = sooner_of(&masks, t, day, day, AFTER, k, m);
     let mut a: usize = 0;
     while a < k {
-        found = sooner_of(table, t, day, t.from[a], found, k, m);
+        found = sooner_of(&masks, t, day, t.from[a], found, k, m);
         a += 1;
     }
     found

@@ -1,18 +1,18 @@
 // The table of a query and the views of a catalogue: which edges of each view match each edge of the query.
 ghost use mathlib.Core.Path.{_≡_};
-ghost use Prim.Native.Nat.{ℕ, _+_, _*_, _≤_, _<_};
+ghost use Prim.Native.Nat.{ℕ, _+_, _*_, _^_, _≤_, _<_};
 ghost use lib.ListN.{length, getD, replicate};
 ghost use Rattle.packed.specs.Format.{ok, decode};
 ghost use Rattle.packed.specs.Formats.{record′};
 ghost use Rattle.packed.specs.LoadedGraph.{Holds};
-ghost use Rattle.packed.specs.Matches.{Marked, matchesOf};
+ghost use Rattle.packed.specs.Matches.{Marked};
 ghost use Rattle.engine.specs.Simulation.{patternOf};
 ghost use Rattle.engine.specs.Matched.{Rises};
-ghost use Rattle.engine.specs.Loaded.{Fair, givenEdge, patternIn};
+ghost use Rattle.engine.specs.Loaded.{Fair};
 ghost use Rattle.matching.specs.Offered.{offers, viewPatterns};
-ghost use Rattle.containment.specs.Quote.{maskIn, mapping};
+ghost use Rattle.containment.specs.Quote.{mapping};
 ghost use Rattle.containment.specs.Show.{graphFields};
-ghost use Rattle.containment.specs.Steps.{Query, Views, PlaceOf, Present, Within, Column, MaskOf, wordAt};
+ghost use Rattle.containment.specs.Steps.{Query, Views, PlaceOf, Present, Placed, Within, Column, ViewNoted};
 use crate::query;
 use engine::matched;
 use engine::views;
@@ -44,17 +44,36 @@ fn place_of(work: &[u32], m: usize, word: u32) -> usize
     m
 }
 
-// The masks of one view, in column a of the table: of each edge of the query, the mask of that edge in the workspace.
-fn note_masks(table: &mut [u32; 512], a: usize, q: Pattern, m: usize, work: &[u32])
-    requires { ⌜ Fair q × (a < 16) × (m ≤ 8192) × (length (now table) ≡ 512) × (length (now work) ≡ 16384) × Present q m (now work) ⌝ }
-    ensures { λ r. ⌜ Column a (q .edges) (λ e x. MaskOf (now (work .entry)) m (wordAt q e) x) (now (table .entry)) (now (table .exit)) ⌝ }
+fn no_places() -> [usize; 32]
+    ensures { λ r. ⌜ r ≡ replicate 32 0 ⌝ }
 {
+    [0usize; 32]
+}
+
+// The place of each edge of the query among the first m words, where they stand.
+fn places_of(q: Pattern, m: usize, work: &[u32]) -> [usize; 32]
+    requires { ⌜ Fair q × (m ≤ 8192) × (length (now work) ≡ 16384) × Present q m (now work) ⌝ }
+    ensures { λ r. ⌜ Placed q (q .edges) m (now (work .entry)) r ⌝ }
+{
+    let mut places = no_places();
     let n = q.edges;
     let mut e: usize = 0;
     while e < n {
         let word = q.kind[e] * limits::PAIRS + (q.from[e] * limits::NODES + q.to[e]);
-        let i = place_of(work, m, word);
-        let mask = limits::HELD + i;
+        places[e] = place_of(work, m, word);
+        e += 1;
+    }
+    places
+}
+
+// The masks of one view, in column a of the table: of each of the n edges of the query, the mask in the workspace at its place.
+fn note_masks(table: &mut [u32; 512], a: usize, places: &[usize; 32], n: usize, work: &[u32])
+    requires { ⌜ (a < 16) × (n ≤ 32) × (length (now table) ≡ 512) × (length (now work) ≡ 16384) × ((e : ℕ) → e < n → getD (now places) e 0 < 8192) ⌝ }
+    ensures { λ r. ⌜ Column a n (λ e x. (x ≡ getD (now (work .entry)) (8192 + getD (now (places .entry)) e 0) 0) × (x < 2 ^ 32)) (now (table .entry)) (now (table .exit)) ⌝ }
+{
+    let mut e: usize = 0;
+    while e < n {
+        let mask = limits::HELD + places[e];
         let at = 16 * e + a;
         table[at] = work[mask];
         e += 1;
@@ -63,14 +82,22 @@ fn note_masks(table: &mut [u32; 512], a: usize, q: Pattern, m: usize, work: &[u3
 
 // The same, from the lists that the view p has: none, where one of them would be empty. What each edge is held for says which edges match it, not
 // the lists, which say nothing of kinds.
-fn note_view(table: &mut [u32; 512], a: usize, q: Pattern, m: usize, p: Pattern, work: &[u32])
-    requires { ⌜ Fair q × Fair p × (a < 16) × (0 < m) × (length (now table) ≡ 512) × (length (now work) ≡ 16384) × Marked m (now work) × Rises m (now work) × Present q m (now work) × Within p m (now work) × ((e : ℕ) → getD (now table) (16 * e + a) 0 ≡ 0) ⌝ }
-    ensures { λ r. ⌜ Column a (q .edges) (λ e x. x ≡ maskIn (givenEdge q e) (patternIn p .edges) (matchesOf m (p .edges) (now (work .entry)))) (now (table .entry)) (now (table .exit)) ⌝ }
+fn note_view(
+    table: &mut [u32; 512],
+    a: usize,
+    places: &[usize; 32],
+    n: usize,
+    m: usize,
+    p: Pattern,
+    work: &[u32],
+)
+    requires { ⌜ Fair p × (a < 16) × (n ≤ 32) × (0 < m) × (length (now table) ≡ 512) × (length (now work) ≡ 16384) × Marked m (now work) × Rises m (now work) × Within p m (now work) × ((e : ℕ) → e < n → getD (now places) e 0 < m) × ((e : ℕ) → getD (now table) (16 * e + a) 0 ≡ 0) ⌝ }
+    ensures { λ r. ⌜ ViewNoted a n m p (now (work .entry)) (now (places .entry)) (now (table .entry)) (now (table .exit)) ⌝ }
 {
     if matches::listed(work, m, p.edges as u32) != m {
         return;
     }
-    note_masks(table, a, q, m, work);
+    note_masks(table, a, places, n, work);
 }
 
 // A word for each node that a query can have, or for each view.
@@ -95,6 +122,7 @@ fn note_views(
     requires { ⌜ Query q × Views (now catalogue) k × (length (now s) ≤ 65536) × (length (now catalogue) ≤ 65536) × Holds (now s) n m (now work) × ((t : Query q) → decode record′ (now s) ≡ ok (graphFields (t .content))) ⌝ }
     ensures { λ r. ⌜ ((t : Query q) (v : Views (now (catalogue .entry)) k) → r ≡ mapping (patternOf (t .content)) (viewPatterns (offers (v .content) «one_way»))) ⌝ }
 {
+    let places = places_of(q, m, work);
     let mut mapping = no_mapping();
     let mut leave = no_words();
     let mut arrive = no_words();
@@ -106,7 +134,7 @@ fn note_views(
         let p = v.pattern;
         let both = offered::is_both(one_way, a);
         matched::match_edges(s, n, m, p, both, work, &mut leave, &mut arrive, &mut held);
-        note_view(&mut mapping, a, q, m, p, work);
+        note_view(&mut mapping, a, &places, q.edges, m, p, work);
         byte = v.next;
         a += 1;
     }

@@ -36,8 +36,9 @@ fn quote_of(mapping: [u32; 512], set: u32, m: usize, k: usize) -> Quote
     requires { ⌜ (m ≤ 32) × (k ≤ 16) × (length mapping ≡ 512) ⌝ }
     ensures { λ r. ⌜ quoteTold r ≡ told 0 (flat (valuesFrom mapping set m k)) ⌝ }
 {
-    let lowest = choose::lowest_unmatched(&mapping, set, k, m);
-    let columns = choose::columns_in(&mapping, set);
+    let masks = choose::masks_of(&mapping, k, m);
+    let lowest = choose::lowest_in(&masks, set, k, m);
+    let columns = choose::columns_of(mapping, set);
     if lowest < m {
         return Quote {
             coverage: Coverage::Uncovered,
@@ -51,7 +52,7 @@ fn quote_of(mapping: [u32; 512], set: u32, m: usize, k: usize) -> Quote
         coverage: Coverage::Covered,
         mapping: columns,
         edges: m as u32,
-        chosen: choose::choose(&mapping, set, k, m),
+        chosen: choose::choose_in(&masks, set, k, m),
         lowest: 0,
     }
 }

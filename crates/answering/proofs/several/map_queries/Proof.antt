@@ -41,42 +41,47 @@ view-at-requires c κs =
 map-views-requires : tie.Need-map-views-requires Inv-loop μ-loop
 map-views-requires c κs = (query (c .before .before), c .before .before .before .before .before .before .before .before .before .pre .1, c .before .before .before .before .before .before .before .before .before .pre .2, c .before .before .before .before .loop .inv .1 ∙ c .before .before .before .before .before .before .before .before .before .pre .4)
 
-lowest-unmatched-requires : tie.Need-lowest-unmatched-requires Inv-loop μ-loop
-lowest-unmatched-requires c κs = (few (c .before .before .before .before .before .before), views-few (c .before .before .before .before .before .before .before .before .before .before .before .before .before .pre .1))
+masks-of-requires : tie.Need-masks-of-requires Inv-loop μ-loop
+masks-of-requires c κs = (views-few (c .before .before .before .before .before .before .before .before .before .before .before .before .before .pre .1), few (c .before .before .before .before .before .before))
+
+lowest-in-requires : tie.Need-lowest-in-requires Inv-loop μ-loop
+lowest-in-requires c κs = (few (c .before .before .before .before .before .before .before .before), views-few (c .before .before .before .before .before .before .before .before .before .before .before .before .before .before .before .pre .1))
 
 use-views-requires : tie.Need-use-views-requires Inv-loop μ-loop
-use-views-requires c κs = (few (c .before .before .before .before .before .before .before .before), views-few (c .before .before .before .before .before .before .before .before .before .before .before .before .before .before .before .pre .1), c .before .lowest-unmatched .ensures)
+use-views-requires c κs = (few (c .before .before .before .before .before .before .before .before .before .before), views-few (c .before .before .before .before .before .before .before .before .before .before .before .before .before .before .before .before .before .pre .1))
 
 put-table-requires : tie.Need-put-table-requires Inv-loop μ-loop
-put-table-requires c κs = (turn (c .before .before .before .before .before .before .before .before .before .before .before .before), c .before .before .before .before .before .before .before .before .before .before .before .before .before .loop .inv .3 (c .before .before .before .before .before .before .before .before .before .before .before .before .before .before .before .before .before .before .pre .0) (c .before .before .before .before .before .before .before .before .before .before .before .before .before .before .before .before .before .before .pre .1) .long)
+put-table-requires c κs = (turn (c .before .before .before .before .before .before .before .before .before .before .before .before .before .before), c .before .before .before .before .before .before .before .before .before .before .before .before .before .before .before .loop .inv .3 (c .before .before .before .before .before .before .before .before .before .before .before .before .before .before .before .before .before .before .before .before .pre .0) (c .before .before .before .before .before .before .before .before .before .before .before .before .before .before .before .before .before .before .before .before .pre .1) .long)
 
 mul-used : tie.Need-mul-used Inv-loop μ-loop
-mul-used c = omega (arith, turn (c .before .before .before .before .before .before .before .before .before .before .before .before .before))
+mul-used c = omega (arith, turn (c .before .before .before .before .before .before .before .before .before .before .before .before .before .before .before))
 
 array-write-used : tie.Need-array-write-used Inv-loop μ-loop
-array-write-used c = turn (c .before .before .before .before .before .before .before .before .before .before .before .before .before)
+array-write-used c = turn (c .before .before .before .before .before .before .before .before .before .before .before .before .before .before .before)
 
 first-lowest-requires : tie.Need-first-lowest-requires Inv-loop μ-loop
-first-lowest-requires c κs = few (c .before .before .before .before .before .before .before .before .before .before .before .before)
+first-lowest-requires c κs = few (c .before .before .before .before .before .before .before .before .before .before .before .before .before .before)
 
 add-i : tie.Need-add-i Inv-loop μ-loop
-add-i c = omega (arith, turn (c .before .before .before .before .before .before .before .before .before .before .before .before .before .before))
+add-i c = omega (arith, turn (c .before .before .before .before .before .before .before .before .before .before .before .before .before .before .before .before))
 
 loop-less : tie.Need-loop-less Inv-loop μ-loop
-loop-less c = let t = c .before .before .before .before .before .before .before .before .before .before .before .before .before .before .loop-test .taken in omega arith
+loop-less c = let t = c .before .before .before .before .before .before .before .before .before .before .before .before .before .before .before .before .loop-test .taken in omega arith
 
 loop-again : tie.Need-loop-again Inv-loop μ-loop
 loop-again c =
-    let l = c .before .before .before .before .before .before .before .before .before .before .before .before .before .before .before .loop .inv in
-    let t = c .before .before .before .before .before .before .before .before .before .before .before .before .before .before .loop-test .taken in
-    let r = c .before .before .before .before .before .before .before .before .before .before .before .before .before .view-at .result in
-    let w = c .before .before .before .before .before .before .before .before .before .before .before .before .before .view-at .ensures in
-    let m = c .before .before .before .before .before .before .before .before .before .before .map-views in (
+    let l = c .before .before .before .before .before .before .before .before .before .before .before .before .before .before .before .before .before .loop .inv in
+    let t = c .before .before .before .before .before .before .before .before .before .before .before .before .before .before .before .before .loop-test .taken in
+    let r = c .before .before .before .before .before .before .before .before .before .before .before .before .before .before .before .view-at .result in
+    let w = c .before .before .before .before .before .before .before .before .before .before .before .before .before .before .before .view-at .ensures in
+    let m = c .before .before .before .before .before .before .before .before .before .before .before .before .map-views in
+    let masks = c .before .before .before .before .before .before .before .before .masks-of .ensures in
+    let low = c .before .before .before .before .before .before .lowest-in .ensures _ masks in (
       omega arith,
       m .kept .1 .1 .1 .1 .0 ∙ l .1,
       asked-more (l .2) t r w,
-      λ a v. mapped-more (l .3 a v) (turn (c .before .before .before .before .before .before .before .before .before .before .before .before .before .before))
-          (asked-found a v (c .before .before .before .before .before .before .before .before .before .before .before .before .before .before .before .before .before .before .before .before .args .one-way) _ (asked-next (l .2) t r w a .holds) (m .ensures (asked-query (l .2) t r w a) v) (few (c .before .before .before .before .before .before .before .before .before .before .before .before .before)) (c .before .before .before .before .before .before .lowest-unmatched .ensures) (c .before .before .before .before .use-views .ensures))
+      λ a v. mapped-more (l .3 a v) (turn (c .before .before .before .before .before .before .before .before .before .before .before .before .before .before .before .before))
+          (asked-found a v (c .before .before .before .before .before .before .before .before .before .before .before .before .before .before .before .before .before .before .before .before .before .before .args .one-way) _ (asked-next (l .2) t r w a .holds) (m .ensures (asked-query (l .2) t r w a) v) (few (c .before .before .before .before .before .before .before .before .before .before .before .before .before .before .before)) low (c .before .before .before .before .use-views .ensures _ masks low))
           (c .before .put-table .ensures) (c .first-lowest .ensures),
     )
 
@@ -98,7 +103,8 @@ map-queries-spec =
     loop-holds
     view-at-requires
     map-views-requires
-    lowest-unmatched-requires
+    masks-of-requires
+    lowest-in-requires
     use-views-requires
     put-table-requires
     mul-used

@@ -10,17 +10,20 @@ use Rattle.containment.proofs.days.earliest_of.Statement.{statement}
 use Rattle.containment.proofs.days.earliest_of.Tie as tie
 
 abbrev Inv-loop : tie.InvT-loop
-Inv-loop table day k m t found₀ a₀ found a = (a ≤ k) × (found ≡ earliest (λ i. coversIn table (inForce t i k) k m) t day a)
+Inv-loop table day k m t masks found₀ a₀ found a = (a ≤ k) × (found ≡ earliest (λ i. coversIn table (inForce t i k) k m) t day a)
 
 abbrev μ-loop : tie.MeasureT-loop
-μ-loop table day k m t found₀ a₀ found a = k - a
+μ-loop table day k m t masks found₀ a₀ found a = k - a
+
+masks-of-requires : tie.Need-masks-of-requires Inv-loop μ-loop
+masks-of-requires c κs = search needs
 
 sooner-of-requires : tie.Need-sooner-of-requires Inv-loop μ-loop
 sooner-of-requires c κs = search needs
 
 loop-holds : tie.Need-loop-holds Inv-loop μ-loop
 unfolding earliest
-loop-holds c = (search needs, c .sooner-of .ensures)
+loop-holds c = (search needs, c .sooner-of .ensures _ (c .before .before .masks-of .ensures))
 
 mul-sooner-of : tie.Need-mul-sooner-of Inv-loop μ-loop
 mul-sooner-of c = search needs
@@ -39,11 +42,11 @@ loop-less c = search needs
 
 loop-again : tie.Need-loop-again Inv-loop μ-loop
 unfolding earliest
-loop-again c = (search needs, c .sooner-of2 .ensures ∙ rw (add-one, ← c .before .before .before .loop .inv .1))
+loop-again c = (search needs, c .sooner-of2 .ensures _ (c .before .before .before .before .before .before .before .masks-of .ensures) ∙ rw (add-one, ← c .before .before .before .before .loop .inv .1))
 
 returns : tie.Need-returns Inv-loop μ-loop
 returns c =
-    let e : c .before .loop .a ≡ c .before .before .before .args .k = omega arith in
+    let e : c .before .loop .a ≡ c .before .before .before .before .before .args .k = omega arith in
     c .before .loop .inv .1 ∙ ap (earliest _ _ _) e
 
 pub earliest-of-spec : {M : Type 1} → statement M
@@ -52,6 +55,7 @@ earliest-of-spec =
     (tie.spec
     Inv-loop
     μ-loop
+    masks-of-requires
     sooner-of-requires
     loop-holds
     mul-sooner-of

@@ -13,12 +13,12 @@ use Rattle.containment.proofs.days.sooner_of.Tie as tie
 returns : tie.Need-returns
 returns c =
     let a = c .before .args in
-    sym (sooner-leaves (λ i. coversIn (a .table .now) (inForce (a .t) i (a .k)) (a .k) (a .m)) (a .t) (a .day) (a .d) (a .found) (inl (c .if1 .taken)))
+    λ b h. sym (sooner-leaves (λ i. coversIn b (inForce (a .t) i (a .k)) (a .k) (a .m)) (a .t) (a .day) (a .d) (a .found) (inl (c .if1 .taken)))
 
 returns-2 : tie.Need-returns-2
 returns-2 c =
     let a = c .before .before .args in
-    sym (sooner-leaves (λ i. coversIn (a .table .now) (inForce (a .t) i (a .k)) (a .k) (a .m)) (a .t) (a .day) (a .d) (a .found) (inr (inl (c .if2 .taken))))
+    λ b h. sym (sooner-leaves (λ i. coversIn b (inForce (a .t) i (a .k)) (a .k) (a .m)) (a .t) (a .day) (a .d) (a .found) (inr (inl (c .if2 .taken))))
 
 in-force-requires : tie.Need-in-force-requires
 in-force-requires c κs = search needs
@@ -30,13 +30,13 @@ returns-3 : tie.Need-returns-3
 returns-3 c =
     let a = c .before .before .before .before .before .args in
     let e = c .before .before .in-force .ensures in
-    sym (sooner-takes (λ i. coversIn (a .table .now) (inForce (a .t) i (a .k)) (a .k) (a .m)) (a .t) (a .day) (a .d) (a .found) (c .before .before .before .before .if1 .left) (c .before .before .before .if2 .left) (rw e at (sym (c .before .is-cover .ensures) ∙ c .if3 .taken)))
+    λ b h. sym (sooner-takes (λ i. coversIn b (inForce (a .t) i (a .k)) (a .k) (a .m)) (a .t) (a .day) (a .d) (a .found) (c .before .before .before .before .if1 .left) (c .before .before .before .if2 .left) (rw e at (sym (c .before .is-cover .ensures b h) ∙ c .if3 .taken)))
 
 returns-4 : tie.Need-returns-4
 returns-4 c =
     let a = c .before .before .before .before .before .args in
     let e = c .before .before .in-force .ensures in
-    sym (sooner-leaves (λ i. coversIn (a .table .now) (inForce (a .t) i (a .k)) (a .k) (a .m)) (a .t) (a .day) (a .d) (a .found) (inr (inr (rw e at (sym (c .before .is-cover .ensures) ∙ c .if3 .left)))))
+    λ b h. sym (sooner-leaves (λ i. coversIn b (inForce (a .t) i (a .k)) (a .k) (a .m)) (a .t) (a .day) (a .d) (a .found) (inr (inr (rw e at (sym (c .before .is-cover .ensures b h) ∙ c .if3 .left)))))
 
 pub sooner-of-spec : {M : Type 1} → statement M
 sooner-of-spec =
