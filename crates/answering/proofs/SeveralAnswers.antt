@@ -92,7 +92,7 @@ module _ {d m : ℕ} {lists : List (List ℕ)} {w : List ℕ} (h : Held d m list
   held-most = omega (arith, made-size m (h .marked) (h .sets), size-at-most d m w (h .marked) (h .few))
 
   -- it is written
-  held-bytes : {out out′ : List ℕ} {r : ℕ} (x : SheetWritten d m w out r out′) → x .bytes ≡ sheetBytes lists
+  held-bytes : {out out′ : List ℕ} {r : ℕ} (x : SheetWritten 0 d m w out r out′) → x .bytes ≡ sheetBytes lists
   held-bytes x = made-bytes m (h .marked) (h .sets) x
 
 answer-long : (q : Given) (vs : List View) → length (answerSets (patternIn q) vs) ≡ q .edges
@@ -283,7 +283,7 @@ module _ {s : List ℕ} {number : ℕ} {tables used book counts : List ℕ} {k d
 
     -- and its answer written
     module _ (l : i < n) (v : Read) (a : ViewAt s byte v) {d′ : ℕ} {w₂ : List ℕ} (h : Held d′ (v .pattern .edges) (answerSets (patternIn (v .pattern)) (views-for i)) w₂)
-        (g : Edges w₁ w₂) {r : ℕ} {part : List ℕ} (p : SheetWritten d′ (v .pattern .edges) w₂ (take (length out - at) (drop at out)) r part) where
+        (g : Edges w₁ w₂) {r : ℕ} {part : List ℕ} (p : SheetWritten 0 d′ (v .pattern .edges) w₂ (take (length out - at) (drop at out)) r part) where
       bytes-are : p .bytes ≡ answersOf x i
       bytes-are = held-bytes h p ∙ sym (turn-answer (z .counted) (filling-some l) v a)
 
@@ -348,7 +348,7 @@ module _ {o : ℕ → List ℕ} {n d : ℕ} {r : Sizes} {w w′ : List ℕ} (m :
       pub last-inside : at ≤ length out
       last-inside = omega (arith, place-is, total-is, several-room)
 
-      module _ {q : ℕ} {part : List ℕ} (p : SheetWritten d (r .edges) w′ (take (length out - at) (drop at out)) q part) where
+      module _ {q : ℕ} {part : List ℕ} (p : SheetWritten 0 d (r .edges) w′ (take (length out - at) (drop at out)) q part) where
         last-written : putMid at (length out - at) out part ≡ sets out (length before) (o i)
         last-written =
             let k = m .last i last in

@@ -28,11 +28,11 @@ use Rattle.packed.proofs.Accepted.{written-accepted, plain-written}
 use Rattle.packed.proofs.AcceptedBounds.{length-patternsIn}
 use Rattle.packed.proofs.CallLaws.{read-says, judged-accepted}
 use Rattle.engine.specs.Simulation.{bit, patternOf}
-use Rattle.engine.specs.Matched.{ViewAt}
+use Rattle.engine.specs.Matched.{ViewAt, Ahead}
 use Rattle.engine.specs.declared.views.View.{View}
 use Rattle.matching.specs.Offered.{Brought, Offered, offers, viewPatterns, offered}
 use Rattle.matching.specs.Part.{rank}
-use Rattle.engine.proofs.ViewLaws.{Ahead, Advanced, advance, questions-ahead}
+use Rattle.engine.proofs.ViewLaws.{Advanced, advance, questions-ahead}
 use Rattle.matching.proofs.PlaceLaws.{rank-same}
 use Rattle.matching.proofs.OfferedLaws.{judged-rejected}
 use Rattle.containment.specs.Choice.{lowestUnmatched, used}

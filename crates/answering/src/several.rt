@@ -7,7 +7,7 @@ ghost use lib.ListN.{length, replicate};
 ghost use Rattle.packed.specs.Calls.{Fulfils, judged, readBook};
 ghost use Rattle.engine.specs.Loaded.{Fair, patternIn, Edges};
 ghost use Rattle.matching.specs.Join.{View, answerSets};
-ghost use Rattle.matching.specs.Books.{sheetSize};
+ghost use Rattle.matching.specs.Books.{EdgesCounted, sheetSize};
 ghost use Rattle.matching.specs.Candidates.{Booked};
 ghost use Rattle.matching.specs.Joining.{Agrees};
 ghost use Rattle.matching.specs.Offered.{brings};
@@ -15,9 +15,9 @@ ghost use Rattle.answering.specs.Several.{severalIn, fitSeveral, several
 ghost use Rattle.containment.specs.Steps.{Views, ViewCounts, offerOf};
 ghost use Rattle.answering.specs.SeveralSteps.{Asked, askedAt, TablePut, TableFrom, firstLowest, Mapped, Answerable, answersOf, Measured, Held, Writable, Written};
 use crate::answering;
+use crate::parting;
 use containment::choose;
 use containment::mapping;
-use crate::parting;
 use engine::views;
 use matching::join;
 use matching::offered;
@@ -115,10 +115,11 @@ fn map_queries(
     catalogue: &[u8],
     one_way: u32,
     k: usize,
+    counts: [u32; 16],
     tables: &mut [u32; 4096],
     work: &mut [u32],
 ) -> Sets
-    requires { ⌜ Asked (now questions) number × Views (now catalogue) k × (length (now catalogue) ≤ 65536) × (length (now tables) ≡ 4096) × (length (now work) ≡ 16384) ⌝ }
+    requires { ⌜ Asked (now questions) number × Views (now catalogue) k × EdgesCounted (now catalogue) k counts × (length (now catalogue) ≤ 65536) × (length (now tables) ≡ 4096) × (length (now work) ≡ 16384) ⌝ }
     ensures { λ r. ⌜ ((a : Asked (now (questions .entry)) number) (v : Views (now (catalogue .entry)) k) → Mapped (askedAt a v «one_way») number (now (tables .exit)) (r .used) (r .needed) (r .lowest)) ⌝ }
 {
     let mut used = no_sets();
@@ -129,7 +130,7 @@ fn map_queries(
     while i < number {
         let v = views::view_at(questions, byte);
         let q = v.pattern;
-        let table = mapping::map_views(q, catalogue, one_way, k, work);
+        let table = mapping::map_views(q, catalogue, one_way, k, counts, work);
         let masks = choose::masks_of(&table, k, q.edges);
         let low = choose::lowest_in(&masks, choose::EVERY_VIEW, k, q.edges);
         let set = choose::use_views(&masks, choose::EVERY_VIEW, low, k, q.edges);
@@ -370,6 +371,7 @@ pub fn answer_several(
         catalogue,
         one_way,
         views,
+        edges,
         &mut tables,
         work,
     );

@@ -1,34 +1,34 @@
 -- The table of a quote: the masks of each view, column by column.
 use Prim.Native.Nat.{ℕ, zero, suc, _+_, _*_, _/_, _%_, _^_, _<_, _≤_}
 use mathlib.Core.Path.{_≡_, refl, sym, ap, subst, _∙_}
-use mathlib.Core.Bool.{false}
+use mathlib.Core.Bool.{Bool, true, false, not}
 use mathlib.Core.Logic.{_⊎_, ⊎-elim}
-use mathlib.Core.List.{List, [], _∷_, _++_}
-use lib.ListN.{length, drop, getD, set, replicate, length-append, length-set, length-replicate, getD-replicate, List·getD-append, List·getD-eq-default}
-use lib.Seq.{getD-set-same, getD-set-other, getD-at, drop-cons, ext-getD}
+use mathlib.Core.List.{List, [], _∷_}
+use lib.ListN.{length, drop, getD, set, replicate, length-set, length-replicate, getD-replicate, List·getD-eq-default}
+use lib.Seq.{getD-set-same, getD-set-other, drop-cons, ext-getD}
 use lib.Dec.{T, ltb, eqb}
 use native.Mathlib.Omega.{arith}
-use native.Mathlib.Nat.{div-one, div-eq-of-lt}
-use lib.Pow.{shr-shr}
+use lib.Pow.{shr-shr, mod-pow-add}
 use borrow.Author.Tests.{lt-ltb, le-ltb}
-use Rattle.packed.specs.Matches.{marks, marked, markedFrom, anyEmpty, emptied, allOrNone, codesOf, masksOf, matchesOf, Marked, Listed}
+use Rattle.packed.specs.Contents.{wordKind}
+use Rattle.packed.specs.Matches.{marks, marked, markedFrom, anyEmpty, emptied, allOrNone, codesOf, masksOf, matchesFrom, Marked}
 use Rattle.packed.specs.declared.by_value.Pattern.{Pattern as Given}
-use Rattle.packed.proofs.OrderCases.{lt-or-ge, trichotomy}
+use Rattle.packed.proofs.OrderCases.{lt-or-ge}
 use Rattle.packed.proofs.RoundTrip.{and-no}
+use Rattle.engine.specs.Lists.{upTo}
 use Rattle.engine.specs.Simulation.{Edge, between, noEdge, Pattern, bit}
-use Rattle.engine.specs.Loaded.{givenEdge, edgeOfWord, patternIn, Fair}
+use Rattle.engine.specs.Loaded.{givenEdge, edgeOfWord}
 use Rattle.engine.specs.Masks.{OneOf}
 use Rattle.engine.specs.Matched.{Rises}
 use Rattle.matching.specs.Join.{isMatch}
 use Rattle.engine.proofs.ListLaws.{same-test, not-in-none}
 use Rattle.engine.proofs.UpToLaws.{length-upTo, getD-upTo}
-use Rattle.engine.proofs.MaskBits.{few-lt, has-say}
 use Rattle.engine.proofs.MatchedLaws.{marks-bit}
-use Rattle.matching.proofs.MarkedLaws.{given-long, given-at, match-test}
+use Rattle.matching.proofs.MarkedLaws.{part-test}
 use Rattle.matching.proofs.JoinLaws.{match-say}
 use Rattle.containment.specs.Quote.{one, maskIn, matchMask, noPattern, maskAt, mapping}
-use Rattle.containment.specs.Steps.{PlaceOf, Placed, Within, Column, MaskOf, wordAt}
-use Rattle.containment.proofs.SetBits.{test-cases, bit-by, bit-lt}
+use Rattle.containment.specs.Steps.{PlaceOf, Placed, Column, Columns, notedMask}
+use Rattle.containment.proofs.SetBits.{test-cases, never}
 
 -- ---- a column of the table
 module _ {a : ℕ} {g : ℕ → ℕ → Type 0} {t : List ℕ} where
@@ -57,6 +57,32 @@ module _ {a : ℕ} {g : ℕ → ℕ → Type 0} {t : List ℕ} where
   pub column-end : (i n : ℕ) {t′ : List ℕ} → Column a i g t t′ → i ≡ n → Column a n g t t′
   column-end i n {t′} c e = subst (λ (j : ℕ). Column a j g t t′) e c
 
+-- ---- the columns of the views of a batch
+pub columns-start : {a n : ℕ} {g : ℕ → ℕ → ℕ → Type 0} {t : List ℕ} → Columns a a n g t t
+columns-start = record { long = refl; each = λ i e h l k. absurd (omega arith); rest = λ k z. refl }
+
+pub columns-more : {a j n : ℕ} {g : ℕ → ℕ → ℕ → Type 0} {t t′ t″ : List ℕ} → Columns a j n g t t′ → a ≤ j → j < 16 → Column j n (g j) t′ t″ → Columns a (j + 1) n g t t″
+columns-more {a} {j} {n} {g} {t} {t′} {t″} cs h l c =
+    record {
+      long = c .long ∙ cs .long;
+      each = λ i e k m o.
+          ⊎-elim
+          (λ (p : i < j). subst (g i e) (sym (c .rest (16 * e + i) (λ (z : ((16 * e + i) % 16 ≡ j) × ((16 * e + i) / 16 < n)). omega (arith, z .0)))) (cs .each i e k p o))
+          (λ (p : j ≤ i). let q : i ≡ j = omega arith in subst (λ (d : ℕ). g d e (getD t″ (16 * e + d) 0)) (sym q) (c .each e o))
+          (lt-or-ge i j);
+      rest = λ k z.
+          c .rest k (λ (q : (k % 16 ≡ j) × (k / 16 < n)). z (omega (arith, q .0), omega (arith, q .0), q .1))
+          ∙ cs .rest k (λ (q : (a ≤ k % 16) × (k % 16 < j) × (k / 16 < n)). z (q .0, omega (arith, q .1), q .2));
+    }
+
+pub columns-end : {a n : ℕ} {g : ℕ → ℕ → ℕ → Type 0} {t t′ : List ℕ} (i j : ℕ) → Columns a i n g t t′ → i ≡ j → Columns a j n g t t′
+columns-end {a} {n} {g} {t} {t′} i j c e = subst (λ (k : ℕ). Columns a k n g t t′) e c
+
+-- a column that is still clear
+pub columns-clear : {a j n : ℕ} {g : ℕ → ℕ → ℕ → Type 0} {t t′ : List ℕ} → Columns a j n g t t′ → j < 16 → ((e : ℕ) → getD t (16 * e + j) 0 ≡ 0) → (e : ℕ) → getD t′ (16 * e + j) 0 ≡ 0
+columns-clear {a} {j} {n} cs l h e =
+    cs .rest (16 * e + j) (λ (z : (a ≤ (16 * e + j) % 16) × ((16 * e + j) % 16 < j) × ((16 * e + j) / 16 < n)). omega (arith, z .1)) ∙ h e
+
 pub column-map : {a n : ℕ} {t t′ : List ℕ} {g h : ℕ → ℕ → Type 0} → ((e x : ℕ) → e < n → g e x → h e x) → Column a n g t t′ → Column a n h t t′
 column-map f c = record { long = c .long; each = λ e l. f e _ l (c .each e l); rest = c .rest }
 
@@ -70,10 +96,6 @@ module _ {w : List ℕ} {m c : ℕ} (o : OneOf m (λ i. getD w i 0 ≡ c)) {r : 
 
   pub place-holds : (r < m) × (getD w r 0 ≡ c)
   place-holds = (place-below, p .here place-below)
-
-pub mask-placed : {q : Given} {n m : ℕ} {w ps : List ℕ} → Placed q n m w ps → (e x : ℕ) → e < n → (x ≡ getD w (8192 + getD ps e 0) 0) × (x < 2 ^ 32)
-    → MaskOf w m (wordAt q e) x
-mask-placed {ps = ps} d e x l h = record { at = getD ps e 0; below = d .each e l .0; word = d .each e l .1; is = h .0; small = h .1 }
 
 -- ---- lists and masks
 one-marks : (f x : ℕ) → one (marks f x) ≡ x / 2 ^ f % 2
@@ -101,86 +123,64 @@ module _ (e : Edge) where
       let j : one (isMatch e g []) ≡ 0 = ap one (same-test (isMatch e g []) false (λ t. not-in-none (match-say e g [] t .1)) (λ t. absurd t)) in
       omega arith
 
-  -- it is the mask x, if x names exactly those that match
-  module _ (x : ℕ) (gs : List Edge) (ps qs : List ℕ) (is : (f : ℕ) → f < length gs → isMatch e (getD gs f noEdge) (marked f ps qs) ≡ marks f x) where
-    mask-from : (f k : ℕ) → length gs ≡ f + k → x < 2 ^ (f + k) → maskIn e (drop f gs) (markedFrom f k ps qs) ≡ x / 2 ^ f
+  -- it is those bits of x, if they name exactly those that match
+  module _ (x o : ℕ) (gs : List Edge) (ps qs : List ℕ) (is : (f : ℕ) → f < length gs → isMatch e (getD gs f noEdge) (marked (o + f) ps qs) ≡ marks (o + f) x) where
+    mask-from : (f k : ℕ) → length gs ≡ f + k → maskIn e (drop f gs) (markedFrom (o + f) k ps qs) ≡ x / 2 ^ (o + f) % 2 ^ k
     unfolding maskIn markedFrom
-    mask-from f zero n h = mask-none (drop f gs) ∙ sym (div-eq-of-lt (let z : f + 0 ≡ f = omega arith in rw z at h))
-    mask-from f (suc k) n h =
+    mask-from f zero n = mask-none (drop f gs) ∙ (let y : ℕ = x / 2 ^ (o + f) in omega arith)
+    mask-from f (suc k) n =
+        let y : ℕ = x / 2 ^ (o + f) in
         let z : f + suc k ≡ suc f + k = omega arith in
-        let i : maskIn e (drop (suc f) gs) (markedFrom (suc f) k ps qs) ≡ x / 2 ^ suc f = mask-from (suc f) k (n ∙ z) (rw z at h) in
-        let j : one (isMatch e (getD gs f noEdge) (marked f ps qs)) ≡ x / 2 ^ f % 2 = ap one (is f (omega arith)) ∙ one-marks f x in
-        let d : x / 2 ^ suc f ≡ x / 2 ^ f / 2 = ap (λ (n : ℕ). x / 2 ^ n) (omega arith) ∙ sym (shr-shr x f 1) in
-        let y : one (isMatch e (getD gs f noEdge) (marked f ps qs)) + 2 * maskIn e (drop (suc f) gs) (markedFrom (suc f) k ps qs) ≡ x / 2 ^ f = omega arith in
-        ap (λ (l : List Edge). maskIn e l (markedFrom f (suc k) ps qs)) (drop-cons gs f noEdge (omega arith)) ∙ y
+        let u : o + suc f ≡ suc (o + f) = omega arith in
+        let v : k + 1 ≡ suc k = omega arith in
+        let w : x / 2 ^ (o + suc f) ≡ y / 2 ^ 1 = ap (λ (n : ℕ). x / 2 ^ n) (omega arith) ∙ sym (shr-shr x (o + f) 1) in
+        let i : maskIn e (drop (suc f) gs) (markedFrom (suc (o + f)) k ps qs) ≡ y / 2 ^ 1 % 2 ^ k =
+        ap (λ (d : ℕ). maskIn e (drop (suc f) gs) (markedFrom d k ps qs)) (sym u) ∙ mask-from (suc f) k (n ∙ z) ∙ ap (λ (d : ℕ). d % 2 ^ k) w in
+        let j : one (isMatch e (getD gs f noEdge) (marked (o + f) ps qs)) ≡ y % 2 = ap one (is f (omega arith)) ∙ one-marks (o + f) x in
+        let d : y % 2 ^ suc k ≡ (y / 2 ^ 1 % 2 ^ k) * 2 ^ 1 + y % 2 ^ 1 = ap (λ (n : ℕ). y % 2 ^ n) (sym v) ∙ mod-pow-add y k 1 in
+        let b : one (isMatch e (getD gs f noEdge) (marked (o + f) ps qs)) + 2 * maskIn e (drop (suc f) gs) (markedFrom (suc (o + f)) k ps qs) ≡ y % 2 ^ suc k = omega (arith, i, j, d) in
+        ap (λ (l : List Edge). maskIn e l (markedFrom (o + f) (suc k) ps qs)) (drop-cons gs f noEdge (omega arith)) ∙ b
 
--- ---- what a view lists
-module _ (p : Given) {m : ℕ} {w : List ℕ} {r : ℕ} (g : Listed m (p .edges) w r) where
-  abbrev lists : List (List ℕ)
-  lists = markedFrom 0 (p .edges) (codesOf m w) (masksOf m w)
+-- ---- what is noted of a view
+module _ (o m d : ℕ) (w : List ℕ) (i : ℕ) {r : Bool} (says : r ≡ not (anyEmpty (markedFrom o m (codesOf d w) (masksOf d w)))) where
+  pub noted-none : not r ≡ true → 0 ≡ notedMask o m d w i
+  unfolding notedMask
+  noted-none e = ⊎-elim (λ y. rw y) (λ n. never (sym e ∙ ap not (says ∙ ap not n))) (test-cases (anyEmpty (markedFrom o m (codesOf d w) (masksOf d w))))
 
-  abbrev edges : List Edge
-  edges = patternIn p .edges
+  pub noted-all : not r ≡ false → getD w (8192 + i) 0 / 2 ^ o % 2 ^ m ≡ notedMask o m d w i
+  unfolding notedMask
+  noted-all e = ⊎-elim (λ y. never (sym (ap not (says ∙ ap not y)) ∙ e)) (λ n. rw n) (test-cases (anyEmpty (markedFrom o m (codesOf d w) (masksOf d w))))
 
-  pub unlisted : (r ≡ m → ⊥) → (e : Edge) → maskIn e (patternIn p .edges) (matchesOf m (p .edges) w) ≡ 0
-  unfolding matchesOf allOrNone
-  unlisted n e =
-      ⊎-elim (λ y. rw y (emptied-none e edges lists)) (λ z. absurd (n (rw z at (g .is)))) (test-cases (anyEmpty lists))
+-- it is those of its edges that match, by its lists, where its bits name edges of its kinds alone
+module _ {d : ℕ} {w : List ℕ} (mk : Marked d w) (rises : Rises d w) (gs : List Edge) (o : ℕ)
+    (only : (i e : ℕ) → i < d → e < length gs → T (bit (getD w (8192 + i) 0) (o + e)) → getD gs e noEdge .kind ≡ wordKind (getD w i 0)) where
+  pub noted-mask : (i : ℕ) → i < d → notedMask o (length gs) d w i ≡ maskIn (edgeOfWord (getD w i 0)) gs (matchesFrom o d (length gs) w)
+  unfolding notedMask matchesFrom allOrNone
+  noted-mask i h =
+      let lists : List (List ℕ) = markedFrom o (length gs) (codesOf d w) (masksOf d w) in
+      let x : ℕ = getD w (8192 + i) 0 in
+      let n : o + 0 ≡ o = omega arith in
+      let k : length gs ≡ 0 + length gs = omega arith in
+      let t : (f : ℕ) → f < length gs → isMatch (edgeOfWord (getD w i 0)) (getD gs f noEdge) (marked (o + f) (codesOf d w) (masksOf d w)) ≡ marks (o + f) x =
+      λ f l. part-test gs o mk rises only i h f l ∙ sym (marks-bit (o + f) x) in
+      let all : maskIn (edgeOfWord (getD w i 0)) gs lists ≡ x / 2 ^ o % 2 ^ length gs =
+      subst (λ (b : ℕ). maskIn (edgeOfWord (getD w i 0)) gs (markedFrom b (length gs) (codesOf d w) (masksOf d w)) ≡ x / 2 ^ b % 2 ^ length gs) n
+      (mask-from (edgeOfWord (getD w i 0)) x o gs (codesOf d w) (masksOf d w) t 0 (length gs) k) in
+      ⊎-elim (λ y. rw y (sym (emptied-none (edgeOfWord (getD w i 0)) gs lists))) (λ y. rw y (sym all)) (test-cases (anyEmpty lists))
 
-  whole-listed : r ≡ m → 0 < m → matchesOf m (p .edges) w ≡ lists
-  unfolding matchesOf allOrNone
-  whole-listed e h =
-      ⊎-elim (λ y. absurd (let z = rw y at (g .is) in omega arith)) (λ z. rw z) (test-cases (anyEmpty lists))
-
-  module _ {q : Given} (fair : Fair q) (view : Fair p) (mk : Marked m w) (rises : Rises m w) (within : Within p m w) where
-    abbrev codes : List ℕ
-    codes = codesOf m w
-
-    abbrev masks : List ℕ
-    masks = masksOf m w
-
-    -- the mask of the word of an edge of the query
-    module _ (e : ℕ) (below : e < q .edges) {x : ℕ} (o : MaskOf w m (wordAt q e) x) where
-      abbrev asked : Edge
-      asked = givenEdge q e
-
-      abbrev place : ℕ
-      place = o .at
-
-      word-edge : edgeOfWord (getD w place 0) ≡ asked
-      word-edge =
-          let r = o .word in
-          let n = fair .nodes in
-          let a = fair .from e below in
-          let b = fair .to e below in
-          let x : getD w place 0 / 4096 % 4096 ≡ getD (q .from) e 0 = omega (arith, r, n, a, b) in
-          let y : getD w place 0 % 4096 ≡ getD (q .to) e 0 = omega (arith, r, n, a, b) in
-          let z : getD w place 0 / 2 ^ 24 ≡ getD (q .kind) e 0 = omega (arith, r, n, a, b) in
-          λ i. between (x i) (y i) (z i)
-
-      -- it names exactly the edges of the view that match
-      asked-test : (f : ℕ) → f < length edges → isMatch asked (getD edges f noEdge) (marked f codes masks) ≡ marks f x
-      unfolding Within
-      asked-test f h =
-          let l : f < p .edges = omega (arith, given-long p) in
-          ap (λ (g : Edge). isMatch asked g (marked f codes masks)) (given-at p f l)
-          ∙ ap (λ (d : Edge). isMatch d (givenEdge p f) (marked f codes masks)) (sym word-edge)
-          ∙ match-test view mk rises within place (o .below) f l
-          ∙ ap (λ (y : ℕ). bit y f) (sym (o .is))
-          ∙ sym (marks-bit f x)
-
-      -- and no others
-      mask-small : x < 2 ^ p .edges
-      unfolding Within
-      mask-small =
-          few-lt (p .edges) x
-          (λ f t. within place f (o .below) (bit-lt x f 32 (bit-by x f (has-say x f t)) (o .small)) (subst (λ (y : ℕ). T (bit y f)) (o .is) t) .0)
-
-      pub listed-mask : r ≡ m → 0 < m → x ≡ maskIn (givenEdge q e) (patternIn p .edges) (matchesOf m (p .edges) w)
-      listed-mask z h =
-          let n : 0 + p .edges ≡ p .edges = omega arith in
-          let d : x / 2 ^ 0 ≡ x = div-one x in
-          sym (ap (maskIn asked edges) (whole-listed z h) ∙ mask-from asked x edges codes masks asked-test 0 (p .edges) (given-long p ∙ sym n) (rw n mask-small) ∙ d)
+-- the edge of the word at its place
+pub word-edge : {q : Given} {n m : ℕ} {w ps : List ℕ} → Placed q n m w ps → (e : ℕ) → e < n → edgeOfWord (getD w (getD ps e 0) 0) ≡ givenEdge q e
+word-edge {q} {w = w} {ps} p e l =
+    let fair = p .fair in
+    let r = p .each e l .1 in
+    let below : e < q .edges = omega (arith, p .edges) in
+    let n = fair .nodes in
+    let a = fair .from e below in
+    let b = fair .to e below in
+    let x : getD w (getD ps e 0) 0 / 4096 % 4096 ≡ getD (q .from) e 0 = omega (arith, r, n, a, b) in
+    let y : getD w (getD ps e 0) 0 % 4096 ≡ getD (q .to) e 0 = omega (arith, r, n, a, b) in
+    let z : getD w (getD ps e 0) 0 / 2 ^ 24 ≡ getD (q .kind) e 0 = omega (arith, r, n, a, b) in
+    λ i. between (x i) (y i) (z i)
 
 -- ---- the whole table
 module _ (Q : Pattern) where
@@ -223,45 +223,34 @@ module _ (Q : Pattern) where
       (λ (p : 512 ≤ 16 * e + a). List·getD-eq-default (mapping Q Ps) 0 (omega (arith, mapping-length Ps)))
       (lt-or-ge (16 * e + a) 512)
 
-  module _ (Ps : List Pattern) (P : Pattern) (few : length Ps < 16) {t t′ : List ℕ} (q : t ≡ mapping Q Ps)
-      (c : Column (length Ps) (length (Q .edges)) (λ e x. x ≡ matchMask Q (edge e) P) t t′) where
-    abbrev more : List Pattern
-    more = Ps ++ (P ∷ [])
+  -- the columns of the views a .. j are added
+  module _ (P : ℕ → Pattern) (a j : ℕ) (since : a ≤ j) {t t′ : List ℕ} (q : t ≡ mapping Q (upTo P a))
+      (c : Columns a j (length (Q .edges)) (λ i e x. x ≡ matchMask Q (edge e) (P i)) t t′) where
+    view-mask : (n k : ℕ) → k / 16 < length (Q .edges) → k % 16 < n → maskAt Q (upTo P n) k ≡ matchMask Q (edge (k / 16)) (P (k % 16))
+    view-mask n k h l =
+        mask-in (upTo P n) k h (omega (arith, length-upTo P n)) ∙ ap (matchMask Q (edge (k / 16))) (getD-upTo P n (k % 16) noPattern l)
 
-    more-long : length more ≡ length Ps + 1
-    more-long = length-append Ps (P ∷ [])
+    beyond : (n k : ℕ) → n ≤ k % 16 → maskAt Q (upTo P n) k ≡ 0
+    beyond n k h = mask-beyond (upTo P n) k (omega (arith, length-upTo P n))
 
-    same : (k : ℕ) → ((k % 16 ≡ length Ps) × (k / 16 < length (Q .edges)) → ⊥) → maskAt Q Ps k ≡ maskAt Q more k
-    same k n =
+    at : (k : ℕ) → k < 512 → getD t′ k 0 ≡ maskAt Q (upTo P j) k
+    at k l =
+        let kept : ((a ≤ k % 16) × (k % 16 < j) × (k / 16 < length (Q .edges)) → ⊥) → maskAt Q (upTo P a) k ≡ maskAt Q (upTo P j) k → getD t′ k 0 ≡ maskAt Q (upTo P j) k =
+        λ n e. c .rest k n ∙ ap (λ (s : List ℕ). getD s k 0) q ∙ mapping-at (upTo P a) k l ∙ e in
+        let z : 16 * (k / 16) + k % 16 ≡ k = omega arith in
         ⊎-elim
         (λ (h : k / 16 < length (Q .edges)).
         ⊎-elim
-        (λ (l : k % 16 < length Ps).
-        mask-in Ps k h l
-        ∙ ap (matchMask Q (edge (k / 16))) (sym (List·getD-append Ps (P ∷ []) noPattern (k % 16) l))
-        ∙ sym (mask-in more k h (omega (arith, more-long))))
-        (λ (l : length Ps ≤ k % 16).
-        mask-beyond Ps k l
-        ∙ sym (mask-beyond more k (⊎-elim (λ (z : k % 16 < length Ps + 1). absurd (n (omega arith, h))) (λ (z : length Ps + 1 ≤ k % 16). omega (arith, more-long)) (lt-or-ge (k % 16) (length Ps + 1)))))
-        (lt-or-ge (k % 16) (length Ps)))
-        (λ (h : length (Q .edges) ≤ k / 16). mask-over Ps k h ∙ sym (mask-over more k h))
+        (λ (f : k % 16 < a).
+        kept (λ (x : (a ≤ k % 16) × (k % 16 < j) × (k / 16 < length (Q .edges))). omega (arith, x .0)) (view-mask a k h f ∙ sym (view-mask j k h (omega arith))))
+        (λ (f : a ≤ k % 16).
+        ⊎-elim (λ (g : k % 16 < j). ap (λ (i : ℕ). getD t′ i 0) (sym z) ∙ c .each (k % 16) (k / 16) f g h ∙ sym (view-mask j k h g))
+        (λ (g : j ≤ k % 16). kept (λ (x : (a ≤ k % 16) × (k % 16 < j) × (k / 16 < length (Q .edges))). omega (arith, x .1)) (beyond a k f ∙ sym (beyond j k g)))
+        (lt-or-ge (k % 16) j))
+        (lt-or-ge (k % 16) a))
+        (λ (h : length (Q .edges) ≤ k / 16).
+        kept (λ (x : (a ≤ k % 16) × (k % 16 < j) × (k / 16 < length (Q .edges))). omega (arith, x .2)) (mask-over (upTo P a) k h ∙ sym (mask-over (upTo P j) k h)))
         (lt-or-ge (k / 16) (length (Q .edges)))
 
-    own : (k : ℕ) → k % 16 ≡ length Ps → k / 16 < length (Q .edges) → getD t′ k 0 ≡ maskAt Q more k
-    own k e h =
-        let z : 16 * (k / 16) + length Ps ≡ k = omega arith in
-        let y : getD more (k % 16) noPattern ≡ P = ap (λ (i : ℕ). getD more i noPattern) e ∙ getD-at Ps P [] noPattern (length Ps) refl in
-        ap (λ (i : ℕ). getD t′ i 0) (sym z)
-        ∙ c .each (k / 16) h
-        ∙ ap (matchMask Q (edge (k / 16))) (sym y)
-        ∙ sym (mask-in more k h (omega (arith, more-long)))
-
-    pub mapping-more : t′ ≡ mapping Q more
-    mapping-more =
-        mapping-by more t′ (c .long ∙ ap length q ∙ mapping-length Ps)
-        (λ k l.
-        let other : ((k % 16 ≡ length Ps) × (k / 16 < length (Q .edges)) → ⊥) → getD t′ k 0 ≡ maskAt Q more k =
-        λ n. c .rest k n ∙ ap (λ (s : List ℕ). getD s k 0) q ∙ mapping-at Ps k l ∙ same k n in
-        trichotomy (k % 16) (length Ps) (λ p. other (λ (z : (k % 16 ≡ length Ps) × (k / 16 < length (Q .edges))). omega (arith, z .0)))
-        (λ e. ⊎-elim (own k e) (λ (p : length (Q .edges) ≤ k / 16). other (λ (z : (k % 16 ≡ length Ps) × (k / 16 < length (Q .edges))). omega (arith, z .1))) (lt-or-ge (k / 16) (length (Q .edges))))
-        (λ p. other (λ (z : (k % 16 ≡ length Ps) × (k / 16 < length (Q .edges))). omega (arith, z .0))))
+    pub mapping-columns : t′ ≡ mapping Q (upTo P j)
+    mapping-columns = mapping-by (upTo P j) t′ (c .long ∙ ap length q ∙ mapping-length (upTo P a)) at

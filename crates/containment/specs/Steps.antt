@@ -7,20 +7,20 @@ use lib.Seq.{sets}
 use lib.Dec.{eqb, ltb}
 use Rattle.packed.specs.Format.{ok, pick, decode}
 use Rattle.packed.specs.Formats.{pattern}
-use Rattle.packed.specs.Contents.{edgesOf, edgeCounts, edgeWord, wordKind, sortedEdges}
+use Rattle.packed.specs.Contents.{edgesOf, edgeCounts, edgeWord, sortedEdges}
 use Rattle.packed.specs.ByValue.{HoldsPattern, NoPattern, Small}
 use Rattle.packed.specs.Accepting.{NoViews}
 use Rattle.packed.specs.Calls.{Outcome, refuse, accepted, judged, readCatalogue, readBook, withinPairs, recordBytes}
-use Rattle.packed.specs.Matches.{matchesOf}
+use Rattle.packed.specs.Matches.{markedFrom, anyEmpty, codesOf, masksOf, Named, sumOf}
 use Rattle.packed.specs.Refusals.{numberOf, detailOf}
 use Rattle.packed.specs.declared.reply.Reply.{Reply}
 use Rattle.packed.specs.declared.reply.Reply.the-variants as reply-is
 use Rattle.packed.specs.declared.by_value.Pattern.{Pattern as Given}
-use Rattle.engine.specs.Masks.{OneOf, Has}
-use Rattle.engine.specs.Loaded.{Fair, givenEdge, patternIn}
+use Rattle.engine.specs.Masks.{OneOf}
+use Rattle.engine.specs.Loaded.{Fair}
 use Rattle.matching.specs.Candidates.{Booked}
 use Rattle.matching.specs.Offered.{Offered, offers}
-use Rattle.containment.specs.Quote.{maskIn, Quoted, tableOf}
+use Rattle.containment.specs.Quote.{Quoted, tableOf}
 use Rattle.containment.specs.Show.{graphFields, fewerFields}
 use Rattle.containment.specs.declared.query.Fields.{Fields}
 use Rattle.containment.specs.declared.judging.Judged.{Judged}
@@ -159,25 +159,28 @@ pub record Placed (q : Given) (n m : ℕ) (w ps : List ℕ) : Type 0 where
   pub edges : n ≡ q .edges
   pub each : (e : ℕ) → e < n → (getD ps e 0 < m) × (getD w (getD ps e 0) 0 ≡ wordAt q e)
 
--- the masks name edges of the view p alone, each of the kind of the word
-unfoldable pub Within : Given → ℕ → List ℕ → Type 0
-Within p m w = (i e : ℕ) → i < m → e < 32 → Has (getD w (8192 + i) 0) e → (e < p .edges) × (getD (p .kind) e 0 ≡ wordKind (getD w i 0))
-
 -- only the first n of column a may differ, in a table with 16 columns
 pub record Column (a n : ℕ) (g : ℕ → ℕ → Type 0) (t t′ : List ℕ) : Type 0 where
   pub long : length t′ ≡ length t
   pub each : (e : ℕ) → e < n → g e (getD t′ (16 * e + a) 0)
   pub rest : (k : ℕ) → ((k % 16 ≡ a) × (k / 16 < n) → ⊥) → getD t′ k 0 ≡ getD t k 0
 
--- column a has the masks of the view p, whatever query has its edges at these places
-abbrev pub ViewNoted : ℕ → ℕ → ℕ → Given → List ℕ → List ℕ → List ℕ → List ℕ → Type 0
-ViewNoted a n m p w ps t t′ =
-    (q : Given) → Placed q n m w ps → Column a n (λ e x. x ≡ maskIn (givenEdge q e) (patternIn p .edges) (matchesOf m (p .edges) w)) t t′
+-- the same for the columns a .. j
+pub record Columns (a j n : ℕ) (g : ℕ → ℕ → ℕ → Type 0) (t t′ : List ℕ) : Type 0 where
+  pub long : length t′ ≡ length t
+  pub each : (i e : ℕ) → a ≤ i → i < j → e < n → g i e (getD t′ (16 * e + i) 0)
+  pub rest : (k : ℕ) → ((a ≤ k % 16) × (k % 16 < j) × (k / 16 < n) → ⊥) → getD t′ k 0 ≡ getD t k 0
 
--- x is the mask of the word c in the workspace
-pub record MaskOf (w : List ℕ) (m c x : ℕ) : Type 0 where
-  pub at : ℕ
-  pub below : at < m
-  pub word : getD w at 0 ≡ c
-  pub is : x ≡ getD w (8192 + at) 0
-  pub small : x < 2 ^ 32
+-- what is noted of a view for the pair at place i of d: those of the view's m edges, whose bits begin at o, that list it, or none where one of the
+-- lists would be empty
+unfoldable pub notedMask : ℕ → ℕ → ℕ → List ℕ → ℕ → ℕ
+notedMask o m d w i = pick (anyEmpty (markedFrom o m (codesOf d w) (masksOf d w))) 0 (getD w (8192 + i) 0 / 2 ^ o % 2 ^ m)
+
+-- the views a .. j of a batch are noted, at the places of the n edges of the query: each by its own bits, which follow those of the one before it
+abbrev pub BatchNoted : ℕ → ℕ → ℕ → List ℕ → ℕ → List ℕ → List ℕ → List ℕ → List ℕ → Type 0
+BatchNoted a j n counts d w ps t t′ =
+    Columns a j n (λ i e x. (o : ℕ) → o + sumOf a counts ≡ sumOf i counts → x ≡ notedMask o (getD counts i 0) d w (getD ps e 0)) t t′
+
+-- x is the mask of the edges that are named, of so many pairs
+abbrev pub AnyNamed : List ℕ → ℕ → Type 0
+AnyNamed w x = (d : ℕ) × Named d w x

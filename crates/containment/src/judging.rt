@@ -55,7 +55,7 @@ fn judge_views(query: Pattern, catalogue: &[u8], one_way: u32, work: &mut [u32])
     if let Reply::Refused(x) = verdict {
         return refused(x);
     }
-    let table = mapping::map_views(query, catalogue, one_way, views, work);
+    let table = mapping::map_views(query, catalogue, one_way, views, edges, work);
     Judged {
         verdict,
         query,
@@ -106,7 +106,7 @@ fn judge_views_on(
     if let Reply::Refused(x) = named {
         return refused(x);
     }
-    let table = mapping::map_views(query, catalogue, one_way, views, work);
+    let table = mapping::map_views(query, catalogue, one_way, views, edges, work);
     Judged {
         verdict,
         query,

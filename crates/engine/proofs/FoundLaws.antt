@@ -1,35 +1,30 @@
 -- From the start of a search to what is found: the engine's rest are the match sets.
-use mathlib.Core.Path.{_≡_, refl, ap, ap₂, _∙_, sym, subst}
+use mathlib.Core.Path.{_≡_, refl, ap, _∙_, sym, subst}
 use mathlib.Core.Logic.{⊎-elim}
 use mathlib.Core.List.{List}
 use Prim.Native.Nat.{ℕ, _≤_, _<_, _+_, _*_, _/_, _%_, _^_}
 use native.Mathlib.Omega.{arith}
-use lib.ListN.{length, getD, length-take}
-use lib.Seq.{getD-take}
-use lib.Dec.{T}
+use lib.ListN.{length, getD}
 use Rattle.packed.specs.Bits.{field}
 use Rattle.packed.specs.declared.by_value.Pattern.{Pattern as Given}
 use Rattle.packed.proofs.OrderCases.{lt-or-ge}
 use Rattle.engine.specs.Lists.{In}
-use Rattle.engine.specs.Simulation.{Rule, bothWays, Pattern, ruled, Graph, bit, fits, sim}
-use Rattle.engine.specs.Loaded.{givenEdge, edgeOfWord, patternIn, graphIn, Fair, Ready}
-use Rattle.engine.specs.Matched.{Rises, Proper, EdgesMatched}
+use Rattle.engine.specs.declared.batch.Batch.{Batch}
+use Rattle.engine.specs.Simulation.{Rule, ruled, Graph, sim}
+use Rattle.engine.specs.Loaded.{edgeOfWord, patternIn, graphIn, Fair, Ready, Edges}
+use Rattle.engine.specs.Matched.{Rises}
+use Rattle.engine.specs.Batches.{FairBatch, PartOf, BatchMatched}
 use Rattle.engine.specs.Masks.{Has, Mask}
-use Rattle.engine.specs.Sweeping.{Tabled}
+use Rattle.engine.specs.Sweeping.{kindOf, Tabled}
 use Rattle.engine.specs.Rounds.{Prepared, TabledBack, Fixed}
 use Rattle.engine.specs.Starting.{NodeRoom, OfKind, KindsHeld, LinksSpread}
 use Rattle.engine.proofs.UpToLaws.{length-upTo, getD-upTo, in-upTo, upTo-in}
-use Rattle.engine.proofs.SimLaws.{fits-say, fits-by}
 use Rattle.engine.proofs.MaskBits.{none-has, part-le}
-use Rattle.engine.proofs.SearchingLaws.{EdgeNumbered, Begun, held-say, held-by}
+use Rattle.engine.proofs.SearchingLaws.{EdgeNumbered, Labelled, Begun, held-say, held-by}
 use Rattle.engine.proofs.RankLaws.{rank-from}
-use Rattle.engine.proofs.MatchedLaws.{ListsCodes, matches}
+use Rattle.engine.proofs.MatchedLaws.{ListsCodes, pairs-marked, matches}
 
--- the edges of the pattern and of the graph, by their numbers
-links-numbered : (p : Given) → EdgeNumbered (patternIn p .edges) (p .edges) (givenEdge p)
-unfolding patternIn
-links-numbered p = record { has = λ e l. in-upTo (givenEdge p) (p .edges) e l; is = λ f i. upTo-in (givenEdge p) (p .edges) i }
-
+-- the edges of the graph, by their numbers
 pairs-numbered : (s : List ℕ) (n m : ℕ) (w w′ : List ℕ) → ((i : ℕ) → i < m → getD w′ i 0 ≡ getD w i 0) → EdgeNumbered (graphIn s n m w .edges) m (λ i. edgeOfWord (getD w′ i 0))
 unfolding graphIn
 pairs-numbered s n m w w′ e =
@@ -39,52 +34,29 @@ pairs-numbered s n m w w′ e =
           record { at = r .at; below = r .below; holds = r .holds ∙ ap edgeOfWord (sym (e (r .at) (r .below))) });
     }
 
-module _ {p : Given} {s : List ℕ} {n m : ℕ} {w : List ℕ} (fair : Fair p) (ready : Ready s n m w) (rises : Rises m w) where
-  abbrev P : Pattern
-  P = patternIn p
-
+module _ {b : Batch} {s : List ℕ} {n m : ℕ} {w : List ℕ} (fair : FairBatch b) (ready : Ready s n m w) (rises : Rises m w) where
   abbrev G : Graph
   G = graphIn s n m w
-
-  labels-long : length (P .labels) ≡ p .nodes
-  unfolding patternIn
-  labels-long = length-take (p .nodes) (p .labels) ∙ (let a = fair .nodes in let b = fair .labels-long in omega arith)
 
   nodes-long : length (G .labels) ≡ n
   unfolding graphIn
   nodes-long = length-upTo (λ v. field s (27 + 32 * v) 32) n
 
-  -- the same test on the lists
-  label-test : (u v : ℕ) → u < p .nodes → v < n → bit (getD (G .labels) v 0) (getD (P .labels) u 0) ≡ bit (field s (27 + 32 * v) 32) (getD (p .labels) u 0)
-  unfolding patternIn graphIn
-  label-test u v lu lv = ap₂ bit (getD-upTo (λ j. field s (27 + 32 * j) 32) n v 0 lv) (getD-take (p .nodes) (p .labels) u 0 lu)
+  labels-at : (v : ℕ) → v < n → getD (G .labels) v 0 ≡ field s (27 + 32 * v) 32
+  unfolding graphIn
+  labels-at v l = getD-upTo (λ j. field s (27 + 32 * j) 32) n v 0 l
 
-  fit-by : (u v : ℕ) → u < p .nodes → v < n → Has (field s (27 + 32 * v) 32) (getD (p .labels) u 0) → T (fits P G (u, v))
-  fit-by u v lu lv h =
-      let a = labels-long in
-      let b = nodes-long in
-      fits-by P G (record { left = omega arith; right = omega arith; label = subst T (sym (label-test u v lu lv)) h })
+  -- the labels of a node in the record are its labels in the graph
+  label-say : (u v : ℕ) → Labelled b G u v → (v < n) × Has (field s (27 + 32 * v) 32) (getD (b .labels) u 0)
+  label-say u v h = let l : v < n = (let x = nodes-long in let y = h .0 in omega arith) in (l, subst (λ (x : ℕ). Has x (getD (b .labels) u 0)) (labels-at v l) (h .1))
 
-  fit-say : (u v : ℕ) → T (fits P G (u, v)) → (v < n) × Has (field s (27 + 32 * v) 32) (getD (p .labels) u 0)
-  fit-say u v t =
-      let f = fits-say P G t in
-      let a = labels-long in
-      let b = nodes-long in
-      let lu : u < p .nodes = (let z = f .left in omega arith) in
-      let lv : v < n = (let z = f .right in omega arith) in
-      (lv, subst T (label-test u v lu lv) (f .label))
+  label-by : (u v : ℕ) → v < n → Has (field s (27 + 32 * v) 32) (getD (b .labels) u 0) → Labelled b G u v
+  label-by u v l h = ((let x = nodes-long in omega arith), subst (λ (x : ℕ). Has x (getD (b .labels) u 0)) (sym (labels-at v l)) h)
 
-  module _ {all : ℕ} {leave₀ arrive₀ out₀ w₁ leave arrive out : List ℕ} (A : Mask (λ k. k < p .edges) all) (R : NodeRoom n leave₀ arrive₀ out₀)
-      (H : KindsHeld (p .kind) (p .edges) m w w₁) (S : LinksSpread p s n leave₀ arrive₀ out₀ leave arrive out) where
+  module _ {all : ℕ} {leave₀ arrive₀ out₀ w₁ leave arrive out : List ℕ} (A : Mask (λ k. k < b .edges) all) (R : NodeRoom n leave₀ arrive₀ out₀)
+      (H : KindsHeld (b .kind) (b .edges) m w w₁) (S : LinksSpread b s n leave₀ arrive₀ out₀ leave arrive out) where
     code : (i : ℕ) → i < m → getD w₁ i 0 ≡ getD w i 0
     code i l = H .around .low i (let z = ready .edges in omega arith)
-
-    -- the masks of the nodes have the links whose end fits
-    leave-by : (v e : ℕ) → e < p .edges → T (fits P G (getD (p .from) e 0, v)) → Has (getD leave v 0) e
-    leave-by v e le t = let f = fit-say _ v t in S .leave-each v (f .0) .hit e (le, f .1)
-
-    arrive-by : (v e : ℕ) → e < p .edges → T (fits P G (getD (p .to) e 0, v)) → Has (getD arrive v 0) e
-    arrive-by v e le t = let f = fit-say _ v t in S .arrive-each v (f .0) .hit e (le, f .1)
 
     leave-beyond : (v : ℕ) → n ≤ v → getD leave v 0 ≡ 0
     leave-beyond v l = S .leaves .high v (omega arith) ∙ R .leave-clear v l
@@ -92,27 +64,24 @@ module _ {p : Given} {s : List ℕ} {n m : ℕ} {w : List ℕ} (fair : Fair p) (
     arrive-beyond : (v : ℕ) → n ≤ v → getD arrive v 0 ≡ 0
     arrive-beyond v l = S .arrives .high v (omega arith) ∙ R .arrive-clear v l
 
-    leave-some : (v e : ℕ) → Has (getD leave v 0) e → (v < n) × (e < p .edges) × Has (field s (27 + 32 * v) 32) (getD (p .labels) (getD (p .from) e 0) 0)
-    leave-some v e h =
-        ⊎-elim (λ (l : v < n). let q = S .leave-each v l .why e h in (l, q .0, q .1)) (λ (l : n ≤ v). absurd (none-has e (subst (λ (x : ℕ). Has x e) (leave-beyond v l) h))) (lt-or-ge v n)
+    -- the masks of the nodes have the links whose end has one of their labels
+    leave-say : (v e : ℕ) → Has (getD leave v 0) e → Labelled b G (getD (b .from) e 0) v
+    leave-say v e h =
+        ⊎-elim (λ (l : v < n). label-by _ v l (S .leave-each v l .why e h .1)) (λ (l : n ≤ v). absurd (none-has e (subst (λ (x : ℕ). Has x e) (leave-beyond v l) h))) (lt-or-ge v n)
 
-    arrive-some : (v e : ℕ) → Has (getD arrive v 0) e → (v < n) × (e < p .edges) × Has (field s (27 + 32 * v) 32) (getD (p .labels) (getD (p .to) e 0) 0)
-    arrive-some v e h =
-        ⊎-elim (λ (l : v < n). let q = S .arrive-each v l .why e h in (l, q .0, q .1)) (λ (l : n ≤ v). absurd (none-has e (subst (λ (x : ℕ). Has x e) (arrive-beyond v l) h))) (lt-or-ge v n)
+    arrive-say : (v e : ℕ) → Has (getD arrive v 0) e → Labelled b G (getD (b .to) e 0) v
+    arrive-say v e h =
+        ⊎-elim (λ (l : v < n). label-by _ v l (S .arrive-each v l .why e h .1)) (λ (l : n ≤ v). absurd (none-has e (subst (λ (x : ℕ). Has x e) (arrive-beyond v l) h))) (lt-or-ge v n)
 
-    -- whatever the rule: it says nothing of labels
-    begun : (way : Rule) → Begun (ruled way P) G (p .from) (p .to) (p .kind) (p .edges) n m w₁ leave arrive
-    unfolding fits
-    begun way =
+    begun : Begun b G m w₁ leave arrive
+    begun =
         record {
-          links = links-numbered p;
           pairs = pairs-numbered s n m w w₁ code;
-          nodes = nodes-long;
-          held = λ i l. subst (λ (x : ℕ). Mask (OfKind (p .kind) (p .edges) (x / 2 ^ 24)) (getD w₁ (8192 + i) 0)) (sym (code i l)) (H .each i l);
-          leave-by = leave-by;
-          leave-say = λ v e le h. (let q = leave-some v e h in fit-by _ v (fair .from e le) (q .0) (q .2));
-          arrive-by = arrive-by;
-          arrive-say = λ v e le h. (let q = arrive-some v e h in fit-by _ v (fair .to e le) (q .0) (q .2));
+          held = λ i l. subst (λ (x : ℕ). Mask (OfKind (b .kind) (b .edges) (x / 2 ^ 24)) (getD w₁ (8192 + i) 0)) (sym (code i l)) (H .each i l);
+          leave-by = λ v e le h. (let q = label-say _ v h in S .leave-each v (q .0) .hit e (le, q .1));
+          leave-say = λ v e le h. leave-say v e h;
+          arrive-by = λ v e le h. (let q = label-say _ v h in S .arrive-each v (q .0) .hit e (le, q .1));
+          arrive-say = λ v e le h. arrive-say v e h;
         }
 
     pub started : Prepared n m w₁ leave arrive out
@@ -140,37 +109,37 @@ module _ {p : Given} {s : List ℕ} {n m : ℕ} {w : List ℕ} (fair : Fair p) (
           clear = S .clear;
         }
 
-    module _ (way : Rule) {back : ℕ} (asked : Mask (λ e. (way ≡ bothWays) × (e < p .edges)) back) {leaving arriving ending starting w₂ leave′ arrive′ out′ : List ℕ}
-        (T₁ : Tabled (p .from) (p .from) (p .edges) leaving) (T₂ : Tabled (p .from) (p .to) (p .edges) arriving)
-        (T₃ : TabledBack back (p .from) (p .to) (p .edges) ending starting)
-        (F : Fixed n 0 all back m leaving arriving ending starting w₁ leave arrive out 0 w₂ leave′ arrive′ out′) where
-      abbrev R′ : Pattern
-      R′ = ruled way P
-
+    module _ {leaving arriving ending starting w₂ leave′ arrive′ out′ : List ℕ} (T₁ : Tabled (b .from) (b .from) (b .edges) leaving) (T₂ : Tabled (b .from) (b .to) (b .edges) arriving)
+        (T₃ : TabledBack (b .back) (b .from) (b .to) (b .edges) ending starting)
+        (F : Fixed n 0 all (b .back) m leaving arriving ending starting w₁ leave arrive out 0 w₂ leave′ arrive′ out′) where
       apart : (e : ℕ) → Has all e → Has 0 e → ⊥
       apart e y h = none-has e h
 
-      found : ListsCodes way p s n m w w₂
-      found =
+      edges-kept : Edges w w₂
+      edges-kept = record { long = F .falls .long ∙ H .around .long; same = λ k l. F .falls .low k l ∙ H .around .low k l }
+
+      only : (i e : ℕ) → i < m → Has (getD w₂ (8192 + i) 0) e → OfKind (b .kind) (b .edges) (kindOf w i) e
+      only i e l h = H .each i l .why e (F .falls .part i e l h)
+
+      found : (way : Rule) (p : Given) (a o : ℕ) → PartOf b way p a o → Fair p → ListsCodes way p o s n m w w₂
+      found way p a o part own =
           record {
-            edges = record { long = F .falls .long ∙ H .around .long; same = λ k l. F .falls .low k l ∙ H .around .low k l };
             say = λ i e l le h.
-                (let r = held-say R′ G (p .from) (p .to) (p .kind) (p .edges) n m w₁ leave arrive (begun way) T₁ T₂ T₃ asked (A .hit) started F refl i e l le h in (
-                  subst (λ (x : ℕ). In (getD (p .from) e 0, x / 4096 % 4096) (sim R′ G)) (code i l) (r .0),
-                  subst (λ (x : ℕ). In (getD (p .to) e 0, x % 4096) (sim R′ G)) (code i l) (r .1),
+                (let r = held-say b G n m w₁ leave arrive begun part own T₁ T₂ T₃ (A .hit) started F refl i e l le h in (
+                  subst (λ (x : ℕ). In (getD (p .from) e 0, x / 4096 % 4096) (sim (ruled way (patternIn p)) G)) (code i l) (r .0),
+                  subst (λ (x : ℕ). In (getD (p .to) e 0, x % 4096) (sim (ruled way (patternIn p)) G)) (code i l) (r .1),
                 ));
-            by = λ i e l q a b.
-                held-by R′ G (p .from) (p .to) (p .kind) (p .edges) n m w₁ leave arrive (begun way) T₁ T₂ T₃ asked (A .hit) started F i e l
-                (q .0, q .1 ∙ sym (ap (λ (x : ℕ). x / 2 ^ 24) (code i l)))
-                (subst (λ (x : ℕ). In (getD (p .from) e 0, x / 4096 % 4096) (sim R′ G)) (sym (code i l)) a)
-                (subst (λ (x : ℕ). In (getD (p .to) e 0, x % 4096) (sim R′ G)) (sym (code i l)) b);
-            only = λ i e l h. H .each i l .why e (F .falls .part i e l h);
+            by = λ i e l le q x y.
+                held-by b G n m w₁ leave arrive begun part own T₁ T₂ T₃ (A .hit) started F i e l le (q ∙ sym (ap (λ (x : ℕ). x / 2 ^ 24) (code i l)))
+                (subst (λ (x : ℕ). In (getD (p .from) e 0, x / 4096 % 4096) (sim (ruled way (patternIn p)) G)) (sym (code i l)) x)
+                (subst (λ (x : ℕ). In (getD (p .to) e 0, x % 4096) (sim (ruled way (patternIn p)) G)) (sym (code i l)) y);
+            only = λ i e l le h. sym (part .kind e le) ∙ only i (o + e) l h .1;
           }
 
       -- the lent arrays may be lent again
       room-again : NodeRoom n leave′ arrive′ out′
       room-again =
-          let f = F .sound (p .from) (p .to) (p .edges) T₁ T₂ T₃ apart back (λ e h. h) in
+          let f = F .sound (b .from) (b .to) (b .edges) T₁ T₂ T₃ apart (b .back) (λ e h. h) in
           let a = F .leave-long ∙ S .leaves .long ∙ R .leave-long in
           let b = F .arrive-long ∙ S .arrives .long ∙ R .arrive-long in
           let c = F .out-long ∙ S .outs .long in
@@ -182,5 +151,14 @@ module _ {p : Given} {s : List ℕ} {n m : ℕ} {w : List ℕ} (fair : Fair p) (
             arrive-clear = λ v l. (let q : getD arrive′ v 0 ≤ 0 = part-le _ 0 (λ e h. subst (λ (x : ℕ). Has x e) (arrive-beyond v l) (f .arrive-part v e h)) in omega arith);
           }
 
-      pub all-found : Proper p → EdgesMatched way p s n m w w₂ × NodeRoom n leave′ arrive′ out′
-      all-found proper = (matches ready found proper rises, room-again)
+      pub all-found : BatchMatched b s n m w w₂ × NodeRoom n leave′ arrive′ out′
+      all-found =
+          let k = pairs-marked ready rises edges-kept (b .kind) (λ i e l h. only i e l h .1) in (
+            record {
+              edges = edges-kept;
+              marked = k;
+              within = λ i e l h. only i e l h .0;
+              parts = λ way p a o part own proper. matches ready edges-kept k (found way p a o part own) proper;
+            },
+            room-again,
+          )

@@ -6,12 +6,13 @@ use mathlib.Core.List.{List, [], _∷_}
 use lib.ListN.{length, take, drop, getD, length-drop, length-map, List·getD-map}
 use lib.Seq.{getD-take, getD-drop, length-take-le}
 use lib.Dec.{T, eqb, eqb→eq, eqb-refl}
+use native.Mathlib.Nat.{zero-add}
 use native.Mathlib.Omega.{arith}
 use Rattle.packed.specs.Format.{pick}
 use Rattle.packed.specs.Formats.{code}
 use Rattle.packed.specs.Distinct.{BelowHead, Increasing}
 use Rattle.packed.specs.Contents.{distinct}
-use Rattle.packed.specs.Matches.{marks, marked, markedFrom, allOrNone, pairIn, codesOf, masksOf, matchesOf}
+use Rattle.packed.specs.Matches.{marks, marked, markedFrom, allOrNone, pairIn, codesOf, masksOf, matchesFrom, matchesOf}
 use Rattle.packed.specs.Matches.{Marked as MarkedPairs}
 use Rattle.packed.specs.declared.by_value.Pattern.{Pattern as Given}
 use Rattle.packed.proofs.DistinctLaws.{distinct-own}
@@ -19,9 +20,10 @@ use Rattle.packed.proofs.SheetLaws.{Rising, rising-none, rising-next, Fit, fit-
 use Rattle.packed.proofs.MatchLaws.{fit-lists}
 use Rattle.engine.specs.Lists.{_and_, In, each, keep, put, upTo}
 use Rattle.engine.specs.Simulation.{Pair, Edge, asPair, Rule, Pattern, ruled, sound, Graph, bit, has, sim, row, ascending, matchSets}
-use Rattle.engine.specs.Loaded.{givenEdge, edgeOfWord, patternIn, graphIn, Ready, Edges}
+use Rattle.engine.specs.Loaded.{givenEdge, edgeOfWord, patternIn, graphIn, Fair, Ready, Edges}
 use Rattle.engine.specs.Sweeping.{kindOf}
-use Rattle.engine.specs.Starting.{OfKind}
+use Rattle.engine.specs.declared.batch.Batch.{Batch}
+use Rattle.engine.specs.Batches.{PartOf, PartMatched, BatchMatched}
 use Rattle.engine.specs.Matched.{Proper, Rises, EdgesMatched}
 use Rattle.engine.proofs.ListLaws.{and-left, and-right, both, same-test}
 use Rattle.engine.proofs.SimLaws.{has-in, in-has}
@@ -105,33 +107,52 @@ module _ {n : ℕ} {w : List ℕ} (k : MarkedPairs n w) where
       List·getD-map pairIn (take n w) i 0 ∙ ap pairIn (getD-take n w i 0 j) ∙ c i j)
       ∙ ap (λ (z : ℕ). coded (each pair (keep t (upTo h z)))) x)
 
+  pub sets-marked-from : {A : Type 0} (o m : ℕ) (g : ℕ → A) (f : A → List Pair) → ((e : ℕ) → e < m → distinct (marked (o + e) codes masks) ≡ ascending (f (g e)))
+      → matchesFrom o n m w ≡ allOrNone (each (λ e. ascending (f e)) (upTo g m))
+  unfolding matchesFrom
+  sets-marked-from o m g f r =
+      ap allOrNone (from-each o m codes masks g (λ e. ascending (f e)) (fit-lists o n m w k) (λ j l i q. rw q (r j l)))
+
   pub sets-marked : {A : Type 0} (m : ℕ) (g : ℕ → A) (f : A → List Pair) → ((e : ℕ) → e < m → distinct (marked e codes masks) ≡ ascending (f (g e)))
       → matchesOf n m w ≡ allOrNone (each (λ e. ascending (f e)) (upTo g m))
-  unfolding matchesOf
-  sets-marked m g f r =
-      ap allOrNone (from-each 0 m codes masks g (λ e. ascending (f e)) (fit-lists n m w k) (λ j l i q. let z : i ≡ j = omega arith in rw z (r j l)))
+  sets-marked m g f r = sets-marked-from 0 m g f (λ e l. rw (zero-add e) (r e l))
 
 -- ---- what stays in the workspace
 pub edges-twice : {w w₁ w₂ : List ℕ} → Edges w w₁ → Edges w₁ w₂ → Edges w w₂
 edges-twice a b = record { long = b .long ∙ a .long; same = λ k l. b .same k l ∙ a .same k l }
 
--- each edge is held for the edges of the pattern of its kind whose ends have its own as partners, by the rule r
-pub record ListsCodes (r : Rule) (p : Given) (s : List ℕ) (n m : ℕ) (w w′ : List ℕ) : Type 0 where
-  pub edges : Edges w w′
-  pub say : (i e : ℕ) → i < m → e < p .edges → T (bit (getD w′ (8192 + i) 0) e)
+-- each edge is held for the edges of the pattern, whose bits begin at o, of its kind whose ends have its own as partners, by the rule r
+pub record ListsCodes (r : Rule) (p : Given) (o : ℕ) (s : List ℕ) (n m : ℕ) (w w′ : List ℕ) : Type 0 where
+  pub say : (i e : ℕ) → i < m → e < p .edges → T (bit (getD w′ (8192 + i) 0) (o + e))
       → In (getD (p .from) e 0, getD w i 0 / 4096 % 4096) (sim (ruled r (patternIn p)) (graphIn s n m w))
       × In (getD (p .to) e 0, getD w i 0 % 4096) (sim (ruled r (patternIn p)) (graphIn s n m w))
-  pub by : (i e : ℕ) → i < m → OfKind (p .kind) (p .edges) (kindOf w i) e
+  pub by : (i e : ℕ) → i < m → e < p .edges → getD (p .kind) e 0 ≡ kindOf w i
       → In (getD (p .from) e 0, getD w i 0 / 4096 % 4096) (sim (ruled r (patternIn p)) (graphIn s n m w))
-      → In (getD (p .to) e 0, getD w i 0 % 4096) (sim (ruled r (patternIn p)) (graphIn s n m w)) → T (bit (getD w′ (8192 + i) 0) e)
-  pub only : (i e : ℕ) → i < m → T (bit (getD w′ (8192 + i) 0) e) → OfKind (p .kind) (p .edges) (kindOf w i) e
+      → In (getD (p .to) e 0, getD w i 0 % 4096) (sim (ruled r (patternIn p)) (graphIn s n m w)) → T (bit (getD w′ (8192 + i) 0) (o + e))
+  pub only : (i e : ℕ) → i < m → e < p .edges → T (bit (getD w′ (8192 + i) 0) (o + e)) → getD (p .kind) e 0 ≡ kindOf w i
+
+-- edges that are marked with an edge of the batch are of its kind, so under each the codes ascend
+pub pairs-marked : {s : List ℕ} {n m : ℕ} {w w₂ : List ℕ} → Ready s n m w → Rises m w → Edges w w₂ → (kinds : List ℕ)
+    → ((i e : ℕ) → i < m → T (bit (getD w₂ (8192 + i) 0) e) → getD kinds e 0 ≡ kindOf w i) → MarkedPairs m w₂
+pairs-marked {s} {n} {m} {w} {w₂} ready rises edges kinds only =
+    let b = ready .edges in
+    let o : length w₂ ≡ 16384 = edges .long ∙ ready .long in
+    let named : (e i : ℕ) → i < m → marks e (getD w₂ (8192 + i) 0) ≡ true → getD kinds e 0 ≡ kindOf w i =
+    λ e i h z. only i e h (subst T (sym (sym (marks-bit e (getD w₂ (8192 + i) 0)) ∙ z)) tt) in
+    record {
+      long = omega arith;
+      most = ready .edges;
+      rises = λ i j e l h y z.
+          rw (edges .same i (omega arith), edges .same j (omega arith))
+          (rank-less (getD w i 0) (getD w j 0) (sym (named e i (omega arith) y) ∙ named e j h z) (rises i j l h));
+    }
 
 -- ---- the match sets
 sound-ruled : (r : Rule) (P : Pattern) → T (sound P) → T (sound (ruled r P))
 unfolding sound
 sound-ruled r P t = t
 
-module _ {way : Rule} {p : Given} {s : List ℕ} {n m : ℕ} {w w₂ : List ℕ} (ready : Ready s n m w) (k : ListsCodes way p s n m w w₂) where
+module _ {way : Rule} {p : Given} {o : ℕ} {s : List ℕ} {n m : ℕ} {w w₂ : List ℕ} (ready : Ready s n m w) (edges : Edges w w₂) (pairs : MarkedPairs m w₂) (k : ListsCodes way p o s n m w w₂) where
   abbrev P : Pattern
   P = ruled way (patternIn p)
 
@@ -144,45 +165,43 @@ module _ {way : Rule} {p : Given} {s : List ℕ} {n m : ℕ} {w w₂ : List ℕ}
   abbrev passes : ℕ → Edge → Bool
   passes e f = eqb (f .kind) (givenEdge p e .kind) and (has (givenEdge p e .from, f .from) (sim P G) and has (givenEdge p e .to, f .to) (sim P G))
 
-  long : length w₂ ≡ 16384
-  long = k .edges .long ∙ ready .long
-
   -- the mask of an edge names an edge of the pattern exactly if both have one kind and their ends are partners
-  test : (e i : ℕ) → e < p .edges → i < m → bit (getD w₂ (8192 + i) 0) e ≡ passes e (edge i)
+  test : (e i : ℕ) → e < p .edges → i < m → bit (getD w₂ (8192 + i) 0) (o + e) ≡ passes e (edge i)
   test e i l h =
       same-test _ _
       (λ z.
       let r = k .say i e h l z in
-      both _ _ (subst (λ (x : ℕ). T (eqb (kindOf w i) x)) (sym (k .only i e h z .1)) (eqb-refl (kindOf w i))) (both _ _ (in-has (r .0)) (in-has (r .1))))
+      both _ _ (subst (λ (x : ℕ). T (eqb (kindOf w i) x)) (sym (k .only i e h l z)) (eqb-refl (kindOf w i))) (both _ _ (in-has (r .0)) (in-has (r .1))))
       (λ z.
       let r = and-right _ _ z in
-      k .by i e h (l, sym (eqb→eq (kindOf w i) (getD (p .kind) e 0) (and-left _ _ z))) (has-in _ (and-left _ _ r)) (has-in _ (and-right _ _ r)))
+      k .by i e h l (sym (eqb→eq (kindOf w i) (getD (p .kind) e 0) (and-left _ _ z))) (has-in _ (and-left _ _ r)) (has-in _ (and-right _ _ r)))
 
-  named : (e i : ℕ) → i < m → marks e (getD w₂ (8192 + i) 0) ≡ true → getD (p .kind) e 0 ≡ kindOf w i
-  named e i h z = k .only i e h (subst T (sym (sym (marks-bit e (getD w₂ (8192 + i) 0)) ∙ z)) tt) .1
+  edge-row : (e : ℕ) → e < p .edges → distinct (marked (o + e) (codesOf m w₂) (masksOf m w₂)) ≡ ascending (row G (sim P G) (givenEdge p e))
+  unfolding row graphIn
+  edge-row e l =
+      row-marked pairs (o + e) edge asPair (passes e) (λ i h. test e i l h)
+      (λ i h. let b = ready .edges in ap pairIn (edges .same i (omega arith)) ∙ pair-code (getD w i 0))
 
-  module _ (proper : Proper p) (rises : Rises m w) where
-    pairs-marked : MarkedPairs m w₂
-    pairs-marked =
-        let b = ready .edges in
-        let o = long in
-        record {
-          long = omega arith;
-          most = ready .edges;
-          rises = λ i j e l h y z.
-              rw (k .edges .same i (omega arith), k .edges .same j (omega arith))
-              (rank-less (getD w i 0) (getD w j 0) (sym (named e i (omega arith) y) ∙ named e j h z) (rises i j l h));
-        }
+  edge-sets : Proper p → matchesFrom o m (p .edges) w₂ ≡ matchSets P G
+  unfolding patternIn
+  edge-sets proper =
+      sets-marked-from pairs o (p .edges) (givenEdge p) (row G (sim P G)) edge-row ∙ sym (sets-all-or-none P G (sound-ruled way (patternIn p) (proper .sound)))
 
-    edge-row : (e : ℕ) → e < p .edges → distinct (marked e (codesOf m w₂) (masksOf m w₂)) ≡ ascending (row G (sim P G) (givenEdge p e))
-    unfolding row graphIn
-    edge-row e l =
-        row-marked pairs-marked e edge asPair (passes e) (λ i h. test e i l h)
-        (λ i h. let b = ready .edges in ap pairIn (k .edges .same i (omega arith)) ∙ pair-code (getD w i 0))
+  pub matches : Proper p → PartMatched way p o s n m w w₂
+  matches proper = record { sets = edge-sets proper; only = k .only }
 
-    edge-sets : matchesOf m (p .edges) w₂ ≡ matchSets P G
-    unfolding patternIn
-    edge-sets = sets-marked pairs-marked (p .edges) (givenEdge p) (row G (sim P G)) edge-row ∙ sym (sets-all-or-none P G (sound-ruled way (patternIn p) (proper .sound)))
-
-    pub matches : EdgesMatched way p s n m w w₂
-    matches = record { edges = k .edges; marked = pairs-marked; sets = edge-sets; only = λ i e h l. k .only i e h }
+-- a batch of one pattern
+pub alone : {b : Batch} {way : Rule} {p : Given} {a o : ℕ} {s : List ℕ} {n m : ℕ} {w w₂ : List ℕ} → BatchMatched b s n m w w₂ → PartOf b way p a o → Fair p → Proper p → o ≡ 0
+    → b .edges ≡ o + p .edges → EdgesMatched way p s n m w w₂
+alone {b} {way} {p} {a} {o} {s} {n} {m} {w} {w₂} B part fair proper z q =
+    let r = B .parts way p a o part fair proper in
+    record {
+      edges = B .edges;
+      marked = B .marked;
+      sets = subst (λ (x : ℕ). matchesFrom x m (p .edges) w₂ ≡ matchSets (ruled way (patternIn p)) (graphIn s n m w)) z (r .sets);
+      only = λ i e l h t.
+          (let x = B .within i e l t in
+          let y : e < p .edges = omega arith in
+          let k : e ≡ o + e = omega arith in
+          (y, r .only i e l y (subst (λ (j : ℕ). T (bit (getD w₂ (8192 + i) 0) j)) k t)));
+    }

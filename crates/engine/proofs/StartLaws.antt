@@ -9,10 +9,10 @@ use lib.Seq.{getD-set-same, getD-set-other}
 use lib.Bits.{bitAnd, bitOr, bitXor}
 use lib.Count.{trailingZeros}
 use Rattle.packed.specs.Bits.{field}
-use Rattle.packed.specs.declared.by_value.Pattern.{Pattern as Given}
 use Rattle.packed.proofs.OrderCases.{lt-or-ge, eq-or-ne}
 use Rattle.packed.proofs.ByValueLaws.{nothing-at}
-use Rattle.engine.specs.Loaded.{Fair}
+use Rattle.engine.specs.declared.batch.Batch.{Batch}
+use Rattle.engine.specs.Batches.{FairBatch}
 use Rattle.engine.specs.Masks.{Has, Mask, OneOf}
 use Rattle.engine.specs.Sweeping.{kindOf}
 use Rattle.engine.specs.Starting.{NodeRoom, OfKind, ByKind, KindsHeld, ByLabel, OfLabels, Allowed, LinksSpread}
@@ -163,12 +163,12 @@ taken-end t x left m z =
     (λ k o. record { at = o .at; below = o .below; holds = (o .holds .0, (λ h. none-has (o .at) (subst (λ (y : ℕ). Has y (o .at)) z h)), o .holds .1) })
     m
 
--- what the pattern's ranges say of the labels at the ends of its links
-module _ {p : Given} (fair : Fair p) (ends : List ℕ) (in-range : (e : ℕ) → e < p .edges → getD ends e 0 < p .nodes) where
-  pub ends-few : (e : ℕ) → e < p .edges → getD ends e 0 < 16
-  ends-few e l = let a = in-range e l in let b = fair .nodes in omega arith
+-- what the batch's ranges say of the labels at the ends of its links
+module _ {b : Batch} (fair : FairBatch b) (ends : List ℕ) (in-range : (e : ℕ) → e < b .edges → getD ends e 0 < b .nodes) where
+  pub ends-few : (e : ℕ) → e < b .edges → getD ends e 0 < 64
+  ends-few e l = let x = in-range e l in let y = fair .nodes in omega arith
 
-  pub labels-few : (e : ℕ) → e < p .edges → getD (p .labels) (getD ends e 0) 0 < 32
+  pub labels-few : (e : ℕ) → e < b .edges → getD (b .labels) (getD ends e 0) 0 < 32
   labels-few e l = fair .labels _ (in-range e l)
 
 -- ---- the nodes below v have what the tables have for their labels
@@ -195,15 +195,15 @@ module _ (s : List ℕ) (n used : ℕ) (leaving arriving : List ℕ) where
           outs = filling-more 0 n _ (h .outs) v 0 l (omega arith) (omega arith) refl;
         }
 
-    -- the tables are those of a pattern
-    pub spreading-end : {p : Given} → Fair p → ByLabel (p .labels) (p .from) (p .edges) leaving → ByLabel (p .labels) (p .to) (p .edges) arriving
-        → ((u : ℕ) → u < p .nodes → Has used (getD (p .labels) u 0)) → n ≤ v → LinksSpread p s n leave₀ arrive₀ out₀ leave arrive out
-    spreading-end {p} fair A B u l =
+    -- the tables are those of a batch
+    pub spreading-end : {b : Batch} → FairBatch b → ByLabel (b .labels) (b .from) (b .edges) leaving → ByLabel (b .labels) (b .to) (b .edges) arriving
+        → ((u : ℕ) → u < b .nodes → Has used (getD (b .labels) u 0)) → n ≤ v → LinksSpread b s n leave₀ arrive₀ out₀ leave arrive out
+    spreading-end {b} fair X Y u l =
         record {
           leaves = filling-around 0 n _ (h .leaves) l;
           arrives = filling-around 0 n _ (h .arrives) l;
           outs = filling-around 0 n _ (h .outs) l;
-          leave-each = λ j q. allowed-by (p .labels) (p .from) _ used A (labels-few fair (p .from) (fair .from)) (λ e i. u _ (fair .from e i)) (filling-front n _ (h .leaves) l j q);
-          arrive-each = λ j q. allowed-by (p .labels) (p .to) _ used B (labels-few fair (p .to) (fair .to)) (λ e i. u _ (fair .to e i)) (filling-front n _ (h .arrives) l j q);
+          leave-each = λ j q. allowed-by (b .labels) (b .from) _ used X (labels-few fair (b .from) (fair .from)) (λ e i. u _ (fair .from e i)) (filling-front n _ (h .leaves) l j q);
+          arrive-each = λ j q. allowed-by (b .labels) (b .to) _ used Y (labels-few fair (b .to) (fair .to)) (λ e i. u _ (fair .to e i)) (filling-front n _ (h .arrives) l j q);
           clear = filling-front n _ (h .outs) l;
         }

@@ -27,6 +27,7 @@ use Rattle.packed.proofs.AcceptedBounds.{Bounded, plain-bounded, patternsIn-fla
 use Rattle.packed.proofs.CallLaws.{front-is}
 use Rattle.engine.specs.Lists.{In}
 use Rattle.engine.specs.Matched.{PatternAt, ViewAt}
+pub use Rattle.engine.specs.Matched.{Follow, none-follow, next-follows, Ahead}
 use Rattle.engine.specs.declared.views.View.{View}
 use Rattle.engine.proofs.ListLaws.{not-in-none, in-cases}
 
@@ -91,16 +92,6 @@ pub view-refused : {A : Type 0} {s : List ℕ} {byte file : ℕ} {x : Refusal} �
 view-refused q ws end a = absurd (let n = q .number in let e = a .reads in let z : _≡_ {A = ℕ} 0 1 = cc in omega arith)
 
 -- ---- the views one after the other
--- bits that are patterns with these contents, each up to a whole byte
-pub data Follow : List Bool → List (List ℕ) → Type 0 where
-  none-follow : Follow [] []
-  next-follows : {bs rest : List Bool} {v : List ℕ} {vs : List (List ℕ)} → Whole PlainPattern v bs → Follow rest vs → Follow (bs ++ rest) (v ∷ vs)
-
--- the same from a byte on, which s reaches if there is one: an empty catalogue has no byte, and its views are looked for from byte 1 on
-pub record Ahead (s : List ℕ) (byte : ℕ) (vs : List (List ℕ)) : Type 0 where
-  pub inside : 0 < length vs → byte ≤ length s
-  pub follow : Follow (drop (8 * byte) (bits s)) vs
-
 -- the first of them
 record First (bs : List Bool) (v : List ℕ) (vs : List (List ℕ)) : Type 0 where
   own : List Bool

@@ -6,6 +6,7 @@ pub mod Index
 pub mod Loaded
 pub mod Masks
 pub mod Matched
+pub mod Batches
 pub mod Sweeping
 pub mod Rounds
 pub mod Rows

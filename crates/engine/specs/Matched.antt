@@ -1,14 +1,15 @@
--- inner: what matching a pattern leaves in the workspace, and a view of an accepted catalogue by value.
+-- inner: what matching a pattern leaves in the workspace, and the views of an accepted catalogue, one by value.
 use Prim.Native.Nat.{ℕ, _+_, _*_, _<_, _≤_}
 use mathlib.Core.Path.{_≡_}
 use mathlib.Core.Bool.{Bool, cond}
-use mathlib.Core.List.{List}
+use mathlib.Core.List.{List, [], _∷_, _++_}
 use lib.ListN.{length, drop, getD}
 use lib.Dec.{T}
 use Rattle.packed.specs.Bits.{bits}
 use Rattle.packed.specs.Format.{whole, got}
 use Rattle.packed.specs.Formats.{pattern}
 use Rattle.packed.specs.Contents.{wordKind, wordRank}
+use Rattle.packed.specs.Plain.{PlainPattern, Whole}
 use Rattle.packed.specs.ByValue.{HoldsPattern}
 use Rattle.packed.specs.Reading.{from}
 use Rattle.packed.specs.Matches.{matchesOf}
@@ -53,3 +54,13 @@ pub record PatternAt (s : List ℕ) (byte : ℕ) (ws : List ℕ) (end : ℕ) : T
 -- the pattern from a byte on, if one is there: its fields by value, and the byte after it
 abbrev pub ViewAt : List ℕ → ℕ → View → Type 0
 ViewAt s byte r = (ws : List ℕ) (end : ℕ) → PatternAt s byte ws end → HoldsPattern ws (r .pattern) × (8 * r .next ≡ end)
+
+-- bits that are patterns with these contents, each up to a whole byte
+pub data Follow : List Bool → List (List ℕ) → Type 0 where
+  none-follow : Follow [] []
+  next-follows : {bs rest : List Bool} {v : List ℕ} {vs : List (List ℕ)} → Whole PlainPattern v bs → Follow rest vs → Follow (bs ++ rest) (v ∷ vs)
+
+-- the same from a byte on, which s reaches if there is one: an empty catalogue has no byte, and its views are looked for from byte 1 on
+pub record Ahead (s : List ℕ) (byte : ℕ) (vs : List (List ℕ)) : Type 0 where
+  pub inside : 0 < length vs → byte ≤ length s
+  pub follow : Follow (drop (8 * byte) (bits s)) vs

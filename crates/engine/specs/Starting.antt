@@ -5,9 +5,9 @@ use mathlib.Core.List.{List}
 use lib.ListN.{length, getD}
 use Rattle.packed.specs.Bits.{field}
 use Rattle.packed.specs.Order.{Outside}
-use Rattle.packed.specs.declared.by_value.Pattern.{Pattern as Given}
 use Rattle.engine.specs.Masks.{Has, Mask, OneOf}
 use Rattle.engine.specs.Sweeping.{kindOf, heldAt}
+use Rattle.engine.specs.declared.batch.Batch.{Batch}
 
 -- the lent arrays have room for n nodes, and nothing from n on
 pub record NodeRoom (n : ℕ) (leave arrive out : List ℕ) : Type 0 where
@@ -44,11 +44,11 @@ OfLabels t x r = Mask (λ e. OneOf 32 (λ l. Has x l × Has (getD t l 0) e)) r
 abbrev pub Allowed : List ℕ → List ℕ → ℕ → ℕ → ℕ → Type 0
 Allowed labels ends m x e = (e < m) × Has x (getD labels (getD ends e 0) 0)
 
--- each of n nodes of the record s has the links that its labels allow to leave it and to arrive at it
-pub record LinksSpread (p : Given) (s : List ℕ) (n : ℕ) (leave arrive out leave′ arrive′ out′ : List ℕ) : Type 0 where
+-- each of n nodes of the record s has the links of the batch that its labels allow to leave it and to arrive at it
+pub record LinksSpread (b : Batch) (s : List ℕ) (n : ℕ) (leave arrive out leave′ arrive′ out′ : List ℕ) : Type 0 where
   pub leaves : Outside 0 n leave leave′
   pub arrives : Outside 0 n arrive arrive′
   pub outs : Outside 0 n out out′
-  pub leave-each : (v : ℕ) → v < n → Mask (Allowed (p .labels) (p .from) (p .edges) (field s (27 + 32 * v) 32)) (getD leave′ v 0)
-  pub arrive-each : (v : ℕ) → v < n → Mask (Allowed (p .labels) (p .to) (p .edges) (field s (27 + 32 * v) 32)) (getD arrive′ v 0)
+  pub leave-each : (v : ℕ) → v < n → Mask (Allowed (b .labels) (b .from) (b .edges) (field s (27 + 32 * v) 32)) (getD leave′ v 0)
+  pub arrive-each : (v : ℕ) → v < n → Mask (Allowed (b .labels) (b .to) (b .edges) (field s (27 + 32 * v) 32)) (getD arrive′ v 0)
   pub clear : (v : ℕ) → v < n → getD out′ v 0 ≡ 0

@@ -1,8 +1,8 @@
 // The tables by groups of four links: word 16 g + s has the links that meet those of the group g that the four bits s name.
 ghost use mathlib.Core.Path.{_≡_};
-ghost use Prim.Native.Nat.{_+_, _*_, _/_, _%_, _<_, _≤_};
+ghost use Prim.Native.Nat.{ℕ, _+_, _*_, _/_, _%_, _<_, _≤_};
 ghost use lib.ListN.{replicate};
-ghost use Rattle.engine.specs.Masks.{Mask};
+ghost use Rattle.engine.specs.Masks.{Has, Mask};
 ghost use Rattle.engine.specs.Sweeping.{Tabled};
 ghost use Rattle.engine.specs.Simulation.{bothWays};
 ghost use Rattle.engine.specs.Matched.{ruleOf};
@@ -97,15 +97,15 @@ pub fn table(a: &[u32; 32], b: &[u32; 32], m: usize) -> [u32; 128]
     t
 }
 
-// The table for links as they arrive, where they are asked; else nothing is looked up in it.
-pub fn table_if(both: bool, a: &[u32; 32], b: &[u32; 32], m: usize) -> [u32; 128]
+// The table for links as they arrive, where any of back are asked; else nothing is looked up in it.
+pub fn table_if(back: u32, a: &[u32; 32], b: &[u32; 32], m: usize) -> [u32; 128]
     requires { ⌜ m ≤ 32 ⌝ }
-    ensures { λ r. ⌜ (ruleOf both ≡ bothWays → Tabled (now (a .entry)) (now (b .entry)) m r) ⌝ }
+    ensures { λ r. ⌜ ((e : ℕ) → Has back e → Tabled (now (a .entry)) (now (b .entry)) m r) ⌝ }
 {
-    if both {
-        return table(a, b, m);
+    if back == 0 {
+        return no_table();
     }
-    no_table()
+    table(a, b, m)
 }
 
 // All m links.
@@ -120,13 +120,15 @@ pub fn all(m: usize) -> u32
     0xffff_ffff >> less
 }
 
-// The links that are asked as they arrive: all, or none.
-pub fn asked(both: bool, m: usize) -> u32
-    requires { ⌜ m ≤ 32 ⌝ }
-    ensures { λ r. ⌜ Mask (λ e. (ruleOf both ≡ bothWays) × (e < m)) r ⌝ }
+// The links that are asked as they arrive: all of the m from o on, or none.
+pub fn asked(both: bool, o: usize, m: usize) -> u32
+    requires { ⌜ o + m ≤ 32 ⌝ }
+    ensures { λ r. ⌜ Mask (λ e. (ruleOf both ≡ bothWays) × (o ≤ e) × (e < o + m)) r ⌝ }
 {
     if both {
-        return all(m);
+        let upto = all(o + m);
+        let before = all(o);
+        return upto ^ (upto & before);
     }
     0
 }

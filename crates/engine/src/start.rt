@@ -2,12 +2,12 @@
 ghost use mathlib.Core.Path.{_≡_};
 ghost use Prim.Native.Nat.{ℕ, _+_, _*_, _^_, _<_, _≤_};
 ghost use lib.ListN.{length, getD, replicate};
-ghost use Rattle.engine.specs.Loaded.{Fair};
 ghost use Rattle.engine.specs.Masks.{Has, Mask, OneOf};
 ghost use Rattle.engine.specs.Sweeping.{kindOf};
 ghost use Rattle.engine.specs.Starting.{NodeRoom, ByKind, KindsHeld, ByLabel, OfLabels, LinksSpread};
+ghost use Rattle.engine.specs.Batches.{FairBatch};
+use crate::batch::Batch;
 use packed::by_value;
-use packed::by_value::Pattern;
 use packed::limits;
 
 fn no_kinds() -> [u32; 8]
@@ -62,8 +62,8 @@ pub fn hold(work: &mut [u32], d: usize, kinds: &[u32; 32], m: usize)
 }
 
 // For each label the links below m at whose end it stands.
-fn by_label(labels: &[u32; 16], ends: &[u32; 32], m: usize) -> [u32; 32]
-    requires { ⌜ (m ≤ 32) × ((e : ℕ) → e < m → getD (now ends) e 0 < 16) × ((e : ℕ) → e < m → getD (now labels) (getD (now ends) e 0) 0 < 32) ⌝ }
+fn by_label(labels: &[u32; 64], ends: &[u32; 32], m: usize) -> [u32; 32]
+    requires { ⌜ (m ≤ 32) × ((e : ℕ) → e < m → getD (now ends) e 0 < 64) × ((e : ℕ) → e < m → getD (now labels) (getD (now ends) e 0) 0 < 32) ⌝ }
     ensures { λ r. ⌜ ByLabel (now (labels .entry)) (now (ends .entry)) m r ⌝ }
 {
     let mut t = no_links();
@@ -78,9 +78,9 @@ fn by_label(labels: &[u32; 16], ends: &[u32; 32], m: usize) -> [u32; 32]
     t
 }
 
-// The labels of the pattern's nodes.
-fn labels_used(labels: &[u32; 16], n: usize) -> u32
-    requires { ⌜ (n ≤ 16) × ((u : ℕ) → u < n → getD (now labels) u 0 < 32) ⌝ }
+// The labels of the batch's nodes.
+fn labels_used(labels: &[u32; 64], n: usize) -> u32
+    requires { ⌜ (n ≤ 64) × ((u : ℕ) → u < n → getD (now labels) u 0 < 32) ⌝ }
     ensures { λ r. ⌜ Mask (λ l. OneOf n (λ u. getD (now (labels .entry)) u 0 ≡ l)) r ⌝ }
 {
     let mut r: u32 = 0;
@@ -124,23 +124,16 @@ fn links_of(leaving: &[u32; 32], arriving: &[u32; 32], x: u32) -> Links
 }
 
 // Each of n nodes of a record gets the links that its labels allow; nothing is held there yet.
-pub fn spread(
-    s: &[u8],
-    n: usize,
-    p: Pattern,
-    leave: &mut [u32],
-    arrive: &mut [u32],
-    held: &mut [u32],
-)
-    requires { ⌜ Fair p × (length (now s) ≤ 65536) × (27 + 32 * n ≤ 8 * length (now s)) × NodeRoom n (now leave) (now arrive) (now held) ⌝ }
-    ensures { λ r. ⌜ LinksSpread p (now (s .entry)) n (now (leave .entry)) (now (arrive .entry)) (now (held .entry)) (now (leave .exit)) (now (arrive .exit)) (now (held .exit)) ⌝ }
+pub fn spread(s: &[u8], n: usize, b: Batch, leave: &mut [u32], arrive: &mut [u32], held: &mut [u32])
+    requires { ⌜ FairBatch b × (length (now s) ≤ 65536) × (27 + 32 * n ≤ 8 * length (now s)) × NodeRoom n (now leave) (now arrive) (now held) ⌝ }
+    ensures { λ r. ⌜ LinksSpread b (now (s .entry)) n (now (leave .entry)) (now (arrive .entry)) (now (held .entry)) (now (leave .exit)) (now (arrive .exit)) (now (held .exit)) ⌝ }
 {
-    let labels = p.labels;
-    let from = p.from;
-    let to = p.to;
-    let leaving = by_label(&labels, &from, p.edges);
-    let arriving = by_label(&labels, &to, p.edges);
-    let used = labels_used(&labels, p.nodes);
+    let labels = b.labels;
+    let from = b.from;
+    let to = b.to;
+    let leaving = by_label(&labels, &from, b.edges);
+    let arriving = by_label(&labels, &to, b.edges);
+    let used = labels_used(&labels, b.nodes);
     let mut v: usize = 0;
     while v < n {
         let x = by_value::labels_at(s, v);

@@ -1,6 +1,6 @@
 -- The answers of the calls, once the files were accepted; a pattern that was accepted, by value.
 use Prim.Native.Nat.{ℕ, _+_, _<_, _≤_}
-use mathlib.Core.Path.{_≡_, refl, sym, ap, _∙_}
+use mathlib.Core.Path.{_≡_, refl, sym, ap, subst, _∙_}
 use mathlib.Core.List.{List, [], _∷_}
 use lib.ListN.{length}
 use native.Mathlib.Omega.{arith}
@@ -9,7 +9,7 @@ use Rattle.packed.specs.Format.{ok, decode}
 use Rattle.packed.specs.Formats.{pattern, record′}
 use Rattle.packed.specs.Plain.{PlainPattern}
 use Rattle.packed.specs.ByValue.{HoldsPattern}
-use Rattle.packed.specs.Refusals.{told, replyTold}
+use Rattle.packed.specs.Refusals.{Told, told, replyTold}
 use Rattle.packed.specs.declared.reply.Refusal.{Refusal}
 use Rattle.packed.specs.declared.reply.Refusal.the-variants.{NoRoom}
 use Rattle.packed.specs.declared.reply.Reply.{Reply}
@@ -49,6 +49,10 @@ book-found {s} {n} {m} {w} o room l h =
     judged-accepted (λ rs. fitFile room (bookBytes (viewSheets o (graphOf rs)))) (accepted-by (read-finds 44036 3 record′ s l) (h .is))
     ∙ ap (λ (x : List (List (List ℕ))). fitFile room (bookBytes x))
     (each-same (λ P. viewSheet P (graphOf (h .fields))) (λ P. viewSheet P (graphIn s n m w)) (viewPatterns o) (λ P i. view-same P (graphOf (h .fields)) (graphIn s n m w) (sym (sets-same h P))))
+
+pub book-fulfilled : {s : List ℕ} {n m : ℕ} {w : List ℕ} (o : Offered) {r : Told} {out out′ : List ℕ} → length s ≤ 44036 → Holds s n m w
+    → FulfilsOne (fitFile (length out) (bookIn o s n m w)) r out out′ → FulfilsOne (bookFor o s (length out)) r out out′
+book-fulfilled o {r} {out} {out′} l h f = subst (λ (a : Outcome). FulfilsOne a r out out′) (sym (book-found o (length out) l h)) f
 
 -- ---- the same of the calls with an index
 module _ {s : List ℕ} {n m : ℕ} {w : List ℕ} (l : length s ≤ 44036) (h : Holds s n m w) where

@@ -27,6 +27,7 @@ pub mod OfferedLaws
 pub mod SheetBytes
 pub mod BookBytes
 pub mod BookLaws
+pub mod BatchLaws
 pub mod AnswerFits
 -- a link that enters
 pub mod EnteringLaws

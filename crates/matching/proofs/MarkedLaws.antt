@@ -1,32 +1,34 @@
 -- What the mask of an edge in the workspace says of the lists: the edge matches exactly those edges of the pattern that its mask names.
-use Prim.Native.Nat.{ℕ, zero, suc, _+_, _/_, _^_, _<_}
-use mathlib.Core.Path.{_≡_, refl, sym, ap, subst, _∙_}
+use Prim.Native.Nat.{ℕ, zero, suc, _+_, _/_, _%_, _^_, _<_}
+use mathlib.Core.Path.{_≡_, refl, sym, ap, ap₂, subst, _∙_}
 use mathlib.Core.Bool.{Bool, true, false, not, _&&_}
 use mathlib.Core.Logic.{_⊎_, inl, inr, ⊎-elim}
 use mathlib.Core.List.{List, [], _∷_}
 use lib.ListN.{length, take, drop, getD, length-map, List·getD-map}
 use lib.Seq.{getD-take, getD-drop, length-take-le}
 use lib.Dec.{T, eqb}
+use lib.Pow.{pow-pos}
 use native.Mathlib.Omega.{arith}
-use native.Mathlib.Nat.{lt-irrefl}
+use native.Mathlib.Nat.{lt-irrefl, mod-lt}
 use borrow.Author.Tests.{eqb-true, eqb-false}
 use Rattle.packed.specs.Format.{pick}
 use Rattle.packed.specs.Formats.{code}
 use Rattle.packed.specs.Contents.{wordKind, wordRank}
-use Rattle.packed.specs.Matches.{marks, marked, markedFrom, anyEmpty, emptied, allOrNone, pairIn, codesOf, masksOf, matchesOf}
+use Rattle.packed.specs.Matches.{marks, marked, markedFrom, anyEmpty, emptied, allOrNone, pairIn, codesOf, masksOf, matchesFrom}
 use Rattle.packed.specs.Matches.{Marked as MarkedPairs}
 use Rattle.packed.specs.declared.by_value.Pattern.{Pattern as Given}
 use Rattle.packed.proofs.OrderCases.{trichotomy}
+use Rattle.packed.proofs.SetBits.{bit-low}
 use Rattle.engine.specs.Lists.{In, here, there}
 use Rattle.engine.specs.Simulation.{Edge, noEdge, bit}
 use Rattle.engine.specs.Loaded.{givenEdge, edgeOfWord, patternIn, Fair}
 use Rattle.engine.specs.Masks.{Has, OneOf}
 use Rattle.engine.specs.Matched.{Rises}
 use Rattle.matching.specs.Join.{isMatch, someMatch}
-use Rattle.matching.specs.Asking.{listedAt}
+use Rattle.matching.specs.Asking.{listedBy}
 use Rattle.engine.proofs.ListLaws.{same-test, not-in-none, in-cases, in-cast}
 use Rattle.engine.proofs.UpToLaws.{length-upTo, getD-upTo}
-use Rattle.engine.proofs.MaskBits.{none-has, lowest-has}
+use Rattle.engine.proofs.MaskBits.{has-say, has-by, none-has, above-say, above-by, lowest-has}
 use Rattle.engine.proofs.MatchedLaws.{marks-bit}
 use Rattle.engine.proofs.RankLaws.{pair-code}
 use Rattle.matching.proofs.JoinLaws.{match-say, match-by, some-match-say, some-match-by}
@@ -108,9 +110,17 @@ positive : (x : ℕ) → (x ≡ 0 → ⊥) → 0 < x
 positive zero n = absurd (n refl)
 positive (suc x) n = omega arith
 
--- ---- the masks, which name edges of the pattern p alone, each of the kind of the word
-module _ {p : Given} {m : ℕ} {w : List ℕ} (fair : Fair p) (mk : MarkedPairs m w) (rises : Rises m w)
-    (within : (i f : ℕ) → i < m → f < 32 → Has (getD w (8192 + i) 0) f → (f < p .edges) × (getD (p .kind) f 0 ≡ wordKind (getD w i 0))) where
+-- ---- some of a mask's bits
+module _ (x o k : ℕ) where
+  part-say : (f : ℕ) → f < k → Has (x / 2 ^ o % 2 ^ k) f → Has x (o + f)
+  part-say f h t = above-say x o f (has-by (x / 2 ^ o) f (sym (bit-low (x / 2 ^ o) k f h) ∙ has-say (x / 2 ^ o % 2 ^ k) f t))
+
+  part-by : (f : ℕ) → f < k → Has x (o + f) → Has (x / 2 ^ o % 2 ^ k) f
+  part-by f h t = has-by (x / 2 ^ o % 2 ^ k) f (bit-low (x / 2 ^ o) k f h ∙ has-say (x / 2 ^ o) f (above-by x o f t))
+
+-- ---- the masks, whose bits from o on name the edges es, each of the kind of the word
+module _ (es : List Edge) (o : ℕ) {m : ℕ} {w : List ℕ} (mk : MarkedPairs m w) (rises : Rises m w)
+    (only : (i f : ℕ) → i < m → f < length es → Has (getD w (8192 + i) 0) (o + f) → getD es f noEdge .kind ≡ wordKind (getD w i 0)) where
   abbrev codes : List ℕ
   codes = codesOf m w
 
@@ -145,64 +155,73 @@ module _ {p : Given} {m : ℕ} {w : List ℕ} (fair : Fair p) (mk : MarkedPairs 
     abbrev mask : ℕ
     mask = getD w (8192 + i) 0
 
-    -- it matches an edge of the pattern exactly if its mask names that
-    pub match-test : (f : ℕ) → f < p .edges → isMatch (edgeOfWord (getD w i 0)) (givenEdge p f) (marked f (codesOf m w) (masksOf m w)) ≡ bit (getD w (8192 + i) 0) f
-    match-test f h =
-        let k : f < 32 = omega (arith, fair .edges) in
+    -- it matches one of the edges exactly if its mask names that
+    pub part-test : (f : ℕ) → f < length es → isMatch (edgeOfWord (getD w i 0)) (getD es f noEdge) (marked (o + f) (codesOf m w) (masksOf m w)) ≡ bit (getD w (8192 + i) 0) (o + f)
+    part-test f h =
         same-test _ _
         (λ t.
-        let s = match-say edge (givenEdge p f) (marked f codes masks) t in
-        let c = marked-say f codes masks (s .1) in
+        let s = match-say edge (getD es f noEdge) (marked (o + f) codes masks) t in
+        let c = marked-say (o + f) codes masks (s .1) in
         let j : c .at < m = omega (arith, c .below, codes-long) in
-        let d = within (c .at) f j k (named (c .at) f j (c .holds .0)) .1 in
+        let d = only (c .at) f j h (named (c .at) (o + f) j (c .holds .0)) in
         let a : pairIn (getD w (c .at) 0) ≡ pairIn (getD w i 0) = sym (c .holds .1 ∙ code-at (c .at) j) ∙ sym (pair-code (getD w i 0)) in
         let b : getD w (c .at) 0 / 2 ^ 24 ≡ getD w i 0 / 2 ^ 24 = sym d ∙ s .0 in
-        subst (λ (j : ℕ). Has (getD w (8192 + j) 0) f) (alone i (c .at) below j (omega (arith, a, b))) (named (c .at) f j (c .holds .0)))
+        subst (λ (j : ℕ). Has (getD w (8192 + j) 0) (o + f)) (alone i (c .at) below j (omega (arith, a, b))) (named (c .at) (o + f) j (c .holds .0)))
         (λ t.
-        let y : T (marks f (getD masks i 0)) = subst (λ (z : ℕ). T (marks f z)) (sym (mask-at i below)) (subst T (sym (marks-bit f mask)) t) in
-        match-by edge (givenEdge p f) (within i f below k t .1)
-        (in-cast (code-at i below ∙ pair-code (getD w i 0)) (marked-by f codes masks i (omega (arith, codes-long)) y)))
+        let y : T (marks (o + f) (getD masks i 0)) = subst (λ (z : ℕ). T (marks (o + f) z)) (sym (mask-at i below)) (subst T (sym (marks-bit (o + f) mask)) t) in
+        match-by edge (getD es f noEdge) (only i f below h t)
+        (in-cast (code-at i below ∙ pair-code (getD w i 0)) (marked-by (o + f) codes masks i (omega (arith, codes-long)) y)))
 
     abbrev lists : List (List ℕ)
-    lists = markedFrom 0 (p .edges) codes masks
+    lists = markedFrom o (length es) codes masks
 
-    abbrev edges : List Edge
-    edges = patternIn p .edges
+    abbrev own : ℕ
+    own = mask / 2 ^ o % 2 ^ length es
 
-    list-at : (f : ℕ) → f < p .edges → getD lists f [] ≡ marked f codes masks
-    list-at f h = from-at 0 (p .edges) f codes masks h ∙ ap (λ (j : ℕ). marked j codes masks) (omega arith)
+    -- it matches some edge exactly if its mask names one
+    named-matches : (f : ℕ) → f < length es → Has own f → T (someMatch edge es lists)
+    named-matches f h t =
+        let s = match-say edge (getD es f noEdge) (marked (o + f) codes masks) (subst T (sym (part-test f h)) (part-say mask o (length es) f h t)) in
+        some-match-by edge es lists f h (s .0) (subst (λ (l : List ℕ). In (code (edge .from) (edge .to)) l) (sym (from-at o (length es) f codes masks h)) (s .1))
 
-    -- it matches some edge exactly if its mask is not zero
-    named-matches : (f : ℕ) → f < 32 → Has mask f → T (someMatch edge edges lists)
-    named-matches f l t =
-        let h = within i f below l t .0 in
-        let s = match-say edge (givenEdge p f) (marked f codes masks) (subst T (sym (match-test f h)) t) in
-        some-match-by edge edges lists f (omega (arith, h, given-long p)) (ap (λ (g : Edge). g .kind) (given-at p f h) ∙ s .0)
-        (subst (λ (l : List ℕ). In (code (edge .from) (edge .to)) l) (sym (list-at f h)) (s .1))
-
-    matches-named : T (someMatch edge edges lists) → mask ≡ 0 → ⊥
+    matches-named : T (someMatch edge es lists) → own ≡ 0 → ⊥
     matches-named t z =
-        let s = some-match-say edge edges lists t in
-        let h : s .0 < p .edges = omega (arith, s .1, given-long p) in
-        let q : T (isMatch edge (givenEdge p (s .0)) (marked (s .0) codes masks)) =
-        match-by edge (givenEdge p (s .0)) (ap (λ (g : Edge). g .kind) (sym (given-at p (s .0) h)) ∙ s .2) (subst (λ (l : List ℕ). In (code (edge .from) (edge .to)) l) (list-at (s .0) h) (s .3)) in
-        none-has (s .0) (subst (λ (x : ℕ). Has x (s .0)) z (subst T (match-test (s .0) h) q))
+        let s = some-match-say edge es lists t in
+        let f : ℕ = s .0 in
+        let q : T (isMatch edge (getD es f noEdge) (marked (o + f) codes masks)) =
+        match-by edge (getD es f noEdge) (s .2) (subst (λ (l : List ℕ). In (code (edge .from) (edge .to)) l) (from-at o (length es) f codes masks (s .1)) (s .3)) in
+        none-has f (subst (λ (x : ℕ). Has x f) z (part-by mask o (length es) f (s .1) (subst T (part-test f (s .1)) q)))
 
-    emptied-matches : T (someMatch edge edges (emptied lists)) → ⊥
+    emptied-matches : T (someMatch edge es (emptied lists)) → ⊥
     emptied-matches t =
-        let s = some-match-say edge edges (emptied lists) t in
+        let s = some-match-say edge es (emptied lists) t in
         not-in-none (subst (λ (l : List ℕ). In (code (edge .from) (edge .to)) l) (emptied-at lists (s .0)) (s .3))
 
-    -- the lists have it exactly if it is held and no list is empty
-    pub listed-test : getD w (8192 + i) 0 < 2 ^ 32 → listedAt m (p .edges) i w ≡ someMatch (edgeOfWord (getD w i 0)) (patternIn p .edges) (matchesOf m (p .edges) w)
-    unfolding listedAt matchesOf allOrNone
-    listed-test small = go (anyEmpty lists) (eqb mask 0) refl
+    -- the lists have it exactly if its mask names one of their edges and no list is empty
+    pub listed-test : listedBy o (length es) m w (getD w (8192 + i) 0) ≡ someMatch (edgeOfWord (getD w i 0)) es (matchesFrom o m (length es) w)
+    unfolding listedBy matchesFrom allOrNone
+    listed-test = go (anyEmpty lists) (eqb own 0) refl
       where
-        go : (b c : Bool) → eqb mask 0 ≡ c → (not c && not b) ≡ someMatch edge edges (pick b (emptied lists) lists)
+        go : (b c : Bool) → eqb own 0 ≡ c → (not c && not b) ≡ someMatch edge es (pick b (emptied lists) lists)
         go true true e = same-test false _ (λ t. absurd t) (λ t. emptied-matches t)
         go true false e = same-test false _ (λ t. absurd t) (λ t. emptied-matches t)
-        go false true e = same-test false _ (λ t. absurd t) (λ t. matches-named t (eqb-true mask 0 e))
+        go false true e = same-test false _ (λ t. absurd t) (λ t. matches-named t (eqb-true own 0 e))
         go false false e =
-            let n = eqb-false mask 0 e in
-            let b = lowest-has 32 mask (positive mask n) small in
+            let b = lowest-has (length es) own (positive own (eqb-false own 0 e)) (mod-lt (mask / 2 ^ o) (pow-pos (length es))) in
             same-test true _ (λ t. named-matches _ (b .0) (b .1)) (λ t. tt)
+
+-- ---- the masks of one pattern, given by value
+module _ {p : Given} {m : ℕ} {w : List ℕ} (fair : Fair p) (mk : MarkedPairs m w) (rises : Rises m w)
+    (within : (i f : ℕ) → i < m → f < 32 → Has (getD w (8192 + i) 0) f → (f < p .edges) × (getD (p .kind) f 0 ≡ wordKind (getD w i 0))) where
+  -- an edge matches one of the pattern exactly if its mask names that
+  pub match-test : (i : ℕ) → i < m → (f : ℕ) → f < p .edges
+      → isMatch (edgeOfWord (getD w i 0)) (givenEdge p f) (marked f (codesOf m w) (masksOf m w)) ≡ bit (getD w (8192 + i) 0) f
+  match-test i below f h =
+      let z : 0 + f ≡ f = omega arith in
+      ap₂ (λ (g : Edge) (j : ℕ). isMatch (edgeOfWord (getD w i 0)) g (marked j (codesOf m w) (masksOf m w))) (sym (given-at p f h)) (sym z)
+      ∙ part-test (patternIn p .edges) 0 mk rises
+      (λ i f l u t.
+      let q : f < p .edges = omega (arith, given-long p) in
+      ap (λ (g : Edge). g .kind) (given-at p f q) ∙ within i f l (omega (arith, fair .edges)) (subst (λ (j : ℕ). Has (getD w (8192 + i) 0) j) {x = 0 + f} {y = f} (omega arith) t) .1)
+      i below f (omega (arith, given-long p))
+      ∙ ap (bit (getD w (8192 + i) 0)) z

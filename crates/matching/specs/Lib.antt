@@ -8,6 +8,7 @@ pub mod Components
 pub mod Part
 -- inner
 pub mod Books
+pub mod Batches
 pub mod Candidates
 pub mod Joining
 pub mod Stepping

@@ -1,5 +1,6 @@
 // Matching by simulation: searching a record for a pattern, with an index of the record or without, and making the book of a catalogue from a record.
 pub mod asking;
+pub mod batches;
 mod calls;
 mod candidates;
 mod components;

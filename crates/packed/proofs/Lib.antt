@@ -59,6 +59,7 @@ pub mod WalkLaws
 pub mod BookSheetLaws
 pub mod SheetLaws
 pub mod MatchLaws
+pub mod NamedLaws
 pub mod ScatterLaws
 -- records as they were stored before
 pub mod OldRecords

@@ -7,6 +7,7 @@ use mathlib.Core.Bool.{Bool, true, false, _||_, or-false, or-assoc}
 use lib.ListN.{length, take, drop, getD, set, replicate, length-append, length-take, length-drop, length-map, length-set, length-replicate, getD-replicate, List·getD-eq-default, List·getD-map}
 use lib.Seq.{sets, take-suc, getD-drop, getD-take, getD-set-same, getD-set-other, length-take-le}
 use lib.Dec.{eqb}
+use lib.Pow.{shr-shr}
 use native.Mathlib.Omega.{arith}
 use borrow.Author.Count.{below-more}
 use borrow.Author.Tests.{eq-eqb, ne-eqb}
@@ -15,22 +16,28 @@ use native.Mathlib.Nat.{add-zero, zero-add}
 use Rattle.packed.specs.Bits.{bits, bitsOf, gap}
 use Rattle.packed.specs.Format.{pick, encode, ok}
 use Rattle.packed.specs.Formats.{sheet}
-use Rattle.packed.specs.Matches.{marks, marked, markedFrom, anyEmpty, emptied, allOrNone, pairIn, codesOf, masksOf, matchesOf, Marked, Counts, SheetWritten, Added, anyZero, sumOf, Listed, pairBits, codedList, sheetBits, ListsWritten, ListingWritten}
+use Rattle.packed.specs.Matches.{marks, marked, markedFrom, anyEmpty, emptied, allOrNone, pairIn, codesOf, masksOf, matchesFrom, Marked, Counts, SheetWritten, Added, anyZero, sumOf, PartOfCounts, CountsFrom, Lengths, Listed, pairBits, codedList, sheetBits, ListsWritten, ListingWritten}
 use Rattle.packed.specs.Contents.{pairCount, sheetFields, sheetLength}
 use Rattle.packed.proofs.BitsLaws.{length-bits, bitsOf-zero, bits-injective}
 use Rattle.packed.proofs.OrderCases.{lt-or-ge}
+use Rattle.packed.proofs.ByValueLaws.{nothing-at}
 use Rattle.packed.proofs.Sets.{sets-append}
 use Rattle.packed.proofs.SetBits.{Next, no-bits}
 use Rattle.packed.proofs.RoundTrip.{Bytes}
 use Rattle.packed.proofs.Files.{bits-sets, bytes-sets}
 use Rattle.packed.proofs.SheetLaws.{Rising, rising-none, rising-next, Fit, fit-none, fit-next, fit-all, length-all, all-twice, bits-none, bits-one, padded, Encoded, sheet-encodes}
 
--- the codes under the edge e, and the lists of the first m edges, by the first n pairs of the workspace
+-- the codes under the edge e, and the lists of the m edges from o on, by the first n pairs of the workspace
 abbrev pub under : ℕ → ℕ → List ℕ → List ℕ
 under e n w = marked e (codesOf n w) (masksOf n w)
 
-abbrev pub listsOf : ℕ → ℕ → List ℕ → List (List ℕ)
-listsOf m n w = markedFrom 0 m (codesOf n w) (masksOf n w)
+abbrev pub listsFrom : ℕ → ℕ → ℕ → List ℕ → List (List ℕ)
+listsFrom o m n w = markedFrom o m (codesOf n w) (masksOf n w)
+
+-- the edge e, counted from o on, by the mask from its bit o on
+pub marks-from : (o e q : ℕ) → marks (o + e) q ≡ marks e (q / 2 ^ o)
+unfolding marks
+marks-from o e q = rw (shr-shr q o e)
 
 -- ---- one more pair
 
@@ -86,6 +93,17 @@ length-more e i w h =
     let p : ℕ = pairIn (getD w i 0) in
     ap length (under-more e i w h) ∙ length-append (under e i w) (pickOne (marks e q) p) ∙ ap (λ (k : ℕ). length (under e i w) + k) (length-pickOne e p q)
 
+-- the same by the mask from its bit o on
+pub under-more-from : (o e i : ℕ) (w : List ℕ) → 8192 + i < length w
+    → under (o + e) (i + 1) w ≡ under (o + e) i w ++ pickOne (marks e (getD w (8192 + i) 0 / 2 ^ o)) (pairIn (getD w i 0))
+under-more-from o e i w h =
+    under-more (o + e) i w h ∙ ap (λ (b : Bool). under (o + e) i w ++ pickOne b (pairIn (getD w i 0))) (marks-from o e (getD w (8192 + i) 0))
+
+pub length-more-from : (o e i : ℕ) (w : List ℕ) → 8192 + i < length w
+    → length (under (o + e) (i + 1) w) ≡ length (under (o + e) i w) + getD w (8192 + i) 0 / 2 ^ o / 2 ^ e % 2
+length-more-from o e i w h =
+    length-more (o + e) i w h ∙ ap (λ (k : ℕ). length (under (o + e) i w) + k % 2) (sym (shr-shr (getD w (8192 + i) 0) o e))
+
 marked-least : (e : ℕ) (ps qs : List ℕ) → length (marked e ps qs) ≤ length ps
 unfolding marked
 marked-least e [] qs = omega arith
@@ -134,23 +152,23 @@ under-rises n w k e =
     rw (code i (omega arith), code j (omega arith))
     (k .rises i j e p (omega arith) (ap (marks e) (sym (mask i (omega arith))) ∙ a) (ap (marks e) (sym (mask j (omega arith))) ∙ b)))
 
-pub fit-lists : (n m : ℕ) (w : List ℕ) → Marked n w → Fit (listsOf m n w)
-fit-lists n m w k = fit-from 0 m (codesOf n w) (masksOf n w) (under-rises n w k) (omega (arith, length-map (take n w) pairIn, length-take n w, k .most))
+pub fit-lists : (o n m : ℕ) (w : List ℕ) → Marked n w → Fit (listsFrom o m n w)
+fit-lists o n m w k = fit-from o m (codesOf n w) (masksOf n w) (under-rises n w k) (omega (arith, length-map (take n w) pairIn, length-take n w, k .most))
 
 length-from : (e m : ℕ) (ps qs : List ℕ) → length (markedFrom e m ps qs) ≡ m
 unfolding markedFrom
 length-from e zero ps qs = refl
 length-from e (suc m) ps qs = ap suc (length-from (suc e) m ps qs)
 
-pub matches-long : (n m : ℕ) (w : List ℕ) → length (matchesOf n m w) ≡ m
-unfolding matchesOf
-matches-long n m w = length-all (listsOf m n w) ∙ length-from 0 m (codesOf n w) (masksOf n w)
+pub matches-long : (o n m : ℕ) (w : List ℕ) → length (matchesFrom o n m w) ≡ m
+unfolding matchesFrom
+matches-long o n m w = length-all (listsFrom o m n w) ∙ length-from o m (codesOf n w) (masksOf n w)
 
-pub matches-encode : (n m : ℕ) (w : List ℕ) → Marked n w → Encoded m (matchesOf n m w)
-unfolding matchesOf
-matches-encode n m w k =
-    let ls : List (List ℕ) = listsOf m n w in
-    sheet-encodes m (allOrNone ls) (matches-long n m w) (fit-all ls (fit-lists n m w k)) (all-twice ls)
+pub matches-encode : (o n m : ℕ) (w : List ℕ) → Marked n w → Encoded m (matchesFrom o n m w)
+unfolding matchesFrom
+matches-encode o n m w k =
+    let ls : List (List ℕ) = listsFrom o m n w in
+    sheet-encodes m (allOrNone ls) (matches-long o n m w) (fit-all ls (fit-lists o n m w k)) (all-twice ls)
 
 -- ---- adding the bits of a mask
 
@@ -224,16 +242,15 @@ from-next e (suc m) ps qs =
     ap (λ (l : List (List ℕ)). marked e ps qs ∷ l)
     (from-next (suc e) m ps qs ∙ ap (λ (k : ℕ). markedFrom (suc e) m ps qs ++ (marked k ps qs ∷ [])) (omega arith))
 
-pub lists-next : (m n : ℕ) (w : List ℕ) → listsOf (suc m) n w ≡ listsOf m n w ++ (under m n w ∷ [])
-lists-next m n w =
-    from-next 0 m (codesOf n w) (masksOf n w) ∙ ap (λ (k : ℕ). listsOf m n w ++ (under k n w ∷ [])) (zero-add m)
+pub lists-next : (o m n : ℕ) (w : List ℕ) → listsFrom o (suc m) n w ≡ listsFrom o m n w ++ (under (o + m) n w ∷ [])
+lists-next o m n w = from-next o m (codesOf n w) (masksOf n w)
 
 total-next : (ls : List (List ℕ)) (l : List ℕ) → pairCount (ls ++ (l ∷ [])) ≡ pairCount ls + length l
 unfolding pairCount
 total-next [] l = omega arith
 total-next (x ∷ ls) l = omega (arith, total-next ls l)
 
-empty-next : (ls : List (List ℕ)) (l : List ℕ) → anyEmpty (ls ++ (l ∷ [])) ≡ anyEmpty ls || eqb (length l) 0
+pub empty-next : (ls : List (List ℕ)) (l : List ℕ) → anyEmpty (ls ++ (l ∷ [])) ≡ anyEmpty ls || eqb (length l) 0
 unfolding anyEmpty
 empty-next [] l = or-false (eqb (length l) 0)
 empty-next (x ∷ ls) l = ap (λ (b : Bool). eqb (length x) 0 || b) (empty-next ls l) ∙ sym (or-assoc (eqb (length x) 0) (anyEmpty ls) (eqb (length l) 0))
@@ -253,19 +270,50 @@ pub zero-next : (e : ℕ) (c : List ℕ) → anyZero (e + 1) c ≡ anyZero e c |
 unfolding anyZero
 zero-next e c = rw add-one
 
-pub sum-is : (n m : ℕ) (w c : List ℕ) → Counts n w c → m ≤ 32 → sumOf m c ≡ pairCount (listsOf m n w)
-unfolding sumOf
-sum-is n zero w c t h = unfold pairCount markedFrom in refl
-sum-is n (suc m) w c t h =
-    ap₂ (λ (a b : ℕ). a + b) (sum-is n m w c t (omega arith)) (t .each m (omega arith))
-    ∙ sym (ap pairCount (lists-next m n w) ∙ total-next (listsOf m n w) (under m n w))
+counts-fewer : {o n m : ℕ} {w c : List ℕ} → CountsFrom o n (suc m) w c → CountsFrom o n m w c
+counts-fewer t = record { each = λ e l. t .each e (omega arith) }
 
-pub zero-is : (n m : ℕ) (w c : List ℕ) → Counts n w c → m ≤ 32 → anyZero m c ≡ anyEmpty (listsOf m n w)
+sum-is : (o n m : ℕ) (w c : List ℕ) → CountsFrom o n m w c → sumOf m c ≡ pairCount (listsFrom o m n w)
+unfolding sumOf
+sum-is o n zero w c t = unfold pairCount markedFrom in refl
+sum-is o n (suc m) w c t =
+    ap₂ (λ (a b : ℕ). a + b) (sum-is o n m w c (counts-fewer t)) (t .each m (omega arith))
+    ∙ sym (ap pairCount (lists-next o m n w) ∙ total-next (listsFrom o m n w) (under (o + m) n w))
+
+zero-is : (o n m : ℕ) (w c : List ℕ) → CountsFrom o n m w c → anyZero m c ≡ anyEmpty (listsFrom o m n w)
 unfolding anyZero
-zero-is n zero w c t h = unfold anyEmpty markedFrom in refl
-zero-is n (suc m) w c t h =
-    ap₂ (λ (a : Bool) (b : ℕ). a || eqb b 0) (zero-is n m w c t (omega arith)) (t .each m (omega arith))
-    ∙ sym (ap anyEmpty (lists-next m n w) ∙ empty-next (listsOf m n w) (under m n w))
+zero-is o n zero w c t = unfold anyEmpty markedFrom in refl
+zero-is o n (suc m) w c t =
+    ap₂ (λ (a : Bool) (b : ℕ). a || eqb b 0) (zero-is o n m w c (counts-fewer t)) (t .each m (omega arith))
+    ∙ sym (ap anyEmpty (lists-next o m n w) ∙ empty-next (listsFrom o m n w) (under (o + m) n w))
+
+-- ---- a part of the counts
+
+pub part-start : (o : ℕ) (c r : List ℕ) → r ≡ replicate 32 0 → PartOfCounts o 0 c r
+part-start o c r h =
+    record {
+      long = ap length h ∙ length-replicate {A = ℕ} 32 0;
+      each = λ e l. absurd (omega arith);
+      rest = λ e l. ap (λ (x : List ℕ). getD x e 0) h ∙ nothing-at 32 e;
+    }
+
+pub part-next : {o m : ℕ} {c r : List ℕ} → PartOfCounts o m c r → m < 32 → PartOfCounts o (m + 1) c (set r m (getD c (o + m) 0))
+part-next {o} {m} {c} {r} t l =
+    let v : ℕ = getD c (o + m) 0 in
+    record {
+      long = length-set r m v ∙ t .long;
+      each = below-more (λ e. getD (set r m v) e 0 ≡ getD c (o + e) 0) m
+          (λ e q. getD-set-other r m e v 0 (λ p. omega arith) ∙ t .each e q)
+          (getD-set-same r m v 0 (omega (arith, t .long)));
+      rest = λ e q. getD-set-other r m e v 0 (λ p. omega arith) ∙ t .rest e (omega arith);
+    }
+
+pub part-few : {o m : ℕ} {c r : List ℕ} → PartOfCounts o m c r → ((e : ℕ) → getD c e 0 ≤ 8192) → (e : ℕ) → getD r e 0 ≤ 8192
+part-few {o} {m} t h e =
+    ⊎-elim (λ (l : e < m). omega (arith, t .each e l, h (o + e))) (λ (l : m ≤ e). omega (arith, t .rest e l)) (lt-or-ge e m)
+
+part-counts : {o n m : ℕ} {w c r : List ℕ} → PartOfCounts o m c r → o + m ≤ 32 → Counts n w c → CountsFrom o n m w r
+part-counts {o} t h k = record { each = λ e l. t .each e l ∙ k .each (o + e) (omega arith) }
 
 -- ---- none or all
 
@@ -274,28 +322,44 @@ unfolding markedFrom marked emptied
 none-from e zero ps qs qs′ = refl
 none-from e (suc m) ps qs qs′ = ap (λ (l : List (List ℕ)). [] ∷ l) (none-from (suc e) m ps qs qs′)
 
-pub listed-none : (n m : ℕ) (w : List ℕ) → anyEmpty (listsOf m n w) ≡ true → Listed n m w 0
-unfolding matchesOf allOrNone
-listed-none n m w h = record { is = rw h; lists = none-from 0 m (codesOf n w) [] (masksOf n w) ∙ rw h }
+matches-none : (o n m : ℕ) (w : List ℕ) → anyEmpty (listsFrom o m n w) ≡ true → matchesFrom o n m w ≡ emptied (listsFrom o m n w)
+unfolding matchesFrom allOrNone
+matches-none o n m w h = rw h
 
-pub listed-all : (n m : ℕ) (w : List ℕ) → anyEmpty (listsOf m n w) ≡ false → Listed n m w n
-unfolding matchesOf allOrNone
-listed-all n m w h = record { is = rw h; lists = rw h }
+matches-all : (o n m : ℕ) (w : List ℕ) → anyEmpty (listsFrom o m n w) ≡ false → matchesFrom o n m w ≡ listsFrom o m n w
+unfolding matchesFrom allOrNone
+matches-all o n m w h = rw h
 
-pub listed-most : (n m : ℕ) (w : List ℕ) (k : ℕ) → Listed n m w k → k ≤ n
-listed-most n m w k l = rw (l .is) (go (anyEmpty (listsOf m n w)))
-  where
-    go : (b : Bool) → pick b 0 n ≤ n
-    go true = omega arith
-    go false = omega arith
+pub listed-none : (n m : ℕ) (w : List ℕ) → anyEmpty (listsFrom 0 m n w) ≡ true → Listed n m w 0
+listed-none n m w h = record { is = rw h; lists = none-from 0 m (codesOf n w) [] (masksOf n w) ∙ sym (matches-none 0 n m w h) }
 
-pub listed-marked : (n m : ℕ) (w : List ℕ) (k : ℕ) → Listed n m w k → Marked n w → Marked k w
-listed-marked n m w k l t =
-    let h : k ≤ n = listed-most n m w k l in
-    record { long = t .long; most = omega (arith, t .most); rises = λ i j e p q. t .rises i j e p (omega arith) }
+pub listed-all : (n m : ℕ) (w : List ℕ) → anyEmpty (listsFrom 0 m n w) ≡ false → Listed n m w n
+listed-all n m w h = record { is = rw h; lists = sym (matches-all 0 n m w h) }
 
-pub sum-listed : (n m : ℕ) (w : List ℕ) (k : ℕ) (c : List ℕ) → Listed n m w k → Counts k w c → m ≤ 32 → sumOf m c ≡ pairCount (matchesOf n m w)
-sum-listed n m w k c l t h = sum-is k m w c t h ∙ ap pairCount (l .lists)
+emptied-total : (ls : List (List ℕ)) → pairCount (emptied ls) ≡ 0
+unfolding pairCount emptied
+emptied-total [] = refl
+emptied-total (l ∷ ls) = omega (arith, emptied-total ls)
+
+zeros-sum : (m : ℕ) (c : List ℕ) → c ≡ replicate 32 0 → sumOf m c ≡ 0
+unfolding sumOf
+zeros-sum zero c h = refl
+zeros-sum (suc m) c h = omega (arith, zeros-sum m c h, ap (λ (x : List ℕ). getD x m 0) h, nothing-at 32 m)
+
+pub lengths-none : {o n m : ℕ} {w c r z : List ℕ} → PartOfCounts o m c r → o + m ≤ 32 → anyZero m r ≡ true → z ≡ replicate 32 0 → Counts n w c → Lengths o n m w z
+lengths-none {o} {n} {m} {w} {c} {r} {z} t h y e k =
+    let s : sumOf m z ≡ 0 = zeros-sum m z e in
+    record {
+      sum = s
+          ∙ sym (ap pairCount (matches-none o n m w (sym (zero-is o n m w r (part-counts t h k)) ∙ y)) ∙ emptied-total (listsFrom o m n w));
+      all = λ q. absurd (q s);
+    }
+
+pub lengths-all : {o n m : ℕ} {w c r : List ℕ} → PartOfCounts o m c r → o + m ≤ 32 → anyZero m r ≡ false → Counts n w c → Lengths o n m w r
+lengths-all {o} {n} {m} {w} {c} {r} t h y k =
+    let f : CountsFrom o n m w r = part-counts t h k in
+    let e : matchesFrom o n m w ≡ listsFrom o m n w = matches-all o n m w (sym (zero-is o n m w r f) ∙ y) in
+    record { sum = sum-is o n m w r f ∙ sym (ap pairCount e); all = λ q. (f, e) }
 
 -- ---- writing
 
@@ -313,35 +377,38 @@ unfolding marks
 names-not e q h = ne-eqb (q / 2 ^ e % 2) 1 h
 
 -- the lead, and the lists where there are pairs
-pub listing-none : {n m : ℕ} {w c b b′ : List ℕ} → Counts n w c → m ≤ 32 → sumOf m c ≡ 0 → bits b′ ≡ sets (bits b) 0 (bitsOf 1 0) → ListingWritten n m w b 1 b′
+pub listing-none : {o n m : ℕ} {w c b b′ : List ℕ} → Lengths o n m w c → sumOf m c ≡ 0 → bits b′ ≡ sets (bits b) 0 (bitsOf 1 0) → ListingWritten o n m w b 1 b′
 unfolding sheetBits
-listing-none {n} {m} {w} {c} {b} t h z q =
-    let e = eq-eqb (pairCount (listsOf m n w)) 0 (sym (sum-is n m w c t h) ∙ z) in
+listing-none {o} {n} {m} {w} {c} {b} t z q =
+    let e = eq-eqb (pairCount (matchesFrom o n m w)) 0 (sym (t .sum) ∙ z) in
     record { holds = q ∙ ap (sets (bits b) 0) bits-none ∙ rw e; next = rw e; most = omega arith }
 
-pub listing-all : {n m : ℕ} {w c b b₁ : List ℕ} {r : ℕ} {b′ : List ℕ} → Counts n w c → m ≤ 32 → (sumOf m c ≡ 0 → ⊥) → bits b₁ ≡ sets (bits b) 0 (bitsOf 1 1)
-    → ListsWritten n m w b₁ r b′ → ListingWritten n m w b r b′
+pub listing-all : {o n m : ℕ} {w c b b₁ : List ℕ} {r : ℕ} {b′ : List ℕ} → Lengths o n m w c → (sumOf m c ≡ 0 → ⊥) → bits b₁ ≡ sets (bits b) 0 (bitsOf 1 1)
+    → ListsWritten o n m w b₁ r b′ → ListingWritten o n m w b r b′
 unfolding sheetBits
-listing-all {n} {m} {w} {c} {b} t h z q s =
-    let ls : List (List ℕ) = listsOf m n w in
-    let e = ne-eqb (pairCount ls) 0 (λ y. z (sum-is n m w c t h ∙ y)) in
+listing-all {o} {n} {m} {w} {c} {b} t z q s =
+    let ls : List (List ℕ) = matchesFrom o n m w in
+    let f : listsFrom o m n w ≡ ls = sym (t .all z .1) in
+    let e = ne-eqb (pairCount ls) 0 (λ y. z (t .sum ∙ y)) in
     record {
-      holds = s .holds ∙ ap (λ (x : List Bool). sets x 1 (codedList ls)) (q ∙ ap (sets (bits b) 0) bits-one) ∙ rw e (sets-append (bits b) 0 (true ∷ []) (codedList ls));
-      next = s .next ∙ rw e (omega arith);
+      holds =
+          s .holds
+          ∙ ap₂ (λ (x : List Bool) (y : List (List ℕ)). sets x 1 (codedList y)) (q ∙ ap (sets (bits b) 0) bits-one) f
+          ∙ rw e (sets-append (bits b) 0 (true ∷ []) (codedList ls));
+      next = s .next ∙ ap (λ (y : List (List ℕ)). 1 + length (codedList y)) f ∙ rw e (omega arith);
       most = s .most;
     }
 
-pub sheet-written : {n m : ℕ} {w b₀ : List ℕ} {k at : ℕ} {b : List ℕ} {r : ℕ} {b′ : List ℕ} → Marked n w → Listed n m w k → ListingWritten k m w b₀ at b
-    → 8 * r ≡ at + gap at → bits b′ ≡ sets (bits b) at (bitsOf (gap at) 0) → Bytes b₀ → Bytes b′ → SheetWritten n m w b₀ r b′
+pub sheet-written : {o n m : ℕ} {w b₀ : List ℕ} {at : ℕ} {b : List ℕ} {r : ℕ} {b′ : List ℕ} → Marked n w → ListingWritten o n m w b₀ at b
+    → 8 * r ≡ at + gap at → bits b′ ≡ sets (bits b) at (bitsOf (gap at) 0) → Bytes b₀ → Bytes b′ → SheetWritten o n m w b₀ r b′
 unfolding padded
-sheet-written {n} {m} {w} {b₀} {k} {at} {b} {r} {b′} t l s e q y₀ y =
-    let x : Encoded m (matchesOf n m w) = matches-encode n m w t in
-    let ls : List Bool = sheetBits (matchesOf n m w) in
-    let f : sheetBits (listsOf m k w) ≡ ls = ap sheetBits (l .lists) in
-    let a : at ≡ length ls = s .next ∙ ap length f in
+sheet-written {o} {n} {m} {w} {b₀} {at} {b} {r} {b′} t s e q y₀ y =
+    let x : Encoded m (matchesFrom o n m w) = matches-encode o n m w t in
+    let ls : List Bool = sheetBits (matchesFrom o n m w) in
+    let a : at ≡ length ls = s .next in
     let v : bits b′ ≡ sets (bits b₀) 0 (bits (x .bytes)) =
     q
-    ∙ ap₂ (λ (z p : List Bool). sets z at p) (s .holds ∙ ap (sets (bits b₀) 0) f) (bitsOf-zero (gap at) ∙ ap (λ (j : ℕ). replicate (gap j) false) a)
+    ∙ ap₂ (λ (z p : List Bool). sets z at p) (s .holds) (bitsOf-zero (gap at) ∙ ap (λ (j : ℕ). replicate (gap j) false) a)
     ∙ ap (λ (j : ℕ). sets (sets (bits b₀) 0 ls) j (replicate (gap (length ls)) false)) (a ∙ sym (zero-add (length ls)))
     ∙ sets-append (bits b₀) 0 ls (replicate (gap (length ls)) false)
     ∙ ap (sets (bits b₀) 0) (sym (x .holds)) in
@@ -353,12 +420,12 @@ sheet-written {n} {m} {w} {b₀} {k} {at} {b} {r} {b′} t l s e q y₀ y =
     }
 
 -- the bytes of a sheet, however they were come by
-module _ (n m : ℕ) (w : List ℕ) (t : Marked n w) {o : List ℕ} (e : encode (sheet m) (sheetFields (matchesOf n m w)) ≡ ok o) where
-  pub bytes-number : sheetLength m (pairCount (matchesOf n m w)) ≡ length o
+module _ (o n m : ℕ) (w : List ℕ) (t : Marked n w) {y : List ℕ} (e : encode (sheet m) (sheetFields (matchesFrom o n m w)) ≡ ok y) where
+  pub bytes-number : sheetLength m (pairCount (matchesFrom o n m w)) ≡ length y
   bytes-number =
-      let x : Encoded m (matchesOf n m w) = matches-encode n m w t in
-      let y : x .bytes ≡ o = cc (x .is) in
-      sym (x .number) ∙ ap length y
+      let x : Encoded m (matchesFrom o n m w) = matches-encode o n m w t in
+      let z : x .bytes ≡ y = cc (x .is) in
+      sym (x .number) ∙ ap length z
 
-  pub bytes-front : {b b′ : List ℕ} {r : ℕ} → SheetWritten n m w b r b′ → b′ ≡ sets b 0 o
-  bytes-front {b} x = let y : x .bytes ≡ o = cc (x .is) in x .front ∙ ap (sets b 0) y
+  pub bytes-front : {b b′ : List ℕ} {r : ℕ} → SheetWritten o n m w b r b′ → b′ ≡ sets b 0 y
+  bytes-front {b} x = let z : x .bytes ≡ y = cc (x .is) in x .front ∙ ap (sets b 0) z

@@ -12,14 +12,14 @@ use native.Mathlib.Numerals.{add-one}
 use borrow.Author.Count.{below-more}
 use Rattle.packed.specs.Bits.{bits, bitsOf}
 use Rattle.packed.specs.Format.{pick}
-use Rattle.packed.specs.Matches.{marks, marked, markedFrom, pairIn, Marked, Counts, pairBits, codedList, listStart, laid, scatter, scatters, CountsWritten, PairPut, PairsWritten, ListsWritten}
+use Rattle.packed.specs.Matches.{marks, marked, markedFrom, pairIn, Marked, CountsFrom, pairBits, codedList, listStart, laid, scatter, scatters, CountsWritten, PairPut, PairsWritten, ListsWritten}
 use Rattle.packed.proofs.BitsLaws.{length-bitsOf}
 use Rattle.packed.proofs.SetBits.{Next, no-bits, bit-low, bit-high}
 use Rattle.packed.proofs.OrderCases.{lt-or-ge, eq-or-ne}
 use Rattle.packed.proofs.Sets.{sets-append, sets-swap}
 use Rattle.packed.proofs.ByValueLaws.{nothing-at}
 use Rattle.packed.proofs.SheetLaws.{length-pairBits}
-use Rattle.packed.proofs.MatchLaws.{under as listed, listsOf, pickOne, under-more, length-more, lists-next, bits-next, pairs-next, names, names-not, counts-few}
+use Rattle.packed.proofs.MatchLaws.{under as listed, listsFrom, pickOne, under-more-from, length-more, length-more-from, lists-next, bits-next, pairs-next, names, names-not}
 
 -- ---- one pair
 
@@ -102,15 +102,15 @@ putting-end {x} {v} {ps₀} {b₀} {ps} {b} {k} {left} t z =
 
 -- ---- all pairs
 
--- the pairs before i stand in the lists of the first m edges
-pub record Scattering (i m : ℕ) (w ps₀ b₀ ps b : List ℕ) : Type 0 where
+-- the pairs before i stand in the lists of the m edges from o on
+pub record Scattering (o i m : ℕ) (w ps₀ b₀ ps b : List ℕ) : Type 0 where
   pub size : length b ≡ length b₀
   pub most : (e : ℕ) → e < 32 → getD ps e 0 ≤ 2 ^ 39 + 24 * i
-  pub written : PairsWritten i m w ps₀ b₀ ps b
+  pub written : PairsWritten o i m w ps₀ b₀ ps b
 
-pub scattering-start : (m : ℕ) (w ps b : List ℕ) → length ps ≡ 32 → ((e : ℕ) → e < 32 → getD ps e 0 ≤ 2 ^ 39) → Scattering 0 m w ps b ps b
+pub scattering-start : (o m : ℕ) (w ps b : List ℕ) → length ps ≡ 32 → ((e : ℕ) → e < 32 → getD ps e 0 ≤ 2 ^ 39) → Scattering o 0 m w ps b ps b
 unfolding scatters marked
-scattering-start m w ps b l h = record { size = refl; most = λ e q. omega (arith, h e q); written = record { long = l; moved = λ e q. omega arith; rest = λ e q z. refl; holds = refl } }
+scattering-start o m w ps b l h = record { size = refl; most = λ e q. omega (arith, h e q); written = record { long = l; moved = λ e q. omega arith; rest = λ e q z. refl; holds = refl } }
 
 marks-low : (x m e : ℕ) → e < m → marks e (x % 2 ^ m) ≡ marks e x
 unfolding marks
@@ -124,11 +124,12 @@ scatter-low m to x v b h l =
     ∙ scatter-skip m (32 - m) to (x % 2 ^ m) v b (λ j a q. bit-high (x % 2 ^ m) m j l a)
     ∙ scatter-same m to to (x % 2 ^ m) x v b (λ e q. refl) (λ e q. marks-low x m e q)
 
-pub scattering-next : {i m : ℕ} {w ps₀ b₀ ps b ps′ b′ : List ℕ} → Scattering i m w ps₀ b₀ ps b → m ≤ 32 → 8192 + i < length w → length b′ ≡ length b
-    → getD w (8192 + i) 0 % 2 ^ m < 2 ^ m → PairPut (getD w (8192 + i) 0 % 2 ^ m) (pairIn (getD w i 0)) ps b ps′ b′ → Scattering (i + 1) m w ps₀ b₀ ps′ b′
+pub scattering-next : {o i m : ℕ} {w ps₀ b₀ ps b ps′ b′ : List ℕ} → Scattering o i m w ps₀ b₀ ps b → m ≤ 32 → 8192 + i < length w → length b′ ≡ length b
+    → getD w (8192 + i) 0 / 2 ^ o % 2 ^ m < 2 ^ m → PairPut (getD w (8192 + i) 0 / 2 ^ o % 2 ^ m) (pairIn (getD w i 0)) ps b ps′ b′
+    → Scattering o (i + 1) m w ps₀ b₀ ps′ b′
 unfolding scatters
-scattering-next {i} {m} {w} {ps₀} {b₀} {ps} {b} {ps′} {b′} t h l s r p =
-    let x : ℕ = getD w (8192 + i) 0 in
+scattering-next {o} {i} {m} {w} {ps₀} {b₀} {ps} {b} {ps′} {b′} t h l s r p =
+    let x : ℕ = getD w (8192 + i) 0 / 2 ^ o in
     let v : ℕ = pairIn (getD w i 0) in
     let u = t .written in
     record {
@@ -136,14 +137,14 @@ scattering-next {i} {m} {w} {ps₀} {b₀} {ps} {b} {ps′} {b′} t h l s r p =
       most = λ e q. omega (arith, p .moved e q, t .most e q);
       written = record {
         long = p .long ∙ u .long;
-        moved = λ e q. omega (arith, p .moved e (omega arith), u .moved e q, length-more e i w l, bit-low x m e q);
+        moved = λ e q. omega (arith, p .moved e (omega arith), u .moved e q, length-more-from o e i w l, bit-low x m e q);
         rest = λ e q z. omega (arith, p .moved e z, u .rest e q z, bit-high (x % 2 ^ m) m e r q);
         holds =
             p .holds
             ∙ scatter-low m (λ e. getD ps e 0) x v (bits b) h r
-            ∙ scatter-same m (λ e. getD ps e 0) (λ e. getD ps₀ e 0 + 24 * length (listed e i w)) x x v (bits b) (u .moved) (λ e q. refl)
-            ∙ ap (scatter m (λ e. getD ps₀ e 0 + 24 * length (listed e i w)) x v) (u .holds)
-            ∙ ap (λ (k : ℕ). scatters k m w (λ e. getD ps₀ e 0) (bits b₀)) (sym (add-one i));
+            ∙ scatter-same m (λ e. getD ps e 0) (λ e. getD ps₀ e 0 + 24 * length (listed (o + e) i w)) x x v (bits b) (u .moved) (λ e q. refl)
+            ∙ ap (scatter m (λ e. getD ps₀ e 0 + 24 * length (listed (o + e) i w)) x v) (u .holds)
+            ∙ ap (λ (k : ℕ). scatters o k m w (λ e. getD ps₀ e 0) (bits b₀)) (sym (add-one i));
       };
     }
 
@@ -250,49 +251,57 @@ listed-none : (e : ℕ) (w : List ℕ) → [] ≡ listed e 0 w
 unfolding marked
 listed-none e w = refl
 
-module _ (n : ℕ) (w c : List ℕ) (t : Counts n w c) (k : Marked n w) where
+module _ (o n M : ℕ) (w c : List ℕ) (t : CountsFrom o n M w c) (k : Marked n w) where
   -- one pair more in each list that its mask names
-  scatter-laid : (m i : ℕ) (to : ℕ → ℕ) (b : List Bool) → m ≤ 32 → i < n → ((e : ℕ) → e < m → to e ≡ listStart e c + 14 + 24 * length (listed e i w))
-      → scatter m to (getD w (8192 + i) 0) (pairIn (getD w i 0)) (laid m (λ e. listed e i w) c b) ≡ laid m (λ e. listed e (i + 1) w) c b
+  scatter-laid : (m i : ℕ) (to : ℕ → ℕ) (b : List Bool) → m ≤ M → i < n → ((e : ℕ) → e < m → to e ≡ listStart e c + 14 + 24 * length (listed (o + e) i w))
+      → scatter m to (getD w (8192 + i) 0 / 2 ^ o) (pairIn (getD w i 0)) (laid m (λ e. listed (o + e) i w) c b) ≡ laid m (λ e. listed (o + e) (i + 1) w) c b
   unfolding scatter laid
   scatter-laid zero i to b h l f = refl
   scatter-laid (suc e) i to b h l f =
-      let x : ℕ = getD w (8192 + i) 0 in
+      let x : ℕ = getD w (8192 + i) 0 / 2 ^ o in
       let v : ℕ = pairIn (getD w i 0) in
+      let u : List ℕ = listed (o + e) i w in
       let q : 8192 + i < length w = omega (arith, k .long, k .most) in
-      let p : List Bool = bitsOf 14 (getD c e 0) ++ pairBits (listed e i w) in
+      let p : List Bool = bitsOf 14 (getD c e 0) ++ pairBits u in
       let y : List Bool = pick (marks e x) (bitsOf 24 v) [] in
       let g : to e ≡ listStart e c + length p =
-      omega (arith, f e (omega arith), length-append (bitsOf 14 (getD c e 0)) (pairBits (listed e i w)), length-bitsOf 14 (getD c e 0), length-pairBits (listed e i w)) in
-      let r : p ++ y ≡ bitsOf 14 (getD c e 0) ++ pairBits (listed e (i + 1) w) =
-      append-assoc (bitsOf 14 (getD c e 0)) (pairBits (listed e i w)) y
-      ∙ ap (λ (z : List Bool). bitsOf 14 (getD c e 0) ++ z) (sym (ap pairBits (under-more e i w q) ∙ pairs-one (listed e i w) (marks e x) v)) in
+      omega (arith, f e (omega arith), length-append (bitsOf 14 (getD c e 0)) (pairBits u), length-bitsOf 14 (getD c e 0), length-pairBits u) in
+      let r : p ++ y ≡ bitsOf 14 (getD c e 0) ++ pairBits (listed (o + e) (i + 1) w) =
+      append-assoc (bitsOf 14 (getD c e 0)) (pairBits u) y
+      ∙ ap (λ (z : List Bool). bitsOf 14 (getD c e 0) ++ z) (sym (ap pairBits (under-more-from o e i w q) ∙ pairs-one u (marks e x) v)) in
       ap (λ (z : List Bool). sets z (to e) y)
-      (scatter-front e to x v (laid e (λ j. listed j i w) c b) (listStart e c) p
-      (λ j z. omega (arith, f j (omega arith), length-more j i w q, grows j (i + 1) n w (omega arith) (omega (arith, k .long, k .most)), t .each j (omega arith), start-room j e c z))
+      (scatter-front e to x v (laid e (λ j. listed (o + j) i w) c b) (listStart e c) p
+      (λ j z. omega (
+        arith,
+        f j (omega arith),
+        length-more-from o j i w q,
+        grows (o + j) (i + 1) n w (omega arith) (omega (arith, k .long, k .most)),
+        t .each j (omega arith),
+        start-room j e c z,
+      ))
       ∙ ap (λ (z : List Bool). sets z (listStart e c) p) (scatter-laid e i to b (omega arith) l (λ j z. f j (omega arith))))
-      ∙ ap (λ (z : ℕ). sets (sets (laid e (λ j. listed j (i + 1) w) c b) (listStart e c) p) z y) g
-      ∙ sets-append (laid e (λ j. listed j (i + 1) w) c b) (listStart e c) p y
-      ∙ ap (sets (laid e (λ j. listed j (i + 1) w) c b) (listStart e c)) r
+      ∙ ap (λ (z : ℕ). sets (sets (laid e (λ j. listed (o + j) (i + 1) w) c b) (listStart e c) p) z y) g
+      ∙ sets-append (laid e (λ j. listed (o + j) (i + 1) w) c b) (listStart e c) p y
+      ∙ ap (sets (laid e (λ j. listed (o + j) (i + 1) w) c b) (listStart e c)) r
 
-  scatters-laid : (m i : ℕ) (to : ℕ → ℕ) (b : List Bool) → m ≤ 32 → i ≤ n → ((e : ℕ) → e < m → to e ≡ listStart e c + 14)
-      → scatters i m w to (laid m (λ e. []) c b) ≡ laid m (λ e. listed e i w) c b
+  scatters-laid : (i : ℕ) (to : ℕ → ℕ) (b : List Bool) → i ≤ n → ((e : ℕ) → e < M → to e ≡ listStart e c + 14)
+      → scatters o i M w to (laid M (λ e. []) c b) ≡ laid M (λ e. listed (o + e) i w) c b
   unfolding scatters
-  scatters-laid m zero to b h l f = laid-same m (λ e. []) (λ e. listed e 0 w) c b (λ e. listed-none e w)
-  scatters-laid m (suc i) to b h l f =
-      ap (scatter m (λ e. to e + 24 * length (listed e i w)) (getD w (8192 + i) 0) (pairIn (getD w i 0))) (scatters-laid m i to b h (omega arith) f)
-      ∙ scatter-laid m i (λ e. to e + 24 * length (listed e i w)) b h l (λ e q. omega (arith, f e q))
-      ∙ laid-same m (λ e. listed e (i + 1) w) (λ e. listed e (suc i) w) c b (λ e. ap (λ (z : ℕ). listed e z w) (add-one i))
+  scatters-laid zero to b l f = laid-same M (λ e. []) (λ e. listed (o + e) 0 w) c b (λ e. listed-none (o + e) w)
+  scatters-laid (suc i) to b l f =
+      ap (scatter M (λ e. to e + 24 * length (listed (o + e) i w)) (getD w (8192 + i) 0 / 2 ^ o) (pairIn (getD w i 0))) (scatters-laid i to b (omega arith) f)
+      ∙ scatter-laid M i (λ e. to e + 24 * length (listed (o + e) i w)) b (omega arith) l (λ e q. omega (arith, f e q))
+      ∙ laid-same M (λ e. listed (o + e) (i + 1) w) (λ e. listed (o + e) (suc i) w) c b (λ e. ap (λ (z : ℕ). listed (o + e) z w) (add-one i))
 
-  lists-more : (e : ℕ) → codedList (listsOf (suc e) n w) ≡ codedList (listsOf e n w) ++ (bitsOf 14 (length (listed e n w)) ++ pairBits (listed e n w))
-  lists-more e = ap codedList (lists-next e n w) ∙ bits-next (listsOf e n w) (listed e n w)
+  lists-more : (e : ℕ) → codedList (listsFrom o (suc e) n w) ≡ codedList (listsFrom o e n w) ++ (bitsOf 14 (length (listed (o + e) n w)) ++ pairBits (listed (o + e) n w))
+  lists-more e = ap codedList (lists-next o e n w) ∙ bits-next (listsFrom o e n w) (listed (o + e) n w)
 
-  start-is : (m : ℕ) → m ≤ 32 → listStart m c ≡ 1 + length (codedList (listsOf m n w))
+  start-is : (m : ℕ) → m ≤ M → listStart m c ≡ 1 + length (codedList (listsFrom o m n w))
   unfolding listStart
   start-is zero h = unfold codedList markedFrom in refl
   start-is (suc e) h =
-      let u : List ℕ = listed e n w in
-      let ls : List Bool = codedList (listsOf e n w) in
+      let u : List ℕ = listed (o + e) n w in
+      let ls : List Bool = codedList (listsFrom o e n w) in
       omega (
         arith,
         start-is e (omega arith),
@@ -304,27 +313,27 @@ module _ (n : ℕ) (w c : List ℕ) (t : Counts n w c) (k : Marked n w) where
         length-pairBits u,
       )
 
-  laid-end : (m : ℕ) (b : List Bool) → m ≤ 32 → laid m (λ e. listed e n w) c b ≡ sets b 1 (codedList (listsOf m n w))
+  laid-end : (m : ℕ) (b : List Bool) → m ≤ M → laid m (λ e. listed (o + e) n w) c b ≡ sets b 1 (codedList (listsFrom o m n w))
   unfolding laid
   laid-end zero b h = unfold codedList markedFrom in refl
   laid-end (suc e) b h =
-      let u : List ℕ = listed e n w in
-      let ls : List Bool = codedList (listsOf e n w) in
+      let u : List ℕ = listed (o + e) n w in
+      let ls : List Bool = codedList (listsFrom o e n w) in
       let p : List Bool = bitsOf 14 (length u) ++ pairBits u in
-      ap (λ (z : ℕ). sets (laid e (λ j. listed j n w) c b) (listStart e c) (bitsOf 14 z ++ pairBits u)) (t .each e (omega arith))
+      ap (λ (z : ℕ). sets (laid e (λ j. listed (o + j) n w) c b) (listStart e c) (bitsOf 14 z ++ pairBits u)) (t .each e (omega arith))
       ∙ ap₂ (λ (l : List Bool) (z : ℕ). sets l z p) (laid-end e b (omega arith)) (start-is e (omega arith))
       ∙ sets-append b 1 ls p
       ∙ ap (sets b 1) (sym (lists-more e))
 
-  pub lists-written : {m : ℕ} {b₀ ps : List ℕ} {r : ℕ} {b b′ : List ℕ} → m ≤ 32 → CountsWritten m c b₀ ps r b
-      → bits b′ ≡ scatters n m w (λ e. getD ps e 0) (bits b) → ListsWritten n m w b₀ r b′
-  lists-written {m} {b₀} {ps} {r} {b} {b′} h s q =
+  pub lists-written : {b₀ ps : List ℕ} {r : ℕ} {b b′ : List ℕ} → ((e : ℕ) → getD c e 0 ≤ 8192) → CountsWritten M c b₀ ps r b
+      → bits b′ ≡ scatters o n M w (λ e. getD ps e 0) (bits b) → ListsWritten o n M w b₀ r b′
+  lists-written {b₀} {ps} {r} {b} {b′} h s q =
       record {
         holds =
             q
-            ∙ ap (scatters n m w (λ e. getD ps e 0)) (s .holds)
-            ∙ scatters-laid m n (λ e. getD ps e 0) (bits b₀) h (omega arith) (s .places)
-            ∙ laid-end m (bits b₀) h;
-        next = s .next ∙ start-is m h;
-        most = counts-bound s (counts-few n w c t (k .most));
+            ∙ ap (scatters o n M w (λ e. getD ps e 0)) (s .holds)
+            ∙ scatters-laid n (λ e. getD ps e 0) (bits b₀) (omega arith) (s .places)
+            ∙ laid-end M (bits b₀) (omega arith);
+        next = s .next ∙ start-is M (omega arith);
+        most = counts-bound s h;
       }

@@ -2,7 +2,7 @@
 use Prim.Native.Nat.{ℕ, zero, suc, _+_, _*_, _/_, _%_, _^_, _<_, _≤_}
 use mathlib.Core.Path.{_≡_}
 use mathlib.Core.List.{List, [], _∷_, _++_, map}
-use mathlib.Core.Bool.{Bool, true, false, _||_}
+use mathlib.Core.Bool.{Bool, true, false, not, _||_}
 use lib.ListN.{length, take, drop, getD}
 use lib.Seq.{sets}
 use lib.Dec.{eqb}
@@ -48,9 +48,13 @@ codesOf n w = map pairIn (take n w)
 abbrev pub masksOf : ℕ → List ℕ → List ℕ
 masksOf n w = take n (drop 8192 w)
 
--- the lists of a sheet for m edges
-unfoldable pub matchesOf : ℕ → ℕ → List ℕ → List (List ℕ)
-matchesOf n m w = allOrNone (markedFrom 0 m (codesOf n w) (masksOf n w))
+-- the lists of a sheet for m edges whose bits begin at o
+unfoldable pub matchesFrom : ℕ → ℕ → ℕ → List ℕ → List (List ℕ)
+matchesFrom o n m w = allOrNone (markedFrom o m (codesOf n w) (masksOf n w))
+
+-- the same where the masks are of one pattern
+abbrev pub matchesOf : ℕ → ℕ → List ℕ → List (List ℕ)
+matchesOf n m w = matchesFrom 0 n m w
 
 -- the codes that are listed under one edge ascend, each once
 pub record Marked (n : ℕ) (w : List ℕ) : Type 0 where
@@ -63,10 +67,15 @@ pub record Counts (n : ℕ) (w c : List ℕ) : Type 0 where
   pub long : length c ≡ 32
   pub each : (e : ℕ) → e < 32 → getD c e 0 ≡ length (marked e (codesOf n w) (masksOf n w))
 
+-- the edges that some mask names
+pub record Named (n : ℕ) (w : List ℕ) (r : ℕ) : Type 0 where
+  pub small : r < 2 ^ 32
+  pub each : (e : ℕ) → e < 32 → marks e r ≡ not (eqb (length (marked e (codesOf n w) (masksOf n w))) 0)
+
 -- the bytes of the sheet stand at the front of out as far as it goes
-pub record SheetWritten (n m : ℕ) (w out : List ℕ) (r : ℕ) (out′ : List ℕ) : Type 0 where
+pub record SheetWritten (o n m : ℕ) (w out : List ℕ) (r : ℕ) (out′ : List ℕ) : Type 0 where
   pub bytes : List ℕ
-  pub is : encode (sheet m) (sheetFields (matchesOf n m w)) ≡ ok bytes
+  pub is : encode (sheet m) (sheetFields (matchesFrom o n m w)) ≡ ok bytes
   pub number : r ≡ length bytes
   pub front : out′ ≡ sets out 0 bytes
 
@@ -85,6 +94,21 @@ anyZero (suc m) c = anyZero m c || eqb (getD c m 0) 0
 unfoldable pub sumOf : ℕ → List ℕ → ℕ
 sumOf zero c = 0
 sumOf (suc m) c = sumOf m c + getD c m 0
+
+-- the counts c from o on, so many as m, and then zeros
+pub record PartOfCounts (o m : ℕ) (c r : List ℕ) : Type 0 where
+  pub long : length r ≡ 32
+  pub each : (e : ℕ) → e < m → getD r e 0 ≡ getD c (o + e) 0
+  pub rest : (e : ℕ) → m ≤ e → getD r e 0 ≡ 0
+
+-- how many pairs the lists of m edges have whose bits begin at o, each by itself
+pub record CountsFrom (o n m : ℕ) (w c : List ℕ) : Type 0 where
+  pub each : (e : ℕ) → e < m → getD c e 0 ≡ length (marked (o + e) (codesOf n w) (masksOf n w))
+
+-- how many the sheet's lists have: none where one would be empty
+pub record Lengths (o n m : ℕ) (w c : List ℕ) : Type 0 where
+  pub sum : sumOf m c ≡ pairCount (matchesFrom o n m w)
+  pub all : (sumOf m c ≡ 0 → ⊥) → CountsFrom o n m w c × (matchesFrom o n m w ≡ markedFrom o m (codesOf n w) (masksOf n w))
 
 -- none of the pairs are listed where one of the lists would be empty, else all
 pub record Listed (n m : ℕ) (w : List ℕ) (r : ℕ) : Type 0 where
@@ -119,11 +143,11 @@ unfoldable pub scatter : ℕ → (ℕ → ℕ) → ℕ → ℕ → List Bool →
 scatter zero to x v b = b
 scatter (suc e) to x v b = sets (scatter e to x v b) (to e) (pick (marks e x) (bitsOf 24 v) [])
 
--- the first n pairs of the workspace, each behind those before it in the lists of the first m edges
-unfoldable pub scatters : ℕ → ℕ → List ℕ → (ℕ → ℕ) → List Bool → List Bool
-scatters zero m w to b = b
-scatters (suc i) m w to b =
-    scatter m (λ e. to e + 24 * length (marked e (codesOf i w) (masksOf i w))) (getD w (8192 + i) 0) (pairIn (getD w i 0)) (scatters i m w to b)
+-- the first n pairs of the workspace, each behind those before it in the lists of the m edges whose bits begin at o
+unfoldable pub scatters : ℕ → ℕ → ℕ → List ℕ → (ℕ → ℕ) → List Bool → List Bool
+scatters o zero m w to b = b
+scatters o (suc i) m w to b =
+    scatter m (λ e. to e + 24 * length (marked (o + e) (codesOf i w) (masksOf i w))) (getD w (8192 + i) 0 / 2 ^ o) (pairIn (getD w i 0)) (scatters o i m w to b)
 
 -- the counts stand, and each list has a place behind its own; the other places are zero
 pub record CountsWritten (m : ℕ) (c out ps : List ℕ) (r : ℕ) (out′ : List ℕ) : Type 0 where
@@ -140,21 +164,21 @@ pub record PairPut (x v : ℕ) (ps out ps′ out′ : List ℕ) : Type 0 where
   pub moved : (e : ℕ) → e < 32 → getD ps′ e 0 ≡ getD ps e 0 + 24 * (x / 2 ^ e % 2)
   pub holds : bits out′ ≡ scatter 32 (λ e. getD ps e 0) x v (bits out)
 
--- the first n pairs stand in the lists of the first m edges, whose places have moved on by them; the other places are as they were
-pub record PairsWritten (n m : ℕ) (w ps out ps′ out′ : List ℕ) : Type 0 where
+-- the first n pairs stand in the lists of the m edges whose bits begin at o, whose places have moved on by them; the other places are as they were
+pub record PairsWritten (o n m : ℕ) (w ps out ps′ out′ : List ℕ) : Type 0 where
   pub long : length ps′ ≡ 32
-  pub moved : (e : ℕ) → e < m → getD ps′ e 0 ≡ getD ps e 0 + 24 * length (marked e (codesOf n w) (masksOf n w))
+  pub moved : (e : ℕ) → e < m → getD ps′ e 0 ≡ getD ps e 0 + 24 * length (marked (o + e) (codesOf n w) (masksOf n w))
   pub rest : (e : ℕ) → m ≤ e → e < 32 → getD ps′ e 0 ≡ getD ps e 0
-  pub holds : bits out′ ≡ scatters n m w (λ e. getD ps e 0) (bits out)
+  pub holds : bits out′ ≡ scatters o n m w (λ e. getD ps e 0) (bits out)
 
 -- the lists stand behind the lead
-pub record ListsWritten (n m : ℕ) (w out : List ℕ) (r : ℕ) (out′ : List ℕ) : Type 0 where
-  pub holds : bits out′ ≡ sets (bits out) 1 (codedList (markedFrom 0 m (codesOf n w) (masksOf n w)))
-  pub next : r ≡ 1 + length (codedList (markedFrom 0 m (codesOf n w) (masksOf n w)))
+pub record ListsWritten (o n m : ℕ) (w out : List ℕ) (r : ℕ) (out′ : List ℕ) : Type 0 where
+  pub holds : bits out′ ≡ sets (bits out) 1 (codedList (markedFrom o m (codesOf n w) (masksOf n w)))
+  pub next : r ≡ 1 + length (codedList (markedFrom o m (codesOf n w) (masksOf n w)))
   pub most : r ≤ 1 + 196622 * m
 
 -- the lead stands, and the lists where there are pairs
-pub record ListingWritten (n m : ℕ) (w out : List ℕ) (r : ℕ) (out′ : List ℕ) : Type 0 where
-  pub holds : bits out′ ≡ sets (bits out) 0 (sheetBits (markedFrom 0 m (codesOf n w) (masksOf n w)))
-  pub next : r ≡ length (sheetBits (markedFrom 0 m (codesOf n w) (masksOf n w)))
+pub record ListingWritten (o n m : ℕ) (w out : List ℕ) (r : ℕ) (out′ : List ℕ) : Type 0 where
+  pub holds : bits out′ ≡ sets (bits out) 0 (sheetBits (matchesFrom o n m w))
+  pub next : r ≡ length (sheetBits (matchesFrom o n m w))
   pub most : r ≤ 1 + 196622 * m

@@ -9,6 +9,7 @@ use Rattle.engine.proofs.RowLaws.{blank-long}
 use Rattle.matching.proofs.OfferedLaws.{offered-on}
 use Rattle.containment.proofs.AnswerLaws.{views-small, views-by, counts-by}
 use Rattle.answering.proofs.SeveralLaws.{some-few, asked-by, miscounted, questions-refused, offer-refused, several-on}
+use Rattle.matching.proofs.BookLaws.{counted-by}
 use borrow.Author.Needs.{needs}
 use Rattle.answering.proofs.several.answer_several.Statement.{statement}
 use Rattle.answering.proofs.several.answer_several.Tie as tie
@@ -61,7 +62,7 @@ map-queries-requires c κs =
     let a = c .before .before .before .before .before .before .before .before .before .before .before .before .before .before .before .before .before .before .before .before .before .before .args in
     let q = rw (c .before .before .before .before .before .before .before .before .before .before .enum-told .given .1) at (c .before .before .before .before .before .before .before .before .before .before .before .before .before .before .accept-questions .ensures) in
     let h = rw (c .before .before .before .enum-told2 .given .1) at (c .before .before .before .before .before .before .before .before .accept-offer .ensures) in
-    (asked-by (a .questions .now) (a .number) q (some-few (a .number) (c .before .before .before .before .before .before .before .before .before .before .before .before .before .before .before .before .if1 .left) .1), views-by (a .catalogue .now) (h .is) (h .holds), omega (arith, views-small (a .catalogue .now) (h .is)), blank-long 4096 (c .before .before .no-tables .ensures), c .before .before .before .before .before .before .before .before .accept-offer .kept .1 .1 .0 ∙ c .before .before .before .before .before .before .before .before .before .before .before .before .before .before .accept-questions .kept .1 .1 .0 ∙ c .before .before .before .before .before .before .before .before .before .before .before .before .before .before .before .before .before .before .before .before .before .before .pre)
+    (asked-by (a .questions .now) (a .number) q (some-few (a .number) (c .before .before .before .before .before .before .before .before .before .before .before .before .before .before .before .before .if1 .left) .1), views-by (a .catalogue .now) (h .is) (h .holds), counted-by (a .catalogue .now) (h .is) (h .holds), omega (arith, views-small (a .catalogue .now) (h .is)), blank-long 4096 (c .before .before .no-tables .ensures), c .before .before .before .before .before .before .before .before .accept-offer .kept .1 .1 .0 ∙ c .before .before .before .before .before .before .before .before .before .before .before .before .before .before .accept-questions .kept .1 .1 .0 ∙ c .before .before .before .before .before .before .before .before .before .before .before .before .before .before .before .before .before .before .before .before .before .before .pre)
 
 answer-book-requires : tie.Need-answer-book-requires
 answer-book-requires c κs =
@@ -69,13 +70,13 @@ answer-book-requires c κs =
     let q = rw (c .before .before .before .before .before .before .before .before .before .before .before .before .before .before .before .before .enum-told .given .1) at (c .before .before .before .before .before .before .before .before .before .before .before .before .before .before .before .before .before .before .before .before .accept-questions .ensures) in
     let h = rw (c .before .before .before .before .before .before .before .before .before .enum-told2 .given .1) at (c .before .before .before .before .before .before .before .before .before .before .before .before .before .before .accept-offer .ensures) in
     let s = asked-by (a .questions .now) (a .number) q (some-few (a .number) (c .before .before .before .before .before .before .before .before .before .before .before .before .before .before .before .before .before .before .before .before .before .before .if1 .left) .1) in
-    (c .before .before .before .before .before .map-queries .kept .1 .1 .1 .1 .1 .1 .0 ∙ c .before .before .before .before .before .before .before .before .before .before .before .before .before .before .accept-offer .kept .1 .1 .0 ∙ c .before .before .before .before .before .before .before .before .before .before .before .before .before .before .before .before .before .before .before .before .accept-questions .kept .1 .1 .0 ∙ c .before .before .before .before .before .before .before .before .before .before .before .before .before .before .before .before .before .before .before .before .before .before .before .before .before .before .before .before .pre, some-few (a .number) (c .before .before .before .before .before .before .before .before .before .before .before .before .before .before .before .before .before .before .before .before .before .before .if1 .left) .0, (s, counts-by (a .catalogue .now) (h .is) (h .holds) (a .one-way), c .before .before .before .before .before .map-queries .ensures s (views-by (a .catalogue .now) (h .is) (h .holds))))
+    (c .before .before .before .before .before .map-queries .kept .1 .1 .1 .1 .1 .1 .1 .0 ∙ c .before .before .before .before .before .before .before .before .before .before .before .before .before .before .accept-offer .kept .1 .1 .0 ∙ c .before .before .before .before .before .before .before .before .before .before .before .before .before .before .before .before .before .before .before .before .accept-questions .kept .1 .1 .0 ∙ c .before .before .before .before .before .before .before .before .before .before .before .before .before .before .before .before .before .before .before .before .before .before .before .before .before .before .before .before .pre, some-few (a .number) (c .before .before .before .before .before .before .before .before .before .before .before .before .before .before .before .before .before .before .before .before .before .before .if1 .left) .0, (s, counts-by (a .catalogue .now) (h .is) (h .holds) (a .one-way), c .before .before .before .before .before .map-queries .ensures s (views-by (a .catalogue .now) (h .is) (h .holds))))
 
 same-length-3 : tie.Need-same-length-3
 same-length-3 c = search needs
 
 same-length-4 : tie.Need-same-length-4
-same-length-4 c = c .before .before .before .before .answer-book .kept .1 .1 .1 .1 .1 .1 .1 .1 .0 ∙ c .before .before .before .before .before .before .before .before .before .before .map-queries .kept .1 .1 .1 .1 .1 .1 .0 ∙ c .before .before .before .before .before .before .before .before .before .before .before .before .before .before .before .before .before .before .before .accept-offer .kept .1 .1 .0 ∙ c .before .before .before .before .before .before .before .before .before .before .before .before .before .before .before .before .before .before .before .before .before .before .before .before .before .accept-questions .kept .1 .1 .0
+same-length-4 c = c .before .before .before .before .answer-book .kept .1 .1 .1 .1 .1 .1 .1 .1 .0 ∙ c .before .before .before .before .before .before .before .before .before .before .map-queries .kept .1 .1 .1 .1 .1 .1 .1 .0 ∙ c .before .before .before .before .before .before .before .before .before .before .before .before .before .before .before .before .before .before .before .accept-offer .kept .1 .1 .0 ∙ c .before .before .before .before .before .before .before .before .before .before .before .before .before .before .before .before .before .before .before .before .before .before .before .before .before .accept-questions .kept .1 .1 .0
 
 returns-4 : tie.Need-returns-4
 returns-4 c =

@@ -12,10 +12,10 @@ use Rattle.answering.proofs.several.map_queries.Statement.{statement}
 use Rattle.answering.proofs.several.map_queries.Tie as tie
 
 abbrev Inv-loop : tie.InvT-loop
-Inv-loop questions number catalogue one k tables₀ work₀ used₀ needed₀ lowest₀ byte₀ i₀ tables work used needed lowest byte i = (i ≤ number) × (length work ≡ length work₀) × AskedFrom questions number i byte × ((a : Asked questions number) (v : Views catalogue k) → Mapped (askedAt a v one) i tables used needed lowest)
+Inv-loop questions number catalogue one k counts tables₀ work₀ used₀ needed₀ lowest₀ byte₀ i₀ tables work used needed lowest byte i = (i ≤ number) × (length work ≡ length work₀) × AskedFrom questions number i byte × ((a : Asked questions number) (v : Views catalogue k) → Mapped (askedAt a v one) i tables used needed lowest)
 
 abbrev μ-loop : tie.MeasureT-loop
-μ-loop questions number catalogue one k tables₀ work₀ used₀ needed₀ lowest₀ byte₀ i₀ tables work used needed lowest byte i = number - i
+μ-loop questions number catalogue one k counts tables₀ work₀ used₀ needed₀ lowest₀ byte₀ i₀ tables work used needed lowest byte i = number - i
 
 -- a turn: that of one of at most eight queries, which is accepted and has at most 32 edges
 turn : (e : tie.In-loop Inv-loop μ-loop) → e .before .loop .i < 8
@@ -31,7 +31,7 @@ no-sets-requires : tie.Need-no-sets-requires Inv-loop μ-loop
 no-sets-requires c κs = search needs
 
 loop-holds : tie.Need-loop-holds Inv-loop μ-loop
-loop-holds c = (search needs, refl, asked-start, λ a v. mapped-start (askedAt a v (c .before .before .before .before .args .one-way)) (c .before .before .before .before .pre .3) (c .no-sets .ensures))
+loop-holds c = (search needs, refl, asked-start, λ a v. mapped-start (askedAt a v (c .before .before .before .before .args .one-way)) (c .before .before .before .before .pre .4) (c .no-sets .ensures))
 
 view-at-requires : tie.Need-view-at-requires Inv-loop μ-loop
 view-at-requires c κs =
@@ -39,7 +39,7 @@ view-at-requires c κs =
     record { small = c .before .before .before .before .before .before .pre .0 .short; inside = omega arith; few = omega arith }
 
 map-views-requires : tie.Need-map-views-requires Inv-loop μ-loop
-map-views-requires c κs = (query (c .before .before), c .before .before .before .before .before .before .before .before .before .pre .1, c .before .before .before .before .before .before .before .before .before .pre .2, c .before .before .before .before .loop .inv .1 ∙ c .before .before .before .before .before .before .before .before .before .pre .4)
+map-views-requires c κs = (query (c .before .before), c .before .before .before .before .before .before .before .before .before .pre .1, c .before .before .before .before .before .before .before .before .before .pre .2, c .before .before .before .before .before .before .before .before .before .pre .3, c .before .before .before .before .loop .inv .1 ∙ c .before .before .before .before .before .before .before .before .before .pre .5)
 
 masks-of-requires : tie.Need-masks-of-requires Inv-loop μ-loop
 masks-of-requires c κs = (views-few (c .before .before .before .before .before .before .before .before .before .before .before .before .before .pre .1), few (c .before .before .before .before .before .before))
@@ -78,7 +78,7 @@ loop-again c =
     let masks = c .before .before .before .before .before .before .before .before .masks-of .ensures in
     let low = c .before .before .before .before .before .before .lowest-in .ensures _ masks in (
       omega arith,
-      m .kept .1 .1 .1 .1 .0 ∙ l .1,
+      m .kept .1 .1 .1 .1 .1 .0 ∙ l .1,
       asked-more (l .2) t r w,
       λ a v. mapped-more (l .3 a v) (turn (c .before .before .before .before .before .before .before .before .before .before .before .before .before .before .before .before))
           (asked-found a v (c .before .before .before .before .before .before .before .before .before .before .before .before .before .before .before .before .before .before .before .before .before .before .args .one-way) _ (asked-next (l .2) t r w a .holds) (m .ensures (asked-query (l .2) t r w a) v) (few (c .before .before .before .before .before .before .before .before .before .before .before .before .before .before .before)) low (c .before .before .before .before .use-views .ensures _ masks low))

@@ -5,6 +5,7 @@ use Rattle.matching.proofs.OfferedLaws.{offered-on}
 use Rattle.containment.specs.Quote.{quotedBy}
 use Rattle.containment.specs.Steps.{JudgedTo}
 use Rattle.containment.proofs.AnswerLaws.{views-small, views-by, counts-by}
+use Rattle.matching.proofs.BookLaws.{counted-by}
 use borrow.Author.Needs.{needs}
 use Rattle.containment.proofs.judging.judge_views.Statement.{statement}
 use Rattle.containment.proofs.judging.judge_views.Tie as tie
@@ -34,7 +35,7 @@ map-views-requires : tie.Need-map-views-requires
 map-views-requires c κs =
     let a = c .before .before .before .before .before .before .before .before .before .before .args in
     let q = rw (c .before .enum-told .given .1) at (c .before .before .before .before .before .before .accept-offer .ensures) in
-    (c .before .before .before .before .before .before .before .before .before .before .pre .0, views-by (a .catalogue .now) (q .is) (q .holds), omega (arith, views-small (a .catalogue .now) (q .is)), c .before .before .before .before .before .before .accept-offer .kept .1 .1 .0 ∙ c .before .before .before .before .before .before .before .before .before .before .pre .1)
+    (c .before .before .before .before .before .before .before .before .before .before .pre .0, views-by (a .catalogue .now) (q .is) (q .holds), counted-by (a .catalogue .now) (q .is) (q .holds), omega (arith, views-small (a .catalogue .now) (q .is)), c .before .before .before .before .before .before .accept-offer .kept .1 .1 .0 ∙ c .before .before .before .before .before .before .before .before .before .before .pre .1)
 
 same-length-2 : tie.Need-same-length-2
 same-length-2 c = search needs

@@ -6,6 +6,7 @@ use Rattle.matching.proofs.OfferedLaws.{judged-rejected}
 use Rattle.containment.specs.Steps.{JudgedTo}
 use Rattle.containment.proofs.AnswerLaws.{views-small, views-by, counts-by}
 use Rattle.containment.proofs.TermsLaws.{terms-refused, set-refused, terms-handed}
+use Rattle.matching.proofs.BookLaws.{counted-by}
 use borrow.Author.Needs.{needs}
 use Rattle.containment.proofs.judging.judge_views_on.Statement.{statement}
 use Rattle.containment.proofs.judging.judge_views_on.Tie as tie
@@ -81,7 +82,7 @@ map-views-requires : tie.Need-map-views-requires
 map-views-requires c κs =
     let a = c .before .before .before .before .before .before .before .before .before .before .before .before .before .before .before .before .args in
     let q = rw (c .before .before .before .before .before .before .before .enum-told .given .1) at (c .before .before .before .before .before .before .before .before .before .before .before .before .accept-catalogue .ensures) in
-    (c .before .before .before .before .before .before .before .before .before .before .before .before .before .before .before .before .pre .0, views-by (a .catalogue .now) (q .is) (q .holds), omega (arith, views-small (a .catalogue .now) (q .is)), c .before .before .before .before .before .before .before .before .before .before .before .before .accept-catalogue .kept .1 .0 ∙ c .before .before .before .before .before .before .before .before .before .before .before .before .before .before .before .before .pre .1)
+    (c .before .before .before .before .before .before .before .before .before .before .before .before .before .before .before .before .pre .0, views-by (a .catalogue .now) (q .is) (q .holds), counted-by (a .catalogue .now) (q .is) (q .holds), omega (arith, views-small (a .catalogue .now) (q .is)), c .before .before .before .before .before .before .before .before .before .before .before .before .accept-catalogue .kept .1 .0 ∙ c .before .before .before .before .before .before .before .before .before .before .before .before .before .before .before .before .pre .1)
 
 in-force-requires : tie.Need-in-force-requires
 in-force-requires c κs = let q = rw (c .before .before .before .before .before .before .before .before .before .before .enum-told .given .1) at (c .before .before .before .before .before .before .before .before .before .before .before .before .before .before .before .accept-catalogue .ensures) in q .holds .few

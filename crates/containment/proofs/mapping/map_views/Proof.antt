@@ -48,12 +48,14 @@ part-note-views-end c =
 
 note-views-requires : tie.Need-note-views-requires
 note-views-requires c κs =
+    let pre = c .before .before .before .before .before .before .before .before .before .before .before .before .before .before .before .before .before .before .before .before .before .pre in
     let w = c .before .before .before .before .before .before .before .before .before .before .before .before .before .before .before .write-graph in
-    let s = graphed-size (c .before .before .before .before .before .before .before .before .before .before .before .before .before .before .before .before .before .before .before .before .before .pre .0) (w .ensures (c .before .before .before .before .before .before .before .before .before .before .before .before .before .before .before .before .before .before .before .before .before .pre .0)) in (
-      c .before .before .before .before .before .before .before .before .before .before .before .before .before .before .before .before .before .before .before .before .before .pre .0,
-      c .before .before .before .before .before .before .before .before .before .before .before .before .before .before .before .before .before .before .before .before .before .pre .1,
+    let s = graphed-size (pre .0) (w .ensures (pre .0)) in (
+      pre .0,
+      pre .1,
+      pre .2,
       simp length-take (omega arith),
-      c .before .before .before .before .before .before .before .before .before .before .before .before .before .before .before .before .before .before .before .before .before .pre .2,
+      pre .3,
       (rw (c .before .before .before .before .g .given .1) at (c .before .before .before .before .before .before .before .before .load-record .ensures)) .0,
       λ t. graphed-reads t (w .ensures t) (ap length (c .before .before .before .before .before .before .before .before .before .before .before .before .before .before .before .before .before .before .no-bytes .ensures)),
     )

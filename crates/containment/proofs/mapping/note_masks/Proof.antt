@@ -1,7 +1,7 @@
 -- `containment::mapping::note_masks` meets its contract.
 use native.Mathlib.Omega.{arith}
-use Prim.Native.Nat.{_+_, _^_, _≤_, _<_, _-_}
-use mathlib.Core.Path.{_≡_, refl}
+use Prim.Native.Nat.{_+_, _/_, _%_, _^_, _≤_, _-_}
+use mathlib.Core.Path.{_≡_}
 use lib.ListN.{getD}
 use Rattle.containment.specs.Steps.{Column}
 use Rattle.containment.proofs.MappingLaws.{column-start, column-more, column-end}
@@ -10,10 +10,10 @@ use Rattle.containment.proofs.mapping.note_masks.Statement.{statement}
 use Rattle.containment.proofs.mapping.note_masks.Tie as tie
 
 abbrev Inv-loop : tie.InvT-loop
-Inv-loop table₀ a places n work e₀ table e = (e ≤ n) × Column a e (λ d x. (x ≡ getD work (8192 + getD places d 0) 0) × (x < 2 ^ 32)) table₀ table
+Inv-loop table₀ a places n o m work e₀ table e = (e ≤ n) × Column a e (λ d x. x ≡ getD work (8192 + getD places d 0) 0 / 2 ^ o % 2 ^ m) table₀ table
 
 abbrev μ-loop : tie.MeasureT-loop
-μ-loop table₀ a places n work e₀ table e = n - e
+μ-loop table₀ a places n o m work e₀ table e = n - e
 
 loop-holds : tie.Need-loop-holds Inv-loop μ-loop
 loop-holds c = (omega arith, column-start)
@@ -25,7 +25,7 @@ element-copy-out-mask : tie.Need-element-copy-out-mask Inv-loop μ-loop
 element-copy-out-mask c = search needs
 
 add-mask : tie.Need-add-mask Inv-loop μ-loop
-add-mask c = omega (arith, c .before .before .before .pre .4 (c .before .before .loop .e) (omega arith))
+add-mask c = omega (arith, c .before .before .before .before .pre .5 (c .before .before .loop .e) (omega arith))
 
 mul-at : tie.Need-mul-at Inv-loop μ-loop
 mul-at c = search needs
@@ -33,14 +33,17 @@ mul-at c = search needs
 add-at : tie.Need-add-at Inv-loop μ-loop
 add-at c = search needs
 
+mul-bits-from : tie.Need-mul-bits-from Inv-loop μ-loop
+mul-bits-from c = omega (arith, c .before .before .before .before .pre .5 (c .before .before .loop .e) (omega arith))
+
+shared-slice-read-bits-from : tie.Need-shared-slice-read-bits-from Inv-loop μ-loop
+shared-slice-read-bits-from c = omega (arith, c .before .before .before .before .before .pre .5 (c .before .before .before .loop .e) (omega arith))
+
+bits-from-requires : tie.Need-bits-from-requires Inv-loop μ-loop
+bits-from-requires c κs = search needs
+
 mul-table : tie.Need-mul-table Inv-loop μ-loop
-mul-table c = omega (arith, c .before .before .before .pre .4 (c .before .before .loop .e) (omega arith))
-
-shared-slice-read-table : tie.Need-shared-slice-read-table Inv-loop μ-loop
-shared-slice-read-table c = omega (arith, c .before .before .before .before .pre .4 (c .before .before .before .loop .e) (omega arith))
-
-mul-table-2 : tie.Need-mul-table-2 Inv-loop μ-loop
-mul-table-2 c = search needs
+mul-table c = search needs
 
 element-write-table : tie.Need-element-write-table Inv-loop μ-loop
 element-write-table c = search needs
@@ -53,8 +56,8 @@ loop-less c = search needs
 
 loop-again : tie.Need-loop-again Inv-loop μ-loop
 loop-again c =
-    let p = c .before .before .before .before .pre in
-    (omega arith, column-more (c .before .before .before .loop .inv .1) (p .0) (omega arith) (p .2) (refl, omega (arith, c .shared-slice-known .given (8192 + getD (c .before .before .before .before .args .places .now) (c .before .before .before .loop .e) 0))))
+    let p = c .before .before .before .before .before .before .pre in
+    (omega arith, column-more (c .before .before .before .before .loop .inv .1) (p .0) (omega arith) (p .3) (c .bits-from .ensures))
 
 returns : tie.Need-returns Inv-loop μ-loop
 returns c = column-end _ _ (c .before .loop .inv .1) (omega arith)
@@ -71,9 +74,10 @@ note-masks-spec =
     add-mask
     mul-at
     add-at
+    mul-bits-from
+    shared-slice-read-bits-from
+    bits-from-requires
     mul-table
-    shared-slice-read-table
-    mul-table-2
     element-write-table
     add-e
     loop-less

@@ -17,13 +17,13 @@ by-label-requires : tie.Need-by-label-requires Inv-loop μ-loop
 by-label-requires c κs =
     let args = c .before .before .before .before .before .before .before .before .before .args in
     let pre = c .before .before .before .before .before .before .before .before .before .pre in
-    (pre .0 .edges, ends-few (pre .0) (args .p .from) (pre .0 .from), labels-few (pre .0) (args .p .from) (pre .0 .from))
+    (pre .0 .edges, ends-few (pre .0) (args .b .from) (pre .0 .from), labels-few (pre .0) (args .b .from) (pre .0 .from))
 
 by-label-requires-2 : tie.Need-by-label-requires-2 Inv-loop μ-loop
 by-label-requires-2 c κs =
     let args = c .before .before .before .before .before .before .before .before .before .before .before .before .args in
     let pre = c .before .before .before .before .before .before .before .before .before .before .before .before .pre in
-    (pre .0 .edges, ends-few (pre .0) (args .p .to) (pre .0 .to), labels-few (pre .0) (args .p .to) (pre .0 .to))
+    (pre .0 .edges, ends-few (pre .0) (args .b .to) (pre .0 .to), labels-few (pre .0) (args .b .to) (pre .0 .to))
 
 labels-used-requires : tie.Need-labels-used-requires Inv-loop μ-loop
 labels-used-requires c κs =

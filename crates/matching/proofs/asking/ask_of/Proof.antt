@@ -40,10 +40,10 @@ changed-views-requires : tie.Need-changed-views-requires
 changed-views-requires c κs =
     let h = rw (c .before .before .before .before .before .before .before .before .before .before .before .g .given .1) at (c .before .before .before .before .before .before .before .before .before .before .before .before .before .before .before .load-record .ensures) in
     let t = (rw (c .before .before .before .before .before .before .verdict .given .1) at (c .before .before .before .before .before .before .before .before .judge .ensures)) _ (h .0) in
-    (asking-book (h .0) t (h .1) (c .before .before .before .put-edge .ensures) (c .before .before .before .before .before .before .before .before .before .before .before .before .before .before .before .before .before .before .before .before .pre .1), omega (arith, link-room (h .0) t .0))
+    (asking-book (h .0) t (h .1) (c .before .before .before .put-edge .ensures) (c .before .before .before .before .before .before .before .before .before .before .before .before .before .before .before .before .before .before .before .before .pre .1) (c .before .before .before .before .before .before .before .before .before .before .before .before .before .before .before .before .before .before .before .before .pre .2), omega (arith, link-room (h .0) t .0))
 
-cast-t29 : tie.Need-cast-t29
-cast-t29 c = omega (arith, c .before .before .changed-views .ensures .1)
+cast-t30 : tie.Need-cast-t30
+cast-t30 c = omega (arith, c .before .before .changed-views .ensures .1)
 
 enum-known-verdict-2 : tie.Need-enum-known-verdict-2
 enum-known-verdict-2 c = search needs
@@ -77,4 +77,4 @@ returns-3 c =
     λ cs e. asked-unread (offers cs (c .before .before .before .before .before .before .before .before .before .before .args .one-way)) (c .before .before .before .before .before .before .before .before .before .before .args .«record» .now) (c .before .before .before .before .before .before .before .before .before .before .args .state) (c .before .before .before .before .before .before .before .before .before .before .args .link) (c .before .g2 .given .0 .0) (rw (c .before .g2 .given .1) at (c .before .before .before .before .before .load-record .ensures))
 
 pub ask-of-spec : {M : Type 1} → statement M
-ask-of-spec = tie.close (tie.spec load-record-requires enum-known-g judge-requires enum-known-verdict put-edge-requires add-changed-views changed-views-requires cast-t29 enum-known-verdict-2 enum-known-g-2 same-length returns same-length-2 returns-2 same-length-3 returns-3)
+ask-of-spec = tie.close (tie.spec load-record-requires enum-known-g judge-requires enum-known-verdict put-edge-requires add-changed-views changed-views-requires cast-t30 enum-known-verdict-2 enum-known-g-2 same-length returns same-length-2 returns-2 same-length-3 returns-3)

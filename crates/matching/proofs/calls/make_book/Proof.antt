@@ -7,6 +7,7 @@ use Rattle.packed.proofs.Accepted.{catalogue-read}
 use Rattle.packed.proofs.CallLaws.{refusal-answered}
 use Rattle.matching.specs.Search.{bookFor, makeBookOutcome}
 use Rattle.matching.proofs.OfferedLaws.{offered-on}
+use Rattle.matching.proofs.BookLaws.{counted-by}
 use borrow.Author.Needs.{needs}
 use Rattle.matching.proofs.calls.make_book.Statement.{statement}
 use Rattle.matching.proofs.calls.make_book.Tie as tie
@@ -34,13 +35,13 @@ returns c =
 
 make-book-of-requires : tie.Need-make-book-of-requires
 make-book-of-requires c κs =
-    let args = c .before .before .before .before .before .before .before .before .before .before .before .before .args in
-    let pre = c .before .before .before .before .before .before .before .before .before .before .before .before .pre in
-    let accept-offer = c .before .before .before .before .before .before .accept-offer in
-    let enum-told = c .before .before .enum-told in
+    let args = c .before .before .before .before .before .before .before .before .before .before .before .before .before .args in
+    let pre = c .before .before .before .before .before .before .before .before .before .before .before .before .before .pre in
+    let accept-offer = c .before .before .before .before .before .before .before .accept-offer in
+    let enum-told = c .before .before .before .enum-told in
     let q = rw (enum-told .given .1) at (accept-offer .ensures) in
     let d = catalogue-read (args .catalogue .now) (q .fields) .0 (q .is) in
-    (accept-offer .kept .1 .1 .0 ∙ pre, record { small = omega (arith, d .0); fields = q .fields; is = q .is; number = q .holds .number })
+    (accept-offer .kept .1 .1 .0 ∙ pre, record { small = omega (arith, d .0); fields = q .fields; is = q .is; number = q .holds .number }, counted-by _ (q .is) (q .holds))
 
 same-length-2 : tie.Need-same-length-2
 same-length-2 c = search needs
@@ -51,9 +52,9 @@ same-length-3 c = search needs
 returns-2 : tie.Need-returns-2
 unfolding makeBookOutcome
 returns-2 c =
-    let args = c .before .before .before .before .before .before .before .before .before .before .before .before .before .before .before .before .before .args in
-    let accept-offer = c .before .before .before .before .before .before .before .before .before .before .before .accept-offer in
-    let enum-told = c .before .before .before .before .before .before .before .enum-told in
+    let args = c .before .before .before .before .before .before .before .before .before .before .before .before .before .before .before .before .before .before .args in
+    let accept-offer = c .before .before .before .before .before .before .before .before .before .before .before .before .accept-offer in
+    let enum-told = c .before .before .before .before .before .before .before .before .enum-told in
     let make-book-of = c .before .before .before .before .make-book-of in
     let a = args in
     let q = rw (enum-told .given .1) at (accept-offer .ensures) in

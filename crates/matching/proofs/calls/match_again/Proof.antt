@@ -1,17 +1,15 @@
 -- `matching::calls::match_again` meets its contract.
+use mathlib.Core.Path.{refl}
+use mathlib.Core.Logic.{inl, inr}
 use borrow.Author.Needs.{needs}
-use mathlib.Core.Path.{sym, _∙_}
-use Rattle.matching.proofs.BookLaws.{sheeted-by, sheeted-none}
 use Rattle.matching.proofs.calls.match_again.Statement.{statement}
 use Rattle.matching.proofs.calls.match_again.Tie as tie
 
 returns : tie.Need-returns
-returns c =
-    let pre = c .before .before .before .before .before .before .pre in
-    (sheeted-none _ _ _ _ _ _ (pre .2) (sym (pre .5) ∙ c .if1 .taken), pre .4)
+returns c = (record { edges = record { long = refl; same = λ i h. refl }; either = inl (c .if1 .taken, refl) }, c .before .before .before .before .before .before .pre .3)
 
-match-edges-requires : tie.Need-match-edges-requires
-match-edges-requires c κs = search needs
+match-batch-requires : tie.Need-match-batch-requires
+match-batch-requires c κs = search needs
 
 same-length : tie.Need-same-length
 same-length c = search needs
@@ -26,9 +24,16 @@ same-length-4 : tie.Need-same-length-4
 same-length-4 c = search needs
 
 returns-2 : tie.Need-returns-2
-returns-2 c =
-    let match-edges = c .before .before .before .before .before .before .before .before .match-edges in
-    (sheeted-by (match-edges .ensures .0), match-edges .ensures .1)
+returns-2 c = (record { edges = c .before .before .before .before .before .before .before .before .match-batch .ensures .0 .edges; either = inr (refl, c .before .before .before .before .before .before .before .before .match-batch .ensures .0) }, c .before .before .before .before .before .before .before .before .match-batch .ensures .1)
 
 pub match-again-spec : {M : Type 1} → statement M
-match-again-spec = tie.close (tie.spec returns match-edges-requires same-length same-length-2 same-length-3 same-length-4 returns-2)
+match-again-spec =
+    tie.close
+    (tie.spec
+    returns
+    match-batch-requires
+    same-length
+    same-length-2
+    same-length-3
+    same-length-4
+    returns-2)

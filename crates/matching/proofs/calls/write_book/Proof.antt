@@ -1,135 +1,101 @@
 -- `matching::calls::write_book` meets its contract.
 use native.Mathlib.Omega.{arith}
 use Prim.Native.Nat.{_-_}
-use borrow.Author.Needs.{needs}
-use Rattle.matching.proofs.BookLaws.{BookFilling, turned-stands, turn-fair, turn-ready, turn-size, filling-start, filling-long, filling-inside, filling-sized, filling-next, filling-end}
 use mathlib.Core.Path.{_≡_, refl, _∙_}
 use lib.ListN.{length}
 use Rattle.engine.specs.Starting.{NodeRoom}
+use Rattle.matching.specs.Books.{BookWritten}
+use Rattle.matching.proofs.BookLaws.{written-start, views-few, batch-range, BatchesPast, past-start, past-next, past-ready, book-long, book-marked, book-room, book-next, book-end}
 use Rattle.matching.proofs.calls.write_book.Statement.{statement}
 use Rattle.matching.proofs.calls.write_book.Tie as tie
 
 abbrev Inv-loop : tie.InvT-loop
-Inv-loop catalogue one k «record» n m out₀ work₀ leave₀ arrive₀ held₀ sizes at₀ byte₀ a₀ out work leave arrive held at byte a =
-    BookFilling catalogue one «record» n m work₀ out₀ k at byte a out work × NodeRoom n leave arrive held × (length leave ≡ length leave₀) × (length arrive ≡ length arrive₀) × (length held ≡ length held₀)
+Inv-loop catalogue one k edges first begin «record» n m sizes start out₀ work₀ leave₀ arrive₀ held₀ at₀ byte₀ a₀ out work leave arrive held at byte a =
+    BatchesPast catalogue k work₀ first byte a work × BookWritten catalogue one «record» n m work₀ first a start out₀ at out × NodeRoom n leave arrive held × (length leave ≡ length leave₀) × (length arrive ≡ length arrive₀) × (length held ≡ length held₀)
 
 abbrev μ-loop : tie.MeasureT-loop
-μ-loop catalogue one k «record» n m out₀ work₀ leave₀ arrive₀ held₀ sizes at₀ byte₀ a₀ out work leave arrive held at byte a = k - a
+μ-loop catalogue one k edges first begin «record» n m sizes start out₀ work₀ leave₀ arrive₀ held₀ at₀ byte₀ a₀ out work leave arrive held at byte a = k - a
 
 loop-holds : tie.Need-loop-holds Inv-loop μ-loop
 loop-holds c =
     let pre = c .before .before .before .before .before .before .before .pre in
-    (filling-start (pre .0) (pre .2), pre .3, refl, refl, refl)
+    (past-start (pre .1) (pre .2), record { is = λ cs e. written-start _ _ _ _ }, pre .5, refl, refl, refl)
 
-view-at-requires : tie.Need-view-at-requires Inv-loop μ-loop
-view-at-requires c κs = turned-stands (c .before .loop .inv .0 .sizing .turn) (omega (arith, c .loop-test))
+fill-requires : tie.Need-fill-requires Inv-loop μ-loop
+fill-requires c κs = (c .before .before .before .before .before .before .before .before .before .pre .0 .views, c .before .before .before .before .before .before .before .before .before .pre .0 .counted, omega (arith, c .loop-test), c .before .loop .inv .0 .begins)
 
-is-both-requires : tie.Need-is-both-requires Inv-loop μ-loop
-is-both-requires c κs =
-    let loop = c .before .before .before .loop in
-    let loop-test = c .before .before .loop-test in
-    omega (arith, loop-test, loop .inv .0 .sizing .turn .few)
-
-mul-match-again : tie.Need-mul-match-again Inv-loop μ-loop
-mul-match-again c =
-    let loop = c .before .before .before .before .loop in
-    let loop-test = c .before .before .before .loop-test in
-    omega (arith, loop-test, loop .inv .0 .sizing .turn .few)
-
-array-read-match-again : tie.Need-array-read-match-again Inv-loop μ-loop
-array-read-match-again c =
-    let loop = c .before .before .before .before .loop in
-    let loop-test = c .before .before .before .loop-test in
-    omega (arith, loop-test, loop .inv .0 .sizing .turn .few)
+list-nothing-requires : tie.Need-list-nothing-requires Inv-loop μ-loop
+list-nothing-requires c κs = omega (arith, c .fill .ensures .most, views-few (c .before .before .before .before .before .before .before .before .before .before .pre .0))
 
 match-again-requires : tie.Need-match-again-requires Inv-loop μ-loop
 match-again-requires c κs =
-    let args = c .before .before .before .before .before .before .before .before .before .before .before .before .before .before .before .before .args in
-    let pre = c .before .before .before .before .before .before .before .before .before .before .before .before .before .before .before .before .pre in
-    let loop = c .before .before .before .before .before .before .before .before .loop in
-    let loop-test = c .before .before .before .before .before .before .before .loop-test in
-    let view-at = c .before .before .before .before .before .before .view-at in
-    let is-both = c .before .before .before .before .is-both in
-    let t = turn-ready (loop .inv .0 .sizing .turn) (omega (arith, loop-test)) (view-at .result) (view-at .ensures) in
-    (t .0, t .1, t .2, t .3, loop .inv .1, turn-size (loop .inv .0 .sizing .turn) (omega (arith, loop-test)) (view-at .result) (view-at .ensures) (is-both .ensures) (args .t7) (pre .1))
+    let inv = c .before .before .before .before .before .before .before .loop .inv in
+    let t = past-ready (inv .0) (c .before .before .before .before .before .before .before .before .before .before .before .before .before .before .before .pre .0) in
+    (c .before .before .before .before .before .fill .ensures .fair, t .0, t .1, inv .2)
 
-cast-write-sheet : tie.Need-cast-write-sheet Inv-loop μ-loop
-cast-write-sheet c =
-    let loop = c .before .before .before .before .before .before .before .before .before .before .before .before .before .before .before .before .before .before .before .loop in
-    let loop-test = c .before .before .before .before .before .before .before .before .before .before .before .before .before .before .before .before .before .before .loop-test in
-    let view-at = c .before .before .before .before .before .before .before .before .before .before .before .before .before .before .before .before .before .view-at in
-    omega (arith, turn-fair (loop .inv .0 .sizing .turn) (omega (arith, loop-test)) (view-at .result) (view-at .ensures) .edges)
+counts-requires : tie.Need-counts-requires Inv-loop μ-loop
+counts-requires c κs =
+    let pre = c .before .before .before .before .before .before .before .before .before .before .before .before .before .before .before .before .before .before .before .before .before .before .before .before .before .pre in
+    let inv = c .before .before .before .before .before .before .before .before .before .before .before .before .before .before .before .before .before .loop .inv in
+    let z = book-marked (inv .0) (pre .0) (pre .3) (pre .4) (inv .1) (c .before .before .before .before .before .before .before .before .before .before .before .before .before .before .before .fill .ensures) (c .before .before .before .before .before .before .before .before .before .before .before .before .before .before .list-nothing .ensures) (c .before .before .before .before .before .before .before .before .before .match-again .ensures .0) in
+    (z .most, z .long)
 
-sub-write-sheet : tie.Need-sub-write-sheet Inv-loop μ-loop
-sub-write-sheet c =
-    let z = filling-inside (c .before .before .before .before .before .before .before .before .before .before .before .before .before .before .before .before .before .before .before .loop .inv .0) in
-    omega arith
-
-part-write-sheet-start : tie.Need-part-write-sheet-start Inv-loop μ-loop
-part-write-sheet-start c =
-    let z = filling-inside (c .before .before .before .before .before .before .before .before .before .before .before .before .before .before .before .before .before .before .before .loop .inv .0) in
-    omega arith
-
-part-write-sheet-end : tie.Need-part-write-sheet-end Inv-loop μ-loop
-part-write-sheet-end c = search needs
-
-write-sheet-requires : tie.Need-write-sheet-requires Inv-loop μ-loop
-write-sheet-requires c κs =
-    let loop = c .before .before .before .before .before .before .before .before .before .before .before .before .before .before .before .before .before .before .before .before .loop in
-    let loop-test = c .before .before .before .before .before .before .before .before .before .before .before .before .before .before .before .before .before .before .before .loop-test in
-    let view-at = c .before .before .before .before .before .before .before .before .before .before .before .before .before .before .before .before .before .before .view-at in
-    let match-again = c .before .before .before .before .before .before .before .before .before .before .before .match-again in
-    (match-again .ensures .0 .marked, turn-fair (loop .inv .0 .sizing .turn) (omega (arith, loop-test)) (view-at .result) (view-at .ensures) .edges)
-
-add-at : tie.Need-add-at Inv-loop μ-loop
-add-at c =
-    let loop = c .before .before .before .before .before .before .before .before .before .before .before .before .before .before .before .before .before .before .before .before .before .before .before .loop in
-    let loop-test = c .before .before .before .before .before .before .before .before .before .before .before .before .before .before .before .before .before .before .before .before .before .before .loop-test in
-    let view-at = c .before .before .before .before .before .before .before .before .before .before .before .before .before .before .before .before .before .before .before .before .before .view-at in
-    let is-both = c .before .before .before .before .before .before .before .before .before .before .before .before .before .before .before .before .before .before .before .is-both in
-    let match-again = c .before .before .before .before .before .before .before .before .before .before .before .before .before .before .match-again in
-    let write-sheet = c .before .before .write-sheet in
-    let z = filling-sized (loop .inv .0) (omega (arith, loop-test)) (view-at .result) (view-at .ensures) (is-both .ensures) (match-again .ensures .0) (write-sheet .ensures) in
-    omega (arith, z .most, z .turn .most, z .turn .few)
-
-add-a : tie.Need-add-a Inv-loop μ-loop
-add-a c =
-    let loop = c .before .before .before .before .before .before .before .before .before .before .before .before .before .before .before .before .before .before .before .before .before .before .before .loop in
-    let loop-test = c .before .before .before .before .before .before .before .before .before .before .before .before .before .before .before .before .before .before .before .before .before .before .loop-test in
-    omega (arith, loop-test, loop .inv .0 .sizing .turn .few)
+write-sheets-requires : tie.Need-write-sheets-requires Inv-loop μ-loop
+write-sheets-requires c κs =
+    let pre = c .before .before .before .before .before .before .before .before .before .before .before .before .before .before .before .before .before .before .before .before .before .before .before .before .before .before .before .before .pre in
+    let inv = c .before .before .before .before .before .before .before .before .before .before .before .before .before .before .before .before .before .before .before .before .loop .inv in
+    let v = c .before .before .before .before .before .before .before .before .before .before .before .before .before .before .before .before .before .before .fill .ensures in
+    let none = c .before .before .before .before .before .before .before .before .before .before .before .before .before .before .before .before .before .list-nothing .ensures in
+    let q = c .before .before .before .before .before .before .before .before .before .before .before .before .match-again .ensures .0 in
+    (book-marked (inv .0) (pre .0) (pre .3) (pre .4) (inv .1) v none q, c .before .before .counts .ensures .0, batch-range (pre .0) v, book-room (inv .0) (pre .0) (pre .3) (pre .4) (inv .1) v none q)
 
 loop-less : tie.Need-loop-less Inv-loop μ-loop
-loop-less c =
-    let loop-test = c .before .before .before .before .before .before .before .before .before .before .before .before .before .before .before .before .before .before .before .before .before .before .loop-test in
-    omega (arith, loop-test)
+loop-less c = omega (arith, c .before .before .before .before .before .before .before .before .before .before .before .before .before .before .before .before .before .before .before .before .before .fill .ensures .some, c .before .before .before .before .before .before .before .before .before .before .before .before .before .before .before .before .before .before .before .before .before .fill .ensures .most)
 
 loop-again : tie.Need-loop-again Inv-loop μ-loop
 loop-again c =
-    let loop = c .before .before .before .before .before .before .before .before .before .before .before .before .before .before .before .before .before .before .before .before .before .before .before .loop in
-    let loop-test = c .before .before .before .before .before .before .before .before .before .before .before .before .before .before .before .before .before .before .before .before .before .before .loop-test in
-    let view-at = c .before .before .before .before .before .before .before .before .before .before .before .before .before .before .before .before .before .before .before .before .before .view-at in
-    let is-both = c .before .before .before .before .before .before .before .before .before .before .before .before .before .before .before .before .before .before .before .is-both in
-    let match-again = c .before .before .before .before .before .before .before .before .before .before .before .before .before .before .match-again in
-    let write-sheet = c .before .before .write-sheet in
-    (filling-next (loop .inv .0) (omega (arith, loop-test)) (view-at .result) (view-at .ensures) (is-both .ensures) (match-again .ensures .0) (write-sheet .ensures), match-again .ensures .1, match-again .kept .1 .1 .1 .1 .1 .1 .1 .0 ∙ loop .inv .2, match-again .kept .1 .1 .1 .1 .1 .1 .1 .1 .0 ∙ loop .inv .3, match-again .kept .1 .1 .1 .1 .1 .1 .1 .1 .1 .0 ∙ loop .inv .4)
+    let pre = c .before .before .before .before .before .before .before .before .before .before .before .before .before .before .before .before .before .before .before .before .before .before .before .before .before .before .before .before .before .before .before .pre in
+    let inv = c .before .before .before .before .before .before .before .before .before .before .before .before .before .before .before .before .before .before .before .before .before .before .before .loop .inv in
+    let v = c .before .before .before .before .before .before .before .before .before .before .before .before .before .before .before .before .before .before .before .before .before .fill .ensures in
+    let q = c .before .before .before .before .before .before .before .before .before .before .before .before .before .before .before .match-again .ensures in
+    let kept = c .before .before .before .before .before .before .before .before .before .before .before .before .before .before .before .match-again .kept in
+    (past-next (inv .0) v (q .0 .edges), book-next (inv .0) (pre .0) (pre .3) (pre .4) (inv .1) v (c .before .before .before .before .before .before .before .before .before .before .before .before .before .before .before .before .before .before .before .before .list-nothing .ensures) (q .0) (c .before .before .write-sheets .ensures), q .1, kept .1 .1 .1 .1 .1 .1 .0 ∙ inv .3, kept .1 .1 .1 .1 .1 .1 .1 .0 ∙ inv .4, kept .1 .1 .1 .1 .1 .1 .1 .1 .0 ∙ inv .5)
 
 same-length : tie.Need-same-length Inv-loop μ-loop
-same-length c = filling-long (c .before .loop .inv .0)
+same-length c = book-long (c .before .loop .inv .0) (c .before .before .before .before .before .before .before .before .before .pre .0) (c .before .before .before .before .before .before .before .before .before .pre .3) (c .before .before .before .before .before .before .before .before .before .pre .4) (c .before .loop .inv .1)
 
 same-length-2 : tie.Need-same-length-2 Inv-loop μ-loop
-same-length-2 c = c .before .loop .inv .0 .sizing .turn .edges .long
+same-length-2 c = c .before .loop .inv .0 .edges .long
 
 same-length-3 : tie.Need-same-length-3 Inv-loop μ-loop
-same-length-3 c = c .before .loop .inv .2
+same-length-3 c = c .before .loop .inv .3
 
 same-length-4 : tie.Need-same-length-4 Inv-loop μ-loop
-same-length-4 c = c .before .loop .inv .3
+same-length-4 c = c .before .loop .inv .4
 
 same-length-5 : tie.Need-same-length-5 Inv-loop μ-loop
-same-length-5 c = c .before .loop .inv .4
+same-length-5 c = c .before .loop .inv .5
 
 returns : tie.Need-returns Inv-loop μ-loop
-returns c = filling-end (c .before .loop .inv .0) (omega arith)
+returns c = book-end (c .before .loop .inv .0) (c .before .before .before .before .before .before .before .before .before .pre .0) (omega arith) (c .before .loop .inv .1)
 
 pub write-book-spec : {M : Type 1} → statement M
-write-book-spec = tie.close (tie.spec Inv-loop μ-loop loop-holds view-at-requires is-both-requires mul-match-again array-read-match-again match-again-requires cast-write-sheet sub-write-sheet part-write-sheet-start part-write-sheet-end write-sheet-requires add-at add-a loop-less loop-again same-length same-length-2 same-length-3 same-length-4 same-length-5 returns)
+write-book-spec =
+    tie.close
+    (tie.spec
+    Inv-loop
+    μ-loop
+    loop-holds
+    fill-requires
+    list-nothing-requires
+    match-again-requires
+    counts-requires
+    write-sheets-requires
+    loop-less
+    loop-again
+    same-length
+    same-length-2
+    same-length-3
+    same-length-4
+    same-length-5
+    returns)

@@ -4,7 +4,7 @@ use mathlib.Core.Path.{_≡_}
 use native.Mathlib.Omega.{arith}
 use borrow.Author.Needs.{needs}
 use Rattle.packed.specs.Matches.{Counts}
-use Rattle.packed.proofs.MatchLaws.{counts-start, counts-next, counts-most}
+use Rattle.packed.proofs.MatchLaws.{counts-start, counts-next, counts-most, counts-few}
 use Rattle.packed.proofs.matches.counts.Statement.{statement}
 use Rattle.packed.proofs.matches.counts.Tie as tie
 
@@ -49,7 +49,8 @@ loop-again c = (omega arith, counts-next _ _ _ _ (c .before .before .before .bef
 returns : tie.Need-returns Inv-loop μ-loop
 returns c =
     let e : c .before .loop .i ≡ c .before .before .before .before .args .n = omega arith in
-    rw (← e) (c .before .loop .inv .1)
+    let t = c .before .loop .inv .1 in
+    (rw (← e) t, counts-few _ _ _ t (omega (arith, c .before .before .before .before .pre .0)))
 
 pub counts-spec : {M : Type 1} → statement M
 counts-spec =

@@ -1,5 +1,5 @@
 -- `packed::matches::write_pairs` meets its contract. The invariant: the first i pairs were put.
-use Prim.Native.Nat.{_≤_, _<_, _+_, _-_}
+use Prim.Native.Nat.{_≤_, _<_, _+_, _-_, _/_, _^_}
 use mathlib.Core.Path.{_≡_}
 use native.Mathlib.Omega.{arith}
 use native.Mathlib.Nat.{mod-lt}
@@ -11,25 +11,25 @@ use Rattle.packed.proofs.matches.write_pairs.Statement.{statement}
 use Rattle.packed.proofs.matches.write_pairs.Tie as tie
 
 abbrev Inv-loop : tie.InvT-loop
-Inv-loop work n m places₀ out₀ i₀ places out i = (i ≤ n) × Scattering i m work places₀ out₀ places out
+Inv-loop work n o m places₀ out₀ i₀ places out i = (i ≤ n) × Scattering o i m work places₀ out₀ places out
 
 abbrev μ-loop : tie.MeasureT-loop
-μ-loop work n m places₀ out₀ i₀ places out i = n - i
+μ-loop work n o m places₀ out₀ i₀ places out i = n - i
 
 loop-holds : tie.Need-loop-holds Inv-loop μ-loop
-loop-holds c = (omega arith, scattering-start _ _ _ _ (c .before .before .pre .2) (c .before .before .pre .3))
+loop-holds c = (omega arith, scattering-start _ _ _ _ _ (c .before .before .pre .2) (c .before .before .pre .3))
 
 add-mask : tie.Need-add-mask Inv-loop μ-loop
 add-mask c = search needs
 
-mul-low-bits : tie.Need-mul-low-bits Inv-loop μ-loop
-mul-low-bits c = search needs
+mul-bits-from : tie.Need-mul-bits-from Inv-loop μ-loop
+mul-bits-from c = search needs
 
-shared-slice-read-low-bits : tie.Need-shared-slice-read-low-bits Inv-loop μ-loop
-shared-slice-read-low-bits c = search needs
+shared-slice-read-bits-from : tie.Need-shared-slice-read-bits-from Inv-loop μ-loop
+shared-slice-read-bits-from c = search needs
 
-low-bits-requires : tie.Need-low-bits-requires Inv-loop μ-loop
-low-bits-requires c κs = search needs
+bits-from-requires : tie.Need-bits-from-requires Inv-loop μ-loop
+bits-from-requires c κs = search needs
 
 mul-put-pair : tie.Need-mul-put-pair Inv-loop μ-loop
 mul-put-pair c = search needs
@@ -53,9 +53,10 @@ loop-again : tie.Need-loop-again Inv-loop μ-loop
 loop-again c =
     let i = c .before .before .before .before .before .before .before .before .before .loop .i in
     let w = c .before .before .before .before .before .before .before .before .before .before .before .before .args .work .now in
+    let o = c .before .before .before .before .before .before .before .before .before .before .before .before .args .o in
     let m = c .before .before .before .before .before .before .before .before .before .before .before .before .args .m in
     let h : 8192 + i < length w = omega (arith, c .before .before .before .before .before .before .before .before .before .before .before .before .pre .0 .long, c .before .before .before .before .before .before .before .before .before .before .before .before .pre .0 .most) in
-    (omega arith, scattering-next (c .before .before .before .before .before .before .before .before .before .loop .inv .1) (c .before .before .before .before .before .before .before .before .before .before .before .before .pre .1) h (omega (arith, c .before .before .put-pair .kept)) (mod-lt (getD w (8192 + i) 0) (pow-pos m)) (rw (c .before .before .before .before .before .before .low-bits .ensures) at (c .before .before .put-pair .ensures)))
+    (omega arith, scattering-next (c .before .before .before .before .before .before .before .before .before .loop .inv .1) (omega (arith, c .before .before .before .before .before .before .before .before .before .before .before .before .pre .1)) h (omega (arith, c .before .before .put-pair .kept)) (mod-lt (getD w (8192 + i) 0 / 2 ^ o) (pow-pos m)) (rw (c .before .before .before .before .before .before .bits-from .ensures) at (c .before .before .put-pair .ensures)))
 
 same-length : tie.Need-same-length Inv-loop μ-loop
 same-length c = search needs
@@ -73,9 +74,9 @@ write-pairs-spec =
     μ-loop
     loop-holds
     add-mask
-    mul-low-bits
-    shared-slice-read-low-bits
-    low-bits-requires
+    mul-bits-from
+    shared-slice-read-bits-from
+    bits-from-requires
     mul-put-pair
     shared-slice-read-put-pair
     put-pair-requires
