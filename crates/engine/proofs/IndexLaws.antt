@@ -2,8 +2,9 @@
 use mathlib.Core.Path.{_≡_, refl, ap, ap₂, _∙_, sym, subst}
 use mathlib.Core.Logic.{_⊎_, ⊎-elim}
 use mathlib.Core.List.{List}
-use Prim.Native.Nat.{ℕ, zero, suc, _≤_, _<_, _+_, _-_, zero-le}
+use Prim.Native.Nat.{ℕ, zero, suc, _≤_, _<_, _+_, _-_, max, zero-le}
 use native.Mathlib.Nat.{eq-or-lt-of-le}
+use native.Mathlib.Numerals.{add-one}
 use native.Mathlib.Omega.{arith}
 use lib.ListN.{length, getD, set, length-set}
 use lib.Seq.{getD-set-same, getD-set-other}
@@ -14,68 +15,141 @@ use Rattle.engine.specs.Masks.{Has, OneOf}
 use Rattle.engine.specs.Sweeping.{fromOf, Ends, heldAt}
 use Rattle.engine.proofs.ListLaws.{decide}
 use Rattle.engine.proofs.MaskBits.{and-say, and-by, minus-say, minus-by, part-le, one-last, one-more, one-cases}
-use Rattle.engine.specs.Places.{ByStart, BeginsBelow, Cut, Firsts, FirstsMade}
+use Rattle.engine.specs.Places.{ByStart, BeginsBelow, Cut, Firsts, FirstsMade, Entered, Empty, Cleared, Behind, Marked, highest, Carried}
 use Rattle.engine.specs.Worklist.{missedBy}
 use Rattle.engine.specs.Rounds.{End}
 
 has-or : (x k : ℕ) → Has x k ⊎ (Has x k → ⊥)
 has-or x k = decide (bit x k)
 
--- ---- the first pair that does not begin below v
-module _ {d : ℕ} {w : List ℕ} {v i : ℕ} (h : BeginsBelow d w v i) where
-  pub before-more : i < d → fromOf w i < v → BeginsBelow d w v (i + 1)
-  before-more l f =
-      record {
-        upto = omega arith;
-        below = λ j q. ⊎-elim (λ (z : j < i). h .below j z)
-            (λ (z : i ≤ j). let y : i ≡ j = omega arith in subst (λ (k : ℕ). fromOf w k < v) y f) (lt-or-ge j i);
-      }
-
-  pub before-cut : ByStart d w → v ≤ fromOf w i → Cut d w v i
-  before-cut p f =
-      record {
-        before = h;
-        above = λ j a b. ⊎-elim (λ (e : i ≡ j). subst (λ (k : ℕ). v ≤ fromOf w k) e f) (λ (z : i < j). let y = p i j z b in omega arith) (eq-or-lt-of-le a);
-      }
-
-  pub before-end : d ≤ i → Cut d w v i
-  before-end l = record { before = h; above = λ j a b. absurd (omega arith) }
-
--- ---- the index, node by node
-pub record Indexing (d n : ℕ) (w first₀ first : List ℕ) (i v : ℕ) : Type 0 where
+-- ---- an index, entry by entry: those below v are new
+pub record Entering (n : ℕ) (P : ℕ → ℕ → Type 0) (first₀ first : List ℕ) (v : ℕ) : Type 0 where
   pub upto : v ≤ n + 1
-  pub before : BeginsBelow d w v i
   pub long : length first ≡ length first₀
-  pub done : (k : ℕ) → k < v → Cut d w k (getD first k 0)
+  pub done : (k : ℕ) → k < v → P k (getD first k 0)
   pub later : (k : ℕ) → v ≤ k → getD first k 0 ≡ getD first₀ k 0
 
-pub indexing-start : (d n : ℕ) (w first : List ℕ) → Indexing d n w first first 0 0
-indexing-start d n w first =
+pub entering-start : (n : ℕ) (P : ℕ → ℕ → Type 0) (first : List ℕ) → Entering n P first first 0
+entering-start n P first = record { upto = zero-le; long = refl; done = λ k l. absurd (omega arith); later = λ k l. refl }
+
+module _ {n : ℕ} {P : ℕ → ℕ → Type 0} {first₀ first : List ℕ} {v : ℕ} (h : Entering n P first₀ first v) where
+  pub entering-more : n < length first₀ → v ≤ n → {x : ℕ} → P v x → Entering n P first₀ (set first v x) (v + 1)
+  entering-more len l {x} p =
+      let new : getD (set first v x) v 0 ≡ x = getD-set-same first v x 0 (let z = h .long in omega arith) in
+      record {
+        upto = omega arith;
+        long = length-set first v x ∙ h .long;
+        done = λ k q. ⊎-elim
+            (λ (e : k ≡ v). subst (λ (y : ℕ). P y (getD (set first v x) y 0)) (sym e) (subst (P v) (sym new) p))
+            (λ (e : k ≡ v → ⊥). subst (P k) (sym (getD-set-other first v k x 0 e))
+            (h .done k (⊎-elim (λ (z : k < v). z) (λ (z : v ≤ k). absurd (e (omega arith))) (lt-or-ge k v)))) (eq-or-ne k v);
+        later = λ k q. getD-set-other first v k x 0 (λ e. omega arith) ∙ h .later k (omega arith);
+      }
+
+  pub entering-end : n < v → Entered n P first₀ first
+  entering-end l = record { long = h .long; each = λ k q. h .done k (omega arith); later = λ k q. h .later k (let z = h .upto in omega arith) }
+
+-- ---- the entry behind a pair's node, pair by pair
+pub marked-start : (n : ℕ) (w first : List ℕ) → Empty n first → Marked 0 n w first first
+marked-start n w first e =
     record {
-      upto = zero-le;
-      before = record { upto = zero-le; below = λ j l. absurd (omega arith) };
       long = refl;
-      done = λ k l. absurd (omega arith);
+      each = λ v l. (let z = e v l in record {
+        before = record { upto = omega arith; below = λ j q. absurd (omega arith) };
+        last = λ j q. absurd (omega arith);
+      });
       later = λ k l. refl;
     }
 
-module _ {d n : ℕ} {w first₀ first : List ℕ} {i v : ℕ} (h : Indexing d n w first₀ first i v) where
-  pub indexing-more : n < length first₀ → v ≤ n → (r : ℕ) → Cut d w v r → Indexing d n w first₀ (set first v r) r (v + 1)
-  indexing-more len l r c =
-      let new : getD (set first v r) v 0 ≡ r = getD-set-same first v r 0 (let z = h .long in omega arith) in
+module _ {d i n : ℕ} {w first₀ first : List ℕ} (p : ByStart d w) (l : i < d) (h : Marked i n w first₀ first) where
+  -- the next pair's number goes behind its node
+  pub marked-more : n < length first₀ → fromOf w i < n → Marked (i + 1) n w first₀ (set first (fromOf w i + 1) (i + 1))
+  marked-more len f =
+      let at = fromOf w i + 1 in
+      let new : getD (set first at (i + 1)) at 0 ≡ i + 1 = getD-set-same first at (i + 1) 0 (let z = h .long in omega arith) in
+      let here : Behind (i + 1) w at (i + 1) = record {
+        before = record {
+          upto = omega arith;
+          below = λ j q. ⊎-elim (λ (e : j ≡ i). (let z = ap (fromOf w) e in omega arith)) (λ (z : j < i). (let y = p j i z l in omega arith)) (eq-or-lt-of-le (omega (arith, q)));
+        };
+        last = λ j q e. q;
+      } in
       record {
-        upto = omega arith;
-        before = record { upto = c .before .upto; below = λ j q. (let y = c .before .below j q in omega arith) };
-        long = length-set first v r ∙ h .long;
-        done = λ k q. ⊎-elim
-            (λ (e : k ≡ v). subst (λ (x : ℕ). Cut d w x (getD (set first v r) x 0)) (sym e) (subst (Cut d w v) (sym new) c))
-            (λ (e : k ≡ v → ⊥). subst (Cut d w k) (sym (getD-set-other first v k r 0 e))
-            (h .done k (⊎-elim (λ (z : k < v). z) (λ (z : v ≤ k). absurd (e (omega arith))) (lt-or-ge k v)))) (eq-or-ne k v);
-        later = λ k q. getD-set-other first v k r 0 (λ e. omega arith) ∙ h .later k (omega arith);
+        long = length-set first at (i + 1) ∙ h .long;
+        each = λ v q. ⊎-elim
+            (λ (e : v ≡ at). subst (λ (y : ℕ). Behind (i + 1) w y (getD (set first at (i + 1)) y 0)) (sym e) (subst (Behind (i + 1) w at) (sym new) here))
+            (λ (e : v ≡ at → ⊥). subst (Behind (i + 1) w v) (sym (getD-set-other first at v (i + 1) 0 e)) (kept v (h .each v q) e)) (eq-or-ne v at);
+        later = λ k q. getD-set-other first at k (i + 1) 0 (λ e. omega arith) ∙ h .later k q;
+      }
+    where
+      -- behind another node the next pair changes nothing
+      kept : (v : ℕ) {k : ℕ} → Behind i w v k → (v ≡ fromOf w i + 1 → ⊥) → Behind (i + 1) w v k
+      kept v {k} b e =
+          record {
+            before = record { upto = (let u = b .before .upto in omega arith); below = b .before .below };
+            last = λ j q f. ⊎-elim (λ (z : j ≡ i). absurd (e (sym f ∙ ap (λ (x : ℕ). fromOf w x + 1) z))) (λ (z : j < i). b .last j z f) (eq-or-lt-of-le (omega (arith, q)));
+          }
+
+  -- no pair is left that begins below n
+  pub marked-over : n ≤ fromOf w i → Marked d n w first₀ first
+  marked-over f =
+      record {
+        long = h .long;
+        each = λ v q. (let b = h .each v q in record {
+          before = record { upto = (let u = b .before .upto in omega arith); below = b .before .below };
+          last = λ j m e. ⊎-elim (λ (z : j < i). b .last j z e)
+              (λ (z : i ≤ j). absurd (⊎-elim (λ (y : i ≡ j). (let x = ap (fromOf w) y in omega arith)) (λ (y : i < j). (let x = p i j y m in omega arith)) (eq-or-lt-of-le z))) (lt-or-ge j i);
+        });
+        later = h .later;
       }
 
-  pub indexing-end : n < v → FirstsMade d n w first₀ first
-  indexing-end l = record { long = h .long; firsts = record { each = λ k q. h .done k (omega arith) }; later = λ k q. h .later k (let z = h .upto in omega arith) }
+-- ---- the greatest entry so far
+pub highest-more : (l : List ℕ) (v : ℕ) → highest l (v + 1) ≡ max (highest l v) (getD l v 0)
+unfolding highest
+highest-more l v = ap (highest l) (add-one v)
+
+-- the entries below v are the greatest so far, and most is the greatest that stood there
+abbrev pub Carrying : ℕ → List ℕ → List ℕ → ℕ → ℕ → Type 0
+Carrying n first₀ first most v = Entering n (λ u k. k ≡ highest first₀ (suc u)) first₀ first v × (most ≡ highest first₀ v)
+
+pub carrying-start : (n : ℕ) (first : List ℕ) → Carrying n first first 0 0
+unfolding highest
+carrying-start n first = (entering-start n _ first, refl)
+
+pub carrying-more : {n : ℕ} {first₀ first : List ℕ} {most v : ℕ} → Carrying n first₀ first most v → n < length first₀ → v ≤ n → {x : ℕ} → x ≡ max most (getD first v 0)
+    → Carrying n first₀ (set first v x) x (v + 1)
+carrying-more {n} {first₀} {first} {most} {v} h len l {x} e =
+    let z : x ≡ highest first₀ (v + 1) = e ∙ ap₂ max (h .1) (h .0 .later v (omega arith)) ∙ sym (highest-more first₀ v) in
+    (entering-more (h .0) len l (z ∙ ap (highest first₀) (add-one v)), z)
+
+-- the greatest of the entries behind the nodes is how many pairs begin below
+module _ {d n : ℕ} {w first₀ first : List ℕ} (M : Marked d n w first₀ first) where
+  -- from the pairs that begin below the node before v, and the entry behind that node
+  cut-by : {v a b : ℕ} → BeginsBelow d w v a → ((j : ℕ) → a ≤ j → j < d → v ≤ fromOf w j + 1) → Behind d w v b → Cut d w v (max a b)
+  cut-by {v} {a} {b} h o m =
+      record {
+        before = record {
+          upto = (let x = h .upto in let y = m .before .upto in omega arith);
+          below = λ j q. ⊎-elim (λ (z : j < a). h .below j z) (λ (z : a ≤ j). m .before .below j (omega arith)) (lt-or-ge j a);
+        };
+        above = λ j q l. (let x = o j (omega arith) l in ⊎-elim (λ (z : fromOf w j < v). absurd (let y = m .last j l (omega arith) in omega arith)) (λ (z : v ≤ fromOf w j). z) (lt-or-ge (fromOf w j) v));
+      }
+
+  pub highest-cut : (v : ℕ) → v ≤ n → Cut d w v (highest first (suc v))
+  unfolding highest
+  highest-cut zero l = cut-by record { upto = zero-le; below = λ j q. absurd (omega arith) } (λ j q m. zero-le) (M .each 0 l)
+  highest-cut (suc v) l =
+      let C = highest-cut v (omega arith) in
+      cut-by record { upto = C .before .upto; below = λ j q. (let y = C .before .below j q in omega arith) } (λ j q m. (let y = C .above j q m in omega arith)) (M .each (suc v) l)
+
+-- so the three steps make an index
+pub firsts-made : {d n : ℕ} {w a b c e : List ℕ} → Cleared n a b → Marked d n w b c → Carried n c e → FirstsMade d n w a e
+firsts-made {d} {n} {w} C M G =
+    record {
+      long = G .long ∙ M .long ∙ C .long;
+      firsts = record { each = λ v l. subst (Cut d w v) (sym (G .each v l)) (highest-cut M v l) };
+      later = λ k l. G .later k l ∙ M .later k l ∙ C .later k l;
+    }
 
 -- ---- the pairs that begin at v are exactly those from first[v] up to first[v + 1]
 module _ {d n : ℕ} {w first : List ℕ} (F : Firsts d n w first) (v : ℕ) (l : v < n) (j : ℕ) where

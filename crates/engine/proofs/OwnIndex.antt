@@ -3,7 +3,7 @@ use mathlib.Core.Path.{_≡_, refl, ap, ap₂, sym, subst, _∙_}
 use mathlib.Core.Bool.{Bool, true, false}
 use mathlib.Core.Logic.{⊎-elim}
 use mathlib.Core.List.{List, [], _∷_, _++_}
-use Prim.Native.Nat.{ℕ, zero, suc, _≤_, _<_, _+_, _-_}
+use Prim.Native.Nat.{ℕ, zero, suc, _≤_, _<_, _+_, _-_, zero-le}
 use native.Mathlib.Omega.{arith}
 use native.Mathlib.Nat.{eq-or-lt-of-le}
 use lib.ListN.{length, getD, drop, length-append, length-drop, List·getD-append}
@@ -19,7 +19,7 @@ use Rattle.engine.specs.Simulation.{Edge}
 use Rattle.engine.specs.Index.{beginBelow, indexFor, alike, ownIndex}
 use Rattle.engine.specs.Loaded.{edgeOfWord}
 use Rattle.engine.specs.Sweeping.{fromOf, Ends}
-use Rattle.engine.specs.Places.{Cut, BeginsBelow, Firsts, FirstsMade, edgesAt, Compared}
+use Rattle.engine.specs.Places.{Cut, Firsts, FirstsMade, edgesAt, Compared}
 use Rattle.engine.proofs.UpToLaws.{length-upTo, getD-upTo}
 
 -- ---- how many members pass a test
@@ -166,30 +166,26 @@ module _ (own index : List ℕ) (a : Outcome) where
       let l : alike own index < length own = ⊎-elim (λ (z : alike own index ≡ length own). absurd (n z)) (λ (z : alike own index < length own). z) (eq-or-lt-of-le (alike-upto own index)) in
       (own-position (alike own index) e refl l, l)
 
--- ---- an index that was lent, entry by entry
-pub record Comparing (d n : ℕ) (w index : List ℕ) (i v : ℕ) : Type 0 where
+-- ---- two indexes, entry by entry: those below v are alike
+pub record Comparing (n : ℕ) (own index : List ℕ) (v : ℕ) : Type 0 where
   pub upto : v ≤ n + 1
-  pub before : BeginsBelow d w v i
-  pub same : (k : ℕ) → k < v → Cut d w k (getD index k 0)
+  pub same : (k : ℕ) → k < v → getD own k 0 ≡ getD index k 0
 
-pub comparing-start : (d n : ℕ) (w index : List ℕ) → Comparing d n w index 0 0
-comparing-start d n w index =
-    record { upto = omega arith; before = record { upto = omega arith; below = λ j l. absurd (omega arith) }; same = λ k l. absurd (omega arith) }
+pub comparing-start : (n : ℕ) (own index : List ℕ) → Comparing n own index 0
+comparing-start n own index = record { upto = zero-le; same = λ k l. absurd (omega arith) }
 
-module _ {d n : ℕ} {w index : List ℕ} {i v : ℕ} (h : Comparing d n w index i v) where
-  pub comparing-more : v ≤ n → {r : ℕ} → Cut d w v r → getD index v 0 ≡ r → Comparing d n w index r (v + 1)
-  comparing-more l {r} C e =
+module _ {n : ℕ} {own index : List ℕ} {v : ℕ} (h : Comparing n own index v) where
+  pub comparing-more : v ≤ n → getD own v 0 ≡ getD index v 0 → Comparing n own index (v + 1)
+  comparing-more l e =
       record {
         upto = omega arith;
-        before = record { upto = C .before .upto; below = λ j q. (let y = C .before .below j q in omega arith) };
-        same = λ k q. ⊎-elim (λ (z : k < v). h .same k z)
-            (λ (z : v ≤ k). let y : v ≡ k = omega arith in subst (λ (x : ℕ). Cut d w x (getD index x 0)) y (subst (Cut d w v) (sym e) C)) (lt-or-ge k v);
+        same = λ k q. ⊎-elim (λ (z : k < v). h .same k z) (λ (z : v ≤ k). let y : v ≡ k = omega arith in subst (λ (x : ℕ). getD own x 0 ≡ getD index x 0) y e) (lt-or-ge k v);
       }
 
-  pub comparing-differs : v ≤ n → {r : ℕ} → Cut d w v r → (getD index v 0 ≡ r → ⊥) → Compared d n w index v
-  comparing-differs l {r} C n = record { upto = h .upto; same = h .same; differs = λ q. (r, C, λ e. n (sym e)) }
+  pub comparing-differs : (getD own v 0 ≡ getD index v 0 → ⊥) → Compared n own index v
+  comparing-differs e = record { upto = h .upto; same = h .same; differs = λ q. e }
 
-  pub comparing-end : n < v → Compared d n w index v
+  pub comparing-end : n < v → Compared n own index v
   comparing-end l = record { upto = h .upto; same = h .same; differs = λ q. absurd (omega arith) }
 
 -- ---- and what falls to it
@@ -197,20 +193,23 @@ module _ (d n : ℕ) (w index : List ℕ) where
   pub judged-number : (length index ≡ n + 1 → ⊥) → (a : Outcome) → ownIndex (indexFor n (edgesAt d w)) index a ≡ refuse 16 (length index)
   judged-number q a = own-number (indexFor n (edgesAt d w)) index a (λ e. q (e ∙ index-long n (edgesAt d w)))
 
-  module _ (E : Ends n d w) (long : length index ≡ n + 1) {r : ℕ} (C : Compared d n w index r) where
+  module _ (E : Ends n d w) (long : length index ≡ n + 1) {made : List ℕ} (F : Firsts d n w made) {r : ℕ} (C : Compared n made index r) where
+    -- an entry of the pairs' index, as it was made
+    made-entry : (v : ℕ) → v ≤ n → getD (indexFor n (edgesAt d w)) v 0 ≡ getD made v 0
+    made-entry v l = cut-entry E l (F .each v l)
+
     pub judged-position : r ≤ n → (a : Outcome) → ownIndex (indexFor n (edgesAt d w)) index a ≡ refuse 16 r
     judged-position l a =
         let o = index-long n (edgesAt d w) in
-        let k = C .differs l in
         own-position (indexFor n (edgesAt d w)) index a r (long ∙ sym o)
-        (alike-at (indexFor n (edgesAt d w)) index r (o ∙ sym long) (omega arith) (λ j q. cut-entry E (omega arith) (C .same j q))
-        (λ q e. k .2 (sym (cut-entry E l (k .1)) ∙ e)))
+        (alike-at (indexFor n (edgesAt d w)) index r (o ∙ sym long) (omega arith) (λ j q. made-entry j (omega arith) ∙ C .same j q)
+        (λ q e. C .differs l (sym (made-entry r l) ∙ e)))
         (omega arith)
 
     pub judged-own : n < r → (n + 1 ≡ length index) × (n < length index) × Firsts d n w index × (index ≡ indexFor n (edgesAt d w))
     judged-own l = (
       sym long,
       omega arith,
-      record { each = λ v q. C .same v (omega arith) },
-      ext-getD 0 index (indexFor n (edgesAt d w)) (long ∙ sym (index-long n (edgesAt d w))) (λ v q. sym (cut-entry E (omega arith) (C .same v (omega arith)))),
+      record { each = λ v q. subst (Cut d w v) (C .same v (omega arith)) (F .each v q) },
+      ext-getD 0 index (indexFor n (edgesAt d w)) (long ∙ sym (index-long n (edgesAt d w))) (λ v q. sym (made-entry v (omega arith) ∙ C .same v (omega arith))),
     )

@@ -1,9 +1,9 @@
 // Where the pairs that begin at a node stand, and what they offer.
 ghost use mathlib.Core.Path.{_≡_};
-ghost use Prim.Native.Nat.{ℕ, _+_, _-_, _<_, _≤_};
+ghost use Prim.Native.Nat.{ℕ, _+_, _-_, _<_, _≤_, max};
 ghost use lib.ListN.{length, getD};
 ghost use Rattle.engine.specs.Sweeping.{fromOf, Ends};
-ghost use Rattle.engine.specs.Places.{ByStart, Cut, BeginsBelow, FirstsMade, Compared, IndexJudged};
+ghost use Rattle.engine.specs.Places.{ByStart, Empty, Cleared, Marked, Carried, FirstsMade, Compared, IndexJudged};
 ghost use Rattle.engine.specs.Worklist.{missed, missedBack};
 use packed::limits;
 use packed::reply::Refusal;
@@ -15,47 +15,77 @@ pub fn wide(x: u16) -> usize
     x as usize
 }
 
-// How many pairs begin below v, where those up to start do.
-fn skip(work: &[u32], start: usize, d: usize, v: usize) -> usize
-    requires { ⌜ (d ≤ 8192) × (length (now work) ≡ 16384) × ByStart d (now work) × BeginsBelow d (now work) v start ⌝ }
-    ensures { λ r. ⌜ Cut d (now (work .entry)) v r ⌝ }
+// Clears the entries up to n.
+fn clear(n: usize, first: &mut [u16])
+    requires { ⌜ n < length (now first) ⌝ }
+    ensures { λ r. ⌜ Cleared n (now (first .entry)) (now (first .exit)) ⌝ }
 {
-    let mut i = start;
-    while i < d {
-        let x = work[i];
-        let f = (x / limits::NODES % limits::NODES) as usize;
-        if v <= f {
-            return i;
-        }
-        i += 1;
-    }
-    i
-}
-
-// first[v] is how many pairs begin below v, for each v up to n.
-pub fn firsts(work: &[u32], d: usize, n: usize, first: &mut [u16])
-    requires { ⌜ (d ≤ 8192) × (length (now work) ≡ 16384) × ByStart d (now work) × (n < length (now first)) ⌝ }
-    ensures { λ r. ⌜ FirstsMade d n (now (work .entry)) (now (first .entry)) (now (first .exit)) ⌝ }
-{
-    let mut i: usize = 0;
     let mut v: usize = 0;
     while v <= n {
-        i = skip(work, i, d, v);
-        first[v] = i as u16;
+        first[v] = 0;
         v += 1;
     }
 }
 
-// The first entry of an index up to the node n that is not how many pairs begin below its node, or n + 1.
-fn differs(work: &[u32], d: usize, n: usize, index: &[u16]) -> usize
-    requires { ⌜ (d ≤ 8192) × (length (now work) ≡ 16384) × ByStart d (now work) × (n < length (now index)) ⌝ }
-    ensures { λ r. ⌜ Compared d n (now (work .entry)) (now (index .entry)) r ⌝ }
+// Each pair that begins below n leaves in the entry behind its node how many pairs stand up to it: what the last one of a node leaves stays.
+fn mark(work: &[u32], d: usize, n: usize, first: &mut [u16])
+    requires { ⌜ (d ≤ 8192) × (length (now work) ≡ 16384) × ByStart d (now work) × (n < length (now first)) × Empty n (now first) ⌝ }
+    ensures { λ r. ⌜ Marked d n (now (work .entry)) (now (first .entry)) (now (first .exit)) ⌝ }
 {
     let mut i: usize = 0;
+    while i < d {
+        let f = (work[i] / limits::NODES % limits::NODES) as usize;
+        if n <= f {
+            return;
+        }
+        i += 1;
+        let at = f + 1;
+        first[at] = i as u16;
+    }
+}
+
+// The greater of two numbers.
+fn greater(a: u16, b: u16) -> u16
+    ensures { λ r. ⌜ r ≡ max a b ⌝ }
+{
+    if a < b {
+        return b;
+    }
+    a
+}
+
+// Each entry up to n becomes the greatest up to it.
+fn carry(n: usize, first: &mut [u16])
+    requires { ⌜ n < length (now first) ⌝ }
+    ensures { λ r. ⌜ Carried n (now (first .entry)) (now (first .exit)) ⌝ }
+{
+    let mut most: u16 = 0;
     let mut v: usize = 0;
     while v <= n {
-        i = skip(work, i, d, v);
-        if wide(index[v]) != i {
+        most = greater(most, first[v]);
+        first[v] = most;
+        v += 1;
+    }
+}
+
+// first[v] is how many pairs begin below v, for each v up to n. How many begin at a node can't be foreseen, so no loop goes by that.
+pub fn firsts(work: &[u32], d: usize, n: usize, first: &mut [u16])
+    requires { ⌜ (d ≤ 8192) × (length (now work) ≡ 16384) × ByStart d (now work) × (n < length (now first)) ⌝ }
+    ensures { λ r. ⌜ FirstsMade d n (now (work .entry)) (now (first .entry)) (now (first .exit)) ⌝ }
+{
+    clear(n, first);
+    mark(work, d, n, first);
+    carry(n, first);
+}
+
+// The first entry up to n that two indexes have not alike, or n + 1.
+fn differs(n: usize, own: &[u16], index: &[u16]) -> usize
+    requires { ⌜ (n < length (now own)) × (n < length (now index)) ⌝ }
+    ensures { λ r. ⌜ Compared n (now (own .entry)) (now (index .entry)) r ⌝ }
+{
+    let mut v: usize = 0;
+    while v <= n {
+        if own[v] != index[v] {
             return v;
         }
         v += 1;
@@ -72,7 +102,9 @@ pub fn judge(work: &[u32], d: usize, n: usize, index: &[u16]) -> Reply
     if index.len() != entries {
         return Reply::Refused(Refusal::WrongIndex(index.len()));
     }
-    let v = differs(work, d, n, index);
+    let mut own: [u16; 4097] = [0; 4097];
+    firsts(work, d, n, &mut own);
+    let v = differs(n, &own, index);
     if v <= n {
         return Reply::Refused(Refusal::WrongIndex(v));
     }
