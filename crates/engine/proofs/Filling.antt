@@ -46,5 +46,8 @@ module _ (b n : ℕ) (Q : ℕ → ℕ → Type 0) where
     filling-each l j p = t .done j (omega arith)
 
 -- the same from the front on
+pub filling-upto : (n : ℕ) (Q : ℕ → ℕ → Type 0) {w₀ w : List ℕ} {v : ℕ} → Filling 0 n Q w₀ w v → (j : ℕ) → j < v → Q j (getD w j 0)
+filling-upto n Q {w = w} t j p = subst (λ (k : ℕ). Q j (getD w k 0)) (zero-add j) (t .done j p)
+
 pub filling-front : (n : ℕ) (Q : ℕ → ℕ → Type 0) {w₀ w : List ℕ} {v : ℕ} → Filling 0 n Q w₀ w v → n ≤ v → (j : ℕ) → j < n → Q j (getD w j 0)
-filling-front n Q {w = w} t l j p = subst (λ (k : ℕ). Q j (getD w k 0)) (zero-add j) (filling-each 0 n Q t l j p)
+filling-front n Q t l j p = filling-upto n Q t j (omega arith)

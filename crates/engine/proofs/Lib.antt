@@ -20,6 +20,7 @@ pub mod ViewLaws
 pub mod TableLaws
 pub mod RowLaws
 pub mod StartLaws
+pub mod ItemLaws
 pub mod PartLaws
 -- sweeps
 pub mod SweepingLaws

@@ -2,17 +2,19 @@
 use mathlib.Core.Path.{_≡_, refl, ap, subst, _∙_, sym}
 use mathlib.Core.Logic.{_⊎_, inl, inr, ⊎-elim}
 use mathlib.Core.List.{List}
-use Prim.Native.Nat.{ℕ, zero, suc, _<_, _≤_, _+_, _-_, _*_, _/_, _%_, _^_}
+use Prim.Native.Nat.{ℕ, _<_, _≤_, _+_, _-_, _*_, _/_, _%_, _^_}
 use native.Mathlib.Omega.{arith}
 use lib.ListN.{length, getD, replicate, length-replicate}
 use Rattle.engine.proofs.Filling.{Filling, filling-front}
-use lib.Bits.{bitOr}
+use lib.Bits.{bitAnd, bitOr, bitXor}
 use Rattle.packed.proofs.OrderCases.{lt-or-ge, eq-or-ne}
 use Rattle.packed.proofs.ByValueLaws.{nothing-at}
 use Rattle.engine.specs.Masks.{Has, Mask, OneOf, Names}
-use Rattle.engine.proofs.MaskBits.{has-lt, has-say, has-by, none-has, not-by, above-say, above-by, mask-or, mask-cast, mask-none}
+use Rattle.engine.proofs.MaskBits.{has-lt, none-has, not-by, above-say, above-by, minus-say, minus-by, mask-or, mask-cast, mask-self, mask-none}
+use Rattle.engine.proofs.Masks.{bit-self, bit-one}
+use Rattle.engine.proofs.SetLaws.{minus-lt}
 use Rattle.engine.specs.Sweeping.{Tabled}
-use Rattle.engine.specs.Rows.{RowOf, RowsOf, PickedBy, WordOf}
+use Rattle.engine.specs.Rows.{RowOf, RowsOf, WordOf}
 
 pub blank-long : (n : ℕ) {t : List ℕ} → t ≡ replicate n 0 → length t ≡ n
 blank-long n e = ap length e ∙ length-replicate n 0
@@ -24,55 +26,52 @@ rows-of a b m z f l =
       rest = λ e p. f .later e (let u = f .upto in omega arith) ∙ ap (λ (y : List ℕ). getD y e 0) z ∙ nothing-at 32 e;
     }
 
--- one row, where its bit is set
-picked : (x s j bit r : ℕ) → bit ≡ s / 2 ^ j % 2 → PickedBy x bit r → Mask (λ k. Has s j × Has x k) r
-picked x s j bit r e p =
-    record {
-      hit = λ k h. subst (λ (y : ℕ). Has y k) (sym (p .set (e ∙ has-say s j (h .0)))) (h .1);
-      why = λ k h. ⊎-elim
-          (λ (z : bit ≡ 1). (has-by s j (sym e ∙ z), subst (λ (y : ℕ). Has y k) (p .set z) h))
-          (λ (z : bit ≡ 1 → ⊥). absurd (none-has k (subst (λ (y : ℕ). Has y k) (p .unset z) h)))
-          (eq-or-ne bit 1);
-    }
+-- a word that names no link
+pub word-none : (t : List ℕ) (i : ℕ) → i % 16 ≡ 0 → WordOf t i 0
+word-none t i z = mask-none (λ k o. none-has (o .at % 4) (subst (λ (y : ℕ). Has y (o .at % 4)) z (o .holds .0 .member)))
 
-module _ (t : List ℕ) (i : ℕ) (li : i < 128) where
+-- a word from one before it, which names all links that this one names but the link j of the group
+module _ (t : List ℕ) (i : ℕ) (li : i < 128) (j named : ℕ) (en : named ≡ 2 ^ j) (hj : Has (i % 16) j) where
+  abbrev Rest : ℕ
+  Rest = bitXor (i % 16) (bitAnd (i % 16) named)
+
+  pub link-few : j < 4
+  link-few = has-lt 4 (i % 16) j (omega arith) hj
+
+  pub rest-lt : Rest < i % 16
+  rest-lt = minus-lt (i % 16) named j hj (subst (λ (y : ℕ). Has y j) (sym en) (bit-self j))
+
   abbrev At : ℕ → ℕ → Type 0
-  At j k = Has (i % 16) j × Has (getD t (i / 16 * 4 + j) 0) k
+  At i′ k = OneOf 32 (λ e. Names i′ e × Has (getD t e 0) k)
 
-  out : (j k : ℕ) → j < 4 → At j k → OneOf 32 (λ e. Names i e × Has (getD t e 0) k)
-  out j k l h =
-      let m : (i / 16 * 4 + j) % 4 ≡ j = omega arith in
-      record { at = i / 16 * 4 + j; below = omega arith; holds = (record { group = omega arith; member = subst (Has (i % 16)) (sym m) (h .0) }, h .1) }
-
-  choose : (A : ℕ → Type 0) (q : ℕ) → q < 4 → A q → (A 0 ⊎ A 1) ⊎ (A 2 ⊎ A 3)
-  choose A zero l z = inl (inl z)
-  choose A (suc zero) l z = inl (inr z)
-  choose A (suc (suc zero)) l z = inr (inl z)
-  choose A (suc (suc (suc zero))) l z = inr (inr z)
-  choose A (suc (suc (suc (suc q)))) l z = absurd (omega arith)
-
-  back : (k : ℕ) → OneOf 32 (λ e. Names i e × Has (getD t e 0) k) → (At 0 k ⊎ At 1 k) ⊎ (At 2 k ⊎ At 3 k)
-  back k o =
+  grown : (i′ k : ℕ) → i′ ≡ i / 16 * 16 + Rest → At i′ k → At i k
+  grown i′ k q o =
       let g = o .holds .0 .group in
-      let e : o .at ≡ i / 16 * 4 + o .at % 4 = omega arith in
-      choose (λ j. At j k) (o .at % 4) (omega arith) (o .holds .0 .member, subst (λ (y : ℕ). Has (getD t y 0) k) e (o .holds .1))
+      let l = rest-lt in
+      let m : i′ % 16 ≡ Rest = omega arith in
+      let h = minus-say (i % 16) named (o .at % 4) (subst (λ (y : ℕ). Has y (o .at % 4)) m (o .holds .0 .member)) .0 in
+      record { at = o .at; below = o .below; holds = (record { group = omega arith; member = h }, o .holds .1) }
 
-  pub word-of : (a b c d a₀ : ℕ) → a₀ ≡ i / 16 * 4
-      → PickedBy (getD t a₀ 0) (i % 16 % 2) a → PickedBy (getD t (a₀ + 1) 0) (i % 16 / 2 % 2) b
-      → PickedBy (getD t (a₀ + 2) 0) (i % 16 / 4 % 2) c → PickedBy (getD t (a₀ + 3) 0) (i % 16 / 8 % 2) d
-      → WordOf t i (bitOr (bitOr a b) (bitOr c d))
-  word-of a b c d a₀ e A B C D =
-      let z : a₀ ≡ i / 16 * 4 + 0 = omega arith in
-      mask-cast
-      (λ k. ⊎-elim (⊎-elim (out 0 k (omega arith)) (out 1 k (omega arith))) (⊎-elim (out 2 k (omega arith)) (out 3 k (omega arith))))
-      back
-      (mask-or
-      (mask-or
-      (picked _ (i % 16) 0 (i % 16 % 2) a (omega arith) (subst (λ (y : ℕ). PickedBy (getD t y 0) (i % 16 % 2) a) z A))
-      (picked _ (i % 16) 1 (i % 16 / 2 % 2) b refl (subst (λ (y : ℕ). PickedBy (getD t (y + 1) 0) (i % 16 / 2 % 2) b) e B)))
-      (mask-or
-      (picked _ (i % 16) 2 (i % 16 / 4 % 2) c refl (subst (λ (y : ℕ). PickedBy (getD t (y + 2) 0) (i % 16 / 4 % 2) c) e C))
-      (picked _ (i % 16) 3 (i % 16 / 8 % 2) d refl (subst (λ (y : ℕ). PickedBy (getD t (y + 3) 0) (i % 16 / 8 % 2) d) e D))))
+  last : (e k : ℕ) → e ≡ i / 16 * 4 + j → Has (getD t e 0) k → At i k
+  last e k q h =
+      let l = link-few in
+      let m : j ≡ e % 4 = omega arith in
+      record { at = e; below = omega arith; holds = (record { group = omega arith; member = subst (Has (i % 16)) m hj }, h) }
+
+  cases : (i′ e k : ℕ) → i′ ≡ i / 16 * 16 + Rest → e ≡ i / 16 * 4 + j → At i k → At i′ k ⊎ Has (getD t e 0) k
+  cases i′ e k q p o =
+      let g = o .holds .0 .group in
+      let l = rest-lt in
+      let m : Rest ≡ i′ % 16 = omega arith in
+      ⊎-elim
+      (λ (z : o .at % 4 ≡ j). let y : o .at ≡ e = omega arith in inr (subst (λ (x : ℕ). Has (getD t x 0) k) y (o .holds .1)))
+      (λ (z : o .at % 4 ≡ j → ⊥).
+      let h = minus-by (i % 16) named (o .at % 4) (o .holds .0 .member) (λ y. z (bit-one j (o .at % 4) (subst (λ (x : ℕ). Has x (o .at % 4)) en y))) in
+      inl (record { at = o .at; below = o .below; holds = (record { group = omega arith; member = subst (λ (x : ℕ). Has x (o .at % 4)) m h }, o .holds .1) }))
+      (eq-or-ne (o .at % 4) j)
+
+  pub word-more : (i′ e w : ℕ) → i′ ≡ i / 16 * 16 + Rest → e ≡ i / 16 * 4 + j → WordOf t i′ w → WordOf t i (bitOr w (getD t e 0))
+  word-more i′ e w q p W = mask-cast (λ k. ⊎-elim (grown i′ k q) (last e k p)) (λ k. cases i′ e k q p) (mask-or W (mask-self (getD t e 0)))
 
 -- the words of the groups that have links were made, and the others are zero
 pub words-of : (a b : List ℕ) (m most : ℕ) {t u₀ u : List ℕ} {i : ℕ} → most ≡ (m + 3) / 4 * 16 → RowsOf a b m t → u₀ ≡ replicate 128 0

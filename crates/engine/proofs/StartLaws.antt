@@ -82,6 +82,14 @@ module _ (size : ℕ) (at : ℕ → ℕ) where
             (eq-or-ne l (at e));
       }
 
+  -- a number that is not below size has no place
+  pub group-skip : {t : List ℕ} {e : ℕ} → Grouped size at e t → size ≤ at e → Grouped size at (e + 1) t
+  group-skip {t} {e} B ge =
+      record {
+        long = B .long;
+        each = λ l h. mask-cast (grow l e) (λ k p. ⊎-elim (λ z. z) (λ (z : e ≡ k). absurd (let q : at e ≡ l = ap at z ∙ p .1 in omega arith)) (cases l e k p)) (B .each l h);
+      }
+
   pub group-end : {t : List ℕ} {e : ℕ} (m : ℕ) → Grouped size at e t → e ≡ m → Grouped size at m t
   group-end {t} m B q = subst (λ (x : ℕ). Grouped size at x t) q B
 

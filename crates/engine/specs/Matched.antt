@@ -39,12 +39,6 @@ pub record EdgesMatched (r : Rule) (p : Given) (s : List ℕ) (n m : ℕ) (w w�
   pub sets : matchesOf m (p .edges) w′ ≡ matchSets (ruled r (patternIn p)) (graphIn s n m w)
   pub only : (i e : ℕ) → i < m → e < 32 → T (bit (getD w′ (8192 + i) 0) e) → (e < p .edges) × (getD (p .kind) e 0 ≡ wordKind (getD w i 0))
 
--- the first d pairs of the workspace make the pattern's sheet, by the rule r
-pub record SheetSized (r : Rule) (p : Given) (s : List ℕ) (n m : ℕ) (w : List ℕ) (d : ℕ) (w′ : List ℕ) : Type 0 where
-  pub edges : Edges w w′
-  pub marked : MarkedPairs d w′
-  pub sets : matchesOf d (p .edges) w′ ≡ matchSets (ruled r (patternIn p)) (graphIn s n m w)
-
 -- a pattern with the content ws stands from a byte on, up to the bit offset end
 pub record PatternAt (s : List ℕ) (byte : ℕ) (ws : List ℕ) (end : ℕ) : Type 0 where
   pub inside : byte ≤ length s

@@ -1,12 +1,13 @@
 // The tables by groups of four links: word 16 g + s has the links that meet those of the group g that the four bits s name.
 ghost use mathlib.Core.Path.{_≡_};
 ghost use Prim.Native.Nat.{ℕ, _+_, _*_, _/_, _%_, _<_, _≤_};
-ghost use lib.ListN.{replicate};
+ghost use lib.ListN.{getD, replicate};
 ghost use Rattle.engine.specs.Masks.{Has, Mask};
 ghost use Rattle.engine.specs.Sweeping.{Tabled};
 ghost use Rattle.engine.specs.Simulation.{bothWays};
 ghost use Rattle.engine.specs.Matched.{ruleOf};
-ghost use Rattle.engine.specs.Rows.{RowOf, RowsOf, PickedBy, WordOf};
+ghost use Rattle.engine.specs.Rows.{RowOf, ByItem, RowsOf, WordOf};
+use crate::start;
 
 // Bit k, where x is y.
 fn one(x: u32, y: u32, k: u32) -> u32
@@ -33,6 +34,41 @@ fn row(b: &[u32; 32], m: usize, x: u32) -> u32
     r
 }
 
+fn no_items() -> [u32; 64]
+    ensures { λ r. ⌜ r ≡ replicate 64 0 ⌝ }
+{
+    [0u32; 64]
+}
+
+// For each item below 64 the links below m that have it in b.
+fn by_item(b: &[u32; 32], m: usize) -> [u32; 64]
+    requires { ⌜ m ≤ 32 ⌝ }
+    ensures { λ r. ⌜ ByItem (now (b .entry)) m r ⌝ }
+{
+    let mut t = no_items();
+    let mut k: usize = 0;
+    while k < m {
+        if b[k] < 64 {
+            let x = b[k] as usize;
+            let old = t[x];
+            t[x] = old | start::one(k);
+        }
+        k += 1;
+    }
+    t
+}
+
+// The links below m that have x in b: looked up where x is below 64, as every item is; else found one by one.
+fn look(items: &[u32; 64], b: &[u32; 32], m: usize, x: u32) -> u32
+    requires { ⌜ (m ≤ 32) × ByItem (now b) m (now items) ⌝ }
+    ensures { λ r. ⌜ RowOf (now (b .entry)) m x r ⌝ }
+{
+    if x < 64 {
+        return items[x as usize];
+    }
+    row(b, m, x)
+}
+
 fn no_rows() -> [u32; 32]
     ensures { λ r. ⌜ r ≡ replicate 32 0 ⌝ }
 {
@@ -50,35 +86,30 @@ fn rows(a: &[u32; 32], b: &[u32; 32], m: usize) -> [u32; 32]
     requires { ⌜ m ≤ 32 ⌝ }
     ensures { λ r. ⌜ RowsOf (now (a .entry)) (now (b .entry)) m r ⌝ }
 {
+    let items = by_item(b, m);
     let mut t = no_rows();
     let mut e: usize = 0;
     while e < m {
-        t[e] = row(b, m, a[e]);
+        t[e] = look(&items, b, m, a[e]);
         e += 1;
     }
     t
 }
 
-// x, where the bit is set.
-fn pick(x: u32, bit: usize) -> u32
-    ensures { λ r. ⌜ PickedBy x bit r ⌝ }
+// The word i of the table after those before it: one of them, and the row of the lowest link that i names and that one doesn't.
+fn word(each: &[u32; 32], t: &[u32; 128], i: usize) -> u32
+    requires { ⌜ (i < 128) × ((j : ℕ) → j < i → WordOf (now each) j (getD (now t) j 0)) ⌝ }
+    ensures { λ r. ⌜ WordOf (now (each .entry)) i r ⌝ }
 {
-    if bit == 1 { x } else { 0 }
-}
-
-// The word i of the table.
-fn word(t: &[u32; 32], i: usize) -> u32
-    requires { ⌜ i < 128 ⌝ }
-    ensures { λ r. ⌜ WordOf (now (t .entry)) i r ⌝ }
-{
-    let e = i / 16 * 4;
-    let s = i % 16;
-    let f = e + 1;
-    let g = e + 2;
-    let h = e + 3;
-    let low = pick(t[e], s % 2) | pick(t[f], s / 2 % 2);
-    let high = pick(t[g], s / 4 % 2) | pick(t[h], s / 8 % 2);
-    low | high
+    let s = (i % 16) as u32;
+    if s == 0 {
+        return 0;
+    }
+    let j = start::lowest(s);
+    let named = start::one(j);
+    let before = i / 16 * 16 + (s ^ (s & named)) as usize;
+    let e = i / 16 * 4 + j;
+    t[before] | each[e]
 }
 
 // The table of the links that have in b what one of a set has in a; words for groups without links stay zero.
@@ -91,7 +122,8 @@ pub fn table(a: &[u32; 32], b: &[u32; 32], m: usize) -> [u32; 128]
     let mut t = no_table();
     let mut i: usize = 0;
     while i < most {
-        t[i] = word(&each, i);
+        let w = word(&each, &t, i);
+        t[i] = w;
         i += 1;
     }
     t

@@ -23,7 +23,7 @@ fn no_links() -> [u32; 32]
 }
 
 // The link, or the label, k alone.
-fn one(k: usize) -> u32
+pub fn one(k: usize) -> u32
     requires { ⌜ k < 32 ⌝ }
     ensures { λ r. ⌜ r ≡ 2 ^ k ⌝ }
 {

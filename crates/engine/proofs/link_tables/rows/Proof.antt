@@ -1,4 +1,4 @@
-use borrow.Author.Needs.{needs}
+-- `engine::link_tables::rows` meets its contract.
 use borrow.Author.Needs.{needs}
 use mathlib.Core.Path.{sym}
 use Prim.Native.Nat.{_-_}
@@ -12,10 +12,13 @@ use Rattle.engine.proofs.link_tables.rows.Statement.{statement}
 use Rattle.engine.proofs.link_tables.rows.Tie as tie
 
 abbrev Inv-loop : tie.InvT-loop
-Inv-loop a b m t₀ e₀ t e = Filling 0 m (λ j x. RowOf b m (getD a j 0) x) t₀ t e
+Inv-loop a b m items t₀ e₀ t e = Filling 0 m (λ j x. RowOf b m (getD a j 0) x) t₀ t e
 
 abbrev μ-loop : tie.MeasureT-loop
-μ-loop a b m t₀ e₀ t e = m - e
+μ-loop a b m items t₀ e₀ t e = m - e
+
+by-item-requires : tie.Need-by-item-requires Inv-loop μ-loop
+by-item-requires c κs = search needs
 
 no-rows-requires : tie.Need-no-rows-requires Inv-loop μ-loop
 no-rows-requires c κs = search needs
@@ -23,14 +26,14 @@ no-rows-requires c κs = search needs
 loop-holds : tie.Need-loop-holds Inv-loop μ-loop
 loop-holds c = filling-start _ _ _ _
 
-mul-row : tie.Need-mul-row Inv-loop μ-loop
-mul-row c = search needs
+mul-look : tie.Need-mul-look Inv-loop μ-loop
+mul-look c = search needs
 
-element-copy-out-row : tie.Need-element-copy-out-row Inv-loop μ-loop
-element-copy-out-row c = search needs
+element-copy-out-look : tie.Need-element-copy-out-look Inv-loop μ-loop
+element-copy-out-look c = search needs
 
-row-requires : tie.Need-row-requires Inv-loop μ-loop
-row-requires c κs = search needs
+look-requires : tie.Need-look-requires Inv-loop μ-loop
+look-requires c κs = search needs
 
 mul-t : tie.Need-mul-t Inv-loop μ-loop
 mul-t c = search needs
@@ -46,11 +49,11 @@ loop-less c = search needs
 
 loop-again : tie.Need-loop-again Inv-loop μ-loop
 loop-again c =
-    let pre = c .before .before .before .before .before .pre in
-    let no-rows = c .before .before .before .before .no-rows in
-    let loop = c .before .before .before .loop in
-    let loop-test = c .before .before .loop-test in
-    filling-more _ _ _ (loop .inv) _ _ (loop-test .taken) (omega (arith, blank-long 32 (no-rows .ensures), pre)) (sym (zero-add _)) (c .row .ensures)
+    let pre = c .before .before .before .before .before .before .before .pre in
+    let no-rows = c .before .before .before .before .before .no-rows in
+    let loop = c .before .before .before .before .loop in
+    let loop-test = c .before .before .before .loop-test in
+    filling-more _ _ _ (loop .inv) _ _ (loop-test .taken) (omega (arith, blank-long 32 (no-rows .ensures), pre)) (sym (zero-add _)) (c .look .ensures)
 
 returns : tie.Need-returns Inv-loop μ-loop
 returns c = rows-of _ _ _ (c .before .before .no-rows .ensures) (c .before .loop .inv) (c .loop-test .left)
@@ -61,11 +64,12 @@ rows-spec =
     (tie.spec
     Inv-loop
     μ-loop
+    by-item-requires
     no-rows-requires
     loop-holds
-    mul-row
-    element-copy-out-row
-    row-requires
+    mul-look
+    element-copy-out-look
+    look-requires
     mul-t
     array-write-t
     add-e

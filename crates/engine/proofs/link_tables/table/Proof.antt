@@ -4,7 +4,7 @@ use mathlib.Core.Path.{refl, sym}
 use Prim.Native.Nat.{_-_}
 use native.Mathlib.Nat.{zero-add}
 use native.Mathlib.Omega.{arith}
-use Rattle.engine.proofs.Filling.{Filling, filling-start, filling-more}
+use Rattle.engine.proofs.Filling.{Filling, filling-start, filling-more, filling-upto}
 use Rattle.engine.specs.Rows.{WordOf}
 use Rattle.engine.proofs.RowLaws.{words-of, tabled, blank-long}
 use Rattle.engine.proofs.link_tables.table.Statement.{statement}
@@ -32,7 +32,7 @@ loop-holds : tie.Need-loop-holds Inv-loop μ-loop
 loop-holds c = filling-start _ _ _ _
 
 word-requires : tie.Need-word-requires Inv-loop μ-loop
-word-requires c κs = search needs
+word-requires c κs = (omega arith, filling-upto _ _ (c .before .before .before .loop .inv))
 
 mul-t : tie.Need-mul-t Inv-loop μ-loop
 mul-t c = search needs
@@ -48,9 +48,9 @@ loop-less c = search needs
 
 loop-again : tie.Need-loop-again Inv-loop μ-loop
 loop-again c =
-    let no-table = c .before .before .before .before .no-table in
-    let loop = c .before .before .before .loop in
-    let loop-test = c .before .before .loop-test in
+    let no-table = c .before .before .before .before .before .no-table in
+    let loop = c .before .before .before .before .loop in
+    let loop-test = c .before .before .before .loop-test in
     filling-more _ _ _ (loop .inv) _ _ (loop-test .taken) (omega (arith, blank-long 128 (no-table .ensures))) (sym (zero-add _)) (c .word .ensures)
 
 returns : tie.Need-returns Inv-loop μ-loop
