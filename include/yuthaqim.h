@@ -21,10 +21,10 @@
  * before a call. Afterwards the first YUTHAQIM_WORK_WORDS of them are zero and those beyond are as they were; on
  * YUTHAQIM_DESK all of them are as they were.
  *
- * The stack, as measured on large files: sorting an old record 117,096 bytes, committing 115,552, answering several
- * questions 107,272, finding a part 100,088, answering 92,808, making a book 89,112, asking 88,952, searching 87,832,
- * searching by an index 79,352, quoting 29,720, the first day 25,784, showing 23,688, the cheapest set 23,672, reading a
- * book 2,760, writing one 2,568, the others under 1,900. So 128 KB suffice.
+ * The stack, as measured on large files: sorting an old record 117,096 bytes, committing 115,568, answering several
+ * questions 106,920, finding a part 99,768, answering 92,568, making a book 90,312, searching 89,144, asking 87,864,
+ * searching by an index 87,288, quoting 28,968, the first day 25,016, showing 22,872, the cheapest set 22,856, checking
+ * an index 8,576, reading a book 2,760, writing one 2,568, the others under 1,900. So 128 KB suffice.
  *
  * Content is a file's fields in order, one word each, padding left out. That of a pattern or a record is the number of
  * items, the number of links, the kind of each item or in a record its kinds, and for each link its from, its to and its

@@ -1,6 +1,6 @@
 //! The calls that are measured, by the library and by the baseline.
 
-use crate::baseline::{self, Ways};
+use crate::baseline::{self, tuned};
 use std::hint::black_box;
 use yuthaqim::{BOOK_BYTES, BOOK_WORDS, INDEX_ENTRIES, PATTERN_BYTES, QUESTIONS_MOST, WORK_WORDS};
 
@@ -55,7 +55,19 @@ pub const CALLS: [Call; 21] = [
     Call::CommitByParts,
 ];
 
+/// Those that a planner waits for: the short tables are of these. The answer stands beside the faster of the two baselines.
+pub const MAIN: [Call; 5] = [Call::Search, Call::MakeBook, Call::AnswerBySort, Call::Quote, Call::Ask];
+
 impl Call {
+    /// In the head of the short table.
+    pub fn short_name(self) -> &'static str {
+        match self {
+            Call::MakeBook => "book",
+            Call::AnswerBySort => "answer",
+            _ => self.name(),
+        }
+    }
+
     pub fn name(self) -> &'static str {
         match self {
             Call::ReadRecord => "read a record",
@@ -181,7 +193,12 @@ impl Desk {
             Call::Answer | Call::AnswerBySort => yuthaqim::answer(question, catalogue, 0, book, bytes, work),
             Call::Quote | Call::QuoteOn | Call::FirstDay | Call::Cheapest => unreachable!("it has no output"),
             Call::Ask | Call::AskByBook => unreachable!("it has no output"),
-            Call::Part | Call::PartOfCovered | Call::OneOfSeveral | Call::Several | Call::Commit | Call::CommitByParts => {
+            Call::Part
+            | Call::PartOfCovered
+            | Call::OneOfSeveral
+            | Call::Several
+            | Call::Commit
+            | Call::CommitByParts => {
                 unreachable!("it gives two values")
             }
         }
@@ -317,8 +334,10 @@ pub fn baseline_outcome(call: Call, files: &Files) -> Outcome {
         Call::MakeIndex => baseline::make_index(record, INDEX_ENTRIES).map(Outcome::Entries),
         Call::CheckIndex => baseline::check_index(record, index).map(Outcome::Checked),
         Call::Search | Call::SearchIndexed => baseline::search(question, record, BOOK_BYTES).map(Outcome::Bytes),
-        Call::MakeBook => baseline::make_book(catalogue, Ways::Both, record, BOOK_BYTES).map(Outcome::Bytes),
-        Call::MakeOneWay => baseline::make_book(catalogue, Ways::One, record, BOOK_BYTES).map(Outcome::Bytes),
+        Call::MakeBook => baseline::make_book(catalogue, 0, record, BOOK_BYTES).map(Outcome::Bytes),
+        Call::MakeOneWay => {
+            baseline::make_book(catalogue, all_one_way(catalogue), record, BOOK_BYTES).map(Outcome::Bytes)
+        }
         Call::ReadBook => baseline::read_book(catalogue, book, BOOK_WORDS).map(Outcome::Words),
         Call::Answer => baseline::answer(question, catalogue, book, BOOK_BYTES).map(Outcome::Bytes),
         Call::AnswerBySort => baseline::answer_by_sorting(question, catalogue, book, BOOK_BYTES).map(Outcome::Bytes),
@@ -330,8 +349,21 @@ pub fn baseline_outcome(call: Call, files: &Files) -> Outcome {
         Call::FirstDay => baseline::first_day(question, catalogue, terms, 0).map(Outcome::Day),
         Call::Cheapest => baseline::cheapest(question, catalogue, charges).map(Outcome::Cheapest),
         Call::Ask | Call::AskByBook => baseline::ask(catalogue, &files.before, files.link()).map(Outcome::Asked),
-        Call::Commit | Call::CommitByParts => baseline::commit(&files.before, files.link())
-            .map(|(record, index)| Outcome::Entered(record, index)),
+        Call::Commit | Call::CommitByParts => {
+            baseline::commit(&files.before, files.link()).map(|(record, index)| Outcome::Entered(record, index))
+        }
     };
     outcome.unwrap_or_else(|(number, detail)| Outcome::Refused(number, detail))
+}
+
+/// The same call by the tuned heap, if that has it.
+pub fn tuned_outcome(call: Call, files: &Files) -> Option<Outcome> {
+    let Files { record, question, catalogue, .. } = files;
+    let outcome = match call {
+        Call::Search => tuned::search(question, record, BOOK_BYTES).map(Outcome::Bytes),
+        Call::MakeBook => tuned::make_book(catalogue, 0, record, BOOK_BYTES).map(Outcome::Bytes),
+        Call::Ask => tuned::ask(catalogue, &files.before, files.link()).map(Outcome::Asked),
+        _ => return None,
+    };
+    Some(outcome.unwrap_or_else(|(number, detail)| Outcome::Refused(number, detail)))
 }

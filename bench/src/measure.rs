@@ -5,6 +5,7 @@
 //! a least worthless. The wall clock counts the waiting and is never too low. So medians are of the one, and the least is
 //! of the other.
 
+use crate::workloads::RECORDS;
 use std::time::{Duration, Instant};
 
 /// A timing lasts at least about so long: a call that takes less is run several times.
@@ -29,54 +30,55 @@ fn clock() -> Duration {
 }
 
 /// How long a call took, by both clocks.
-#[derive(Clone, Copy, Default)]
-pub struct Time {
+#[derive(Clone, Copy)]
+struct Time {
     thread: Duration,
     wall: Duration,
 }
 
-/// How long a call takes, of so many.
-pub fn timed(number: u32, mut run: impl FnMut()) -> Time {
+/// A call of one side, on the record of a number.
+pub type Run<'a> = Box<dyn FnMut(usize) + 'a>;
+
+/// How long a call takes, of so many on one record after the other.
+fn timed(first: usize, number: usize, run: &mut Run) -> Time {
     let wall = Instant::now();
     let thread = clock();
-    (0..number).for_each(|_| run());
+    (first..first + number).for_each(run);
     let thread = clock().saturating_sub(thread);
-    Time { thread: thread / number, wall: wall.elapsed() / number }
+    Time { thread: thread / number as u32, wall: wall.elapsed() / number as u32 }
 }
 
 fn micros(time: Duration) -> f64 {
     time.as_secs_f64() * 1e6
 }
 
-/// Of the times of all turns: the median by the thread's clock, the least by the wall clock, in microseconds.
-#[derive(Default)]
-struct Times(Vec<Time>);
+/// One of the sides that take turns, with the times of its turns.
+struct Side<'a> {
+    run: Run<'a>,
+    times: Vec<Time>,
+}
 
-impl Times {
+impl<'a> Side<'a> {
+    fn new(run: Run<'a>) -> Side<'a> {
+        Side { run, times: Vec::new() }
+    }
+
+    /// By the thread's clock, in microseconds.
     fn median(&self) -> f64 {
-        let mut sorted: Vec<Duration> = self.0.iter().map(|time| time.thread).collect();
+        let mut sorted: Vec<Duration> = self.times.iter().map(|time| time.thread).collect();
         sorted.sort();
         micros(sorted[sorted.len() / 2])
     }
 
+    /// By the wall clock.
     fn least(&self) -> f64 {
-        micros(self.0.iter().map(|time| time.wall).min().unwrap())
+        micros(self.times.iter().map(|time| time.wall).min().expect("there was a turn"))
     }
 }
 
-/// How a turn goes: which side is first, and how many calls make a timing.
-pub struct Order {
-    pub product_first: bool,
-    pub number: u32,
-}
-
-/// The times of one turn.
-pub struct Turn {
-    pub product: Time,
-    /// What of it belongs to another step.
-    pub other: Time,
-    pub baseline: Time,
-}
+/// The places of the sides that a case always has.
+const PRODUCT: usize = 0;
+const BASELINE: usize = 1;
 
 /// What is measured of one case.
 pub struct Case<'a> {
@@ -85,57 +87,103 @@ pub struct Case<'a> {
     /// The size in words, and as a part of the full one.
     pub size: String,
     pub part: usize,
-    turn: Box<dyn FnMut(Order) -> Turn + 'a>,
-    number: u32,
-    product: Times,
-    other: Times,
-    baseline: Times,
+    /// The library, the baseline, and others that the case has.
+    sides: Vec<Side<'a>>,
+    /// The place of the tuned heap, and of what belongs to another step in the library's time.
+    tuned: Option<usize>,
+    other: Option<usize>,
+    number: usize,
+}
+
+/// The times of the sides, in microseconds.
+pub struct Times {
+    pub product: f64,
+    pub baseline: f64,
+    pub tuned: Option<f64>,
+}
+
+impl Times {
+    pub fn ratio(&self) -> f64 {
+        self.product / self.baseline
+    }
+
+    pub fn tuned_ratio(&self) -> Option<f64> {
+        self.tuned.map(|tuned| self.product / tuned)
+    }
 }
 
 impl<'a> Case<'a> {
     pub fn new(
         (call, workload): (&'static str, &'static str),
         (size, part): (String, usize),
-        turn: impl FnMut(Order) -> Turn + 'a,
+        product: Run<'a>,
+        baseline: Run<'a>,
     ) -> Case<'a> {
-        let (product, other, baseline) = Default::default();
-        Case { call, workload, size, part, turn: Box::new(turn), number: 1, product, other, baseline }
+        let sides = vec![Side::new(product), Side::new(baseline)];
+        Case { call, workload, size, part, sides, tuned: None, other: None, number: 1 }
+    }
+
+    /// With the tuned heap.
+    pub fn tuned(mut self, run: Option<Run<'a>>) -> Case<'a> {
+        self.tuned = run.map(|run| self.add(run));
+        self
+    }
+
+    /// With what belongs to another step.
+    pub fn less(mut self, run: Run<'a>) -> Case<'a> {
+        self.other = Some(self.add(run));
+        self
+    }
+
+    fn add(&mut self, run: Run<'a>) -> usize {
+        self.sides.push(Side::new(run));
+        self.sides.len() - 1
     }
 
     /// A few turns that aren't counted, which also tell how many calls make a timing.
     pub fn warm_up(&mut self, budget: Duration) {
         let start = Instant::now();
-        while {
-            let turn = (self.turn)(Order { product_first: true, number: 1 });
-            let time = turn.product.wall.min(turn.baseline.wall).as_nanos().max(1);
-            self.number = LEAST_TIMING.as_nanos().div_ceil(time) as u32;
-            start.elapsed() < budget
-        } {}
+        for turn in 0.. {
+            let times = self.sides.iter_mut().map(|side| timed(turn, 1, &mut side.run).wall);
+            let least = times.min().expect("there are sides").as_nanos().max(1);
+            self.number = LEAST_TIMING.as_nanos().div_ceil(least) as usize;
+            if start.elapsed() >= budget {
+                break;
+            }
+        }
     }
 
-    /// Turns for so long, at least one; the two sides take turns at going first.
+    /// Turns for so long, at least one. In a turn all sides get the same records; they take turns at going first, by another order when
+    /// the records have come round.
     pub fn measure(&mut self, budget: Duration) {
         let start = Instant::now();
         while {
-            let order = Order { product_first: self.turns() % 2 == 0, number: self.number };
-            let turn = (self.turn)(order);
-            self.product.0.push(turn.product);
-            self.other.0.push(turn.other);
-            self.baseline.0.push(turn.baseline);
+            let turn = self.turns();
+            let sides = self.sides.len();
+            for place in 0..sides {
+                let side = &mut self.sides[(turn + turn / RECORDS + place) % sides];
+                let time = timed(turn * self.number, self.number, &mut side.run);
+                side.times.push(time);
+            }
             start.elapsed() < budget
         } {}
     }
 
     pub fn turns(&self) -> usize {
-        self.baseline.0.len()
+        self.sides[BASELINE].times.len()
     }
 
-    /// The library's and the baseline's time.
-    pub fn medians(&self) -> (f64, f64) {
-        (self.product.median() - self.other.median(), self.baseline.median())
+    fn times(&self, of: fn(&Side<'a>) -> f64) -> Times {
+        let at = |place: usize| of(&self.sides[place]);
+        let product = at(PRODUCT) - self.other.map_or(0.0, at);
+        Times { product, baseline: at(BASELINE), tuned: self.tuned.map(at) }
     }
 
-    pub fn least(&self) -> (f64, f64) {
-        (self.product.least() - self.other.least(), self.baseline.least())
+    pub fn medians(&self) -> Times {
+        self.times(Side::median)
+    }
+
+    pub fn least(&self) -> Times {
+        self.times(Side::least)
     }
 }

@@ -1,7 +1,7 @@
 //! The plot: time against size, both by their logarithms, a panel for each call on the workloads and a line for each of these.
 //! Calls on inputs of their own, as the cheapest set, stand in the table alone.
 
-use crate::measure::Case;
+use crate::measure::{Case, Times};
 use crate::workloads;
 use std::fmt::Write;
 
@@ -12,10 +12,18 @@ const CORNER: (f64, f64) = (62.0, 34.0);
 const DIAGRAM: (f64, f64) = (220.0, 206.0);
 const LEGEND: f64 = 106.0;
 
-const COLOURS: [&str; 11] = [
+const COLOURS: [&str; 14] = [
     "#0072b2", "#e69f00", "#d55e00", "#009e73", "#666666", "#1b7837", "#cc79a7", "#5e3c99", "#56b4e9", "#8c6d31",
-    "#8b0000",
+    "#8b0000", "#a6d854", "#66a61e", "#2d4a00",
 ];
+
+/// How the sides are drawn: the library, the baseline, the tuned heap.
+#[derive(Clone, Copy)]
+enum Side {
+    Product,
+    Baseline,
+    Tuned,
+}
 
 /// A diagram's scales.
 struct Scale {
@@ -27,7 +35,11 @@ struct Scale {
 
 impl Scale {
     fn of(cases: &[&Case]) -> Scale {
-        let times = || cases.iter().flat_map(|case| [case.medians().0, case.medians().1]);
+        let of_case = |case: &&Case| {
+            let Times { product, baseline, tuned } = case.medians();
+            [product, baseline, tuned.unwrap_or(baseline)]
+        };
+        let times = || cases.iter().flat_map(of_case);
         Scale {
             least_part: cases.iter().map(|case| case.part).max().unwrap(),
             low: times().fold(f64::INFINITY, f64::min).log10().floor(),
@@ -58,17 +70,22 @@ fn text(svg: &mut String, (x, y): (f64, f64), attributes: &str, text: &str) {
 }
 
 fn line(svg: &mut String, points: &[(f64, f64)], attributes: &str) {
+    if points.is_empty() {
+        return;
+    }
     let points: Vec<String> = points.iter().map(|(x, y)| format!("{x:.1},{y:.1}")).collect();
     writeln!(svg, "<polyline points=\"{}\" fill=\"none\" {attributes}/>", points.join(" ")).unwrap();
 }
 
-/// The library's line, or the baseline's.
-fn curve(svg: &mut String, points: &[(f64, f64)], colour: &str, is_product: bool) {
-    if !is_product {
-        return line(svg, points, &format!("stroke=\"{colour}\" stroke-width=\"1.2\" stroke-dasharray=\"4 3\""));
-    }
-    line(svg, points, &format!("stroke=\"{colour}\" stroke-width=\"2\""));
-    for (x, y) in points {
+/// The line of a side, the library's with points.
+fn curve(svg: &mut String, points: &[(f64, f64)], colour: &str, side: Side) {
+    let form = match side {
+        Side::Product => "stroke-width=\"2\"",
+        Side::Baseline => "stroke-width=\"1.2\" stroke-dasharray=\"4 3\"",
+        Side::Tuned => "stroke-width=\"1.2\" stroke-dasharray=\"1 3\"",
+    };
+    line(svg, points, &format!("stroke=\"{colour}\" {form}"));
+    for (x, y) in points.iter().filter(|_| matches!(side, Side::Product)) {
         writeln!(svg, "<circle cx=\"{x:.1}\" cy=\"{y:.1}\" r=\"2.6\" fill=\"{colour}\"/>").unwrap();
     }
 }
@@ -126,11 +143,13 @@ pub fn draw(cases: &[Case]) -> String {
         grid(&mut svg, &scale);
         for (colour, &workload) in COLOURS.iter().zip(&workloads) {
             let of_line = || of_call.iter().filter(|case| case.workload == workload);
-            let points = |time: fn(&Case) -> f64| -> Vec<(f64, f64)> {
-                of_line().map(|case| (scale.x(case.part), scale.y(time(case)))).collect()
+            let points = |time: fn(Times) -> Option<f64>| -> Vec<(f64, f64)> {
+                let point = |case: &&Case| Some((scale.x(case.part), scale.y(time(case.medians())?)));
+                of_line().filter_map(point).collect()
             };
-            curve(&mut svg, &points(|case| case.medians().1), colour, false);
-            curve(&mut svg, &points(|case| case.medians().0), colour, true);
+            curve(&mut svg, &points(|times| times.tuned), colour, Side::Tuned);
+            curve(&mut svg, &points(|times| Some(times.baseline)), colour, Side::Baseline);
+            curve(&mut svg, &points(|times| Some(times.product)), colour, Side::Product);
         }
         svg.push_str("</g>\n");
     }
@@ -139,14 +158,15 @@ pub fn draw(cases: &[Case]) -> String {
     svg
 }
 
-/// Six entries in a row: the workloads by their colours, then the two sides.
+/// Six entries in a row: the workloads by their colours, then the sides.
 fn legend(svg: &mut String, workloads: &[&str], width: f64, top: f64) {
-    let coloured = workloads.iter().zip(COLOURS).map(|(&name, colour)| (name, colour, true));
-    let sides = [("the library", "#222222", true), ("the baseline", "#222222", false)];
-    for (number, (name, colour, is_product)) in coloured.chain(sides).enumerate() {
+    let coloured = workloads.iter().zip(COLOURS).map(|(&name, colour)| (name, colour, Side::Product));
+    let sides = [("the library", Side::Product), ("the baseline", Side::Baseline), ("the tuned heap", Side::Tuned)];
+    let sides = sides.map(|(name, side)| (name, "#222222", side));
+    for (number, (name, colour, side)) in coloured.chain(sides).enumerate() {
         let x = CORNER.0 + (width - CORNER.0) / 6.0 * (number % 6) as f64;
         let y = top + 22.0 * (number / 6) as f64;
-        curve(svg, &[(x, y - 4.0), (x + 30.0, y - 4.0)], colour, is_product);
+        curve(svg, &[(x, y - 4.0), (x + 30.0, y - 4.0)], colour, side);
         text(svg, (x + 38.0, y), "", name);
     }
     let note = "Medians of all turns. The size of a quote is the number of extracts.";

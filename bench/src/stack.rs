@@ -131,7 +131,7 @@ fn depths(files: &Files) -> Vec<(&'static str, usize)> {
 const NO_VIEWS: &[u8] = &[0];
 
 /// The most that each call takes of the files of all workloads.
-pub fn print(files: &[Files]) {
+pub fn most(files: &[Files]) -> Vec<(&'static str, usize)> {
     let mut most: Vec<(&str, usize)> = Vec::new();
     for (name, depth) in files.iter().flat_map(depths) {
         match most.iter_mut().find(|(other, _)| *other == name) {
@@ -139,7 +139,5 @@ pub fn print(files: &[Files]) {
             None => most.push((name, depth)),
         }
     }
-    for (name, bytes) in most {
-        println!("{name}: {bytes} bytes");
-    }
+    most
 }

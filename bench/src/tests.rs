@@ -1,7 +1,7 @@
 //! The baseline beside the plain model of the requirements, on the workloads at their least size, on small graphs drawn
-//! at random and on books that belong to no record.
+//! at random and on books that belong to no record; and its tuned calls beside its plain ones on all records of the workloads.
 
-use crate::baseline::{self, Ways};
+use crate::baseline::{self, tuned};
 use crate::calls::all_one_way;
 use crate::workloads::*;
 use model::files::{pack_record, read_book, read_record, Refusal, BOOK_BYTES, WORK_WORDS};
@@ -57,27 +57,43 @@ fn without_record(question: &[u8], catalogue: &[u8], book: &[u8]) -> Option<Vec<
     same("answer", baseline::answer(question, catalogue, book, ROOM), answer)
 }
 
-/// A link that enters: one of the record is taken out of it, asked about and entered again.
-fn enters(record: &[u8], catalogue: &[u8]) {
+/// A record without the link in its middle, if it has one, and that link.
+fn taken_out(record: &[u8]) -> Option<(Vec<u8>, yuthaqim::Link)> {
     let mut content = read_record(record, ROOM, WORK_WORDS).unwrap();
     let (items, links) = (content[0] as usize, content[1]);
     let at = 2 + items + 3 * (links as usize / 2);
-    if links == 0 {
-        return;
-    }
+    content[1] = links.checked_sub(1)?;
     let taken: Vec<u32> = content.drain(at..at + 3).collect();
-    content[1] -= 1;
     let before = model::files::write_record(&content, ROOM, WORK_WORDS).unwrap();
-    let link = (taken[0], taken[1], taken[2]);
-    let own = yuthaqim::Link { from: link.0, to: link.1, kind: link.2 };
-    let mut state = entering::State { links: links - 1, change: 7 };
+    Some((before, yuthaqim::Link { from: taken[0], to: taken[1], kind: taken[2] }))
+}
+
+/// A link that enters: one of the record is taken out of it, asked about and entered again.
+fn enters(record: &[u8], catalogue: &[u8]) {
+    let Some((before, own)) = taken_out(record) else {
+        return;
+    };
+    let link = (own.from, own.to, own.kind);
+    let links = read_record(&before, ROOM, WORK_WORDS).unwrap()[1];
+    let mut state = entering::State { links, change: 7 };
     let asked = entering::ask(catalogue, 0, &before, state, link, WORK_WORDS);
     let set = asked.map(|(extracts, _)| extracts.iter().map(|a| 1 << a).sum::<u16>());
+    same("ask, tuned", tuned::ask(catalogue, &before, own), set.clone());
     same("ask", baseline::ask(catalogue, &before, own), set);
     let slip = entering::Slip { link, change: 7 };
     let entered = entering::commit(&before, &mut state, slip, ROOM, ROOM, WORK_WORDS);
     let given = same("commit", baseline::commit(&before, own), entered).unwrap();
     assert_eq!(given.0, record);
+}
+
+/// A set of some extracts, of which a catalogue may have fewer.
+const MIXED: u16 = 0b1010_0110;
+
+/// The book of a catalogue with a set, if there is room for it.
+fn made_book(catalogue: &[u8], set: u16, record: &[u8], room: usize) -> Option<Vec<u8>> {
+    let made = matching::make_book(catalogue, set, record, room, WORK_WORDS);
+    same("make a book, tuned", tuned::make_book(catalogue, set, record, room), made.clone());
+    same("make a book", baseline::make_book(catalogue, set, record, room), made)
 }
 
 /// Every call. Gives whether the question was answered.
@@ -95,14 +111,15 @@ fn agree(record: &[u8], question: &[u8], catalogue: &[u8]) -> bool {
     }
     enters(record, catalogue);
     let search = matching::search(question, record, ROOM, WORK_WORDS);
+    same("search, tuned", tuned::search(question, record, ROOM), search.clone());
     let sheet = same("search", baseline::search(question, record, ROOM), search);
-    let made = matching::make_book(catalogue, 0, record, ROOM, WORK_WORDS);
-    let own = |ways| baseline::make_book(catalogue, ways, record, ROOM);
-    let old = matching::make_book(catalogue, all_one_way(catalogue), record, ROOM, WORK_WORDS);
-    same("make a book one-way", own(Ways::One), old);
-    let Some(book) = same("make a book", own(Ways::Both), made) else {
+    for set in [all_one_way(catalogue), MIXED] {
+        made_book(catalogue, set, record, ROOM);
+    }
+    let Some(book) = made_book(catalogue, 0, record, ROOM) else {
         return false;
     };
+    made_book(catalogue, 0, record, book.len() - 1);
     let answer = without_record(question, catalogue, &book);
     assert!(answer.is_none() || answer == sheet);
     answer.is_some()
@@ -111,15 +128,36 @@ fn agree(record: &[u8], question: &[u8], catalogue: &[u8]) -> bool {
 #[test]
 fn on_the_workloads() {
     for workload in all(8) {
-        assert!(agree(&workload.record, &workload.question, &workload.catalogue), "{}", workload.name);
+        assert!(agree(&workload.records[0], &workload.question, &workload.catalogue), "{}", workload.name);
+    }
+}
+
+/// The tuned calls beside the plain ones. The model would take long on these records.
+fn same_tuned(record: &[u8], question: &[u8], catalogue: &[u8]) {
+    assert_eq!(tuned::search(question, record, ROOM), baseline::search(question, record, ROOM));
+    for set in [0, all_one_way(catalogue), MIXED] {
+        assert_eq!(tuned::make_book(catalogue, set, record, ROOM), baseline::make_book(catalogue, set, record, ROOM));
+    }
+    let Some((before, link)) = taken_out(record) else {
+        return;
+    };
+    assert_eq!(tuned::ask(catalogue, &before, link), baseline::ask(catalogue, &before, link));
+}
+
+#[test]
+fn tuned_on_all_records() {
+    for workload in [1, 8].into_iter().flat_map(all) {
+        for record in &workload.records {
+            same_tuned(record, &workload.question, &workload.catalogue);
+        }
     }
 }
 
 #[test]
 fn on_charges() {
     for part in [1, 2] {
-        for priced in priced(part) {
-            same_cheapest(&priced.question, &priced.catalogue, &priced.charges);
+        for (question, catalogue, charges) in priced(part).iter().flat_map(|priced| &priced.offers) {
+            same_cheapest(question, catalogue, charges);
         }
     }
 }
@@ -158,13 +196,9 @@ fn some_pattern(rule: &mut Rule) -> Pattern {
 }
 
 /// Some links of a pattern and the items at them.
-fn part_of(rule: &mut Rule, (kinds, links): &Pattern) -> Pattern {
-    let from = rule.below(links.len());
-    let links: Vec<_> = links[from..from + 1 + rule.below(links.len() - from)].to_vec();
-    let items: Vec<usize> = (0..kinds.len()).filter(|&u| links.iter().any(|link| link.0 == u || link.1 == u)).collect();
-    let place = |u: usize| items.iter().position(|&item| item == u).unwrap();
-    let kinds = items.iter().map(|&u| kinds[u]).collect();
-    (kinds, links.iter().map(|&(from, to, kind)| (place(from), place(to), kind)).collect())
+fn some_part(rule: &mut Rule, whole: &Pattern) -> Pattern {
+    let links = &whole.1[rule.below(whole.1.len())..];
+    part_of(whole, links[..1 + rule.below(links.len())].to_vec())
 }
 
 /// A record whose first two links, if it has as many, changed places, or of which the first repeats the second.
@@ -178,7 +212,11 @@ fn disordered(record: &[u8], question: &[u8]) {
         twice.copy_within(first + 3..first + 6, first);
         for fields in [turned, twice] {
             let file = pack_record(&fields);
-            same("read a record out of order", baseline::read_record(&file, ROOM), read_record(&file, ROOM, WORK_WORDS));
+            same(
+                "read a record out of order",
+                baseline::read_record(&file, ROOM),
+                read_record(&file, ROOM, WORK_WORDS),
+            );
             let search = matching::search(question, &file, ROOM, WORK_WORDS);
             same("search one", baseline::search(question, &file, ROOM), search);
         }
@@ -197,12 +235,38 @@ fn on_small_graphs() {
         let question = some_pattern(&mut rule);
         let number = rule.below(6);
         let extracts: Vec<Pattern> = (0..number)
-            .map(|_| if rule.below(4) == 0 { some_pattern(&mut rule) } else { part_of(&mut rule, &question) })
+            .map(|_| if rule.below(4) == 0 { some_pattern(&mut rule) } else { some_part(&mut rule, &question) })
             .collect();
         answered += usize::from(agree(&record, &pattern_file(&question), &catalogue_file(&extracts)));
         disordered(&record, &pattern_file(&question));
     }
     assert!(answered > 500, "{answered} answered");
+}
+
+/// Losses go along a line item by item, so that rounds don't suffice.
+#[test]
+fn on_long_lines() {
+    let mut rule = Rule::new(10);
+    let mut listed = 0;
+    for _ in 0..3_000 {
+        let items = 20 + rule.below(40);
+        let kinds: Vec<u32> = (0..items).map(|_| 7 & !(rule.below(20) / 19) as u32).collect();
+        let more = rule.below(6);
+        let line = (1..items).map(|v| (v - 1, v, 0));
+        let mut links: Vec<Link> = line.chain(some_links(&mut rule, more, items)).collect();
+        if rule.below(2) == 0 {
+            links.iter_mut().for_each(|link| (link.0, link.1) = (items - 1 - link.0, items - 1 - link.1));
+        }
+        links.sort();
+        links.dedup();
+        let record = record_file(&kinds, &links);
+        let extracts: Vec<Pattern> = (0..4).map(|_| some_pattern(&mut rule)).collect();
+        let catalogue = catalogue_file(&extracts);
+        same_tuned(&record, &pattern_file(&extracts[0]), &catalogue);
+        let book = baseline::make_book(&catalogue, 0, &record, ROOM).unwrap();
+        listed += usize::from(book.len() > extracts.len());
+    }
+    assert!(listed > 500, "{listed} with lists");
 }
 
 /// Sheets of any pairs, as a book's bytes.
@@ -230,7 +294,7 @@ fn on_small_books() {
     for _ in 0..3_000 {
         let question = some_pattern(&mut rule);
         let number = 1 + rule.below(5);
-        let extracts: Vec<Pattern> = (0..number).map(|_| part_of(&mut rule, &question)).collect();
+        let extracts: Vec<Pattern> = (0..number).map(|_| some_part(&mut rule, &question)).collect();
         let book = some_book(&mut rule, &extracts);
         let answer = without_record(&pattern_file(&question), &catalogue_file(&extracts), &book);
         answered += usize::from(answer.is_some_and(|sheet| sheet[0] >= 128));
