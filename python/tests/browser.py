@@ -93,5 +93,13 @@ class Browser:
         """The whole page, as PNG."""
         return base64.b64decode(self.call("Page.captureScreenshot", captureBeyondViewport=True)["data"])
 
+    def part(self, first: str, last: str, scale: float) -> bytes:
+        """The page from one element to another, over its whole width, as PNG."""
+        boxes = [f"document.querySelector({json.dumps(one)}).getBoundingClientRect()" for one in (first, last)]
+        top, end = self.value(f"Math.max(0, {boxes[0]}.top - 16)"), self.value(f"{boxes[1]}.bottom + 8")
+        width = self.value("document.documentElement.clientWidth")
+        area = {"x": 0, "y": top, "width": width, "height": end - top, "scale": scale}
+        return base64.b64decode(self.call("Page.captureScreenshot", captureBeyondViewport=True, clip=area)["data"])
+
     def printed(self) -> bytes:
         return base64.b64decode(self.call("Page.printToPDF", **A4)["data"])

@@ -93,7 +93,7 @@ def test_from_scripts(folder: Path, command: Command) -> None:
 
 
 AGAIN = "make it again with yuthaqim book\n"
-OTHER = "packed/book: it was made with another catalogue "
+OTHER = "packed/book was made with another catalogue "
 
 
 def swap(path: Path, *words: str) -> None:
@@ -149,18 +149,18 @@ def test_another_catalogue(folder: Path, command: Command) -> None:
     command("book")
     before = (folder / "extracts.csv").read_text()
     swap(folder / "extracts.csv", "slow runs", "slow readings")
-    assert command("answer") == (2, "", f"{OTHER}(its order is another); {AGAIN}")
+    assert command("answer") == (2, "", f"{OTHER}(its order is another): {AGAIN}")
     (folder / "extracts.csv").write_text(before.replace("slow runs,100\n", ""))
-    assert f"{OTHER}(slow runs is gone); {AGAIN}" in command("answer").err
+    assert f"{OTHER}(slow runs is gone): {AGAIN}" in command("answer").err
     (folder / "extracts.csv").write_text("extract,one-way\nslow runs,\nslow readings,yes\nfast readings,\n")
-    assert command("answer").err == f"{OTHER}(slow readings is one-way); {AGAIN}"
+    assert command("answer").err == f"{OTHER}(slow readings is one-way): {AGAIN}"
     (folder / "extracts.csv").write_text(before + "others,1\n")
     (folder / "extracts" / "others.dot").write_bytes((folder / "extracts" / "slow runs.dot").read_bytes())
-    assert command("answer").err == f"{OTHER}(others is new); {AGAIN}"
+    assert command("answer").err == f"{OTHER}(others is new): {AGAIN}"
     (folder / "extracts.csv").write_text(before.replace("100", "7"))
     assert command("answer").status == 0
     swap(folder / "extracts" / "slow readings.dot", "cut from", "repeated as")
-    assert command("answer").err.endswith(f"{OTHER}(slow readings is another picture); {AGAIN}")
+    assert command("answer").err.endswith(f"{OTHER}(slow readings is another picture): {AGAIN}")
     assert command("book").status == 0
     assert "another catalogue" not in command("answer").err
 
@@ -170,7 +170,7 @@ def test_a_kind_renumbered(folder: Path, command: Command) -> None:
     (folder / "extracts.csv").write_text("extract\nslow readings\nfast readings\n")
     command("book")
     swap(folder / "kinds.csv", "slow run", "fast run")
-    told = f'{OTHER}(the kind "fast run" had the number 2); {AGAIN}'
+    told = f'{OTHER}(the kind "fast run" had the number 2): {AGAIN}'
     assert command("answer").err.endswith(told)
     before = yuthaqim.Campaign().catalogue.packed
     swap(folder / "extracts.csv", "slow", "fast")
@@ -350,7 +350,7 @@ def test_lists_to_a_book(drawn: tuple[Catalogue, list[int]], chance: Any) -> Non
             rows = sheet.rows()
             chance.shuffle(rows)
             order.update((row[side], 0) for row in rows for side in ("from", "to"))
-            Path(room, f"{extract.name}.csv").write_bytes(results.encode(rows))
+            Path(room, f"{extract.name}.csv").write_bytes(results.encode(tuple(row.values()) for row in rows))
         held = read_lists(room, catalogue, None)
     assert held.names == tuple(order) and held.extracts == tuple(extract.name for extract in catalogue.extracts)
     own = [sheet.rows() for sheet in Book.unpack(packed, catalogue, ()).sheets]

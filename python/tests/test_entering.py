@@ -8,6 +8,7 @@ import os
 import shutil
 import signal
 import sys
+import threading
 from pathlib import Path
 from typing import Any
 
@@ -177,6 +178,7 @@ def killed_at(step: int, words: tuple[str, ...]) -> bool:
                     os.kill(os.getpid(), signal.SIGKILL)
 
         os.dup2(os.open(os.devnull, os.O_WRONLY), 1)
+        threading.setprofile(count)  # those that flush
         sys.setprofile(count)
         main(words)
         sys.setprofile(None)
@@ -224,7 +226,7 @@ def test_killed_at_every_step(words: tuple[str, ...], folder: Path, command: Com
     assert found == after and ends["old"] > 20 and ends["new"] > 10
 
 
-@pytest.mark.parametrize("words", [("book",), ("commit",)])
+@pytest.mark.parametrize("words", [("book", "--again"), ("commit",)])
 def test_no_room(words: tuple[str, ...], folder: Path, command: Command, monkeypatch: pytest.MonkeyPatch) -> None:
     """The disk is full before anything is in its place: a sentence, and all as it was."""
     command("book")

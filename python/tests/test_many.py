@@ -74,3 +74,48 @@ def test_status(folders: list[str], command: Command) -> None:
     assert rows[0]["catalogue digest"] != rows[1]["catalogue digest"]
     assert command("status", *folders[:2]).status == 0
     assert command("status", "--json", *folders).json["campaigns"] == rows
+
+
+def test_status_of_books_and_answers(folders: list[str], command: Command) -> None:
+    def told(folder: str = folders[0]) -> tuple[str, str]:
+        (row,) = csv.DictReader(io.StringIO(command("status", folder).out))
+        return row["book"], row["answer"]
+
+    folder = Path(folders[0])
+    assert told() == ("none", "none")
+    command("book", *folders[:2])
+    assert told() == told(folders[1]) == ("made", "none")
+    command("answer", folders[0])
+    assert told() == ("made", "made")
+    (folder / "question.dot").write_text('digraph { section -> "slow run" [label="cut from"] }')
+    assert told() == ("made", "other")
+    command("answer", folders[0])
+    assert told() == ("made", "made")
+    (folder / "extracts.csv").write_text("extract\nslow readings\nslow runs\nfast readings\n")
+    assert told() == ("other catalogue", "other")
+    (folder / "packed" / "names.json").unlink()
+    assert told() == ("other catalogue", "other")
+    (folder / "packed" / "book").unlink()
+    assert told() == ("none", "other")
+    (Path(folders[1]) / "answer.csv").touch()  # and the question is uncovered
+    assert told(folders[1]) == ("made", "other")
+
+
+def test_status_of_several_questions(folders: list[str], command: Command) -> None:
+    folder = Path(folders[0])
+    (folder / "questions").mkdir()
+    (folder / "question.dot").rename(folder / "questions" / "both.dot")
+    shutil.copy(folder / "extracts" / "slow runs.dot", folder / "questions")
+    command("book", folders[0])
+
+    def told() -> list[str]:
+        (row,) = csv.DictReader(io.StringIO(command("status", folders[0]).out))
+        return list(row.values())[1:6]
+
+    assert told() == ["2 questions", "yes", "slow runs;slow readings;fast readings", "made", "none"]
+    command("answer", folders[0])
+    assert told()[-1] == "made"
+    (folder / "answers" / "third.csv").touch()
+    assert told()[-1] == "other"
+    (folder / "extracts.csv").write_text("extract\nslow runs\n")
+    assert told() == ["2 questions", "no", "slow runs", "other catalogue", "other"]

@@ -1,10 +1,13 @@
-"""The package of Debian: what is in it, that it runs where it is unpacked, its manual page and its completion."""
+"""The package of Debian: what is in it, that it runs where it is unpacked, its manual page and its completion. The wheel."""
 
 from __future__ import annotations
 
+import base64
 import gzip
+import hashlib
 import shutil
 import subprocess
+import zipfile
 from pathlib import Path
 
 import pytest
@@ -40,12 +43,12 @@ def test_what_it_needs(package: tuple[Path, Path]) -> None:
 
 def test_it_runs(package: tuple[Path, Path], tmp_path: Path) -> None:
     script = (package[1] / "usr" / "bin" / "yuthaqim").read_text()
-    assert script.startswith("#!/usr/bin/python3 -I\n") and '"/usr/lib/yuthaqim/python"' in script
-    here = script.replace("/usr/lib", str(package[1] / "usr" / "lib"))
+    assert script.startswith("#!/usr/bin/python3 -IS\n") and '"/usr/lib/yuthaqim/python"' in script
+    here = script.replace("/usr/lib/yuthaqim", str(package[1] / "usr" / "lib" / "yuthaqim"))
 
     def run(*words: str) -> str:
         return subprocess.run(
-            ["/usr/bin/python3", "-I", "-B", "-c", here, *words],
+            ["/usr/bin/python3", "-IS", "-B", "-c", here, *words],
             cwd=tmp_path,
             check=True,
             capture_output=True,
@@ -79,3 +82,34 @@ def test_the_completion(package: tuple[Path, Path], tmp_path: Path) -> None:
     assert completed("ch") == ["check", "cheapest"]
     assert completed("quote", "--re") == ["--report"]
     assert completed("verify", "--re") == []
+
+
+# What pip installs.
+
+
+def test_the_wheel(tmp_path: Path) -> None:
+    """As pip makes it, by the words of pyproject.toml, and that it runs where it is unpacked."""
+    script = "import sys; sys.path.insert(0, sys.argv[1]); import wheels; print(wheels.build_wheel(sys.argv[2]))"
+    make = ["/usr/bin/python3", "-I", "-B", "-c", script, str(TOP / "python"), str(tmp_path)]
+    names = [subprocess.run(make, check=True, capture_output=True, text=True).stdout.strip() for _ in range(2)]
+    assert names == ["yuthaqim-0.1.0-cp311-abi3-linux_x86_64.whl"] * 2
+    room = tmp_path / "room"
+    with zipfile.ZipFile(tmp_path / names[0]) as wheel:
+        wheel.extractall(room)
+        rows = wheel.read("yuthaqim-0.1.0.dist-info/RECORD").decode().splitlines()
+        assert [row.rsplit(",", 2)[0] for row in rows] == wheel.namelist()
+        metadata = wheel.read("yuthaqim-0.1.0.dist-info/METADATA").decode()
+        for row in rows[:-1]:
+            path, digest, size = row.rsplit(",", 2)
+            data = wheel.read(path)
+            assert len(data) == int(size)
+            assert digest == "sha256=" + base64.urlsafe_b64encode(hashlib.sha256(data).digest()).rstrip(b"=").decode()
+    assert "Requires-Dist: openpyxl >= 3.0.9\n" in metadata and "Requires-Dist: lark == 1." in metadata
+    script = "import sys; sys.path.insert(0, sys.argv.pop(1)); from yuthaqim.cli import script; sys.exit(script())"
+
+    def run(*words: str) -> str:
+        command = ["/usr/bin/python3", "-I", "-B", "-c", script, str(room), *words]
+        return subprocess.run(command, cwd=tmp_path, check=True, capture_output=True, text=True).stdout
+
+    run("new", "campaign")
+    assert run("quote", "campaign").startswith("covered\n")

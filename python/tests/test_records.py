@@ -4,6 +4,7 @@ from __future__ import annotations
 
 import json
 import os
+import threading
 from pathlib import Path
 from typing import Any
 
@@ -75,7 +76,7 @@ def test_search(folder: Path, command: Command) -> None:
         (folder / "packed" / "index").write_bytes(data)
         assert told in command("search", "--indexed").err
     assert command("search", "-o", "sheet.ods").err == (
-        "sheet.ods: a result is written to a file whose name ends with .csv or .json\n"
+        "sheet.ods: a result is written to a file whose name ends with .csv, .json or .xlsx\n"
     )
 
 
@@ -264,3 +265,14 @@ def test_what_was_begun_is_finished(folder: Path, monkeypatch: pytest.MonkeyPatc
             with files.locked("."):
                 files.put(".", {"kept": b"old"}, whole=["lists", "packed"])
             assert not [name for name in os.listdir() if name.startswith(".")]
+
+
+def test_many_files_at_once(folder: Path, monkeypatch: pytest.MonkeyPatch) -> None:
+    """More than are open at a time; and where the system gives no threads to flush them by."""
+    made = {f"answers/{number}.csv": str(number).encode() for number in range(200)}
+    for threads in (True, False):
+        if not threads:
+            monkeypatch.setattr(threading.Thread, "start", lambda _: (_ for _ in ()).throw(RuntimeError))
+        with files.locked("."):
+            files.put(".", made, whole=["answers"])
+        assert {f"answers/{path.name}": path.read_bytes() for path in (folder / "answers").iterdir()} == made

@@ -5,6 +5,7 @@ No other module touches memory.
 
 from __future__ import annotations
 
+from array import array
 from typing import Any, NamedTuple, Sequence
 
 from _yuthaqim import ffi, lib
@@ -76,13 +77,15 @@ class Entered(NamedTuple):
 
 # What is lent.
 
+_CODES = {"uint16_t": "H", "uint32_t": "I"}  # as arrays call them
+
 
 def _bytes(data: bytes) -> tuple[Any, int]:
     return ffi.from_buffer("uint8_t[]", data), len(data)
 
 
 def _numbers(of: str, numbers: Sequence[int]) -> tuple[Any, int]:
-    return ffi.new(of + "[]", list(numbers) or 1), len(numbers)
+    return ffi.from_buffer(of + "[]", array(_CODES[of], numbers or (0,))), len(numbers)
 
 
 def _work() -> tuple[Any, int]:
@@ -116,9 +119,10 @@ def _two_out(call: Any, first_most: int, second_most: int, *lent: Any) -> tuple[
     return bytes(ffi.buffer(first, answer.first)), bytes(ffi.buffer(second, answer.second))
 
 
-def _numbers_out(call: Any, of: str, most: int, *lent: Any) -> list[int]:
-    out = ffi.new(of + "[]", most)
-    return list(ffi.unpack(out, _accepted(call(*lent, out, most, *_work())).value))
+def _numbers_out(call: Any, of: str, most: int, *lent: Any) -> array[int]:
+    out = array(_CODES[of], bytes(most * ffi.sizeof(of)))
+    number = _accepted(call(*lent, ffi.from_buffer(of + "[]", out), most, *_work())).value
+    return out[:number]
 
 
 def _quote(answer: Any) -> Quote:
@@ -134,24 +138,24 @@ def _cheapest(answer: Any) -> Cheapest:
 # Reading and writing: files, and their content as a list of numbers.
 
 
-def read_pattern(pattern: bytes) -> list[int]:
+def read_pattern(pattern: bytes) -> array[int]:
     return _numbers_out(lib.yuthaqim_read_pattern, "uint32_t", lib.YUTHAQIM_PATTERN_WORDS, *_bytes(pattern))
 
 
-def read_catalogue(catalogue: bytes) -> list[int]:
+def read_catalogue(catalogue: bytes) -> array[int]:
     return _numbers_out(lib.yuthaqim_read_catalogue, "uint32_t", lib.YUTHAQIM_CATALOGUE_WORDS, *_bytes(catalogue))
 
 
-def read_record(record: bytes) -> list[int]:
+def read_record(record: bytes) -> array[int]:
     return _numbers_out(lib.yuthaqim_read_record, "uint32_t", lib.YUTHAQIM_RECORD_WORDS, *_bytes(record))
 
 
-def read_sheet(pattern: bytes, sheet: bytes) -> list[int]:
+def read_sheet(pattern: bytes, sheet: bytes) -> array[int]:
     lent = *_bytes(pattern), *_bytes(sheet)
     return _numbers_out(lib.yuthaqim_read_sheet, "uint32_t", lib.YUTHAQIM_SHEET_WORDS, *lent)
 
 
-def read_book(catalogue: bytes, book: bytes) -> list[int]:
+def read_book(catalogue: bytes, book: bytes) -> array[int]:
     lent = *_bytes(catalogue), *_bytes(book)
     return _numbers_out(lib.yuthaqim_read_book, "uint32_t", lib.YUTHAQIM_BOOK_WORDS, *lent)
 
@@ -189,7 +193,7 @@ def search(pattern: bytes, record: bytes) -> bytes:
     return _out(lib.yuthaqim_search, lib.YUTHAQIM_SHEET_BYTES, *_bytes(pattern), *_bytes(record))
 
 
-def make_index(record: bytes) -> list[int]:
+def make_index(record: bytes) -> array[int]:
     return _numbers_out(lib.yuthaqim_make_index, "uint16_t", lib.YUTHAQIM_INDEX_ENTRIES, *_bytes(record))
 
 

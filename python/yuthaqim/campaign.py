@@ -2,9 +2,8 @@
 
 from __future__ import annotations
 
-from dataclasses import dataclass
 from datetime import date
-from typing import TYPE_CHECKING, Any, Iterable, Sequence
+from typing import TYPE_CHECKING, Any, Iterable, NamedTuple, Sequence
 
 from . import calls, days, explain, files
 from .faults import Fault, Faults, Place
@@ -18,31 +17,27 @@ if TYPE_CHECKING:
     from .records import Book, Record, Sheet
 
 
-@dataclass(frozen=True)
-class Match:
+class Match(NamedTuple):
     """A link of an extract that matches a link of the question."""
 
     extract: str
     link: int
 
 
-@dataclass(frozen=True)
-class Quote:
+class Quote(NamedTuple):
     covered: bool
     matches: tuple[tuple[Match, ...], ...]  # those of each link of the question
     chosen: tuple[str, ...]  # the extracts that answer it; none if it isn't covered
     day: date | None  # for which it was quoted, if for one
 
 
-@dataclass(frozen=True)
-class Cheapest:
+class Cheapest(NamedTuple):
     extracts: tuple[str, ...]
     cost: int  # in cents
     day: date | None
 
 
-@dataclass(frozen=True)
-class Showing:
+class Showing(NamedTuple):
     """Two records on which each extract lists the same, and the question doesn't."""
 
     first: Record
@@ -51,8 +46,7 @@ class Showing:
     day: date | None
 
 
-@dataclass(frozen=True)
-class Answers:
+class Answers(NamedTuple):
     """The sheets of several questions, and how many lists of the book they took."""
 
     sheets: dict[str, Sheet]
@@ -119,10 +113,11 @@ class Campaign:
     def _packed(self) -> tuple[bytes, bytes, int]:
         return self.question.packed, *self.offered
 
-    def quote(self, day: date | None = None, any_day: bool = False) -> Quote:
-        """Whether the extracts cover the question, and by which links."""
+    def quote(self, day: date | None = None, any_day: bool = False, question: Pattern | None = None) -> Quote:
+        """Whether the extracts cover the question, or another one, and by which links."""
         on = self._on(day, any_day)
-        said = calls.quote(*self._packed) if on is None else calls.quote_on(*self._packed, self._terms, days.number(on))
+        packed = (question or self.question).packed, *self.offered
+        said = calls.quote(*packed) if on is None else calls.quote_on(*packed, self._terms, days.number(on))
         matches = (self._matches(said.mapping[16 * link : 16 * link + 16]) for link in range(said.links))
         return Quote(said.covered, tuple(matches), self.catalogue.named(said.chosen), on)
 

@@ -3,14 +3,13 @@
 from __future__ import annotations
 
 import argparse
+import gc
 import io
-import json
 import os
-import shlex
-import signal
 import sys
 from datetime import date
-from typing import TYPE_CHECKING, Any, Callable, Iterator, Sequence
+from functools import cache
+from typing import TYPE_CHECKING, Any, Callable, Iterator, NamedTuple, Sequence
 
 from . import days
 from .names import padded, plain, quoted, width
@@ -28,15 +27,23 @@ DONE, UNCOVERED, WRONG, FAILED = 0, 1, 2, 3
 OTHERWISE = UNCOVERED
 """That of a page which says something else than the library."""
 
-SAMPLE = os.path.normpath(os.path.join(os.path.dirname(__file__), "..", "..", "samples", "people"))
+_SAMPLES = ("sample", "../../samples/people")  # in a wheel within the package, else beside it
 
-_OVERVIEW = ("campaign", "question", "covered", "extracts", "question digest", "catalogue digest")
+_OVERVIEW = ("campaign", "question", "covered", "extracts", "book", "answer", "question digest", "catalogue digest")
 
 Said = tuple[int, list[str], dict[str, Any]]
 """What a command has to say: its status, its lines, and the same as values."""
 
 
 def main(arguments: Sequence[str]) -> int:
+    gc.disable()  # a command ends before it pays to look for what could be freed
+    try:
+        return _main(arguments)
+    finally:
+        gc.enable()
+
+
+def _main(arguments: Sequence[str]) -> int:
     for stream in (sys.stderr, sys.stdout):
         if not isinstance(stream, io.TextIOWrapper):  # it is closed
             return FAILED
@@ -52,12 +59,17 @@ def main(arguments: Sequence[str]) -> int:
         tell(f"yuthaqim: standard output: {error.strerror}")
         return FAILED
     except KeyboardInterrupt:
-        return 128 + signal.SIGINT
+        return 128 + 2  # as of a process that the signal ends
+
+
+def script() -> int:
+    """The command as pip installs it."""
+    return main(sys.argv[1:])
 
 
 def run(arguments: Sequence[str]) -> int:
     """Does what the words of the command ask for, and gives its status."""
-    words = parser()
+    words = parser(arguments[0] if arguments else None)
     options = words.parse_args(arguments)
     if options.do is overview:
         status, lines, values = _overview(options)
@@ -67,14 +79,16 @@ def run(arguments: Sequence[str]) -> int:
         status, lines, values = _several(options)
     else:
         options.folder = options.folders[0] if options.folders else getattr(options, "folder", None)
-        status, lines, values = _do(options)
+        status, lines, values = _told(options, options.do)
     if options.json and values:
+        import json
+
         lines = [json.dumps({"format": 1, **values}, ensure_ascii=False)]
     sys.stdout.write("".join(f"{line}\n" for line in lines))
     return status
 
 
-def _do(options: argparse.Namespace) -> Said:
+def _told(options: argparse.Namespace, do: Callable[[argparse.Namespace], Said]) -> Said:
     """Does it for one folder. Faults, refusals and what the system says are told; the latter has no values."""
     from .calls import Refused
     from .faults import Faults
@@ -82,7 +96,7 @@ def _do(options: argparse.Namespace) -> Said:
 
     said: Said
     try:
-        said = options.do(options)
+        said = do(options)
     except Missing as missing:
         tell(f"yuthaqim: {missing}")
         said = FAILED, [], {}
@@ -103,17 +117,40 @@ def _each(options: argparse.Namespace) -> Iterator[Said]:
     """Does it for each folder by itself: what is wrong with one doesn't stop the others."""
     for folder in options.folders:
         options.folder = folder
-        yield _do(options)
+        yield _told(options, options.do)
 
 
 def _several(options: argparse.Namespace) -> Said:
-    """A line for each folder; the status is the highest."""
+    """A line for each folder; the status is the highest. With `-o` the rows of all results go to one file."""
     highest, told, campaigns = DONE, [], []
-    for status, lines, values in _each(options):
-        highest = max(highest, status)
-        if lines:
-            told.append(f"{_shown(options)}: {options.brief(lines, values)}")
-        campaigns.append({"campaign": options.folder, "status": status, **values})
+    options.gathers = bool(getattr(options, "output", None))
+
+    def each() -> Iterator[tuple[Any, ...]]:
+        """Does it for each, and gives the rows that are gathered."""
+        nonlocal highest
+        for status, lines, values in _each(options):
+            highest = max(highest, status)
+            if lines:
+                told.append(f"{_shown(options)}: {options.brief(lines, values)}")
+            campaigns.append({"campaign": options.folder, "status": status, **values})
+            for row in options.rows if options.gathers and lines else ():
+                yield _shown(options), *row
+
+    def gather(_: argparse.Namespace) -> Said:
+        from . import files, results
+
+        results.judge(options.output)
+        data = results.encode(each(), options.output, results.GATHERED)
+        if told:  # else there is no result
+            files.write(options.output, data, options.again)
+        return DONE, [], {}
+
+    if options.gathers:
+        status, _, values = _told(options, gather)
+        if status:
+            return max(status, highest), [], values
+    else:
+        list(each())
     return highest, told, {"campaigns": campaigns}
 
 
@@ -145,10 +182,13 @@ def tell(text: str) -> None:
 
 
 def new(options: argparse.Namespace) -> Said:
+    import shlex
+
     from .files import copy_folder
 
     folder = plain(options.folder, cut=False)
-    copy_folder(SAMPLE, options.folder)
+    beside = (os.path.normpath(os.path.join(os.path.dirname(__file__), place)) for place in _SAMPLES)
+    copy_folder(next(filter(os.path.isdir, beside)), options.folder)
     lines = [
         f"{folder}: a question, three extracts with their charges, a record, and the names of kinds",
         f"Look at {os.path.join(folder, 'question.dot')} and {os.path.join(folder, 'extracts.csv')}; make them your own.",
@@ -203,7 +243,7 @@ def _report(campaign: Campaign, options: argparse.Namespace) -> None:
     from .report import Contract, page
 
     name = plain(os.path.basename(os.path.abspath(options.folder)))
-    contract = Contract(name, campaign, options.day, options.date, VERSION)
+    contract = Contract(name, campaign, options.day, options.date or date.today(), VERSION)
     # It is made from the packed bytes as the library reads them back: what is signed is what was quoted.
     write(options.report, page(Contract.read(contract.values())).encode())
 
@@ -242,23 +282,24 @@ def part(options: argparse.Namespace) -> Said:
 
 
 def overview(options: argparse.Namespace) -> Said:
-    import hashlib
+    from .recording import made_of
 
-    campaign = campaign_of(options)
-    said = campaign.quote(options.day, options.any_day)
-    question, catalogue = campaign.question, campaign.catalogue
+    campaign = campaign_of(options, several=True)
+    asked = list(campaign.questions.values()) or [campaign.question]
+    said = [campaign.quote(options.day, options.any_day, question) for question in asked]
+    chosen = {name for quote in said for name in quote.chosen}
+    size = f"{count(len(asked[0].items), 'item')}, {count(len(asked[0].links), 'link')}"
     values = {
-        "question": f"{count(len(question.items), 'item')}, {count(len(question.links), 'link')}",
-        "covered": "yes" if said.covered else "no",
-        "extracts": ";".join(said.chosen),
-        "question digest": hashlib.sha256(question.packed).hexdigest(),
-        "catalogue digest": hashlib.sha256(catalogue.packed).hexdigest(),
+        "question": count(len(asked), "question") if campaign.questions else size,
+        "covered": "yes" if all(quote.covered for quote in said) else "no",
+        "extracts": ";".join(extract.name for extract in campaign.catalogue.extracts if extract.name in chosen),
+        **made_of(options.folder, campaign, asked),
     }
     return DONE, [], values
 
 
 def first_day(options: argparse.Namespace) -> Said:
-    found = campaign_of(options).first_day(options.day)
+    found = campaign_of(options).first_day(options.day or date.today())
     return UNCOVERED if found is None else DONE, [str(found or "none")], {"day": _iso(found)}
 
 
@@ -342,131 +383,181 @@ def _iso(day: date | None) -> str | None:
 # The words of the command.
 
 
-def parser() -> argparse.ArgumentParser:
-    main = argparse.ArgumentParser(
-        prog="yuthaqim",
-        description="Quotes a campaign's question from drawings and tables, and answers it. docs/PLANNERS.md says how they look.",
-        epilog="example: yuthaqim new campaign && yuthaqim quote campaign",
-        allow_abbrev=False,
-    )
-    main.add_argument("--version", action="version", version=f"yuthaqim {VERSION}")
-    commands = main.add_subparsers(title="commands", metavar="COMMAND", required=True)
-
-    def add(
-        do: Any, name: str, says: str, example: str, brief: Callable[[list[str], Any], str] = _last
-    ) -> argparse.ArgumentParser:
-        command = commands.add_parser(
-            name,
-            help=says,
-            description=says[0].upper() + says[1:] + ".",
-            epilog=f"example: {example}",
-            allow_abbrev=False,
-        )
-        command.set_defaults(do=do, folders=[], brief=brief)
-        command.add_argument("--json", action="store_true", help="print one JSON object")
-        return command
-
-    def on_folder(command: argparse.ArgumentParser) -> argparse.ArgumentParser:
-        command.add_argument(
-            "folders", metavar="FOLDER", nargs="*", default=["."], help="a campaign's, by default the current one"
-        )
-        return command
-
-    def on_day(command: argparse.ArgumentParser) -> None:
-        days = on_folder(command).add_mutually_exclusive_group()
-        days.add_argument(
-            "--day", metavar="DATE", type=_day, help="by the extracts in force on that day, such as 2026-11-17"
-        )
-        days.add_argument("--any-day", action="store_true", help="by all extracts, whatever their terms")
-
-    def with_output(command: argparse.ArgumentParser, name: str) -> None:
-        command.add_argument(
-            "-o",
-            dest="output",
-            metavar="FILE",
-            help=f"the file to write, .csv or .json, by default {name} in the folder",
-        )
-
-    command = add(new, "new", "make a folder with a sample campaign", "yuthaqim new campaign")
-    command.add_argument("folder", metavar="FOLDER", help="the folder to make")
-    on_folder(add(check, "check", "tell every fault of a campaign's files", "yuthaqim check campaign"))
-    command = add(quote, "quote", "say whether the extracts cover the question", "yuthaqim quote campaign", _verdict)
-    on_day(command)
-    command.add_argument("--report", metavar="FILE.html", help="write the page that is signed with the contract")
-    command.add_argument(
-        "--date", metavar="DATE", type=_day, default=date.today(), help="that of the page, by default today"
-    )
-    command = add(
-        verify, "verify", "tell whether a page says what the library says", "yuthaqim verify campaign/quote.html"
-    )
-    command.add_argument("page", metavar="FILE.html", help="the page that quote --report wrote")
-    on_day(
-        add(
-            cheapest,
-            "cheapest",
-            "find the cheapest extracts that cover the question",
-            "yuthaqim cheapest campaign",
-            _price,
-        )
-    )
-    on_day(add(part, "part", "draw the part of the question that the extracts answer", "yuthaqim part campaign"))
-    on_day(add(overview, "status", "tell of many campaigns, in CSV", "yuthaqim status campaigns/*"))
-    on_folder(add(_of_records("pack"), "pack", "pack a campaign's files", "yuthaqim pack campaign"))
-    command = add(
-        _of_records("ask", ".entering"),
-        "ask",
-        "name the extracts whose lists a link would change",
-        "yuthaqim ask S2 V1 'cut from' campaign",
-    )
-    for word, of in (("start", "FROM"), ("end", "TO"), ("kind", "KIND")):
-        command.add_argument(word, metavar=of, help="an item" if of != "KIND" else "a kind of link")
-    on_folder(command)
-    on_folder(
-        add(
-            _of_records("commit", ".entering"),
-            "commit",
-            "enter the link that was asked about",
-            "yuthaqim commit campaign",
-        )
-    )
-    command = add(
-        _of_records("unpack", ".unpacking"),
-        "unpack",
-        "write people's files from packed ones",
-        "yuthaqim unpack campaign",
-    )
-    on_folder(command).add_argument("--force", action="store_true", help="replace files that are there already")
-    on_folder(add(_of_records("book"), "book", "make the extracts' lists from the record", "yuthaqim book campaign"))
-    command = add(
-        _of_records("answer"), "answer", "answer the question from the extracts' lists", "yuthaqim answer campaign"
-    )
-    command.add_argument(
-        "--from", dest="extracts", metavar="A,B", action="append", help="by these extracts, and no others"
-    )
-    command.add_argument("--lists", metavar="FOLDER", help="from the lists in that folder, without record or book")
-    with_output(on_folder(command), "answer.csv")
-    command = add(_of_records("search"), "search", "search the record for the question", "yuthaqim search campaign")
-    command.add_argument("--indexed", action="store_true", help="by the index that pack has made")
-    with_output(on_folder(command), "sheet.csv")
-    on_day(add(_of_records("show"), "show", "show why the question is uncovered", "yuthaqim show campaign"))
-    command = add(
-        first_day,
-        "first-day",
-        "find the first day on which the question is covered",
-        "yuthaqim first-day campaign --day 2026-11-17",
-    )
-    on_folder(command).add_argument(
-        "--day",
-        metavar="DATE",
-        type=_day,
-        default=date.today(),
-        help="the first day that is looked at, by default today",
-    )
-    return main
-
-
 def _day(text: str) -> date:
     try:
         return days.read(text)
     except ValueError as error:
         raise argparse.ArgumentTypeError(f"{quoted(text)} {error}") from None
+
+
+_Taken = Callable[[argparse.ArgumentParser], Any]
+
+
+class _Command(NamedTuple):
+    do: Callable[[argparse.Namespace], Said]
+    says: str  # what it does
+    example: str
+    takes: Sequence[_Taken]
+    brief: Callable[[list[str], Any], str] = _last
+
+
+def _takes(*names: str, **options: Any) -> _Taken:
+    return lambda command: command.add_argument(*names, **options)
+
+
+def _on_day(command: argparse.ArgumentParser) -> None:
+    either = command.add_mutually_exclusive_group()
+    of_day = "by the extracts in force on that day, such as 2026-11-17"
+    either.add_argument("--day", metavar="DATE", type=_day, help=of_day)
+    either.add_argument("--any-day", action="store_true", help="by all extracts, whatever their terms")
+
+
+def _output(name: str) -> _Taken:
+    ends = "the file to write, .csv, .json or .xlsx"
+    said = f"{ends}, by default {name} in the folder; of several folders the rows of all"
+    return _takes("-o", dest="output", metavar="FILE", help=said)
+
+
+_FOLDERS = _takes(
+    "folders", metavar="FOLDER", nargs="*", default=["."], help="a campaign's, by default the current one"
+)
+_AGAIN = _takes("--again", action="store_true", help="write also what stands there already as it would be")
+
+_COMMANDS = {
+    "new": _Command(
+        new,
+        "make a folder with a sample campaign",
+        "new campaign",
+        [_takes("folder", metavar="FOLDER", help="the folder to make")],
+    ),
+    "check": _Command(check, "tell every fault of a campaign's files", "check campaign", [_FOLDERS]),
+    "quote": _Command(
+        quote,
+        "say whether the extracts cover the question",
+        "quote campaign",
+        [
+            _FOLDERS,
+            _on_day,
+            _takes("--report", metavar="FILE.html", help="write the page that is signed with the contract"),
+            _takes("--date", metavar="DATE", type=_day, help="that of the page, by default today"),
+        ],
+        _verdict,
+    ),
+    "verify": _Command(
+        verify,
+        "tell whether a page says what the library says",
+        "verify campaign/quote.html",
+        [_takes("page", metavar="FILE.html", help="the page that quote --report wrote")],
+    ),
+    "cheapest": _Command(
+        cheapest, "find the cheapest extracts that cover the question", "cheapest campaign", [_FOLDERS, _on_day], _price
+    ),
+    "part": _Command(
+        part, "draw the part of the question that the extracts answer", "part campaign", [_FOLDERS, _on_day]
+    ),
+    "status": _Command(overview, "tell of many campaigns, in CSV", "status campaigns/*", [_FOLDERS, _on_day]),
+    "pack": _Command(_of_records("pack"), "pack a campaign's files", "pack campaign", [_FOLDERS, _AGAIN]),
+    "ask": _Command(
+        _of_records("ask", ".entering"),
+        "name the extracts whose lists a link would change",
+        "ask S2 V1 'cut from' campaign",
+        [
+            _takes("start", metavar="FROM", help="an item"),
+            _takes("end", metavar="TO", help="an item"),
+            _takes("kind", metavar="KIND", help="a kind of link"),
+            _FOLDERS,
+        ],
+    ),
+    "commit": _Command(
+        _of_records("commit", ".entering"), "enter the link that was asked about", "commit campaign", [_FOLDERS]
+    ),
+    "unpack": _Command(
+        _of_records("unpack", ".unpacking"),
+        "write people's files from packed ones",
+        "unpack campaign",
+        [_FOLDERS, _takes("--force", action="store_true", help="replace files that are there already")],
+    ),
+    "book": _Command(
+        _of_records("book"), "make the extracts' lists from the record", "book campaign", [_FOLDERS, _AGAIN]
+    ),
+    "answer": _Command(
+        _of_records("answer"),
+        "answer the question from the extracts' lists",
+        "answer campaign",
+        [
+            _FOLDERS,
+            _takes("--from", dest="extracts", metavar="A,B", action="append", help="by these extracts, and no others"),
+            _takes("--lists", metavar="FOLDER", help="from the lists in that folder, without record or book"),
+            _AGAIN,
+            _output("answer.csv"),
+        ],
+    ),
+    "search": _Command(
+        _of_records("search"),
+        "search the record for the question",
+        "search campaign",
+        [
+            _FOLDERS,
+            _takes("--indexed", action="store_true", help="by the index that pack has made"),
+            _AGAIN,
+            _output("sheet.csv"),
+        ],
+    ),
+    "show": _Command(_of_records("show"), "show why the question is uncovered", "show campaign", [_FOLDERS, _on_day]),
+    "first-day": _Command(
+        first_day,
+        "find the first day on which the question is covered",
+        "first-day campaign --day 2026-11-17",
+        [
+            _FOLDERS,
+            _takes("--day", metavar="DATE", type=_day, help="the first day that is looked at, by default today"),
+        ],
+    ),
+}
+
+
+class _Help(argparse.HelpFormatter):
+    """As wide as the terminal; argparse itself looks for that anew with each word, and imports much for it."""
+
+    def __init__(self, prog: str):
+        super().__init__(prog, width=_columns() - 2)
+
+
+@cache
+def _columns() -> int:
+    try:
+        return int(os.environ.get("COLUMNS", "")) or 80
+    except ValueError:
+        pass
+    try:
+        return os.get_terminal_size().columns or 80
+    except OSError:  # it is none
+        return 80
+
+
+def parser(only: str | None = None) -> argparse.ArgumentParser:
+    """The words of all commands, or, which is made faster, of one."""
+    main = argparse.ArgumentParser(
+        prog="yuthaqim",
+        description="Quotes a campaign's question from drawings and tables, and answers it. docs/PLANNERS.md says how they look.",
+        epilog="example: yuthaqim new campaign && yuthaqim quote campaign",
+        allow_abbrev=False,
+        formatter_class=_Help,
+    )
+    main.add_argument("--version", action="version", version=f"yuthaqim {VERSION}")
+    commands = main.add_subparsers(title="commands", metavar="COMMAND", required=True, prog="yuthaqim")
+    for name in [only] if only in _COMMANDS else list(_COMMANDS):
+        one = _COMMANDS[name]
+        command = commands.add_parser(
+            name,
+            help=one.says,
+            description=one.says[0].upper() + one.says[1:] + ".",
+            epilog=f"example: yuthaqim {one.example}",
+            allow_abbrev=False,
+            formatter_class=_Help,
+        )
+        command.set_defaults(do=one.do, folders=[], brief=one.brief, gathers=False)
+        command.add_argument("--json", action="store_true", help="print one JSON object")
+        for take in one.takes:
+            take(command)
+    return main

@@ -5,7 +5,6 @@ from __future__ import annotations
 import re
 import subprocess
 import textwrap
-from dataclasses import dataclass
 from html import escape
 from typing import TYPE_CHECKING, Iterator, NamedTuple, Sequence
 
@@ -31,15 +30,13 @@ class Badge(NamedTuple):
     colour: str
 
 
-@dataclass(frozen=True)
-class Item:
+class Item(NamedTuple):
     kind: str
     name: str = ""  # where it is another
     pale: bool = False
 
 
-@dataclass(frozen=True)
-class Line:
+class Line(NamedTuple):
     """A link as it is drawn."""
 
     start: int
@@ -52,8 +49,7 @@ class Line:
     badges: tuple[Badge, ...] = ()
 
 
-@dataclass(frozen=True)
-class Drawing:
+class Drawing(NamedTuple):
     name: str  # the ids in it begin with it
     said: str  # what it shows, for who can't see it
     items: Sequence[Item]

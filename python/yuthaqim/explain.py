@@ -11,7 +11,7 @@ from .names import plain, quoted
 
 if TYPE_CHECKING:
     from .calls import Refused
-    from .packing import Ends, Extract
+    from .packing import Extract
     from .sketches import Sketch
     from .tables import Row, Table
 
@@ -99,7 +99,7 @@ def of_terms(refused: Refused, extracts: Sequence[Extract]) -> Fault:
     return Fault(extract.place, f"{quoted(extract.name)} ends on {end} and begins on {start}")
 
 
-def of_record(refused: Refused, items: Table, links: Table, ends: Sequence[Ends]) -> list[Fault]:
+def of_record(refused: Refused, items: Table, links: Table, ends: Sequence[tuple[int, int, int]]) -> list[Fault]:
     """What is wrong with the tables of a record that the library refuses to pack."""
     found: list[Fault] = []
     if refused.number == 3:
@@ -108,7 +108,7 @@ def of_record(refused: Refused, items: Table, links: Table, ends: Sequence[Ends]
                 message = f"{len(table.rows):,} {of}; a record has at most {most:,}"
                 found.append(Fault(Place(table.file), message))
     elif refused.number == 6:
-        lines: dict[Ends, int] = {}
+        lines: dict[tuple[int, int, int], int] = {}
         for row, link in zip(links.rows, ends):
             if link in lines:
                 said = f'{plain(row["from"])} -[{row["kind"]}]-> {plain(row["to"])}'

@@ -2,8 +2,7 @@
 
 from __future__ import annotations
 
-from dataclasses import dataclass
-from typing import Iterable
+from typing import Iterable, NamedTuple
 
 from .names import plain, width
 
@@ -16,8 +15,7 @@ SHEET = ", sheet "
 _BEFORE, _LINE = 70, 100  # of a long line, the characters shown before the mark, and in all
 
 
-@dataclass(frozen=True)
-class Place:
+class Place(NamedTuple):
     """A file, or a line of it, or a column of that line; both count from 1, and 0 says none."""
 
     file: str
@@ -58,13 +56,13 @@ def _letters(column: int) -> str:
     return (_letters(rest) if rest else "") + chr(ord("A") + last)
 
 
-@dataclass(frozen=True)
-class Fault:
+class Fault(NamedTuple):
     place: Place
     message: str
+    between: str = ": "  # a space, where the message is a sentence that the place begins
 
     def __str__(self) -> str:
-        return f"{self.place}: {self.message}"
+        return f"{self.place}{self.between}{self.message}"
 
 
 class Unreadable(Exception):

@@ -6,7 +6,7 @@ import errno
 import os
 import stat
 from contextlib import contextmanager
-from typing import Callable, Collection, Iterator, Mapping
+from typing import Callable, Collection, Iterator, Mapping, Sequence
 
 from .faults import Fault, Faults, Place, Unreadable
 
@@ -34,21 +34,83 @@ def read(path: str, most: int) -> bytes:
     return data
 
 
-def write(path: str, data: bytes) -> None:
-    """Puts the bytes in the place of what the file had: all of them, or, if the system fails, none."""
-    import tempfile
-
-    handle, name = tempfile.mkstemp(prefix=".", suffix=".new", dir=os.path.dirname(path) or ".")
+def stands(path: str, data: bytes) -> bool:
+    """Whether the file has these bytes already."""
     try:
-        with open(handle, "wb") as file:
-            os.fchmod(handle, 0o666 & ~_umask())
-            file.write(data)
-            file.flush()
-            os.fsync(handle)
-        os.replace(name, path)
+        return read(path, len(data)) == data
+    except (OSError, Unreadable):
+        return False
+
+
+def write(path: str, data: bytes, again: bool = True) -> None:
+    """Puts the bytes in the place of what the file had: all of them, or, if the system fails, none. What has them already
+    is left alone, unless it is to be written again."""
+    if not again and stands(path, data):
+        return
+    made = os.path.join(os.path.dirname(path), f".{os.urandom(8).hex()}.new")
+    try:
+        _flushed({made: data})
+        os.replace(made, path)
     except BaseException:
-        os.unlink(name)
+        if os.path.lexists(made):
+            os.unlink(made)
         raise
+
+
+_TOGETHER = 64  # so many files are open at a time
+
+
+def _flushed(files: Mapping[str, bytes], folders: Sequence[str] = ()) -> None:
+    """Writes new files, and flushes them to the disk with the folders that hold them."""
+    paths = [*files, *folders]
+    for at in range(0, len(paths), _TOGETHER):
+        handles: dict[str, int] = {}
+        try:
+            for path in paths[at : at + _TOGETHER]:
+                how = os.O_WRONLY | os.O_CREAT | os.O_EXCL if path in files else os.O_RDONLY | os.O_DIRECTORY
+                handles[path] = os.open(path, how, 0o666)
+                _written(path, handles[path], files.get(path, b""))
+            _flush(handles)
+        finally:
+            for handle in handles.values():
+                os.close(handle)
+
+
+def _written(path: str, handle: int, data: bytes) -> None:
+    left = memoryview(data)
+    while left:
+        try:
+            left = left[os.write(handle, left) :]
+        except OSError as error:
+            raise OSError(error.errno, error.strerror, path) from None
+
+
+def _flush(handles: Mapping[str, int]) -> None:
+    """Flushes all side by side: the system writes them in one go, where one after the other each waits for the disk."""
+    from threading import Thread
+
+    failed: list[OSError] = []
+
+    def flush(path: str, handle: int) -> None:
+        try:
+            os.fsync(handle)
+        except OSError as error:
+            failed.append(OSError(error.errno, error.strerror, error.filename or path))
+
+    first, *others = handles.items()
+    threads = []
+    for other in others:
+        thread = Thread(target=flush, args=other)
+        try:
+            thread.start()
+            threads.append(thread)
+        except RuntimeError:  # the system gives no more of them
+            flush(*other)
+    flush(*first)
+    for thread in threads:
+        thread.join()
+    if failed:
+        raise failed[0]
 
 
 # Several files at once. What is made stands in `.making` first; when all of it is written and flushed, that is renamed to
@@ -88,61 +150,91 @@ def put(
     whole: Collection[str] = (),
     gone: Collection[str] = (),
     judge: Callable[[str, bytes], bool] = lambda path, data: True,
+    again: bool = True,
 ) -> None:
     """Puts files in their places in a folder and removes others, all of it or nothing. Of `whole` are folders that hold
     afterwards what is here for them, and nothing else. Each file is read again and judged before any is in its place. Who
-    puts has the folder locked."""
-    import shutil
-
+    puts has the folder locked. Where all of it is so already it is left alone, unless it is to be put again."""
+    if not again and all_stand(folder, files, whole, gone):
+        return
     making = os.path.join(folder, _MAKING)
-    shutil.rmtree(making, ignore_errors=True)  # it is one of a command that was killed
+    _remove(making)  # it is one of a command that was killed
+    made = {path: os.path.join(making, _WHOLE if path.split("/")[0] in whole else _FILES, path) for path in files}
+    there = [path for path in gone if os.path.lexists(os.path.join(folder, path))]
+    marks = {os.path.join(making, _GONE, path): b"" for path in there}
+    os.mkdir(making)
     try:
-        for kind in (_FILES, _WHOLE, _GONE, _OLD):
-            os.makedirs(os.path.join(making, kind))
-        for name in whole:
-            os.mkdir(os.path.join(making, _WHOLE, name))
+        folders = {os.path.dirname(path) for path in (*made.values(), *marks)}
+        for path in sorted({*folders, *(os.path.join(making, _WHOLE, name) for name in whole)}):
+            os.makedirs(path, exist_ok=True)
+        all_folders = [inner for inner, _, _ in os.walk(making)]
+        _flushed({**{made[path]: data for path, data in files.items()}, **marks}, all_folders)
         for path, data in files.items():
-            kind = _WHOLE if path.split("/")[0] in whole else _FILES
-            _flushed(os.path.join(making, kind, path), data)
-            if not judge(path, read(os.path.join(making, kind, path), len(data))):
+            if not judge(path, read(made[path], len(data))):
                 raise OSError(errno.EIO, "it is read back otherwise than it was written", within(folder, path))
-        for path in gone:
-            _flushed(os.path.join(making, _GONE, path), b"")
         for path in (*files, *gone, *whole):
             if path in whole or path.split("/")[0] not in whole:
                 _has_room(folder, path, path in whole)
-        for inner, _, _ in os.walk(making):
-            _flush(inner)
         os.rename(making, os.path.join(folder, _MADE))
     except BaseException:
-        shutil.rmtree(making, ignore_errors=True)
+        _remove(making)
         raise
     _finish(folder)
 
 
+def all_stand(
+    folder: str, files: Mapping[str, bytes], whole: Collection[str] = (), gone: Collection[str] = ()
+) -> bool:
+    """Whether the folder has these files already, and nothing that is to go."""
+    kept = {os.path.join(name, path) for name in whole for path in _paths(os.path.join(folder, name))}
+    return (
+        all(os.path.isdir(os.path.join(folder, name)) for name in whole)
+        and kept <= files.keys()
+        and not any(os.path.lexists(os.path.join(folder, path)) for path in gone)
+        and all(stands(os.path.join(folder, path), data) for path, data in files.items())
+    )
+
+
 def _finish(folder: str) -> None:
     """Brings what stands in `.made` to its place: each step once, also where some are done already."""
-    import shutil
-
     made = os.path.join(folder, _MADE)
     if not os.path.isdir(made):
         return
-    _flush(folder)
+    _flushed({}, [folder])
     for path in _paths(os.path.join(made, _GONE)):
         if os.path.lexists(os.path.join(folder, path)):
             os.unlink(os.path.join(folder, path))
     for path in _paths(os.path.join(made, _FILES)):
         os.makedirs(os.path.dirname(os.path.join(folder, path)) or ".", exist_ok=True)
         os.replace(os.path.join(made, _FILES, path), os.path.join(folder, path))
-    for name in sorted(os.listdir(os.path.join(made, _WHOLE))):
+    whole = os.path.join(made, _WHOLE)
+    for name in sorted(os.listdir(whole)) if os.path.isdir(whole) else ():
         target = os.path.join(folder, name)
         if os.path.lexists(target):
-            shutil.rmtree(os.path.join(made, _OLD, name), ignore_errors=True)
+            _remove(os.path.join(made, _OLD, name))
+            os.makedirs(os.path.join(made, _OLD), exist_ok=True)
             os.rename(target, os.path.join(made, _OLD, name))
-        os.rename(os.path.join(made, _WHOLE, name), target)
-    _flush(folder)
+        os.rename(os.path.join(whole, name), target)
+    _flushed({}, [folder])
     os.rename(made, os.path.join(folder, _MAKING))  # all is in its place: what is left is removed, now or later
-    shutil.rmtree(os.path.join(folder, _MAKING), ignore_errors=True)
+    _remove(os.path.join(folder, _MAKING))
+
+
+def _remove(folder: str) -> None:
+    """Removes a folder with all that it holds; what can't be removed is left."""
+    if os.path.islink(folder):
+        return
+    try:
+        for inner, names, files in os.walk(folder, topdown=False):
+            for name in files:
+                os.unlink(os.path.join(inner, name))
+            for name in names:
+                path = os.path.join(inner, name)
+                os.unlink(path) if os.path.islink(path) else os.rmdir(path)
+        if os.path.lexists(folder):
+            os.rmdir(folder)
+    except OSError:
+        pass
 
 
 def _paths(folder: str) -> list[str]:
@@ -164,22 +256,6 @@ def _has_room(folder: str, path: str, whole: bool) -> None:
         wrong = errno.EXDEV
     if wrong:
         raise OSError(wrong, os.strerror(wrong), os.path.normpath(target))
-
-
-def _flushed(path: str, data: bytes) -> None:
-    os.makedirs(os.path.dirname(path), exist_ok=True)
-    with open(path, "wb") as file:
-        file.write(data)
-        file.flush()
-        os.fsync(file.fileno())
-
-
-def _flush(folder: str) -> None:
-    handle = os.open(folder, os.O_RDONLY)
-    try:
-        os.fsync(handle)
-    finally:
-        os.close(handle)
 
 
 def _umask() -> int:

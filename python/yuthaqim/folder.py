@@ -78,7 +78,7 @@ class Folder:
         made = cls.__new__(cls)
         made.path, made.notes, made._wrong, made._workbooks = "quote", [], [], {}
         made.kinds, made.question, made.catalogue = kinds, question, catalogue
-        made.table, made.questions, made.record = Table("extracts", 0, (), ()), {}, None
+        made.table, made.questions, made.record = Table("extracts", 0, ()), {}, None
         return made
 
     def read_record(self) -> Record:

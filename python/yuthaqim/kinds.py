@@ -19,20 +19,20 @@ class Naming:
         self.of = of
         self.given = tuple(given[number] for number in sorted(given))
         self._names = tuple(given.get(number, f"#{number}") for number in range(most))
-        self._numbers = {name: number for number, name in enumerate(self._names)}
+        self.numbers = {name: number for number, name in enumerate(self._names)}
 
     def name(self, number: int) -> str:
         return self._names[number]
 
     def number(self, name: str) -> int | None:
-        return self._numbers.get(name)
+        return self.numbers.get(name)
 
     def values(self) -> dict[str, str]:
         """The names that were given, by number, as JSON has them."""
         return {str(number): name for number, name in enumerate(self._names) if name in self.given}
 
     def numbered(self) -> dict[str, int]:
-        return {name: self._numbers[name] for name in self.given}
+        return {name: self.numbers[name] for name in self.given}
 
     def all(self) -> str:
         """The names that there are, to be listed in a sentence."""

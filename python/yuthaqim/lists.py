@@ -3,8 +3,7 @@
 from __future__ import annotations
 
 import os
-from dataclasses import dataclass
-from typing import Collection, Sequence
+from typing import Collection, NamedTuple, Sequence
 
 from . import calls, explain, tables
 from .faults import Fault, Faults, Place, Unreadable
@@ -18,8 +17,7 @@ from .tables import Row
 Numbered = tuple[int, int, int]  # a link of the pattern, and the numbers of a pair
 
 
-@dataclass(frozen=True)
-class Held:
+class Held(NamedTuple):
     """The lists of some extracts; the others have none, and nothing is answered by them."""
 
     book: bytes

@@ -23,6 +23,11 @@ def tidy(text: str) -> str:
     return (text if text.isascii() else unicodedata.normalize("NFC", text)).strip()
 
 
+def normal(text: str) -> bool:
+    """Whether the text, and so each part of it, is in Unicode's form NFC already."""
+    return text.isascii() or unicodedata.is_normalized("NFC", text)
+
+
 def invisible(character: str) -> bool:
     """Whether a reader can't see the character, or takes it for a space."""
     if character in _BLANK:
@@ -82,6 +87,11 @@ def unseen(name: str) -> str | None:
         if invisible(character):
             return f"{quoted(name)} holds the invisible character U+{ord(character):04X}"
     return None
+
+
+def all_seen(names: Iterable[str]) -> bool:
+    """Whether nothing is wrong with any of these tidy names, by what `unseen` says."""
+    return all(names) and not any(map(invisible, set("".join(names))))
 
 
 def fault_of(name: str) -> str | None:

@@ -7,6 +7,8 @@ import hashlib
 import json
 import os
 import struct
+import sys
+from array import array
 from typing import TYPE_CHECKING, Any, Iterable, Mapping, Sequence
 
 from . import calls
@@ -23,7 +25,7 @@ if TYPE_CHECKING:
 FOLDER, NAMES = "packed", "packed/names.json"
 FORMAT = 1
 
-_BYTES = 16 << 20  # a longer file is none of ours
+_BYTES, _NAMES_BYTES = 1 << 20, 16 << 20  # a longer file is none of ours
 
 Entry = dict[str, Any]
 
@@ -60,6 +62,8 @@ def digest(data: bytes) -> str:
 def fits(value: Any, shape: Any) -> bool:
     """Whether a value out of a JSON file has this shape: a type, a list of one, names with theirs, or any names."""
     if isinstance(shape, list):
+        if isinstance(shape[0], type):
+            return isinstance(value, list) and {shape[0]}.issuperset(map(type, value))
         return isinstance(value, list) and all(fits(one, shape[0]) for one in value)
     if isinstance(shape, dict) and str in shape:
         return isinstance(value, dict) and all(fits(one, shape[str]) for one in value.values())
@@ -77,8 +81,10 @@ class Names:
         path = os.path.join(folder, NAMES)
         if os.path.isfile(path):
             try:
-                said = json.loads(read(path, _BYTES))
-                json.dumps(said, ensure_ascii=False).encode()  # half a character can be escaped there, and not written
+                data = read(path, _NAMES_BYTES)
+                said = json.loads(data)
+                if b"\\u" in data:  # half a character can be escaped there, and not written
+                    json.dumps(said, ensure_ascii=False).encode()
             except (ValueError, RecursionError, Unreadable):
                 return
             if fits(said, {"format": int, "files": {str: {"sha256": str}}}) and said["format"] == FORMAT:
@@ -94,10 +100,15 @@ class Names:
 
     def write(self, entries: Mapping[str, Entry], running: Entry | None = None) -> bytes:
         """The file with these entries in the place of those that there were."""
-        said = {"format": FORMAT, "files": {**self.files, **entries}}
-        if running or self.running:
-            said["running"] = running or self.running
-        return (json.dumps(said, ensure_ascii=False, indent=1) + "\n").encode()
+        said = {**self.files, **entries}
+        # A line for each file: with an indent for all, as many thousands of names take many times as long.
+        files = ",\n".join(f"  {_json(name)}: {_json(entry)}" for name, entry in said.items())
+        state = f',\n "running": {_json(running or self.running)}' if running or self.running else ""
+        return f'{{\n "format": {FORMAT},\n "files": {{\n{files}\n }}{state}\n}}\n'.encode()
+
+
+def _json(value: Any) -> str:
+    return json.dumps(value, ensure_ascii=False)
 
 
 def of_question(question: Pattern) -> Entry:
@@ -136,23 +147,41 @@ def _pictures(catalogue: Catalogue) -> list[Entry]:
     ]
 
 
-def read_book(folder: str, catalogue: Catalogue, kinds: Kinds) -> tuple[bytes, list[str]]:
-    """The book that was made with this catalogue, and the names of the items as they were then."""
-    path = within(folder, FOLDER, "book")
+def read_packed(folder: str, name: str) -> bytes | None:
+    """The bytes of a packed file; None where it isn't there."""
     try:
-        data = read(path, _BYTES)
+        return read(within(folder, FOLDER, name), _BYTES)
     except FileNotFoundError:
-        raise Faults([Fault(Place(path), "there is no book; make it with yuthaqim book")]) from None
+        return None
     except Unreadable as unreadable:
         raise Faults([unreadable.fault]) from None
+
+
+def read_book(folder: str, catalogue: Catalogue, kinds: Kinds) -> tuple[bytes, list[str]]:
+    """The book that was made with this catalogue, and the names of the items as they were then."""
+    place = Place(within(folder, FOLDER, "book"))
+    data = read_packed(folder, "book")
+    if data is None:
+        raise Faults([Fault(place, "there is no book; make it with yuthaqim book")])
     entry = Names(folder).of("book", data)
     again = "make it again with yuthaqim book"
     if entry is None:
-        raise Faults([Fault(Place(path), f"names.json doesn't say what it was made with; {again}")])
+        raise Faults([Fault(place, f"names.json doesn't say what it was made with; {again}")])
     other = _other_kind(entry["kinds"], catalogue, kinds) or _other_catalogue(entry, catalogue)
     if other:
-        raise Faults([Fault(Place(path), f"it was made with another catalogue ({other}); {again}")])
+        raise Faults([Fault(place, f"was made with another catalogue ({other}): {again}", between=" ")])
     return data, entry["items"]
+
+
+def book_stands(folder: str, catalogue: Catalogue, kinds: Kinds) -> str:
+    """Whether there is a book, and it is of this catalogue."""
+    if not os.path.lexists(within(folder, FOLDER, "book")):
+        return "none"
+    try:
+        read_book(folder, catalogue, kinds)
+    except Faults:
+        return "other catalogue"
+    return "made"
 
 
 def _other_kind(then: Mapping[str, Mapping[str, int]], catalogue: Catalogue, kinds: Kinds) -> str | None:
@@ -245,20 +274,20 @@ def read_back(path: str, data: bytes, catalogue: bytes) -> bool:
 
 def index_bytes(index: Sequence[int]) -> bytes:
     """An index as its file has it: 16 bits for each entry, the most significant byte first."""
-    return struct.pack(f">{len(index)}H", *index)
+    entries = array("H", index)
+    if sys.byteorder == "little":
+        entries.byteswap()
+    return entries.tobytes()
 
 
 def read_index(folder: str) -> list[int]:
     """The index that `pack` has made."""
-    path = within(folder, FOLDER, "index")
-    try:
-        data = read(path, _BYTES)
-    except FileNotFoundError:
-        raise Faults([Fault(Place(path), "there is no such file; yuthaqim pack makes it")]) from None
-    except Unreadable as unreadable:
-        raise Faults([unreadable.fault]) from None
+    place = Place(within(folder, FOLDER, "index"))
+    data = read_packed(folder, "index")
+    if data is None:
+        raise Faults([Fault(place, "there is no such file; yuthaqim pack makes it")])
     if len(data) % 2:
-        raise Faults([Fault(Place(path), "half an entry stands at its end; make it again with yuthaqim pack")])
+        raise Faults([Fault(place, "half an entry stands at its end; make it again with yuthaqim pack")])
     return list(struct.unpack(f">{len(data) // 2}H", data))
 
 

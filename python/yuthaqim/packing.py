@@ -2,7 +2,6 @@
 
 from __future__ import annotations
 
-from dataclasses import dataclass
 from typing import Iterable, Mapping, NamedTuple, Sequence
 
 from . import calls, explain, faults, names
@@ -19,8 +18,7 @@ class Ends(NamedTuple):
     kind: int
 
 
-@dataclass(frozen=True)
-class Pattern:
+class Pattern(NamedTuple):
     """A question or an extract: items with their kinds, links with theirs, and the packed bytes of both.
 
     >>> kinds = Kinds(["section", "slow run"], ["cut from"])
@@ -102,8 +100,7 @@ class Pattern:
         return f"digraph {title} {{\n" + "".join(f"    {line}\n" for line in lines) + "}\n"
 
 
-@dataclass(frozen=True)
-class Extract:
+class Extract(NamedTuple):
     name: str
     pattern: Pattern
     charge: int | None = None
@@ -112,8 +109,7 @@ class Extract:
     place: Place = Place("extracts")
 
 
-@dataclass(frozen=True)
-class Catalogue:
+class Catalogue(NamedTuple):
     """Extracts in their order, and the packed bytes of their patterns."""
 
     extracts: tuple[Extract, ...]

@@ -3,8 +3,7 @@
 from __future__ import annotations
 
 import re
-from dataclasses import dataclass, field
-from typing import TYPE_CHECKING, Sequence
+from typing import TYPE_CHECKING, NamedTuple, Sequence
 
 from . import dot
 from .faults import Fault, Unreadable
@@ -21,8 +20,19 @@ BYTES, ITEMS, LINKS = 65_536, 1_000, 1_000
 _ITS_NAME = r"\N"  # the label that shows an item's name; each has it at first
 
 
+_KNOWN: dict[tuple[str, bytes], Sketch] = {}  # by file and bytes: many campaigns share their extracts
+
+
 def read(data: bytes, file: str, faults: list[Fault]) -> Sketch | None:
     """The picture in the bytes of a file; None where it can't be read, and then a fault says why."""
+    before = len(faults)
+    found = _KNOWN.get((file, data)) or _read(data, file, faults)
+    if found and len(faults) == before and len(_KNOWN) < 64:
+        _KNOWN[file, data] = found
+    return found
+
+
+def _read(data: bytes, file: str, faults: list[Fault]) -> Sketch | None:
     try:
         source = dot.Source(file, data.decode("utf-8-sig"))
         drawing = _Drawing(source, faults)
@@ -36,8 +46,7 @@ def read(data: bytes, file: str, faults: list[Fault]) -> Sketch | None:
     return None
 
 
-@dataclass(frozen=True)
-class _Text:
+class _Text(NamedTuple):
     """A name in the picture, or the value of an attribute."""
 
     text: str
@@ -56,8 +65,7 @@ class _Text:
         return self.tokens[0].type in ("NAME", "NUMBER")
 
 
-@dataclass(frozen=True)
-class _Attribute:
+class _Attribute(NamedTuple):
     name: _Text
     value: _Text
 
@@ -65,26 +73,23 @@ class _Attribute:
 _Attributes = dict[str, _Attribute]
 
 
-@dataclass(frozen=True)
-class _Node:
+class _Node(NamedTuple):
     name: _Text
     attributes: _Attributes
 
 
-@dataclass(frozen=True)
-class _Edge:
+class _Edge(NamedTuple):
     start: int
     end: int
     token: Token
     attributes: _Attributes
 
 
-@dataclass(frozen=True)
-class _Scope:
+class _Scope(NamedTuple):
     """The defaults in a pair of braces, which begin as those around it."""
 
-    node: _Attributes = field(default_factory=dict)
-    edge: _Attributes = field(default_factory=dict)
+    node: _Attributes
+    edge: _Attributes
 
     def inner(self) -> _Scope:
         return _Scope(dict(self.node), dict(self.edge))
@@ -112,7 +117,7 @@ class _Drawing:
             if token.type == "GRAPH":
                 message = "graph draws links without a direction; a picture begins with digraph"
                 raise Unreadable(self.source.at(token), message)
-        self.body(_trees(tree)[-1], _Scope())
+        self.body(_trees(tree)[-1], _Scope({}, {}))
 
     def body(self, tree: Tree[Token], scope: _Scope) -> set[int]:
         """Draws what stands in a pair of braces, and gives the items that it names."""
@@ -226,8 +231,7 @@ class _Drawing:
         return Word(shown(text.text), self.source.at(token), text.bare)
 
 
-@dataclass(frozen=True)
-class _Otherwise:
+class _Otherwise(NamedTuple):
     """An attribute that draws an item or a link otherwise than it is quoted."""
 
     of: str  # items, links or, empty, both

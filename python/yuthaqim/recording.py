@@ -3,22 +3,25 @@
 from __future__ import annotations
 
 import argparse
-from typing import Any, Mapping
+import os
+from typing import Mapping, Sequence
 
 from . import files, packed, results, tables
+from .calls import Refused
 from .campaign import Campaign
 from .cli import DONE, Said, campaign_of, count, names_of
 from .faults import Fault, Faults, Place
 from .folder import Read
 from .names import padded, plain, tidy, width
-from .records import ITEM_COLUMNS, LINK_COLUMNS, Record
+from .packing import Pattern
+from .records import ITEM_COLUMNS, LINK_COLUMNS, Record, Sheet
 
 
 def pack(options: argparse.Namespace) -> Said:
     with files.locked(options.folder):
         campaign = campaign_of(options, question=Read.IF_THERE, record=Read.IF_THERE, several=True)
         made, entries = packed.packed_files(campaign)
-        _put_packed(options.folder, made, entries, _left(made))
+        _put_packed(options, made, entries)
     sizes = {files.within(options.folder, packed.FOLDER, name): len(data) for name, data in made.items()}
     lines = [f"{plain(path, cut=False)} {count(size, 'byte')}" for path, size in sizes.items()]
     return DONE, lines, {"files": [{"file": path, "bytes": size} for path, size in sizes.items()]}
@@ -29,11 +32,11 @@ def book(options: argparse.Namespace) -> Said:
         campaign = campaign_of(options, question=Read.NOT, record=Read.WANTED)
         made = campaign.make_book()
         extracts = [extract.name for extract in campaign.catalogue.extracts]
-        lists = {f"lists/{name}.csv": results.encode(sheet.rows()) for name, sheet in zip(extracts, made.sheets)}
+        lists = {f"lists/{name}.csv": results.encode(sheet.cells()) for name, sheet in zip(extracts, made.sheets)}
         packed_files, entries = packed.packed_files(campaign)
         packed_files["book"] = made.packed
         entries["book"] = packed.of_book(made, campaign.catalogue, campaign.record)
-        _put_packed(options.folder, packed_files, entries, _left(packed_files), lists, ["lists"])
+        _put_packed(options, packed_files, entries, lists, ["lists"])
     pairs = [sheet.pairs for sheet in made.sheets]
     columns = max(map(width, extracts), default=0)
     lines = [f"{padded(name, columns)}  {count(number, 'pair')}" for name, number in zip(extracts, pairs)]
@@ -55,9 +58,39 @@ def answer(options: argparse.Namespace) -> Said:
         sheet, by = campaign.answer(extracts), campaign.chosen(extracts)
     else:
         sheet, by = campaign.answer_by_lists(options.lists, extracts)
-    files.write(path, results.encode(sheet.rows(), path))
+    _write(options, path, sheet)
     line = f"{count(sheet.pairs, 'pair')} from {names_of(by)}"
     return DONE, [line], {"file": path, "pairs": sheet.pairs, "extracts": list(by)}
+
+
+def made_of(folder: str, campaign: Campaign, questions: Sequence[Pattern]) -> dict[str, str]:
+    """What `status` says of a campaign's book and answer, and the digests of what they are made of."""
+    return {
+        "book": packed.book_stands(folder, campaign.catalogue, campaign.kinds),
+        "answer": _answer_stands(folder, campaign),
+        "question digest": packed.digest(b"".join(question.packed for question in questions)),
+        "catalogue digest": packed.digest(campaign.catalogue.packed),
+    }
+
+
+def _answer_stands(folder: str, campaign: Campaign) -> str:
+    """Whether there is an answer, and it is the one that the book gives now."""
+    name = "answers" if campaign.questions else "answer.csv"
+    if not os.path.lexists(files.within(folder, name)):
+        return "none"
+    try:
+        if campaign.questions:
+            sheets = {name: sheet for group in campaign.answer_several() for name, sheet in group.sheets.items()}
+            same = files.all_stand(folder, _answers(sheets), whole=["answers"])
+        else:
+            same = files.stands(files.within(folder, name), results.encode(campaign.answer().cells()))
+    except (Faults, Refused):
+        same = False
+    return "made" if same else "other"
+
+
+def _answers(sheets: Mapping[str, Sheet]) -> dict[str, bytes]:
+    return {f"answers/{name}.csv": results.encode(sheet.cells()) for name, sheet in sheets.items()}
 
 
 def _several(options: argparse.Namespace, campaign: Campaign, extracts: list[str] | None) -> Said:
@@ -65,16 +98,16 @@ def _several(options: argparse.Namespace, campaign: Campaign, extracts: list[str
     if options.output:
         raise Faults([Fault(Place("-o"), "several questions have their answers in answers/")])
     lines, values = [], []
-    made = {}
+    made: dict[str, bytes] = {}
     for group in campaign.answer_several(extracts, options.lists):
+        made.update(_answers(group.sheets))
         for name, sheet in group.sheets.items():
-            made[f"answers/{name}.csv"] = results.encode(sheet.rows())
             lines.append(f"{plain(name)}: {count(sheet.pairs, 'pair')}")
             file = files.within(options.folder, "answers", f"{name}.csv")
             values.append({"question": name, "file": file, "pairs": sheet.pairs})
         lines.append(f"{count(len(group.sheets), 'question')} from {count(group.lists, 'list')}")
     with files.locked(options.folder):
-        files.put(options.folder, made, whole=["answers"])
+        files.put(options.folder, made, whole=["answers"], again=options.again)
     return DONE, lines, {"answers": values}
 
 
@@ -87,16 +120,11 @@ def _extracts(options: argparse.Namespace, campaign: Campaign) -> list[str] | No
     return [tidy(name) for part in parts for name in part if tidy(name)]
 
 
-def _left(made: Mapping[str, bytes]) -> list[str]:
-    """The text files of a catalogue that this one doesn't have."""
-    return [name for name in packed.TEXTS if name not in made]
-
-
 def search(options: argparse.Namespace) -> Said:
     path = _output(options, "sheet.csv")
     campaign = campaign_of(options, record=Read.WANTED)
     sheet = campaign.search(packed.read_index(options.folder) if options.indexed else None)
-    files.write(path, results.encode(sheet.rows(), path))
+    _write(options, path, sheet)
     return DONE, [count(sheet.pairs, "pair")], {"file": path, "pairs": sheet.pairs}
 
 
@@ -121,19 +149,22 @@ def _record_files(folder: str, record: Record) -> dict[str, bytes]:
 
 
 def _put_packed(
-    folder: str,
+    options: argparse.Namespace,
     made: Mapping[str, bytes],
     entries: Mapping[str, packed.Entry],
-    gone: Any = (),
     other: Mapping[str, bytes] = {},
-    whole: Any = (),
+    whole: Sequence[str] = (),
 ) -> None:
     """Puts packed files in their places together with what `names.json` says of them, and others with them."""
     together = {f"{packed.FOLDER}/{name}": data for name, data in made.items()}
-    together[packed.NAMES] = packed.Names(folder).write(entries)
-    removed = [f"{packed.FOLDER}/{name}" for name in gone]
+    together[packed.NAMES] = packed.Names(options.folder).write(entries)
+    removed = [f"{packed.FOLDER}/{name}" for name in packed.TEXTS if name not in made]
     catalogue = made.get("catalogue", b"")
-    files.put(folder, {**together, **other}, whole, removed, lambda path, data: packed.read_back(path, data, catalogue))
+
+    def judge(path: str, data: bytes) -> bool:
+        return packed.read_back(path, data, catalogue)
+
+    files.put(options.folder, {**together, **other}, whole, removed, judge, options.again)
 
 
 def _output(options: argparse.Namespace, name: str) -> str:
@@ -141,3 +172,11 @@ def _output(options: argparse.Namespace, name: str) -> str:
     path = str(options.output or files.within(options.folder, name))
     results.judge(path)
     return path
+
+
+def _write(options: argparse.Namespace, path: str, sheet: Sheet) -> None:
+    """Writes a result to its file. Where those of several folders go to one, it is left to who gathers them."""
+    if options.gathers:
+        options.rows = sheet.cells()
+    else:
+        files.write(path, results.encode(sheet.cells(), path), options.again)

@@ -2,13 +2,14 @@
 
 from __future__ import annotations
 
-from dataclasses import dataclass
-from typing import Any, Iterable, Mapping, Sequence
+from itertools import chain, repeat
+from typing import Any, Iterable, Mapping, NamedTuple, Sequence
 
 from . import calls, explain, faults, names
 from .faults import Fault, Faults
 from .kinds import Kinds
 from .packing import Catalogue, Ends, Pattern
+from .results import COLUMNS
 from .sketches import Word
 from .tables import Row, Table
 
@@ -20,8 +21,7 @@ HINTS = 5
 Pairs = tuple[tuple[int, int], ...]
 
 
-@dataclass(frozen=True)
-class Record:
+class Record(NamedTuple):
     """What was done: items with their names and kinds, links between them, and the packed bytes of all.
 
     >>> kinds = Kinds(["section", "slow run"], ["cut from"])
@@ -39,12 +39,10 @@ class Record:
     @classmethod
     def of(cls, items: Mapping[str, Iterable[str]], links: Iterable[tuple[str, str, str]], kinds: Kinds) -> Record:
         """A record of items, with the names of their kinds, and links: from, to and kind of each."""
-        item_rows = [Row("items", 0, {"item": name, "kinds": ";".join(own)}) for name, own in items.items()]
-        link_rows = [Row("links", 0, dict(zip(LINK_COLUMNS, link))) for link in links]
         wrong: list[Fault] = []
         tables = (
-            Table("items", 0, ITEM_COLUMNS, tuple(item_rows)),
-            Table("links", 0, LINK_COLUMNS, tuple(link_rows)),
+            _as_table("items", ITEM_COLUMNS, [(name, ";".join(own)) for name, own in items.items()]),
+            _as_table("links", LINK_COLUMNS, list(links)),
         )
         record = read(*tables, kinds, wrong)
         if record is None:
@@ -69,8 +67,7 @@ class Record:
         return [(self.names[start], self.names[end], self.kinds.links.name(kind)) for start, end, kind in self.links]
 
 
-@dataclass(frozen=True)
-class Sheet:
+class Sheet(NamedTuple):
     """What a pattern lists on a record, with the names of its items: for each link of the pattern its pairs."""
 
     pattern: Pattern
@@ -87,26 +84,25 @@ class Sheet:
     def pairs(self) -> int:
         return sum(map(len, self.lists))
 
+    def cells(self) -> Iterable[tuple[Any, ...]]:
+        """A row for each pair, in the order of the columns of results."""
+        lists = []
+        for number, ((start, end, kind), pairs) in enumerate(zip(self.pattern.links, self.lists)):
+            alike = self.pattern.kinds.links.name(kind), self.pattern.called(start), self.pattern.called(end), number
+            lists.append(zip(*map(self._named, zip(*pairs)), *(repeat(one, len(pairs)) for one in alike)))
+        return chain.from_iterable(lists)
+
     def rows(self) -> list[dict[str, Any]]:
-        """A row for each pair: its items, the kind of the link, and what they stand for in the pattern."""
-        found = []
-        for number, (start, end, kind) in enumerate(self.pattern.links):
-            alike: dict[str, Any] = {
-                "kind": self.pattern.kinds.links.name(kind),
-                "from as": self.pattern.called(start),
-                "to as": self.pattern.called(end),
-                "link": number,
-            }
-            for pair in self.lists[number]:
-                found.append({"from": self._name(pair[0]), "to": self._name(pair[1]), **alike})
-        return found
+        """The same: its items, the kind of the link, and what they stand for in the pattern, by the columns' names."""
+        return [dict(zip(COLUMNS, cells)) for cells in self.cells()]
 
-    def _name(self, number: int) -> str:
-        return self.names[number] if number < len(self.names) else str(number)
+    def _named(self, numbers: Sequence[int]) -> Iterable[str]:
+        if max(numbers) < len(self.names):
+            return map(self.names.__getitem__, numbers)
+        return (self.names[number] if number < len(self.names) else str(number) for number in numbers)
 
 
-@dataclass(frozen=True)
-class Book:
+class Book(NamedTuple):
     """A sheet for each extract of a catalogue, in its order, and the packed bytes of all."""
 
     sheets: tuple[Sheet, ...]
@@ -138,66 +134,91 @@ def lists_of(content: Sequence[int], at: int, links: int) -> tuple[tuple[Pairs, 
     return tuple(lists), at
 
 
+def _as_table(name: str, columns: Sequence[str], rows: Sequence[Sequence[str]]) -> Table:
+    return Table(name, 0, columns, [0] * len(rows), dict(zip(columns, zip(*rows))))
+
+
 def read(items: Table, links: Table, kinds: Kinds, wrong: list[Fault]) -> Record | None:
     """The record of two tables; None where something is wrong with them."""
     before = len(wrong)
-    numbers: dict[str, int] = {}
-    own = []
-    for row in items.rows:
-        name = row["item"]
-        fault = names.unseen(name) or (
-            f"item {names.quoted(name)} stands on line {items.rows[numbers[name]].line} already"
-            if name in numbers
-            else None
-        )
-        if fault:
-            wrong.append(row.fault(fault))
-        own.append(_kinds_of(row, kinds, wrong))
-        numbers.setdefault(name, len(own) - 1)
-    found = _links(links, items.file, numbers, kinds, wrong)
-    if len(wrong) > before:
+    called, cells = items.column("item"), items.column("kinds")
+    numbers = dict(zip(called, range(len(called))))
+    sets: dict[str, int | None] = {cell: _kinds_of(cell, kinds) for cell in set(cells)}
+    if len(numbers) < len(called) or not names.all_seen(numbers) or None in sets.values():
+        _wrong_items(items, kinds, wrong)
+    found = _links(links, numbers, kinds)
+    if found is None:
+        _wrong_links(links, items.file, numbers, kinds, wrong)
+    if len(wrong) > before or found is None:
         return None
-    ascending = sorted(found)
+    own = [sets[cell] or 0 for cell in cells]
+    ascending = sorted(found)  # plain tuples, which are sorted faster than those with names
     try:
-        packed = calls.write_record([len(own), len(ascending), *own, *(field for link in ascending for field in link)])
+        packed = calls.write_record([len(own), len(ascending), *own, *chain.from_iterable(ascending)])
     except calls.Refused as refused:
         wrong += explain.of_record(refused, items, links, found)
         return None
-    return Record(kinds, tuple(numbers), tuple(own), tuple(ascending), packed)
+    return Record(kinds, tuple(numbers), tuple(own), tuple(map(Ends._make, ascending)), packed)
 
 
-def _kinds_of(row: Row, kinds: Kinds, wrong: list[Fault]) -> int:
-    """The kinds that a cell names, as a set."""
-    found = 0
-    for part in filter(None, map(str.strip, row["kinds"].split(";"))):
-        number = kinds.items.number(part)
-        if number is None:
+def _kinds_of(cell: str, kinds: Kinds) -> int | None:
+    """The kinds that a cell names, as a set; None where something is wrong with it."""
+    numbers = [kinds.items.number(part) for part in _parts(cell)]
+    if None in numbers or len(set(numbers)) < len(numbers):
+        return None
+    return sum(1 << number for number in numbers if number is not None)
+
+
+def _parts(cell: str) -> list[str]:
+    return list(filter(None, map(str.strip, cell.split(";"))))
+
+
+def _links(links: Table, numbers: Mapping[str, int], kinds: Kinds) -> list[tuple[int, int, int]] | None:
+    """The links of a table, in its order; None where something is wrong with one."""
+    try:
+        starts, ends = (map(numbers.__getitem__, links.column(side)) for side in ("from", "to"))
+        return list(zip(starts, ends, map(kinds.links.numbers.__getitem__, links.column("kind"))))
+    except KeyError:
+        return None
+
+
+def _wrong_items(items: Table, kinds: Kinds, wrong: list[Fault]) -> None:
+    """What is wrong with a table of items, row by row."""
+    lines: dict[str, int] = {}
+    for row in items.rows:
+        name = row["item"]
+        twice = f"item {names.quoted(name)} stands on line {lines.get(name)} already" if name in lines else None
+        fault = names.unseen(name) or twice
+        if fault:
+            wrong.append(row.fault(fault))
+        lines.setdefault(name, row.line)
+        _wrong_kinds(row, kinds, wrong)
+
+
+def _wrong_kinds(row: Row, kinds: Kinds, wrong: list[Fault]) -> None:
+    """What is wrong with a cell of kinds."""
+    found = []
+    for part in _parts(row["kinds"]):
+        if kinds.items.number(part) is None:
             message = kinds.items.unknown(Word(part, row.place), hint=len(wrong) < faults.SHOWN)
             wrong.append(row.fault(f'column "kinds": {message}'))
-        elif found >> number & 1:
+        elif part in found:
             wrong.append(row.fault(f'column "kinds": {names.quoted(part)} stands there twice'))
-        else:
-            found |= 1 << number
-    return found
+        found.append(part)
 
 
-def _links(links: Table, of: str, numbers: Mapping[str, int], kinds: Kinds, wrong: list[Fault]) -> list[Ends]:
-    """The links of a table, in its order."""
+def _wrong_links(links: Table, of: str, numbers: Mapping[str, int], kinds: Kinds, wrong: list[Fault]) -> None:
+    """What is wrong with a table of links, row by row."""
     unknown: dict[str, str] = {}
-    found = []
     for row in links.rows:
-        start, end = numbers.get(row["from"]), numbers.get(row["to"])
-        for side, number in (("from", start), ("to", end)):
-            if number is None:
+        for side in ("from", "to"):
+            if row[side] not in numbers:
                 message = unknown.get(row[side]) or unknown_item(row[side], of, numbers, len(unknown) < HINTS)
                 unknown[row[side]] = message
                 wrong.append(row.fault(f'column "{side}": {message}'))
-        kind = kinds.links.number(row["kind"])
-        if kind is None:
+        if kinds.links.number(row["kind"]) is None:
             message = kinds.links.unknown(Word(row["kind"], row.place), hint=len(wrong) < faults.SHOWN)
             wrong.append(row.fault(f'column "kind": {message}'))
-        found.append(Ends(start or 0, end or 0, kind or 0))
-    return found
 
 
 def unknown_item(name: str, file: str, there: Iterable[str], hint: bool = True) -> str:

@@ -10,7 +10,6 @@ import hashlib
 import json
 import os
 import re
-from dataclasses import dataclass, replace
 from datetime import date
 from itertools import zip_longest
 from typing import Any, Callable, Container, Iterator, Mapping, NamedTuple
@@ -30,8 +29,7 @@ BYTES = 16 << 20
 _BEGIN, _END = '<script type="application/json" id="quoted">', "</script>"
 
 
-@dataclass(frozen=True)
-class Contract:
+class Contract(NamedTuple):
     """What is quoted: a campaign out of its packed files, for a day or for any, and when and by which version."""
 
     name: str
@@ -103,7 +101,7 @@ def _named(pattern: Pattern, values: Mapping[str, Any]) -> Pattern:
     names = tuple(map(_text, values["items"]))
     if len(names) != len(pattern.items):
         raise ValueError
-    return replace(pattern, names=names)
+    return pattern._replace(names=names)
 
 
 def _numbered(names: Mapping[str, str]) -> dict[int, str]:

@@ -2,8 +2,7 @@
 
 from __future__ import annotations
 
-from dataclasses import dataclass
-from typing import Iterable
+from typing import Iterable, NamedTuple
 
 from .faults import Fault, Place
 from .names import quoted
@@ -13,30 +12,26 @@ WANTED, OPTIONAL = ("from", "kind", "to"), ("from kind", "to kind")
 """The columns of a table of links that stands for a picture."""
 
 
-@dataclass(frozen=True)
-class Word:
+class Word(NamedTuple):
     text: str
     place: Place
     bare: bool = False  # without quotes
 
 
-@dataclass(frozen=True)
-class Item:
+class Item(NamedTuple):
     name: str
     place: Place
     kind: Word
 
 
-@dataclass(frozen=True)
-class Link:
+class Link(NamedTuple):
     start: int
     end: int
     place: Place
     kind: Word | None  # None where the picture has no word for it
 
 
-@dataclass(frozen=True)
-class Sketch:
+class Sketch(NamedTuple):
     file: str
     items: tuple[Item, ...]
     links: tuple[Link, ...]

@@ -6,12 +6,12 @@ import codecs
 import csv
 import io
 import re
-from dataclasses import dataclass
-from itertools import islice
+from functools import cached_property
+from itertools import compress, islice
 from typing import Iterable, Iterator, Mapping, Sequence
 
 from .faults import Fault, Place, Unreadable
-from .names import listed, quoted, tidy
+from .names import listed, normal, quoted, tidy
 
 ROWS = 100_000
 """A table of more rows is refused unread."""
@@ -20,11 +20,11 @@ _DELIMITERS = ",;\t"
 _SAID = re.compile(r"sep=(.)\s*", re.IGNORECASE)
 
 
-@dataclass(frozen=True)
 class Row:
-    file: str
-    line: int  # its first, from 1
-    cells: Mapping[str, str]
+    __slots__ = ("file", "line", "cells")
+
+    def __init__(self, file: str, line: int, cells: Mapping[str, str]):
+        self.file, self.line, self.cells = file, line, cells  # the line is its first, from 1
 
     def __getitem__(self, column: str) -> str:
         """The cell, tidy; empty where the table has no such column."""
@@ -38,12 +38,31 @@ class Row:
         return Fault(self.place, message)
 
 
-@dataclass(frozen=True)
 class Table:
-    file: str
-    line: int  # that of the header
-    header: tuple[str, ...]
-    rows: tuple[Row, ...]
+    """The columns of a table that were asked for, in which cells are tidy, and the line of each row."""
+
+    def __init__(
+        self,
+        file: str,
+        line: int,
+        header: Sequence[str],
+        lines: Sequence[int] = (),
+        cells: Mapping[str, Sequence[str]] = {},
+    ):
+        self.file, self.line, self.header = file, line, tuple(header)  # the line is that of the header
+        self.lines, self._cells = lines, cells
+
+    def column(self, name: str) -> Sequence[str]:
+        """The cells of a column; empty ones where the table has no such column."""
+        return self._cells[name] if name in self._cells else [""] * len(self.lines)
+
+    @cached_property
+    def rows(self) -> tuple[Row, ...]:
+        """The same by rows, which takes longer."""
+        names = tuple(self._cells)
+        return tuple(
+            Row(self.file, line, dict(zip(names, cells))) for line, *cells in zip(self.lines, *self._cells.values())
+        )
 
     def has(self, column: str) -> bool:
         return any(_same(name, column) for name in self.header)
@@ -74,21 +93,49 @@ def read(
         text = _text(data, file)
         if _lines(text) > ROWS and sum(1 for _ in islice(_rows(text, file), ROWS + 2)) == ROWS + 2:
             raise Unreadable(Place(file), f"it has over {ROWS:,} rows")
-        rows = _rows(text, file)
-        line, header = next(rows, (1, []))
-        table = Table(file, line, tuple(header), ())
-        places = columns(table, wanted, optional)
-        found: list[Row] = []
-        for line, cells in rows:
-            if any(cells[len(header) :]):
-                message = f"the row has {len(cells)} cells, and the header {len(header)}"
-                raise Unreadable(Place(file, line), message)
-            if any(cells):
-                found.append(Row(file, line, {name: cells[at] for name, at in places.items() if at < len(cells)}))
+        return _table(text, file, wanted, optional)
     except Unreadable as unreadable:
         faults.append(unreadable.fault)
         return None
-    return Table(file, table.line, table.header, tuple(found))
+
+
+def _table(text: str, file: str, wanted: Sequence[str], optional: Sequence[str]) -> Table:
+    lines, rows = _all_rows(text, file)
+    header = list(map(tidy, rows[0])) if rows else []
+    table = Table(file, lines[0] if rows else 1, header)
+    places = columns(table, wanted, optional)
+    lines, rows = lines[1:], rows[1:]
+    if set(map(len, rows)) - {len(header)}:
+        for line, cells in zip(lines, rows):
+            if any(map(str.strip, cells[len(header) :])):
+                message = f"the row has {len(cells)} cells, and the header {len(header)}"
+                raise Unreadable(Place(file, line), message)
+        rows = [cells[: len(header)] + [""] * (len(header) - len(cells)) for cells in rows]
+    # By columns, which is many times faster than by rows: a record has thousands.
+    all_cells = list(zip(*rows)) or [()] * len(header)
+    is_normal = normal(text)
+    found = {
+        name: list(map(str.strip, all_cells[at]) if is_normal else map(tidy, all_cells[at]))
+        for name, at in places.items()
+    }
+    if any("" in cells for cells in islice(found.values(), 1)):
+        kept = [any(map(str.strip, cells)) for cells in rows]
+        lines = list(compress(lines, kept))
+        found = {name: list(compress(cells, kept)) for name, cells in found.items()}
+    return Table(file, table.line, header, lines, found)
+
+
+def _all_rows(text: str, file: str) -> tuple[Sequence[int], list[list[str]]]:
+    """The rows and their lines, the header first; there may be empty ones behind it."""
+    if '"' not in text:  # then each line is a row
+        lines, passed, delimiter = _begun(text)
+        try:
+            rows = list(csv.reader(lines, delimiter=delimiter, strict=True)) if delimiter else []
+            return range(passed + 1, passed + 1 + len(rows)), rows
+        except csv.Error:
+            pass  # below it is told where
+    found = list(_rows(text, file))
+    return [line for line, _ in found], [cells for _, cells in found]
 
 
 def write(header: Sequence[str], rows: Iterable[Sequence[object]]) -> bytes:
@@ -138,22 +185,26 @@ def _lines(text: str) -> int:
     return text.count("\n") + text.count("\r")
 
 
-def _rows(text: str, file: str) -> Iterator[tuple[int, list[str]]]:
-    """Each row that isn't empty, with its first line. The header comes first."""
+def _begun(text: str) -> tuple[io.StringIO, int, str]:
+    """The text from its header on, how many lines stand before it, and what stands between cells."""
     lines = io.StringIO(text, newline="")
     passed = 0
-    delimiter = ""
-    while not delimiter:
+    while True:
         begin = lines.tell()
         line = lines.readline()
         if not line:
-            return
-        said = _SAID.fullmatch(line)
-        if line.strip() and not said:
+            return lines, passed, ""
+        if line.strip() and not _SAID.fullmatch(line):
             lines.seek(begin)
-            delimiter = _delimiter(line)
-        else:
-            passed += 1
+            return lines, passed, _delimiter(line)
+        passed += 1
+
+
+def _rows(text: str, file: str) -> Iterator[tuple[int, list[str]]]:
+    """Each row that isn't empty, with its first line. The header comes first."""
+    lines, passed, delimiter = _begun(text)
+    if not delimiter:
+        return
     reader = csv.reader(lines, delimiter=delimiter, strict=True)
     while True:
         first = passed + reader.line_num + 1

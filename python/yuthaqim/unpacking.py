@@ -8,7 +8,7 @@ from typing import Any, Callable, Sequence, TypeVar
 
 from . import calls, days, files, kinds, packed, results, tables
 from .cli import DONE, Said
-from .faults import Fault, Faults, Place, Unreadable
+from .faults import Fault, Faults, Place
 from .folder import CHARGE, CHARGE_MOST, ONE_WAY, not_of_a_file
 from .kinds import Kinds
 from .names import fault_of, plain, unseen
@@ -58,12 +58,7 @@ class _Packed:
         self.made["kinds.csv"] = kinds.write(self.kinds)
 
     def _read(self, name: str) -> bytes | None:
-        try:
-            return files.read(os.path.join(self.folder, packed.FOLDER, name), 1 << 20)
-        except FileNotFoundError:
-            return None
-        except Unreadable as unreadable:
-            raise Faults([unreadable.fault]) from None
+        return packed.read_packed(self.folder, name)
 
     def _unpacked(self, name: str, read: Callable[..., Made], *of: Any) -> Made:
         """What the library reads in a file; where it refuses, the file is named, and the number."""
@@ -169,5 +164,5 @@ class _Packed:
             called = self._entry("book", data).get("items", ())
             book = self._unpacked("book", Book.unpack, data, catalogue, called)
             for extract, sheet in zip(catalogue.extracts, book.sheets):
-                self.made[f"lists/{extract.name}.csv"] = results.encode(sheet.rows())
+                self.made[f"lists/{extract.name}.csv"] = results.encode(sheet.cells())
             self.whole.append("lists")

@@ -1,32 +1,90 @@
-"""Tables that are sheets of a workbook, XLSX."""
+"""Tables that are sheets of a workbook, XLSX, and results as one."""
 
 from __future__ import annotations
 
 import io
+import re
 import warnings
 import zipfile
 from contextlib import contextmanager
 from datetime import datetime
-from typing import Any, Iterator, NamedTuple, Sequence
+from itertools import chain
+from typing import Any, Iterable, Iterator, NamedTuple, Sequence
 
-from .faults import SHEET, Fault, Place, Unreadable
+from .faults import SHEET, Fault, Faults, Place, Unreadable
 from .files import Missing, read
-from .names import plain, tidy
-from .tables import ROWS, Row, Table, columns
+from .names import plain, quoted, tidy
+from .tables import ROWS, Table, columns
 
 BYTES, UNPACKED, CELLS = 32 << 20, 128 << 20, 4_096
 """A workbook of more bytes, or that unpacks to more, or a row with more cells, is refused."""
+
+_WRITTEN_ROWS, _CHARACTERS = 1_048_576, 32_767  # what spreadsheets take: rows in a sheet, and characters in a cell
+
+# XLSX writes what XML can't hold by the number of the character, and so too the _ before what would look like that. The
+# latter openpyxl reads itself where strings are shared, so that of what looks so the rest is taken as it stands.
+_LOOKS_SO = re.compile("_(?=x[0-9A-Fa-f]{4}_)")
+_NUMBERED = re.compile("_x(005F(?=_x[0-9A-F]{4}_)|00[01][0-9A-F]|FFF[EF])_", re.IGNORECASE)
+_NOT_OF_XML = re.compile("[\x00-\x08\x0b-\x1f\ufffe\uffff]")
+
+
+def _openpyxl(to: str) -> Any:
+    try:
+        import openpyxl  # type: ignore[import]
+    except ImportError:
+        raise Missing(to, "openpyxl", "python3-openpyxl") from None
+    return openpyxl
+
+
+def write(path: str, header: Sequence[str], rows: Iterable[Sequence[object]]) -> bytes:
+    """The bytes of a workbook of one sheet, all of text: a name that looks like a formula or a number stays a name."""
+    openpyxl = _openpyxl(f"to write {plain(path, cut=False)}")
+    book = openpyxl.Workbook(write_only=True)
+    sheet = book.create_sheet("rows")
+    first = openpyxl.cell.WriteOnlyCell(sheet)
+    first.number_format = "@"  # what is typed there later stays text too
+
+    def cell(value: object) -> Any:
+        text = str(value)
+        if len(text) > _CHARACTERS:
+            message = f"{quoted(text)} is too long for a cell, at most {_CHARACTERS:,} characters; write .csv"
+            raise Faults([Fault(Place(path), message)])
+        made = openpyxl.cell.WriteOnlyCell(sheet)
+        # Were it handed over as a value, openpyxl would make a formula of = and an error of #N/A.
+        made._value, made.data_type, made._style = _escaped(text), "s", first._style
+        return made
+
+    try:
+        for number, row in enumerate(chain([header], rows), 1):
+            if number > _WRITTEN_ROWS:
+                raise Faults([Fault(Place(path), f"a sheet has at most {_WRITTEN_ROWS:,} rows; write .csv")])
+            sheet.append(list(map(cell, row)))
+    except BaseException:
+        sheet.close()
+        raise
+    out = io.BytesIO()
+    book.save(out)
+    return out.getvalue()
+
+
+def _escaped(text: str) -> str:
+    return _NOT_OF_XML.sub(lambda found: f"_x{ord(found[0]):04X}_", _LOOKS_SO.sub("_x005F_", text))
+
+
+def _unescaped(text: str) -> str:
+    """A cell's text as spreadsheets show it.
+
+    >>> _unescaped("S_x005F_x0041_"), _unescaped(_escaped("_x005F_\\r"))
+    ('S_x0041_', '_x005F_\\r')
+    """
+    return _NUMBERED.sub(lambda found: chr(int(found[1], 16)), text) if "_x" in text else text
 
 
 class Workbook:
     """A workbook in a file. What openpyxl can't read, whatever it says of it, is Unreadable."""
 
     def __init__(self, path: str):
-        try:
-            import openpyxl  # type: ignore[import]
-        except ImportError:
-            raise Missing(f"to read {plain(path, cut=False)}", "openpyxl", "python3-openpyxl") from None
-
+        openpyxl = _openpyxl(f"to read {plain(path, cut=False)}")
         self.path = path
         data = read(path, BYTES)
         try:
@@ -69,14 +127,17 @@ class Workbook:
         file = f"{self.path}{SHEET}{sheet}"
         rows = self._rows(sheet, file)
         line, header = next(rows, (1, []))
-        table = Table(file, line, tuple(cell.text(False, faults) for cell in header), ())
+        table = Table(file, line, [cell.text(False, faults) for cell in header])
         places = columns(table, wanted, optional)
-        found = []
+        lines: list[int] = []
+        found: dict[str, list[str]] = {name: [] for name in places}
         for line, cells in rows:
             said = {name: cells[at].text(name in dates, faults) for name, at in places.items() if at < len(cells)}
             if any(said.values()):
-                found.append(Row(file, line, said))
-        return Table(file, table.line, table.header, tuple(found))
+                lines.append(line)
+                for name in places:
+                    found[name].append(said.get(name, ""))
+        return Table(file, table.line, table.header, lines, found)
 
     def _rows(self, sheet: str, file: str) -> Iterator[tuple[int, list[_Cell]]]:
         """Each row that isn't empty. The header comes first."""
@@ -119,7 +180,7 @@ class _Cell(NamedTuple):
             message = "no value is stored for this formula; open the workbook, save it, or make the cell text"
             message = message if self.formula else ""
         elif isinstance(value, str) and cell.data_type != "e":
-            return tidy(value)
+            return tidy(_unescaped(value))
         elif isinstance(value, datetime):
             if date and value == datetime(value.year, value.month, value.day):
                 return value.date().isoformat()
