@@ -12,7 +12,7 @@ use Rattle.packed.specs.Bits.{bits_of}
 use Rattle.packed.specs.Format.{Format, then, whole}
 use Rattle.packed.specs.Formats.{pairs, lists, standing, sheet, book}
 use Rattle.packed.specs.Plain.{Laid, Whole, InTurn, field_bits, PlainPairs, PlainList, PlainSheet}
-use Rattle.packed.proofs.AcceptedLaws.{Accepts, accepts_same, Nothing, accepts_done, Asked, accepts_ask, Tested, accepts_test, Then, accepts_then}
+use Rattle.packed.proofs.AcceptedLaws.{Accepts, accepts_same, accepts_done, Asked, accepts_ask, Tested, accepts_test, Then, accepts_then}
 use Rattle.packed.proofs.AcceptedPairs.{accepts_pairs}
 use Rattle.packed.proofs.AcceptedTurns.{no_turns, more_turns, row, accepts_row}
 

@@ -1,14 +1,13 @@
 -- The questions of one call are accepted exactly if they are so many accepted questions, one file after the other.
 use Prim.Native.Nat.{ℕ, zero, suc, ◌*◌, ◌/◌, ◌<◌, ◌≤◌}
 use mathlib.Core.Path.{◌≡◌, refl, ap, ap₂, sym, ◌∙◌, subst}
-use mathlib.Core.List.{List, [], ◌∷◌, ◌++◌, map, flatten, append-nil}
+use mathlib.Core.List.{List, [], ◌∷◌, ◌++◌, map, flatten}
 use mathlib.Core.Bool.{Bool}
 use mathlib.Core.Logic.{◌↔◌}
 use lib.ListN.{length, take, drop, get_or, length-append, length-map, take-append-drop, get_or-map}
 use lib.Seq.{take_at, drop_at}
 use native.Mathlib.Omega.{arith}
 use Rattle.packed.specs.Bits.{bits}
-use Rattle.packed.specs.Format.{whole}
 use Rattle.packed.specs.Formats.{pattern}
 use Rattle.packed.specs.Contents.{patterns_in}
 use Rattle.packed.specs.Plain.{Whole, PlainPattern}

@@ -13,8 +13,6 @@ use Rattle.packed.specs.Format.{Format, done, ask, test, pad, then, Got, got, fa
 use Rattle.packed.specs.Refusals.{number_of, detail_of}
 use Rattle.packed.specs.Reading.{from, Reading, Refuses, Value}
 use Rattle.packed.specs.declared.reply.Refusal.{Refusal}
-use Rattle.packed.specs.declared.reply.Part.{Part}
-use Rattle.packed.specs.declared.reply.Part.TheVariants as part_is
 use Rattle.packed.proofs.BitsLaws.{length-bits}
 use Rattle.packed.proofs.Sets.{sets_append}
 use Rattle.packed.proofs.RoundTrip.{and_no, scan_done, scan_ask, scan_short, scan_wrong, scan_test, scan_pad, scan_tail, scan_then, push_push, push_nil, pick_yes, pick_no, onward}

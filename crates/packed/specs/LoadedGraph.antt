@@ -1,5 +1,5 @@
 -- inner: a record's edges in the workspace, as they are judged.
-use Rattle.std.specs.Prelude.{ℕ, ◌+◌, ◌-◌, ◌*◌, ◌/◌, ◌%◌, ◌^◌, ◌<◌, ◌≤◌, ◌≡◌, List, [], length, take, drop, get_or}
+use Rattle.std.specs.Prelude.{ℕ, ◌+◌, ◌-◌, ◌*◌, ◌<◌, ◌≤◌, ◌≡◌, List, [], length, take, drop, get_or}
 use Rattle.packed.specs.Bits.{field}
 use Rattle.packed.specs.Format.{Format, done, ask, ok, decode}
 use Rattle.packed.specs.Formats.{kind, rising, record'}

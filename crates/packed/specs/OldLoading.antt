@@ -1,5 +1,5 @@
 -- inner: the edges of an old record, which are read first and judged for repeats afterwards, all at once, from their ranks in the workspace.
-use Rattle.std.specs.Prelude.{ℕ, ◌+◌, ◌*◌, ◌<◌, ◌≤◌, ◌≡◌, List, [], ◌∷◌, Bool, true, false, length, take, drop, get_or}
+use Rattle.std.specs.Prelude.{ℕ, ◌+◌, ◌*◌, ◌<◌, ◌≤◌, ◌≡◌, List, Bool, true, false, length, take, drop, get_or}
 use Rattle.std.proofs.lemmas.List.Edits.{sets}
 use Rattle.packed.specs.Bits.{field}
 use Rattle.packed.specs.Format.{Format, Result, ok}

@@ -15,14 +15,14 @@ use crate::reply::{Part, Refusal, Reply};
 use crate::{by_value, catalogue, limits, old_record, pattern, record, sheet};
 
 // A pattern's verdict, how many fields it has or why it is refused; and the pattern by value, the empty one where it is refused.
-#[derive(Drop)]
+#[derive(Clone, Copy)]
 pub struct PatternFile {
     pub verdict: Reply,
     pub pattern: Pattern,
 }
 
 // A catalogue's verdict, and how many views it has and how many edges each: none where it is refused.
-#[derive(Drop)]
+#[derive(Clone, Copy)]
 pub struct CatalogueFile {
     pub verdict: Reply,
     pub views: usize,

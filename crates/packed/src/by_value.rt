@@ -8,7 +8,7 @@ use crate::{bits, limits};
 
 // A pattern: the label of each node, and the ends and the kind of each edge. What lies beyond its nodes and edges is zero.
 #[repr(C)]
-#[derive(Drop)]
+#[derive(Clone, Copy)]
 pub struct Pattern {
     pub labels: [u32; 16],
     pub from: [u32; 32],

@@ -10,7 +10,7 @@ ghost use Rattle.packed.specs.Walks.{field_or, lists_count, pair_place, Spans};
 use crate::{bits, limits};
 
 // A list: the bit offset of its first pair, how many pairs it has, and the bit offset of the list after it.
-#[derive(Drop)]
+#[derive(Clone, Copy)]
 pub struct Extent {
     pub first: usize,
     pub count: usize,

@@ -10,7 +10,7 @@ ghost use Rattle.packed.specs.Entering.{word_ranks, Placed, PutAt, EntersAt, Ent
 use crate::{limits, record};
 
 // Where an edge enters: behind so many others; or it is there already.
-#[derive(Drop)]
+#[derive(Clone, Copy)]
 pub enum Place {
     Behind(usize),
     Taken,

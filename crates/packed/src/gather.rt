@@ -7,14 +7,14 @@ ghost use Rattle.packed.specs.Walks.{codes_at, pairs_at, list_bits, lists_end, s
 use crate::{cursor, distinct, limits};
 
 // How many different pairs stand at the front of the workspace, and how many more wait as a chunk.
-#[derive(Drop)]
+#[derive(Clone, Copy)]
 struct Gather {
     held: usize,
     fill: usize,
 }
 
 // A place in the bits or the fields of a book, with what was gathered up to it.
-#[derive(Drop)]
+#[derive(Clone, Copy)]
 struct Walk {
     at: usize,
     gather: Gather,

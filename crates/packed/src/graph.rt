@@ -6,7 +6,7 @@ use crate::reply::{Refusal, Reply};
 use crate::{accept, bits, limits};
 
 // A record whose edges stand in the workspace: how many nodes and edges it has, or why it is refused.
-#[derive(Drop)]
+#[derive(Clone, Copy)]
 pub enum Graph {
     Of(usize, usize),
     Refused(Refusal),

@@ -2,6 +2,8 @@
 //
 // Each call is lent an output and a workspace of at least 16,384 words. It answers how much of the output it wrote, or a refusal that
 // leaves the output untouched. The first 16,384 words of the workspace are zero afterwards, unless there were fewer.
+#![tactic(auto)]
+
 pub mod accept;
 mod bits;
 pub mod by_value;

@@ -3,7 +3,7 @@ ghost use Rattle.std.specs.Prelude.{◌≡◌};
 ghost use Rattle.packed.specs.Refusals.{number_of, detail_of};
 
 // Why a call refuses. The word and the number of each are those of the requirements; specs/Refusals.antt has the numbers and details.
-#[derive(Drop)]
+#[derive(Clone, Copy)]
 pub enum Refusal {
     // 1, long: a file is over its most bytes
     TooLong(u32),
@@ -50,49 +50,49 @@ pub enum Refusal {
 }
 
 // What a call with one output answers: how much of it was written, or the refusal.
-#[derive(Drop)]
+#[derive(Clone, Copy)]
 pub enum Reply {
     Done(usize),
     Refused(Refusal),
 }
 
 // What a call with two outputs answers: how much of each was written, or the refusal.
-#[derive(Drop)]
+#[derive(Clone, Copy)]
 pub enum Both {
     Done(usize, usize),
     Refused(Refusal),
 }
 
 // One field of a file.
-#[derive(Drop)]
+#[derive(Clone, Copy)]
 pub(crate) enum Field {
     Value(u32),
     Refused(Refusal),
 }
 
 // A part of a file: where it ends and which field comes next, or the refusal.
-#[derive(Drop)]
+#[derive(Clone, Copy)]
 pub enum Part {
     Upto(usize, usize),
     Refused(Refusal),
 }
 
 // Two fields of one kind, one after the other.
-#[derive(Drop)]
+#[derive(Clone, Copy)]
 pub(crate) enum Two {
     Values(u32, u32),
     Refused(Refusal),
 }
 
 // An edge: two ends and a kind.
-#[derive(Drop)]
+#[derive(Clone, Copy)]
 pub(crate) enum Three {
     Values(u32, u32, u32),
     Refused(Refusal),
 }
 
 // A part of an old record that was read up to its edges, and how many edges were loaded.
-#[derive(Drop)]
+#[derive(Clone, Copy)]
 pub(crate) struct Loaded {
     pub part: Part,
     pub edges: usize,

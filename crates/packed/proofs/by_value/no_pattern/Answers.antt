@@ -1,0 +1,15 @@
+-- `packed::by_value::no_pattern` meets its contract.
+use mathlib.Core.Path.{refl}
+use Rattle.packed.proofs.ByValueLaws.{spread_start}
+use Rattle.packed.proofs.by_value.no_pattern.Goals as goal
+
+pub returns : goal.returns
+returns c =
+    record {
+      nodes = refl;
+      edges = refl;
+      labels = spread_start _ _ _ _ _ c.no_labels.ensures;
+      from = spread_start _ _ _ _ _ c.no_ends.ensures;
+      to = spread_start _ _ _ _ _ c.no_ends-2.ensures;
+      kind = spread_start _ _ _ _ _ c.no_ends-3.ensures;
+    }

@@ -1,0 +1,40 @@
+-- `packed::calls::write_sheet_of` meets its contract.
+use mathlib.Core.Path.{refl}
+use lib.ListN.{length}
+use Rattle.packed.specs.Format.{encode}
+use Rattle.packed.specs.Formats.{sheet}
+use Rattle.packed.specs.Calls.{fit_file}
+use Rattle.packed.proofs.CallLaws.{write_finds, accepted_by, refused_by, fit_file_fits, body_refused, body_goes_on, fitted_tight, fitted_given, none_lent, judges_fields_front}
+use Rattle.packed.proofs.calls.write_sheet_of.Goals as goal
+
+pub returns-then-out-n : goal.returns-then-out-n
+returns-then-out-n c =
+    let args = c.args in
+    let judge-sheet-fields = c.judge_sheet_fields-p in
+    let j = c.judge_sheet_fields-p in
+    let a = c.args in
+    let q = rw c.in-Upto.is at j.ensures in
+    body_goes_on (fit_file (length a.out.now)) (accepted_by (write_finds 4 (sheet a.m) a.fields.now) q.is)
+    (fitted_tight fit_file_fits a.out.now q.fields (none_lent a.out.now j.new.out j.auto.out) refl q.number c.if-out-n.true)
+
+pub returns-else-out-n : goal.returns-else-out-n
+returns-else-out-n c =
+    let args = c.args in
+    let judge-sheet-fields = c.judge_sheet_fields-p in
+    let if1 = c.if-out-n in
+    let judge-sheet-fields2 = c.judge_sheet_fields in
+    let j = c.judge_sheet_fields-p in
+    let a = c.args in
+    let q = rw c.in-Upto.is at j.ensures in
+    body_goes_on (fit_file (length a.out.now)) (accepted_by (write_finds 4 (sheet a.m) a.fields.now) q.is)
+    (fitted_given fit_file_fits a.out.now q.fields (none_lent a.out.now j.new.out j.auto.out) refl q.number if1.false
+    (judges_fields_front (encode (sheet a.m) a.fields.now) 4 judge-sheet-fields2.result q.fields _ _ judge-sheet-fields2.ensures q.is))
+
+pub returns-in-Refused : goal.returns-in-Refused
+returns-in-Refused c =
+    let args = c.args in
+    let judge-sheet-fields = c.judge_sheet_fields-p in
+    let j = c.judge_sheet_fields-p in
+    let a = c.args in
+    let q = rw c.in-Refused.is at j.ensures in
+    body_refused (fit_file (length a.out.now)) a.out.now (none_lent a.out.now j.new.out j.auto.out) c.in-Refused.x (refused_by (write_finds 4 (sheet a.m) a.fields.now) c.in-Refused.x q)

@@ -1,0 +1,20 @@
+-- `packed::catalogue::judge_catalogue` meets its contract.
+use mathlib.Core.Path.{refl}
+use native.Mathlib.Omega.{arith}
+use Rattle.packed.proofs.Files.{judged_ok, judged_tail, judged_bad}
+use Rattle.packed.proofs.catalogue.judge_catalogue.Goals as goal
+
+pub returns-in_default : goal.returns-in_default
+returns-in_default c =
+    let read-views = c.read_views-p in
+    rw c.in_default.is (judged_bad (rw c.in_default.is at read-views.ensures))
+
+pub returns-then-byte-s : goal.returns-then-byte-s
+returns-then-byte-s c =
+    let q = rw c.in-Upto.is at c.read_views-p.ensures in
+    (judged_tail c.in-Upto.byte q.0 (omega arith), refl)
+
+pub returns : goal.returns
+returns c =
+    let q = rw c.in-Upto.is at c.read_views-p.ensures in
+    (judged_ok c.in-Upto.byte q.0 (omega arith), q.1)

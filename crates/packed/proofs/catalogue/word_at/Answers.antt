@@ -1,0 +1,8 @@
+-- `packed::catalogue::word_at` meets its contract.
+use mathlib.Core.Path.{sym}
+use lib.ListN.{get_or-eq_default}
+use native.Mathlib.Omega.{arith}
+use Rattle.packed.proofs.catalogue.word_at.Goals as goal
+
+pub returns-else-i-words : goal.returns-else-i-words
+returns-else-i-words c = sym (get_or-eq_default c.args.words.now 0 (omega arith))
