@@ -2,6 +2,8 @@
 // each pair of a pattern's node and a record's, until nothing changes.
 //
 // Any words will do. Of a pattern at most 16 nodes and 32 edges count, of a record at most 4,096 and 8,192; a word that isn't there is 0.
+#![tactic(auto)]
+
 mod edges;
 mod graph;
 mod listing;
