@@ -99,7 +99,7 @@ module _ {A : Type 0} where
   first_in [] h = absurd (not-suc-le-zero h)
   first_in (x ∷ l) h = (x, here refl)
 
-  pub every_in : (p : A → Bool) {l : List A} {x : A} → T (every p l) → In x l → T (p x)
+  pub every_in : (p : A → Bool) {x : A} {l : List A} → T (every p l) → In x l → T (p x)
   unfolding every
   every_in p h (here {x = y} e) = subst (λ z. T (p z)) (sym e) (and_left _ _ h)
   every_in p h (there {x = y} i) = every_in p (and_right (p y) _ h) i
@@ -128,7 +128,7 @@ module _ {A : Type 0} where
   some_in p [] h = absurd h
   some_in p (y ∷ l) h = any_step p y l (p y) (λ t. t) (some_in p l) h
 
-  pub in_some : (p : A → Bool) {l : List A} {x : A} → In x l → T (p x) → T (some p l)
+  pub in_some : (p : A → Bool) {x : A} {l : List A} → In x l → T (p x) → T (some p l)
   unfolding some
   in_some p (here e) h = or_left _ _ (subst (λ z. T (p z)) e h)
   in_some p (there {x = y} i) h = or_right (p y) _ (in_some p i h)
@@ -158,7 +158,7 @@ module _ {A : Type 0} where
       step rest (inl e) = (here e.0, subst (λ z. T (p z)) (sym e.0) e.1)
       step rest (inr j) = (there (rest j).0, (rest j).1)
 
-  pub in_keep : (p : A → Bool) {l : List A} {x : A} → In x l → T (p x) → In x (keep p l)
+  pub in_keep : (p : A → Bool) {x : A} {l : List A} → In x l → T (p x) → In x (keep p l)
   unfolding keep
   in_keep p (here {x = y} {l = l} e) h = in_cast (sym e) (in_put (p y) y (keep p l) (subst (λ z. T (p z)) e h))
   in_keep p {x = x} (there {x = y} {l = l} i) h = in_put_rest (p y) y (keep p l) x (in_keep p i h)
@@ -227,7 +227,7 @@ module _ {A : Type 0} where
       step rest (inl e) = inl (here e)
       step rest (inr j) = lift (rest j)
 
-  pub in_append_left : {l : List A} (m : List A) {x : A} → In x l → In x (l ++ m)
+  pub in_append_left : {x : A} {l : List A} (m : List A) → In x l → In x (l ++ m)
   in_append_left m (here e) = here e
   in_append_left m (there i) = there (in_append_left m i)
 
@@ -245,7 +245,7 @@ module _ {A B : Type 0} where
       step rest (inl j) = (x, here refl, j)
       step rest (inr j) = let r = rest j in (r.0, there r.1, r.2)
 
-  pub in_gather : (f : A → List B) {l : List A} {y : B} {x : A} → In x l → In y (f x) → In y (gather f l)
+  pub in_gather : (f : A → List B) {x : A} {l : List A} {y : B} → In x l → In y (f x) → In y (gather f l)
   unfolding gather
   in_gather f {y = y} (here {l = l} e) j = in_append_left (gather f l) (subst (λ w. In y (f w)) e j)
   in_gather f (there {x = z} i) j = in_append_right (f z) (in_gather f i j)
@@ -259,7 +259,7 @@ module _ {A B : Type 0} where
       step rest (inl e) = (x, here refl, e)
       step rest (inr j) = let r = rest j in (r.0, there r.1, r.2)
 
-  pub in_each : (f : A → B) {l : List A} {x : A} → In x l → In (f x) (each f l)
+  pub in_each : (f : A → B) {x : A} {l : List A} → In x l → In (f x) (each f l)
   unfolding each
   in_each f (here e) = here (ap f e)
   in_each f (there i) = there (in_each f i)
@@ -270,7 +270,7 @@ module _ {A B : Type 0} where
   each_same f g (x ∷ l) h = λ i. h x (here refl) i ∷ each_same f g l (λ y j. h y (there j)) i
 
   -- and the other way
-  pub each_agree : (f g : A → B) {l : List A} → each f l ≡ each g l → {x : A} → In x l → f x ≡ g x
+  pub each_agree : (f g : A → B) {x : A} {l : List A} → each f l ≡ each g l → In x l → f x ≡ g x
   unfolding each
   each_agree f g q (here {x = y} e) = ap f e ∙ ap (λ m. get_or m 0 (f y)) q ∙ sym (ap g e)
   each_agree f g q (there i) = each_agree f g (ap (drop 1) q) i

@@ -49,6 +49,7 @@ in_pairs n m u v hu hv = in_gather _ (in_below n u hu) (in_each _ (in_below m v 
 -- rules
 pub asks_say : (r : Rule) → T (asks_arrivals r) → r ≡ both_ways
 unfolding asks_arrivals
+asks_say one_way t = elim t [ ]
 asks_say both_ways t = refl
 
 pub asks_by : {r : Rule} → r ≡ both_ways → T (asks_arrivals r)

@@ -94,7 +94,7 @@ pattern_in p = record { labels = take p.nodes p.labels; edges = up_to (given_edg
 unfoldable pub as_graph : Pattern → Graph
 as_graph Q = record { labels = each (λ k. 2 ^ k) Q.labels; edges = Q.edges }
 
--- the nodes x .0 of P and x.1 of G are there, and the second has the label of the first
+-- the nodes x.0 of P and x.1 of G are there, and the second has the label of the first
 unfoldable pub fits : Pattern → Graph → Pair → Bool
 fits P G x =
     ltb x.0 (length P.labels) and (ltb x.1 (length G.labels) and bit (get_or G.labels x.1 0) (get_or P.labels x.0 0))
@@ -119,7 +119,7 @@ pub record MatchingBy (R : ℕ → ℕ → Type 0) (P : Pattern) (G : Graph) (e 
   pub tail : R e.from f.0
   pub head : R e.to f.1
 
--- the tests of a simulation: each edge of P that leaves x .0 is followed by one of G of its kind that leaves x .1, to a partner in l
+-- the tests of a simulation: each edge of P that leaves x.0 is followed by one of G of its kind that leaves x.1, to a partner in l
 unfoldable pub follows_out : Pattern → Graph → List Pair → Pair → Bool
 follows_out P G l x =
     every

@@ -10,7 +10,7 @@ use crate::link_tables;
 use packed::by_value::Pattern;
 
 // The label of each node, the ends and the kind of each edge, and the edges that are asked as they arrive. What lies beyond the nodes and edges is zero.
-#[derive(Drop)]
+#[derive(Clone, Copy)]
 pub struct Batch {
     pub nodes: usize,
     pub edges: usize,

@@ -99,7 +99,7 @@ pub fn lowest(x: u32) -> usize
 }
 
 // The links that may leave a node, and those that may arrive at it.
-#[derive(Drop)]
+#[derive(Clone, Copy)]
 pub struct Links {
     pub leave: u32,
     pub arrive: u32,

@@ -8,7 +8,7 @@ use packed::reply::Part;
 use packed::{by_value, pattern};
 
 // A pattern, and the byte after it.
-#[derive(Drop)]
+#[derive(Clone, Copy)]
 pub struct View {
     pub pattern: Pattern,
     pub next: usize,
