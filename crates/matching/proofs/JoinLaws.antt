@@ -227,7 +227,7 @@ module _ (e : Edge) (a b : Edge → List ℕ) where
           (λ t j. (g, here refl, t, j))
           (λ t j. absurd (not_in_none j))
 
-  pub in_under : {l : List Edge} {c : ℕ} {g : Edge} → In g l → T (is_match e g (a g)) → In c (b g) → In c (under e l (each a l) (each b l))
+  pub in_under : {g : Edge} {l : List Edge} {c : ℕ} → In g l → T (is_match e g (a g)) → In c (b g) → In c (under e l (each a l) (each b l))
   unfolding under each
   in_under {c = c} (here {x = h} {l = l} q) t j =
       in_append_left _ (cond_case (λ k. In c k) (is_match e h (a h)) (b h) [] (λ s. subst (λ z. In c (b z)) q j) (λ s. absurd (s (subst (λ z. T (is_match e z (a z))) q t))))

@@ -63,7 +63,7 @@ pub data StepsTo (Q : Pattern) : ℕ → Nodes → Type 0 where
   step : {k : ℕ} {S S' : Nodes} → StepsTo Q k S → OneStep Q S S' → StepsTo Q (suc k) S'
 
 -- ---- what the program holds between steps. Words of the workspace: from word 0 on the codes of d pairs, and from word 8192 on for each of them a mask of the
--- query's edges. The query is given by value; its edges have the numbers below q .edges.
+-- query's edges. The query is given by value; its edges have the numbers below q.edges.
 -- the pair number i
 abbrev pub pair_at : List ℕ → ℕ → Pair
 pair_at w i = pair_of (get_or w i 0)

@@ -54,7 +54,7 @@ candidates Q vs e = each pair_of (gather (λ v. under e v.pattern.edges (view_sh
 abbrev pub Kept : Type 0
 Kept = Edge × Pair
 
--- each edge of Q that leaves an end of the edge k .0 keeps some pair that begins at the same end of the pair k .1
+-- each edge of Q that leaves an end of the edge k.0 keeps some pair that begins at the same end of the pair k.1
 unfoldable pub supported_out : Pattern → List Kept → Kept → Bool
 supported_out Q l k =
     every
@@ -63,7 +63,7 @@ supported_out Q l k =
     and (eqb g.from k.0.to implies some (λ j. same_edge j.0 g and eqb j.1.0 k.1.1) l))
     Q.edges
 
--- each edge of Q that arrives at an end of the edge k .0 keeps some pair that ends at the same end of the pair k .1
+-- each edge of Q that arrives at an end of the edge k.0 keeps some pair that ends at the same end of the pair k.1
 unfoldable pub supported_in : Pattern → List Kept → Kept → Bool
 supported_in Q l k =
     every

@@ -14,7 +14,7 @@ use packed::reply::{Refusal, Reply};
 use packed::{enter, graph, limits, matches};
 
 // The views whose lists the link would change, as a set, and the slip; or why there is no answer.
-#[derive(Drop)]
+#[derive(Clone, Copy)]
 pub enum Asked {
     Done(u16, Slip),
     Refused(Refusal),

@@ -8,7 +8,7 @@ use engine::batch::Batch;
 use engine::{batch, views};
 
 // A batch of views, the view after them, and the byte on which that begins.
-#[derive(Drop)]
+#[derive(Clone, Copy)]
 pub struct Filled {
     pub batch: Batch,
     pub next: usize,

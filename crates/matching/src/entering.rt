@@ -19,7 +19,7 @@ use packed::{enter, graph, limits, workspace};
 const CHANGE_MOST: u32 = 4_294_967_295;
 
 // An answer, and the two numbers of the state after it.
-#[derive(Drop)]
+#[derive(Clone, Copy)]
 pub struct Answered {
     pub answer: Both,
     pub links: u32,

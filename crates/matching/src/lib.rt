@@ -1,4 +1,6 @@
 // Matching by simulation: searching a record for a pattern, with an index of the record or without, and making the book of a catalogue from a record.
+#![tactic(auto)]
+
 pub mod asking;
 pub mod batches;
 mod calls;

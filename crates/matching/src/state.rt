@@ -2,7 +2,7 @@
 
 // The small running state: how many links the record has, and the number of its last change.
 #[repr(C)]
-#[derive(Drop)]
+#[derive(Clone, Copy)]
 pub struct State {
     pub links: u32,
     pub change: u32,
@@ -10,7 +10,7 @@ pub struct State {
 
 // A link that is to enter.
 #[repr(C)]
-#[derive(Drop)]
+#[derive(Clone, Copy)]
 pub struct Link {
     pub from: u32,
     pub to: u32,
@@ -19,7 +19,7 @@ pub struct Link {
 
 // The link that was asked about, and the change number of the state it was asked by.
 #[repr(C)]
-#[derive(Drop)]
+#[derive(Clone, Copy)]
 pub struct Slip {
     pub from: u32,
     pub to: u32,

@@ -17,7 +17,7 @@ use packed::reply::Reply;
 use packed::{accept, limits};
 
 // What is settled: the nodes, the links that aren't, and those of them for which a pair may be held that its ends don't allow.
-#[derive(Drop)]
+#[derive(Clone, Copy)]
 pub struct Place {
     pub settled: u32,
     pub free: u32,
