@@ -9,7 +9,6 @@ use lib.Seq.{take_at, drop_at, drop-drop, get_or-take, get_or-drop, get_or-appen
 use lib.Pow.{pow-lt}
 use lib.Dec.{T}
 use native.Mathlib.Omega.{arith}
-use Rattle.packed.specs.Format.{whole}
 use Rattle.packed.specs.Contents.{nodes_of, sorted_edges}
 use Rattle.packed.specs.Plain.{Below, from_at, to_at, kind_at, Same, PlainEdges, PlainPattern}
 use Rattle.packed.proofs.OrderCases.{lt_or_ge, trichotomy}

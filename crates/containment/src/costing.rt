@@ -16,7 +16,7 @@ use matching::sets;
 use packed::reply::{Refusal, Reply};
 
 // The cheapest set, the sum of its charges, and the set that a quote chooses; or why there is none.
-#[derive(Drop)]
+#[derive(Clone, Copy)]
 pub enum Cheapest {
     Of(u16, u64, u16),
     Refused(Refusal),
@@ -24,7 +24,7 @@ pub enum Cheapest {
 
 // A set of views: the sum of their charges, how many they are, the set with its bits turned round (of two sets the one that has the lowest view
 // in which they differ has the greater), and the edges that they match.
-#[derive(Drop)]
+#[derive(Clone, Copy)]
 pub struct Tried {
     pub set: u32,
     pub sum: u64,

@@ -11,7 +11,7 @@ use crate::{choose, judging, terms};
 use packed::reply::{Refusal, Reply};
 
 // The day, none, or why there is no answer.
-#[derive(Drop)]
+#[derive(Clone, Copy)]
 pub enum FirstDay {
     On(u16),
     Never,

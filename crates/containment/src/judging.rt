@@ -16,7 +16,7 @@ use packed::{accept, by_value};
 
 // The query, how many views there are and how many edges each has, which of them may be used, and the table of the quote; or why there is no
 // quote, and then all beside the verdict is empty.
-#[derive(Drop)]
+#[derive(Clone, Copy)]
 pub struct Judged {
     pub verdict: Reply,
     pub query: Pattern,

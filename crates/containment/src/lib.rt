@@ -1,4 +1,6 @@
 // Containment of a query in views: quotes and the cheapest views, without a day and for one.
+#![tactic(auto)]
+
 pub mod choose;
 pub mod costing;
 pub mod days;

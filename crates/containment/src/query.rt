@@ -9,7 +9,7 @@ use packed::reply::Part;
 use packed::{limits, record, sort};
 
 // The content of a record or of a pattern, at the front of a table.
-#[derive(Drop)]
+#[derive(Clone, Copy)]
 pub struct Fields {
     pub words: [u32; 114],
     pub number: usize,

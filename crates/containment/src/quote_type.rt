@@ -2,7 +2,7 @@
 use packed::reply::Refusal;
 
 // Whether the views already answer the query, or why there is no quote.
-#[derive(Drop)]
+#[derive(Clone, Copy)]
 pub enum Coverage {
     Covered,
     Uncovered,
@@ -11,7 +11,7 @@ pub enum Coverage {
 
 // A quote by value: for each edge of the query 16 masks, one for each view, of the view's edges that match it; the number of the query's
 // edges; the chosen views as a set of bits; and the lowest edge that none matches. What has no meaning is zero.
-#[derive(Drop)]
+#[derive(Clone, Copy)]
 pub struct Quote {
     pub coverage: Coverage,
     pub mapping: [u32; 512],

@@ -7,7 +7,7 @@ use packed::reply::{Refusal, Reply};
 
 // The days of one view: the first on which it is in force, and the first after that on which it isn't.
 #[repr(C)]
-#[derive(Drop)]
+#[derive(Clone, Copy)]
 pub struct Term {
     pub from: u16,
     pub to: u16,
@@ -15,7 +15,7 @@ pub struct Term {
 
 // How many entries a list of terms has, and the days of the first sixteen; zero beyond them.
 #[repr(C)]
-#[derive(Drop)]
+#[derive(Clone, Copy)]
 pub struct Terms {
     pub number: usize,
     pub from: [u16; 16],
