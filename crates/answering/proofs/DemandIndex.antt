@@ -3,16 +3,16 @@ use Prim.Native.Nat.{ℕ, ◌≤◌}
 use mathlib.Core.Path.{◌≡◌, refl, sym, ap, ◌∙◌}
 use mathlib.Core.Logic.{inl, inr, ◌↔◌, ⊎_elim}
 use mathlib.Core.List.{List, [], ◌∷◌}
-use lib.ListN.{length, get_or}
+use lib.ListN.{length}
 use native.Mathlib.Omega.{arith}
-use Rattle.packed.specs.Calls.{Outcome, give, refuse, with_workspace, judged, read_pattern, fit, fit_file}
+use Rattle.packed.specs.Calls.{Outcome, give, refuse, with_workspace, read_pattern, fit, fit_file}
 use Rattle.packed.proofs.OrderCases.{eq_or_ne}
 use Rattle.engine.specs.Simulation.{pattern_of, graph_of, match_sets}
 use Rattle.engine.specs.Index.{alike, own_index}
 use Rattle.matching.specs.Search.{sheet_bytes, search_outcome}
 use Rattle.matching.specs.Index.{make_index_outcome, check_index_outcome, search_indexed_outcome}
 use Rattle.engine.proofs.OwnIndex.{alike_at, alike_all, alike_say, own_accepted, own_number, own_position, own_differs}
-use Rattle.answering.specs.Demands.{Question, Record, own_of, Way, without_index, with_own, search_by, sheet_of, Full, FirstDiffers, NotOwn}
+use Rattle.answering.specs.Demands.{Question, Record, own_of, Way, without_index, with_own, search_by, sheet_of, Full, NotOwn}
 use Rattle.answering.proofs.DemandRules.{number_same, detail_same, not_refused, judged_same, goes_on, enough_words, enough_for, full_words, full_judged, full_twice, file_number}
 use Rattle.answering.proofs.DemandSheets.{searched}
 

@@ -1,7 +1,7 @@
 -- The join goes by steps, from the ends inward, and after each the settled links hold the greatest choice for them alone; then what is left is pruned both ways.
 use Prim.Native.Nat.{ℕ, ◌<◌}
 use mathlib.Core.Path.{◌≡◌, refl, sym, ap, subst}
-use mathlib.Core.Logic.{◌⊎◌, ◌↔◌, inl, inr, ⊎_elim}
+use mathlib.Core.Logic.{◌↔◌, inl, inr, ⊎_elim}
 use mathlib.Core.List.{List}
 use lib.ListN.{length}
 use lib.Dec.{T}

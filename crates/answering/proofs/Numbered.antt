@@ -12,7 +12,6 @@ use Rattle.packed.specs.Bits.{bits_of, num, bits, zeros, gap}
 use Rattle.packed.specs.Format.{Format, done, ask, test, pad, then, times, whole, Got, got, fault, pick, push, within, scan, lay, Result, ok, bad, ended, in_bytes, decode, encode}
 use Rattle.packed.specs.OldRecord.{old_record}
 use Rattle.packed.specs.Formats.{code, rank, edges, label, joined, pattern, patterns, catalogue, labels, rising, record', pairs, lists, standing, sheet, book}
-use Rattle.packed.specs.declared.reply.Refusal.TheVariants.{WrongSet}
 use Rattle.packed.specs.Calls.{Outcome, give, refuse, with_workspace, rejected, in_file, read_file, write_file, judged, read_catalogue, pairs_of, within_pairs_by, fit, fit_file, fit_both}
 use Rattle.engine.specs.Index.{alike, own_index}
 use Rattle.answering.specs.Demands.{Settles}

@@ -6,7 +6,7 @@ use Prim.Native.Char.{code as code_of}
 use Prim.Native.String.{String, [] as []ˢ, ◌∷◌ as ◌∷ˢ◌}
 use mathlib.Core.Path.{◌≡◌, refl}
 use mathlib.Core.List.{List, [], ◌∷◌, ◌++◌, map, flatten}
-use lib.ListN.{length, take, replicate}
+use lib.ListN.{replicate}
 use lib.Dec.{eqb, ltb}
 use Rattle.packed.specs.Bits.{bits_of, num, num_from, bits, zeros, gap}
 use Rattle.packed.specs.Format.{pick, then, times, whole, within, scan, lay, bytes_of, decode, encode}

@@ -7,7 +7,7 @@
 -- join by steps, proofs/DemandSteps.antt; of the empty catalogue, proofs/EmptyCatalogues.antt; of the part, proofs/Parts.antt; of several
 -- questions, proofs/Severals.antt; of the cheapest set, proofs/CheapestSets.antt; of calls for a day, proofs/OnDays.antt, by proofs/WhenLaws.antt; of links
 -- that enter, proofs/Entering.antt; of asking, proofs/Asking.antt; of the listing, proofs/Listings.antt.
-use Rattle.std.specs.Prelude.{ℕ, ◌+◌, ◌-◌, ◌*◌, ◌^◌, ◌<◌, ◌≤◌, ◌/◌, ◌≡◌, ◌⊎◌, ◌↔◌, Bool, true, false, length, get_or, drop, replicate, T}
+use Rattle.std.specs.Prelude.{ℕ, ◌+◌, ◌-◌, ◌*◌, ◌^◌, ◌<◌, ◌≤◌, ◌≡◌, ◌⊎◌, ◌↔◌, Bool, true, false, length, get_or, drop, replicate, T}
 use mathlib.Core.List.{List, [], ◌∷◌, ◌++◌, map, flatten}
 use Rattle.packed.specs.Limits.{pattern_most, questions_most, catalogue_most, record_most, edges_most, old_record_most, book_most, pairs_most, workspace}
 use Rattle.packed.specs.Formats.{code, pattern, catalogue, record'}
@@ -19,7 +19,7 @@ use Rattle.packed.specs.declared.by_value.Pattern.{Pattern as Given}
 use Rattle.packed.specs.OldRecord.{read_old_record, OldRecordFile, sorted_fields, record_sorted}
 use Rattle.packed.specs.Calls.{Outcome, give, refuse, fronts, Settled, FulfilsOne, with_workspace, Verdict, accepted, rejected, read_pattern, read_questions, QuestionFiles, read_catalogue, read_record, read_sheet, read_book, write_file, write_sheet, write_book, pairs_of, fit, fit_file, pattern_read, catalogue_read, record_read, sheet_read, book_read, pattern_written, catalogue_written, record_written, sheet_written, book_written, record_bytes, fit_both}
 use Rattle.engine.specs.Lists.{In, some, keep, each}
-use Rattle.engine.specs.Simulation.{Pair, Edge, between, no_edge, one_way, both_ways, Pattern, ruled, Graph, pattern_of, graph_of, given_edge, pattern_in, as_graph, bit, fits, IsSim, MatchingBy, sim, sound, match_sets, view_sheet, as_pair}
+use Rattle.engine.specs.Simulation.{Pair, Edge, between, no_edge, one_way, both_ways, Pattern, ruled, Graph, pattern_of, graph_of, given_edge, pattern_in, as_graph, bit, fits, IsSim, MatchingBy, sim, sound, match_sets, view_sheet}
 use Rattle.engine.specs.Index.{index_of}
 use Rattle.matching.specs.Join.{without, Offer, answer_sets, matched}
 use Rattle.matching.specs.Components.{reaches, Nodes, leaving_of, state_at, Shut, OneStep, StepsTo, pair_at, IsHeld, Holds, Ran, Pruned}

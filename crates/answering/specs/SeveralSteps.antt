@@ -1,5 +1,5 @@
 -- inner: what the steps of answering several queries in one call promise one another.
-use Rattle.std.specs.Prelude.{ℕ, ◌+◌, ◌*◌, ◌<◌, ◌≤◌, ◌≡◌, Bool, length, get_or, ltb}
+use Rattle.std.specs.Prelude.{ℕ, ◌+◌, ◌*◌, ◌<◌, ◌≤◌, ◌≡◌, length, get_or, ltb}
 use mathlib.Core.List.{List, flatten}
 use Rattle.std.proofs.lemmas.List.Edits.{sets}
 use Rattle.packed.specs.Limits.{questions_most}

@@ -1,4 +1,6 @@
 // Answering a query from views: answers from a book, to one question and to several, the part that can be had, and why a query is not covered.
+#![tactic(auto)]
+
 mod answering;
 mod parting;
 pub mod several;

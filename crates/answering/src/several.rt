@@ -22,7 +22,7 @@ use packed::reply::{Refusal, Reply};
 use packed::{accept, limits, matches};
 
 // How many bytes were written, and how many sheets of the book were needed; or why there is nothing.
-#[derive(Drop)]
+#[derive(Clone, Copy)]
 pub enum Several {
     Done(usize, u32),
     Refused(Refusal),
@@ -81,7 +81,7 @@ const NONE: u32 = 32;
 
 // The views that answer each query, those that answer one of them, and the lowest edge that no view matches of the first query that isn't
 // covered.
-#[derive(Drop)]
+#[derive(Clone, Copy)]
 pub struct Sets {
     pub used: [u32; 8],
     pub needed: u32,
@@ -144,7 +144,7 @@ fn map_queries(
 
 // How many bytes each answer takes, all of them together, and whether one is over the most; and how many edges the last query has, whose pairs
 // are still marked.
-#[derive(Drop)]
+#[derive(Clone, Copy)]
 pub struct Sizes {
     pub each: [usize; 8],
     pub total: usize,
