@@ -4,8 +4,8 @@ ghost use Rattle.containment.specs.Listing.{line_of};
 
 use crate::lines;
 use containment::quote_type::Quote;
-use libc::STDOUT_FILENO;
 use packed::reply::Reply;
+use std::io;
 
 // Line k at the front of the buffer, and its length. The buffer takes every line, so none is refused.
 fn put_line(q: Quote, k: usize, buf: &mut [u8]) -> usize
@@ -19,22 +19,22 @@ fn put_line(q: Quote, k: usize, buf: &mut [u8]) -> usize
 }
 
 // Prints line k, and answers whether there is one.
-fn print_line(q: Quote, k: usize) -> bool {
-    let mut buf = io::buffer();
+fn print_line(rt: &impl Print, q: Quote, k: usize) -> io::Result<bool> {
+    let mut buf = [0; 4096];
     let n = put_line(q, k, &mut buf);
     if n == 0 {
-        return false;
+        return Ok(false);
     }
-    io::write_all(STDOUT_FILENO, &buf[0..n])
+    rt.write_all(&buf[..n])?;
+    Ok(true)
 }
 
 // A quote has at most 34 lines.
-pub fn quote(q: Quote) {
-    let mut k: usize = 0;
-    while k < 64 {
-        if !print_line(q, k) {
-            return;
+pub fn quote(rt: &impl Print, q: Quote) -> io::Result<()> {
+    for k in 0..64 {
+        if !print_line(rt, q, k)? {
+            break;
         }
-        k += 1;
     }
+    Ok(())
 }

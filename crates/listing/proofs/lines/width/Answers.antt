@@ -1,0 +1,18 @@
+-- `listing::width` meets its contract.
+use native.Mathlib.Omega.{arith}
+use Rattle.containment.proofs.ListingLaws.{decimal_length}
+use Rattle.listing.proofs.WrittenLaws.{count_more, count_end}
+use borrow.Author.Rules.{rules}
+use Rattle.listing.proofs.lines.width.Goals as goal
+
+pub loop-m-init : goal.loop-m-init
+loop-m-init c = record { small = search rules; count = omega arith }
+
+pub overflow_add-w : goal.overflow_add-w
+overflow_add-w c = omega (arith, c.loop-m.invariant.count, decimal_length c.args.n)
+
+pub loop-m-preserved : goal.loop-m-preserved
+loop-m-preserved c = count_more c.loop-m.invariant (omega arith)
+
+pub returns : goal.returns
+returns c = count_end c.loop-m.invariant (omega arith)
