@@ -1,5 +1,7 @@
-// The client calls for C and Rust to link. Each is the call of the same name in the crate that has it, and answers in numbers.
-mod numbered;
+// The client calls in numbers. Each is the call of the same name in the crate that has it; the crate yuthaqim_c exports them for C and Rust to link.
+#![tactic(auto)]
+
+pub mod numbered;
 
 ghost use Rattle.std.specs.Prelude.{◌≡◌, [], ◌∷◌, length};
 ghost use Rattle.packed.specs.Calls.{OneOutput, Settled, with_workspace, pattern_read, catalogue_read, record_read, sheet_read, book_read, pattern_written, catalogue_written, record_written, sheet_written, book_written};
@@ -26,44 +28,28 @@ use numbered::{
 };
 
 // Reads a pattern.
-#[unsafe(no_mangle)]
-pub extern "C" fn yuthaqim_read_pattern(
-    bytes: &[u8],
-    out: &mut [u32],
-    work: &mut [u32],
-) -> NumberedReply
+pub fn yuthaqim_read_pattern(bytes: &[u8], out: &mut [u32], work: &mut [u32]) -> NumberedReply
     ensures { OneOutput (pattern_read bytes.now) (numbered_reply_told result) out.old out.new work.old work.new }
 {
     numbered::reply(packed::read_pattern(bytes, out, work))
 }
 
 // Reads a catalogue.
-#[unsafe(no_mangle)]
-pub extern "C" fn yuthaqim_read_catalogue(
-    bytes: &[u8],
-    out: &mut [u32],
-    work: &mut [u32],
-) -> NumberedReply
+pub fn yuthaqim_read_catalogue(bytes: &[u8], out: &mut [u32], work: &mut [u32]) -> NumberedReply
     ensures { OneOutput (catalogue_read bytes.now) (numbered_reply_told result) out.old out.new work.old work.new }
 {
     numbered::reply(packed::read_catalogue(bytes, out, work))
 }
 
 // Reads a record.
-#[unsafe(no_mangle)]
-pub extern "C" fn yuthaqim_read_record(
-    bytes: &[u8],
-    out: &mut [u32],
-    work: &mut [u32],
-) -> NumberedReply
+pub fn yuthaqim_read_record(bytes: &[u8], out: &mut [u32], work: &mut [u32]) -> NumberedReply
     ensures { OneOutput (record_read bytes.now) (numbered_reply_told result) out.old out.new work.old work.new }
 {
     numbered::reply(packed::read_record(bytes, out, work))
 }
 
 // Reads a sheet beside its pattern.
-#[unsafe(no_mangle)]
-pub extern "C" fn yuthaqim_read_sheet(
+pub fn yuthaqim_read_sheet(
     pattern: &[u8],
     bytes: &[u8],
     out: &mut [u32],
@@ -75,8 +61,7 @@ pub extern "C" fn yuthaqim_read_sheet(
 }
 
 // Reads a book beside its catalogue.
-#[unsafe(no_mangle)]
-pub extern "C" fn yuthaqim_read_book(
+pub fn yuthaqim_read_book(
     catalogue: &[u8],
     bytes: &[u8],
     out: &mut [u32],
@@ -88,56 +73,35 @@ pub extern "C" fn yuthaqim_read_book(
 }
 
 // Writes a pattern.
-#[unsafe(no_mangle)]
-pub extern "C" fn yuthaqim_write_pattern(
-    fields: &[u32],
-    out: &mut [u8],
-    work: &mut [u32],
-) -> NumberedReply
+pub fn yuthaqim_write_pattern(fields: &[u32], out: &mut [u8], work: &mut [u32]) -> NumberedReply
     ensures { OneOutput (pattern_written fields.now) (numbered_reply_told result) out.old out.new work.old work.new }
 {
     numbered::reply(packed::write_pattern(fields, out, work))
 }
 
 // Writes a catalogue.
-#[unsafe(no_mangle)]
-pub extern "C" fn yuthaqim_write_catalogue(
-    fields: &[u32],
-    out: &mut [u8],
-    work: &mut [u32],
-) -> NumberedReply
+pub fn yuthaqim_write_catalogue(fields: &[u32], out: &mut [u8], work: &mut [u32]) -> NumberedReply
     ensures { OneOutput (catalogue_written fields.now) (numbered_reply_told result) out.old out.new work.old work.new }
 {
     numbered::reply(packed::write_catalogue(fields, out, work))
 }
 
 // Writes a record.
-#[unsafe(no_mangle)]
-pub extern "C" fn yuthaqim_write_record(
-    fields: &[u32],
-    out: &mut [u8],
-    work: &mut [u32],
-) -> NumberedReply
+pub fn yuthaqim_write_record(fields: &[u32], out: &mut [u8], work: &mut [u32]) -> NumberedReply
     ensures { OneOutput (record_written fields.now) (numbered_reply_told result) out.old out.new work.old work.new }
 {
     numbered::reply(packed::write_record(fields, out, work))
 }
 
 // Sorts the edges of a record that was stored before they had kinds, or even an order: writes the record.
-#[unsafe(no_mangle)]
-pub extern "C" fn yuthaqim_sort_record(
-    old: &[u8],
-    out: &mut [u8],
-    work: &mut [u32],
-) -> NumberedReply
+pub fn yuthaqim_sort_record(old: &[u8], out: &mut [u8], work: &mut [u32]) -> NumberedReply
     ensures { OneOutput (record_sorted old.now) (numbered_reply_told result) out.old out.new work.old work.new }
 {
     numbered::reply(packed::sort_record(old, out, work))
 }
 
 // Writes a sheet beside its pattern.
-#[unsafe(no_mangle)]
-pub extern "C" fn yuthaqim_write_sheet(
+pub fn yuthaqim_write_sheet(
     pattern: &[u8],
     fields: &[u32],
     out: &mut [u8],
@@ -149,8 +113,7 @@ pub extern "C" fn yuthaqim_write_sheet(
 }
 
 // Writes a book beside its catalogue.
-#[unsafe(no_mangle)]
-pub extern "C" fn yuthaqim_write_book(
+pub fn yuthaqim_write_book(
     catalogue: &[u8],
     fields: &[u32],
     out: &mut [u8],
@@ -162,8 +125,7 @@ pub extern "C" fn yuthaqim_write_book(
 }
 
 // Searches a record for a pattern: writes the pattern's sheet.
-#[unsafe(no_mangle)]
-pub extern "C" fn yuthaqim_search(
+pub fn yuthaqim_search(
     pattern: &[u8],
     record: &[u8],
     out: &mut [u8],
@@ -175,32 +137,21 @@ pub extern "C" fn yuthaqim_search(
 }
 
 // Makes the index of a record: for each item how many links begin at lower ones, and then how many there are.
-#[unsafe(no_mangle)]
-pub extern "C" fn yuthaqim_make_index(
-    record: &[u8],
-    out: &mut [u16],
-    work: &mut [u32],
-) -> NumberedReply
+pub fn yuthaqim_make_index(record: &[u8], out: &mut [u16], work: &mut [u32]) -> NumberedReply
     ensures { OneOutput (make_index_outcome «record».now) (numbered_reply_told result) out.old out.new work.old work.new }
 {
     numbered::reply(matching::make_index(record, out, work))
 }
 
 // Checks that an index is the record's own: how many entries it has.
-#[unsafe(no_mangle)]
-pub extern "C" fn yuthaqim_check_index(
-    record: &[u8],
-    index: &[u16],
-    work: &mut [u32],
-) -> NumberedReply
+pub fn yuthaqim_check_index(record: &[u8], index: &[u16], work: &mut [u32]) -> NumberedReply
     ensures { Settled [] (with_workspace (length work.old) (check_index_outcome «record».now index.now)) (numbered_reply_told result) [] [] work.old work.new }
 {
     numbered::reply(matching::check_index(record, index, work))
 }
 
 // Searches a record for a pattern by the record's own index: writes the pattern's sheet.
-#[unsafe(no_mangle)]
-pub extern "C" fn yuthaqim_search_indexed(
+pub fn yuthaqim_search_indexed(
     pattern: &[u8],
     record: &[u8],
     index: &[u16],
@@ -213,8 +164,7 @@ pub extern "C" fn yuthaqim_search_indexed(
 }
 
 // Makes the book of a catalogue from a record: writes a sheet for each view.
-#[unsafe(no_mangle)]
-pub extern "C" fn yuthaqim_make_book(
+pub fn yuthaqim_make_book(
     catalogue: &[u8],
     one_way: u16,
     record: &[u8],
@@ -227,8 +177,7 @@ pub extern "C" fn yuthaqim_make_book(
 }
 
 // Quotes a question with a catalogue.
-#[unsafe(no_mangle)]
-pub extern "C" fn yuthaqim_quote(
+pub fn yuthaqim_quote(
     question: &[u8],
     catalogue: &[u8],
     one_way: u16,
@@ -240,8 +189,7 @@ pub extern "C" fn yuthaqim_quote(
 }
 
 // Answers a question from a book: writes the question's sheet.
-#[unsafe(no_mangle)]
-pub extern "C" fn yuthaqim_answer(
+pub fn yuthaqim_answer(
     question: &[u8],
     catalogue: &[u8],
     one_way: u16,
@@ -255,8 +203,7 @@ pub extern "C" fn yuthaqim_answer(
 }
 
 // Answers a question from a book by a set of extracts: writes the question's sheet.
-#[unsafe(no_mangle)]
-pub extern "C" fn yuthaqim_answer_from(
+pub fn yuthaqim_answer_from(
     question: &[u8],
     catalogue: &[u8],
     one_way: u16,
@@ -271,8 +218,7 @@ pub extern "C" fn yuthaqim_answer_from(
 }
 
 // Finds the part of a question that the extracts answer, and answers it from a book: writes the part as a pattern, and its sheet.
-#[unsafe(no_mangle)]
-pub extern "C" fn yuthaqim_part(
+pub fn yuthaqim_part(
     question: &[u8],
     catalogue: &[u8],
     one_way: u16,
@@ -287,8 +233,7 @@ pub extern "C" fn yuthaqim_part(
 }
 
 // Answers several questions from one book: writes their sheets one after the other.
-#[unsafe(no_mangle)]
-pub extern "C" fn yuthaqim_answer_several(
+pub fn yuthaqim_answer_several(
     questions: &[u8],
     number: u32,
     catalogue: &[u8],
@@ -305,8 +250,7 @@ pub extern "C" fn yuthaqim_answer_several(
 }
 
 // Shows why a question is not covered: writes it as a record, and the same without its lowest unmatched link.
-#[unsafe(no_mangle)]
-pub extern "C" fn yuthaqim_show_uncovered(
+pub fn yuthaqim_show_uncovered(
     question: &[u8],
     catalogue: &[u8],
     one_way: u16,
@@ -320,8 +264,7 @@ pub extern "C" fn yuthaqim_show_uncovered(
 }
 
 // Finds the cheapest set of extracts that covers a question, by the charges of the extracts.
-#[unsafe(no_mangle)]
-pub extern "C" fn yuthaqim_cheapest(
+pub fn yuthaqim_cheapest(
     question: &[u8],
     catalogue: &[u8],
     one_way: u16,
@@ -334,16 +277,14 @@ pub extern "C" fn yuthaqim_cheapest(
 }
 
 // A list of terms in plain numbers, as the calls for a day take it.
-#[unsafe(no_mangle)]
-pub extern "C" fn yuthaqim_spread_terms(terms: &[Term]) -> Terms
+pub fn yuthaqim_spread_terms(terms: &[Term]) -> Terms
     ensures { result ≡ spread_of terms.now }
 {
     containment::spread(terms)
 }
 
 // Quotes a question for a day, by the extracts in force on it.
-#[unsafe(no_mangle)]
-pub extern "C" fn yuthaqim_quote_on(
+pub fn yuthaqim_quote_on(
     question: &[u8],
     catalogue: &[u8],
     one_way: u16,
@@ -357,8 +298,7 @@ pub extern "C" fn yuthaqim_quote_on(
 }
 
 // Finds the cheapest set of extracts in force on a day that covers a question, by the charges of all extracts.
-#[unsafe(no_mangle)]
-pub extern "C" fn yuthaqim_cheapest_on(
+pub fn yuthaqim_cheapest_on(
     question: &[u8],
     catalogue: &[u8],
     one_way: u16,
@@ -375,8 +315,7 @@ pub extern "C" fn yuthaqim_cheapest_on(
 }
 
 // Finds the part of a question that the extracts in force on a day answer, and answers it from a book: writes the part as a pattern, and its sheet.
-#[unsafe(no_mangle)]
-pub extern "C" fn yuthaqim_part_on(
+pub fn yuthaqim_part_on(
     question: &[u8],
     catalogue: &[u8],
     one_way: u16,
@@ -395,8 +334,7 @@ pub extern "C" fn yuthaqim_part_on(
 }
 
 // Shows why a question is not covered on a day: writes it as a record, and the same without the lowest link that no extract in force matches.
-#[unsafe(no_mangle)]
-pub extern "C" fn yuthaqim_show_on(
+pub fn yuthaqim_show_on(
     question: &[u8],
     catalogue: &[u8],
     one_way: u16,
@@ -414,8 +352,7 @@ pub extern "C" fn yuthaqim_show_on(
 }
 
 // Finds the first day, not before the given one, on which a question is covered.
-#[unsafe(no_mangle)]
-pub extern "C" fn yuthaqim_first_day(
+pub fn yuthaqim_first_day(
     question: &[u8],
     catalogue: &[u8],
     one_way: u16,
@@ -429,8 +366,7 @@ pub extern "C" fn yuthaqim_first_day(
 }
 
 // Asks which extracts' lists a link would change, before it enters a record: the set of them, and the slip that commit takes.
-#[unsafe(no_mangle)]
-pub extern "C" fn yuthaqim_ask(
+pub fn yuthaqim_ask(
     catalogue: &[u8],
     one_way: u16,
     record: &[u8],
@@ -444,8 +380,7 @@ pub extern "C" fn yuthaqim_ask(
 }
 
 // Enters the link of a slip into a record: writes the record with it and the index of that, and counts on both numbers of the state.
-#[unsafe(no_mangle)]
-pub extern "C" fn yuthaqim_commit(
+pub fn yuthaqim_commit(
     record: &[u8],
     state: &mut State,
     slip: Slip,

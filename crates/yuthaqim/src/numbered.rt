@@ -19,7 +19,7 @@ use packed::reply::{Both, Reply};
 
 // 0 and how much of the output was written, or a refusal's number and detail.
 #[repr(C)]
-#[derive(Drop)]
+#[derive(Clone, Copy)]
 pub struct NumberedReply {
     pub number: usize,
     pub value: usize,
@@ -27,7 +27,7 @@ pub struct NumberedReply {
 
 // 0 and the quote, or a refusal's number and detail. What has no meaning is zero.
 #[repr(C)]
-#[derive(Drop)]
+#[derive(Clone, Copy)]
 pub struct NumberedQuote {
     pub number: usize,
     pub detail: usize,
@@ -40,7 +40,7 @@ pub struct NumberedQuote {
 
 // 0 and the lengths of the two outputs, or a refusal's number and detail. What has no meaning is zero.
 #[repr(C)]
-#[derive(Drop)]
+#[derive(Clone, Copy)]
 pub struct NumberedBoth {
     pub number: usize,
     pub detail: usize,
@@ -50,7 +50,7 @@ pub struct NumberedBoth {
 
 // 0, the bytes written and the sheets needed, or a refusal's number and detail. What has no meaning is zero.
 #[repr(C)]
-#[derive(Drop)]
+#[derive(Clone, Copy)]
 pub struct NumberedSeveral {
     pub number: usize,
     pub detail: usize,
@@ -60,7 +60,7 @@ pub struct NumberedSeveral {
 
 // 0 and the cheapest set, its sum and the set that a quote chooses, or a refusal's number and detail. What has no meaning is zero.
 #[repr(C)]
-#[derive(Drop)]
+#[derive(Clone, Copy)]
 pub struct NumberedCheapest {
     pub number: usize,
     pub detail: usize,
@@ -71,7 +71,7 @@ pub struct NumberedCheapest {
 
 // 0, and 1 and the first day or 0 for none, or a refusal's number and detail. What has no meaning is zero.
 #[repr(C)]
-#[derive(Drop)]
+#[derive(Clone, Copy)]
 pub struct NumberedFirstDay {
     pub number: usize,
     pub detail: usize,
@@ -81,7 +81,7 @@ pub struct NumberedFirstDay {
 
 // 0, the set of extracts and the slip, or a refusal's number and detail. What has no meaning is zero.
 #[repr(C)]
-#[derive(Drop)]
+#[derive(Clone, Copy)]
 pub struct NumberedAsked {
     pub number: usize,
     pub detail: usize,

@@ -1,0 +1,11 @@
+-- `numbered::several` meets its contract.
+use Rattle.yuthaqim.proofs.NumberedLaws.{several_done, several_refused}
+use Rattle.yuthaqim.proofs.numbered.several.Goals as goal
+
+pub returns-in-Done : goal.returns-in-Done
+returns-in-Done c = rw c.in-Done.is (several_done _ _)
+
+pub returns-in-Refused : goal.returns-in-Refused
+returns-in-Refused c =
+    let number_of = c.number_of in
+    rw c.in-Refused.is (several_refused c.in-Refused.x number_of.ensures c.detail_of.ensures)
