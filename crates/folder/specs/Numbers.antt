@@ -1,5 +1,5 @@
 -- Text files of decimal numbers: what the bytes of `charges` (decisions 8.8 and 8.9), of `set` and `one_way` (decision 8.12) and of `number` (decision 8.21) say.
-use Rattle.std.specs.Prelude.{◌≡◌, ℕ, ◌+◌, ◌-◌, ◌*◌, ◌^◌, ◌≤◌, Bool, true, false, ◌&&◌, List, [], ◌∷◌, length, set, ◌==◌, bit_or, nat_le, slice_set}
+use Rattle.std.specs.Prelude.{◌≡◌, ℕ, ◌+◌, ◌-◌, ◌*◌, ◌^◌, ◌≤◌, Bool, true, false, ◌&&◌, List, [], ◌∷◌, length, ◌==◌, bit_or, nat_le, slice_set}
 use Rattle.packed.specs.Format.{pick}
 use Rattle.folder.specs.declared.numbers.Text.{Text}
 use Rattle.folder.specs.declared.numbers.Number.{Number}

@@ -1,13 +1,16 @@
 // Text files of terms: a line for each view, with its from-day and its to-day in decimal, 0 to 65,535, in digits alone, one space between them. A
 // file of any length is read to its end, and its lines are counted.
 use crate::files;
+use std::fs;
+use std::io::Read;
+use std::rt::Files;
 
 // A day is at most this.
 const MOST: u32 = 65535;
 
 // A text so far: how many lines it has, whether they are as they should be, and the days of the first sixteen; whether the first day of a line is
 // behind, and which it is; and the number that has begun.
-#[derive(Drop)]
+#[derive(Clone, Copy)]
 pub struct Days {
     pub count: usize,
     pub good: bool,
@@ -35,7 +38,7 @@ fn none() -> Days {
 // A line that is not as it should be is the last that counts.
 fn bad(d: Days) -> Days {
     let mut r = d;
-    r.count = std::num::wrapping_add_usize(d.count, 1);
+    r.count = d.count.wrapping_add(1);
     r.good = false;
     r
 }
@@ -89,7 +92,7 @@ fn end_line(d: Days) -> Days {
         return bad(d);
     }
     let mut r = put(d, d.count);
-    r.count = std::num::wrapping_add_usize(d.count, 1);
+    r.count = d.count.wrapping_add(1);
     r.half = false;
     r.first = 0;
     r.begun = false;
@@ -111,10 +114,8 @@ fn next(d: Days, byte: u8) -> Days {
 
 fn take(bytes: &[u8], before: Days) -> Days {
     let mut d = before;
-    let mut i: usize = 0;
-    while i < bytes.len() {
-        d = next(d, bytes[i]);
-        i += 1;
+    for byte in bytes {
+        d = next(d, *byte);
     }
     d
 }
@@ -127,52 +128,48 @@ fn end(d: Days) -> Days {
     d
 }
 
-#[derive(Drop)]
+#[derive(Clone, Copy)]
 struct Part {
     days: Days,
     is_last: bool,
 }
 
-fn take_part(fd: i32, before: Days) -> Part {
-    let mut buf = io::buffer();
-    let n = io::read_full(fd, &mut buf);
+fn take_part(file: &mut impl Read, before: Days) -> Part {
+    let mut buf = [0; files::PART];
+    let n = files::read_full(file, &mut buf);
     Part {
-        days: take(&buf[0..n], before),
-        is_last: n < 4096,
+        days: take(&buf[..n], before),
+        is_last: n < files::PART,
     }
 }
 
-fn take_parts(fd: i32) -> Days {
+fn take_parts(file: &mut impl Read) -> Days {
     let mut d = none();
-    let mut left = files::PARTS;
-    while 0 < left {
-        let part = take_part(fd, d);
+    for _ in 0..files::PARTS {
+        let part = take_part(file, d);
         d = part.days;
-        left = if part.is_last { 0 } else { left - 1 };
+        if part.is_last {
+            break;
+        }
     }
     end(d)
 }
 
 // The days of each line, as far as sixteen go, and how many lines there are; or the line that is not as it should be. A file that can't be opened has
 // none.
-pub fn read_days(name: &[u8]) -> Days {
-    let fd = os::open_read(name);
-    if fd < 0 {
-        return none();
+pub fn read_days(rt: &impl Files, name: &[u8]) -> Days {
+    match fs::open(rt, files::text(name)) {
+        Ok(mut file) => take_parts(&mut file),
+        Err(_) => none(),
     }
-    let d = take_parts(fd);
-    libc::close(fd);
-    d
 }
 
 // The first of so many lines, sixteen at most, whose from-day isn't below its to-day, or that number.
 pub fn first_turned(d: Days, lines: usize) -> usize {
-    let mut a: usize = 0;
-    while a < 16 {
+    for a in 0..16 {
         if (a < lines) & (d.to[a] <= d.from[a]) {
             return a;
         }
-        a += 1;
     }
     lines
 }

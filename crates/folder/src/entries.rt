@@ -11,6 +11,7 @@ fn joined(high: u8, low: u8) -> u16
 }
 
 // The first or the second byte of an entry.
+#[tactic(auto, unfolding(crate::specs::Entries::byte_of))]
 fn byte_of(x: u16, second: usize) -> u8
     ensures { result ≡ byte_of x second }
 {
@@ -25,12 +26,10 @@ pub fn unpack(bytes: &[u8], entries: &mut [u16])
     requires { (length bytes.now ≡ 8196) × (length entries.old ≡ 4098) }
     ensures { entries.new ≡ entries_of bytes.now }
 {
-    let mut i: usize = 0;
-    while i < 4098 {
+    for i in 0..4098 {
         let high = 2 * i;
         let low = high + 1;
         entries[i] = joined(bytes[high], bytes[low]);
-        i += 1;
     }
 }
 
@@ -39,12 +38,10 @@ pub fn pack(entries: &[u16], bytes: &mut [u8])
     requires { (length entries.now ≡ 4098) × (length bytes.old ≡ 8196) }
     ensures { bytes.new ≡ entry_bytes entries.now }
 {
-    let mut at: usize = 0;
-    while at < 8196 {
+    for at in 0..8196 {
         let i = at / 2;
         let x = entries[i];
         bytes[at] = byte_of(x, at % 2);
-        at += 1;
     }
 }
 

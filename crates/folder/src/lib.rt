@@ -2,6 +2,8 @@
 //
 // No contract can say what the system reads or writes. Those here say what happens to lent memory, and what the bytes mean that were read: texts of
 // numbers, and an index as a file. All else that decides what a file holds is done by the crates below, on slices.
+#![tactic(auto)]
+
 pub mod both;
 pub mod days;
 pub mod entries;
@@ -12,12 +14,14 @@ pub mod numbers;
 
 use numbers::Text;
 use packed::reply::Reply;
+use std::io;
+use std::rt::Files;
 
 // The extracts that the file of this name has the numbers of. One that has anything else is a failure, and is said to be one.
-pub fn extracts(name: &[u8]) -> Text {
-    let text = numbers::read_set(name);
+pub fn extracts(rt: &(impl Files + Eprint), name: &[u8]) -> Text {
+    let text = numbers::read_set(rt, name);
     if !text.good {
-        lines::failed_at(name, text.count);
+        lines::failed_at(rt, name, text.count);
     }
     text
 }
@@ -25,41 +29,54 @@ pub fn extracts(name: &[u8]) -> Text {
 // The first line at fault in a text that should have so many numbers, one to a line: it may be the one behind its last.
 fn fault(text: Text, wanted: usize) -> usize {
     let lines = if text.good {
-        std::num::wrapping_add_usize(text.count, 1)
+        text.count.wrapping_add(1)
     } else {
         text.count
     };
-    lent::least(lines, std::num::wrapping_add_usize(wanted, 1))
+    lent::least(lines, wanted.wrapping_add(1))
 }
 
 // The numbers of the file of this name, one to a line, as many as there are places. One that has anything else is a failure, and is said to be one.
-pub fn list(name: &[u8], out: &mut [u32]) -> bool {
-    let text = numbers::read_list(name, out);
+pub fn list(rt: &(impl Files + Eprint), name: &[u8], out: &mut [u32]) -> bool {
+    let text = numbers::read_list(rt, name, out);
     let wanted = out.len();
     if text.good & (text.count == wanted) {
         return true;
     }
-    lines::failed_at(name, fault(text, wanted));
+    lines::failed_at(rt, name, fault(text, wanted));
     false
 }
 
 // A call that wrote one output is finished: the output becomes the file of this name, by way of a new file of the temporary name, and a line
 // says how long it is. A refusal is printed and leaves the folder as it was.
-pub fn finish(reply: Reply, out: &[u8], name: &[u8], temporary: &[u8]) {
+pub fn finish(
+    rt: &(impl Files + Print + Eprint),
+    reply: Reply,
+    out: &[u8],
+    name: &[u8],
+    temporary: &[u8],
+) -> io::Result<()> {
     match reply {
-        Reply::Done(n) => keep(out, n, name, temporary),
-        Reply::Refused(x) => lines::refused(x),
+        Reply::Done(n) => keep(rt, out, n, name, temporary),
+        Reply::Refused(x) => lines::refused(rt, x),
     }
 }
 
 // The first n bytes; a call never answers more than it was lent.
-fn keep(out: &[u8], n: usize, name: &[u8], temporary: &[u8]) {
+fn keep(
+    rt: &(impl Files + Print + Eprint),
+    out: &[u8],
+    n: usize,
+    name: &[u8],
+    temporary: &[u8],
+) -> io::Result<()> {
     if out.len() < n {
-        lines::failed(name);
-        return;
+        lines::failed(rt, name);
+        return Ok(());
     }
-    if files::write(name, temporary, &out[0..n]) {
-        lines::written(name, n);
-        lines::say(b"\n");
+    if files::write(rt, name, temporary, &out[..n]) {
+        lines::written(rt, name, n)?;
+        lines::say(rt, b"\n")?;
     }
+    Ok(())
 }

@@ -1,84 +1,72 @@
 // What programs print.
 ghost use Rattle.std.specs.Prelude.{◌<◌};
 
-use libc::{STDERR_FILENO, STDOUT_FILENO};
+use crate::files;
 use packed::reply;
 use packed::reply::Refusal;
+use std::io;
 
-pub fn say(text: &[u8]) {
-    io::write_all(STDOUT_FILENO, text);
+pub fn say(rt: &impl Print, text: &[u8]) -> io::Result<()> {
+    rt.write_all(text)
 }
 
-pub fn number(n: usize) {
-    io::print_decimal(STDOUT_FILENO, n as u64);
+pub fn number(rt: &impl Print, n: usize) -> io::Result<()> {
+    rt.print(n)
 }
 
 // The name of a file that was written, and its length; the line is not ended.
-pub fn written(name: &[u8], n: usize) {
-    say(name);
-    say(b" ");
-    number(n);
-    say(b" bytes");
+pub fn written(rt: &impl Print, name: &[u8], n: usize) -> io::Result<()> {
+    rt.write_all(name)?;
+    print!(rt; " {n} bytes")
 }
 
-// The line on standard error that names the file with which the system failed.
-pub fn failed(name: &[u8]) {
-    io::write_all(STDERR_FILENO, b"failed ");
-    io::write_all(STDERR_FILENO, name);
-    io::write_all(STDERR_FILENO, b"\n");
+// The line on standard error that names the file with which the system failed. Where it can't be written, nothing is left to say so by.
+pub fn failed(rt: &impl Eprint, name: &[u8]) {
+    let name = files::text(name);
+    let _ = eprintln!(rt; "failed {name}");
 }
 
 // The same for a line of a text file that is not what it should be.
-pub fn failed_at(name: &[u8], line: usize) {
-    io::write_all(STDERR_FILENO, b"failed ");
-    io::write_all(STDERR_FILENO, name);
-    io::write_all(STDERR_FILENO, b" line ");
-    io::print_decimal(STDERR_FILENO, line as u64);
-    io::write_all(STDERR_FILENO, b"\n");
+pub fn failed_at(rt: &impl Eprint, name: &[u8], line: usize) {
+    let name = files::text(name);
+    let _ = eprintln!(rt; "failed {name} line {line}");
 }
 
 // The line of a refusal.
-pub fn refused(x: Refusal) {
-    say(b"refused ");
-    number(reply::number_of(x));
-    say(b" ");
-    number(reply::detail_of(x));
-    say(b"\n");
+pub fn refused(rt: &impl Print, x: Refusal) -> io::Result<()> {
+    println!(rt; "refused {} {}", reply::number_of(x), reply::detail_of(x))
 }
 
 // " a" where the set has the extract a.
-fn say_extract(set: u16, a: u16)
+fn say_extract(rt: &impl Print, set: u16, a: u16) -> io::Result<()>
     requires { a < 16 }
 {
     if set >> a & 1 == 1 {
-        say(b" ");
-        number(a as usize);
+        print!(rt; " {a}")?;
     }
+    Ok(())
 }
 
-fn say_extracts(set: u16) {
-    let mut a: u16 = 0;
-    while a < 16 {
-        say_extract(set, a);
-        a += 1;
+fn say_extracts(rt: &impl Print, set: u16) -> io::Result<()> {
+    for a in 0..16 {
+        say_extract(rt, set, a)?;
     }
+    Ok(())
 }
 
 // The line of a cheapest set.
-pub fn cheapest(set: u16, sum: u64) {
-    say(b"cheapest");
-    say_extracts(set);
-    say(b" cost ");
-    number(sum as usize);
-    say(b"\n");
+pub fn cheapest(rt: &impl Print, set: u16, sum: u64) -> io::Result<()> {
+    say(rt, b"cheapest")?;
+    say_extracts(rt, set)?;
+    println!(rt; " cost {sum}")
 }
 
 // The line of the extracts whose lists a link would change.
-pub fn changes(set: u16) {
-    say(b"changes");
+pub fn changes(rt: &impl Print, set: u16) -> io::Result<()> {
+    say(rt, b"changes")?;
     if set == 0 {
-        say(b" none");
+        say(rt, b" none")?;
     }
-    say_extracts(set);
-    say(b"\n");
+    say_extracts(rt, set)?;
+    say(rt, b"\n")
 }

@@ -5,12 +5,15 @@ ghost use Rattle.folder.specs.Numbers.{list_told, set_told, number_told, ListRea
 ghost use Rattle.folder.specs.Reading.{empty_text, with_line, with_digit, end_member, next_in_set, state, end_line, next_in_list, next, steps, at_end, Follows, OfText};
 
 use crate::files;
+use std::fs;
+use std::io::Read;
+use std::rt::Files;
 
 // A number is at most this.
 const MOST: u64 = 0xffff_ffff;
 
 // A text so far: how many lines it has, whether they are as they should be, the numbers of a set, and the number that has begun.
-#[derive(Drop)]
+#[derive(Clone, Copy)]
 pub struct Text {
     pub count: usize,
     pub good: bool,
@@ -20,6 +23,7 @@ pub struct Text {
     value: u64,
 }
 
+#[tactic(auto, unfolding(crate::specs::Reading::empty_text))]
 fn empty(is_list: bool) -> Text
     ensures { result ≡ empty_text is_list }
 {
@@ -34,11 +38,12 @@ fn empty(is_list: bool) -> Text
 }
 
 // A line has ended, good or not: a bad one is the last that counts.
+#[tactic(auto, unfolding(crate::specs::Reading::with_line))]
 fn with_line(text: Text, good: bool) -> Text
     ensures { result ≡ with_line text good }
 {
     Text {
-        count: std::num::wrapping_add_usize(text.count, 1),
+        count: text.count.wrapping_add(1),
         good,
         set: text.set,
         is_list: text.is_list,
@@ -48,6 +53,7 @@ fn with_line(text: Text, good: bool) -> Text
 }
 
 // A digit more. A number over the most stays over it.
+#[tactic(auto, unfolding(crate::specs::Reading::with_digit))]
 fn with_digit(text: Text, digit: u8) -> Text
     ensures { result ≡ with_digit text digit }
 {
@@ -74,6 +80,7 @@ fn put(out: &mut [u32], i: usize, x: u32)
 }
 
 // A line of a list is at its end. Its number goes to its place, where there is one.
+#[tactic(auto, unfolding(crate::specs::Reading::end_line, crate::specs::Reading::is_number))]
 fn end_line(text: Text, out: &mut [u32]) -> Text
     ensures { state result out.new ≡ end_line (state text out.old) }
 {
@@ -89,6 +96,7 @@ fn end_line(text: Text, out: &mut [u32]) -> Text
 }
 
 // A number of a set is at its end, if one has begun.
+#[tactic(auto, using(crate::proofs::NumberLaws::one_bit), unfolding(crate::specs::Reading::end_member))]
 fn end_member(text: Text) -> Text
     ensures { result ≡ end_member text }
 {
@@ -110,6 +118,7 @@ fn end_member(text: Text) -> Text
 }
 
 // The next byte of a set.
+#[tactic(auto, unfolding(crate::specs::Reading::next_in_set))]
 fn next_in_set(text: Text, byte: u8) -> Text
     ensures { result ≡ next_in_set text byte }
 {
@@ -121,6 +130,7 @@ fn next_in_set(text: Text, byte: u8) -> Text
 }
 
 // The next byte of a list.
+#[tactic(auto, unfolding(crate::specs::Reading::next_in_list))]
 fn next_in_list(text: Text, byte: u8, out: &mut [u32]) -> Text
     ensures { state result out.new ≡ next_in_list (state text out.old) byte }
 {
@@ -130,6 +140,7 @@ fn next_in_list(text: Text, byte: u8, out: &mut [u32]) -> Text
     with_line(text, false)
 }
 
+#[tactic(auto, using(crate::proofs::NumberLaws::digit, crate::proofs::NumberLaws::below_digits, crate::proofs::NumberLaws::above_digits), unfolding(crate::specs::Reading::next))]
 fn next(text: Text, byte: u8, out: &mut [u32]) -> Text
     ensures { state result out.new ≡ next (state text out.old) byte }
 {
@@ -152,15 +163,14 @@ fn take(bytes: &[u8], before: Text, out: &mut [u32]) -> Text
     ensures { state result out.new ≡ steps (state before out.old) bytes.now }
 {
     let mut text = before;
-    let mut i: usize = 0;
-    while i < bytes.len() {
-        text = next(text, bytes[i], out);
-        i += 1;
+    for byte in bytes {
+        text = next(text, *byte, out);
     }
     text
 }
 
 // The last line may lack its line end.
+#[tactic(auto, unfolding(crate::specs::Reading::at_end))]
 fn end(text: Text, out: &mut [u32]) -> Text
     ensures { state result out.new ≡ at_end (state text out.old) }
 {
@@ -170,78 +180,79 @@ fn end(text: Text, out: &mut [u32]) -> Text
     text
 }
 
-#[derive(Drop)]
+#[derive(Clone, Copy)]
 struct Part {
     text: Text,
     is_last: bool,
 }
 
-fn take_part(fd: i32, before: Text, out: &mut [u32]) -> Part
+fn take_part(file: &mut impl Read, before: Text, out: &mut [u32]) -> Part
     ensures { Follows 4096 (state before out.old) (state result.text out.new) }
 {
-    let mut buf = io::buffer();
-    let n = io::read_full(fd, &mut buf);
-    let text = take(&buf[0..n], before, out);
+    let mut buf = [0; files::PART];
+    let n = files::read_full(file, &mut buf);
+    let text = take(&buf[..n], before, out);
     Part {
         text,
-        is_last: n < 4096,
+        is_last: n < files::PART,
     }
 }
 
-fn take_parts(fd: i32, is_list: bool, out: &mut [u32]) -> Text
+fn take_parts(file: &mut impl Read, is_list: bool, out: &mut [u32]) -> Text
     ensures { OfText is_list out.old (state result out.new) }
 {
     let mut text = empty(is_list);
-    let mut left = files::PARTS;
-    while 0 < left {
-        let part = take_part(fd, text, out);
+    for _ in 0..files::PARTS {
+        let part = take_part(file, text, out);
         text = part.text;
-        left = if part.is_last { 0 } else { left - 1 };
+        if part.is_last {
+            break;
+        }
     }
     end(text, out)
 }
 
-fn read(name: &[u8], is_list: bool, out: &mut [u32]) -> Text
+#[tactic(auto, using(crate::proofs::NumberLaws::no_text))]
+fn read(rt: &impl Files, name: &[u8], is_list: bool, out: &mut [u32]) -> Text
     ensures { OfText is_list out.old (state result out.new) }
 {
-    let fd = os::open_read(name);
-    if fd < 0 {
-        return empty(is_list);
+    match fs::open(rt, files::text(name)) {
+        Ok(mut file) => take_parts(&mut file, is_list, out),
+        Err(_) => empty(is_list),
     }
-    let text = take_parts(fd, is_list, out);
-    libc::close(fd);
-    text
 }
 
 // The numbers of a list, as far as the output goes, and how many lines it has; or the line that is no number. A file that can't be opened has
 // none.
-pub fn read_list(name: &[u8], out: &mut [u32]) -> Text
+#[tactic(auto, using(crate::proofs::ListLaws::list_reads))]
+pub fn read_list(rt: &impl Files, name: &[u8], out: &mut [u32]) -> Text
     ensures { ListRead out.old (list_told result out.new) }
 {
-    read(name, true, out)
+    read(rt, name, true, out)
 }
 
 // The numbers of a set, as bits; or the line that has something else. A file that can't be opened has none.
-pub fn read_set(name: &[u8]) -> Text
+pub fn read_set(rt: &impl Files, name: &[u8]) -> Text
     ensures { SetRead (set_told result) }
 {
     let mut none = [0u32; 1];
-    read(name, false, &mut none)
+    read(rt, name, false, &mut none)
 }
 
 // A number, or that there is none.
-#[derive(Drop)]
+#[derive(Clone, Copy)]
 pub struct Number {
     pub good: bool,
     pub value: u32,
 }
 
 // The one number of a list of one line. A file that can't be opened has none.
-pub fn read_number(name: &[u8]) -> Number
+#[tactic(auto, using(crate::proofs::ListLaws::number_reads))]
+pub fn read_number(rt: &impl Files, name: &[u8]) -> Number
     ensures { NumberRead (number_told result) }
 {
     let mut value = [0u32; 1];
-    let text = read_list(name, &mut value);
+    let text = read_list(rt, name, &mut value);
     Number {
         good: text.good & (text.count == 1),
         value: value[0],
