@@ -164,6 +164,6 @@ pub fn set(cells: &mut [u64], i: usize, x: usize) {
 }
 
 pub fn add(cells: &mut [u64], i: usize, x: usize) {
-    let sum = std::num::wrapping_add_u64(at(cells, i), x as u64);
+    let sum = at(cells, i).wrapping_add(x as u64);
     put(cells, i, sum);
 }

@@ -1,7 +1,9 @@
 // The content that a writer takes: single fields, and lists of a sheet by a rule.
 ghost use Rattle.std.specs.Prelude.{◌≡◌, length};
 
-use crate::{cells, draw, slices};
+use crate::{cells, draw, reader, slices};
+use std::io;
+use std::io::Read;
 
 // A field more.
 pub fn add(words: &mut [u32], cells: &mut [u64], x: usize) {
@@ -22,11 +24,18 @@ fn add_each(s: &[u8], words: &mut [u32], cells: &mut [u64]) {
     }
 }
 
-fn add_bytes_in(fd: i32, size: usize, s: &mut [u8], words: &mut [u32], cells: &mut [u64]) {
+fn add_bytes_in<R: Read>(
+    cases: &mut R,
+    size: usize,
+    s: &mut [u8],
+    words: &mut [u32],
+    cells: &mut [u64],
+) -> io::Result<()> {
     let n = slices::least(size, s.len());
-    io::read_full(fd, &mut s[0..n]);
+    reader::read_full(cases, &mut s[0..n])?;
     let m = slices::least(size, s.len());
     add_each(&s[0..m], words, cells);
+    Ok(())
 }
 
 fn field_bytes() -> [u8; 256]
@@ -36,14 +45,19 @@ fn field_bytes() -> [u8; 256]
 }
 
 // So many bytes of the cases, 256 at most, a field each.
-pub fn add_bytes(fd: i32, size: usize, words: &mut [u32], cells: &mut [u64]) {
+pub fn add_bytes<R: Read>(
+    cases: &mut R,
+    size: usize,
+    words: &mut [u32],
+    cells: &mut [u64],
+) -> io::Result<()> {
     let mut s = field_bytes();
-    add_bytes_in(fd, size, &mut s, words, cells);
+    add_bytes_in(cases, size, &mut s, words, cells)
 }
 
 // A list is a place in the content and a row of pairs from a code on. A code stands for the pair of its quotient and remainder by `items`;
 // from each to the next it is a step, and something below the gap. Codes from `items` * `items` on are left out.
-#[derive(Drop)]
+#[derive(Clone, Copy)]
 struct List {
     start: usize,
     count: usize,

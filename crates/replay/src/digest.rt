@@ -8,7 +8,7 @@ fn times_prime(h: u64) -> u64 {
     let shifted = h % 0x100_0000 * 0x100_0000_0000;
     let low = h % 0x1_0000_0000 * 435;
     let high = h / 0x1_0000_0000 * 435 % 0x1_0000_0000 * 0x1_0000_0000;
-    std::num::wrapping_add_u64(shifted, std::num::wrapping_add_u64(low, high))
+    shifted.wrapping_add(low.wrapping_add(high))
 }
 
 pub fn step(h: u64, x: u64) -> u64 {

@@ -76,10 +76,7 @@ pub fn unmarked(s: &[u16], from: usize, to: usize) -> usize {
     let mut count: usize = 0;
     let mut i = from;
     while i < to {
-        count = std::num::wrapping_add_usize(
-            count,
-            slices::one_if(entry_at(s, i) != entry_mark(i)),
-        );
+        count = count.wrapping_add(slices::one_if(entry_at(s, i) != entry_mark(i)));
         i += 1;
     }
     count

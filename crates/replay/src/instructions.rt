@@ -3,7 +3,11 @@
 // follow as the value says.
 ghost use Rattle.std.specs.Prelude.{◌≡◌, ◌<◌, length};
 
-use crate::{calls, cells, content, digest, memory, pack, print, records, rounds, slices, states};
+use crate::{
+    calls, cells, content, digest, memory, pack, print, reader, records, rounds, slices, states,
+};
+use std::io;
+use std::io::{Read, Write};
 
 // Bytes that follow become the part of the last three bits' number.
 const BYTES: usize = 64;
@@ -93,65 +97,82 @@ fn matches(part: usize, memory: &[u8], cells: &[u64]) -> bool {
     (bytes | no_fit) & (cells::number(cells, cells::VALUE) == size)
 }
 
-fn bytes(fd: i32, part: usize, size: usize, memory: &mut [u8], cells: &mut [u64]) {
+fn bytes<R: Read>(
+    cases: &mut R,
+    part: usize,
+    size: usize,
+    memory: &mut [u8],
+    cells: &mut [u64],
+) -> io::Result<()> {
     let start = cells::number(cells, cells::start(part));
-    memory::take(fd, memory, start, size);
+    memory::take(cases, memory, start, size)?;
     cells::set(cells, cells::end(part), slices::plus(start, size));
+    Ok(())
 }
 
 // Those that change the memory.
-fn on_memory(
-    fd: i32,
+fn on_memory<R: Read>(
+    cases: &mut R,
     op: usize,
     value: usize,
     memory: &mut [u8],
     out: &[u8],
     words: &[u32],
     cells: &mut [u64],
-) {
+) -> io::Result<()> {
     match op {
         KEEP => keep(value, memory, out, cells),
         FLIP => memory::flip(memory, value),
         PACK => pack::record(value, 3, words, memory, cells),
         PACK_OLD => pack::record(value, 0, words, memory, cells),
-        _ => bytes(fd, op, value, memory, cells),
+        _ => bytes(cases, op, value, memory, cells)?,
     }
+    Ok(())
 }
 
 // Those that make content.
-fn on_content(fd: i32, op: usize, value: usize, words: &mut [u32], cells: &mut [u64]) {
+fn on_content<R: Read>(
+    cases: &mut R,
+    op: usize,
+    value: usize,
+    words: &mut [u32],
+    cells: &mut [u64],
+) -> io::Result<()> {
     match op {
         FIELD => content::add(words, cells, value),
-        FIELDS => content::add_bytes(fd, value, words, cells),
+        FIELDS => content::add_bytes(cases, value, words, cells)?,
         LISTS => content::add_lists(value, words, cells),
         SHEET => content::sheet(value, words, cells),
         PAIRS => states::draw_pairs(value, words, cells),
         _ => records::draw(value == 0, words, cells),
     }
+    Ok(())
 }
 
 // Those that compare and print.
-fn on_cells(
-    fd: i32,
+fn on_cells<R: Read, W: Write>(
+    cases: &mut R,
+    printer: &mut W,
     op: usize,
     value: usize,
     memory: &[u8],
     out: &[u8],
     words: &[u32],
     cells: &mut [u64],
-) {
+) -> io::Result<()> {
     let last = cells::at(cells, cells::OUTCOMES);
     match op {
         HOLD => cells::put(cells, cells::HELD, last),
         SAME => compare(cells::at(cells, cells::HELD) == last, cells),
         MATCH => compare(matches(value, memory, cells), cells),
-        NAME => print::name(fd, value),
-        OUTCOME => print::outcome(cells, out, words),
-        NAMED => print::named_outcome(memory, cells, out, words),
-        GROUP => print::group(cells::GROUP, memory, cells),
-        ALL => print::group(cells::ALL, memory, cells),
+        NAME => print::name(cases, printer, value)?,
+        OUTCOME => print::outcome(printer, cells, out, words)?,
+        NAMED => print::named_outcome(printer, memory, cells, out, words)?,
+        GROUP => print::group(printer, cells::GROUP, memory, cells)?,
+        ALL => print::group(printer, cells::ALL, memory, cells)?,
         _ => (),
     }
+    Ok(())
 }
 
 fn mode_of(op: usize) -> usize {
@@ -189,8 +210,9 @@ fn on_calls(
     rounds::calls(mode_of(op), k, value, memory, out, words, work, cells);
 }
 
-fn act(
-    fd: i32,
+fn act<R: Read, W: Write>(
+    cases: &mut R,
+    printer: &mut W,
     op: usize,
     value: usize,
     memory: &mut [u8],
@@ -198,18 +220,19 @@ fn act(
     words: &mut [u32],
     work: &mut [u32],
     cells: &mut [u64],
-) {
+) -> io::Result<()> {
     if op < cells::REGISTERS {
         cells::set(cells, op, value);
     } else if op < FIELD {
-        on_memory(fd, op, value, memory, out, words, cells);
+        on_memory(cases, op, value, memory, out, words, cells)?;
     } else if op < HOLD {
-        on_content(fd, op, value, words, cells);
+        on_content(cases, op, value, words, cells)?;
     } else if op < ONCE {
-        on_cells(fd, op, value, memory, out, words, cells);
+        on_cells(cases, printer, op, value, memory, out, words, cells)?;
     } else {
         on_calls(op, value, memory, out, words, work, cells);
     }
+    Ok(())
 }
 
 fn two() -> [u8; 2]
@@ -231,29 +254,31 @@ fn wide(b: u8) -> usize
 }
 
 // The value whose first byte is this one.
-fn value_of(fd: i32, first: usize) -> usize {
+fn value_of<R: Read>(cases: &mut R, first: usize) -> io::Result<usize> {
     if first < 252 {
-        return first;
+        return Ok(first);
     }
     let mut s = four();
-    memory::take(fd, &mut s, 0, first - 251);
-    wide(s[0]) + wide(s[1]) * 256 + wide(s[2]) * 65536 + wide(s[3]) * 0x100_0000
+    memory::take(cases, &mut s, 0, first - 251)?;
+    Ok(wide(s[0]) + wide(s[1]) * 256 + wide(s[2]) * 65536 + wide(s[3]) * 0x100_0000)
 }
 
 // The next instruction: whether there was one.
-pub fn next(
-    fd: i32,
+pub fn next<R: Read, W: Write>(
+    cases: &mut R,
+    printer: &mut W,
     memory: &mut [u8],
     out: &mut [u8],
     words: &mut [u32],
     work: &mut [u32],
     cells: &mut [u64],
-) -> bool {
+) -> io::Result<bool> {
     let mut s = two();
-    if io::read_full(fd, &mut s) < 2 {
-        return false;
+    if reader::read_full(cases, &mut s)? < 2 {
+        return Ok(false);
     }
-    let value = value_of(fd, wide(s[1]));
-    act(fd, wide(s[0]), value, memory, out, words, work, cells);
-    true
+    let op = wide(s[0]);
+    let value = value_of(cases, wide(s[1]))?;
+    act(cases, printer, op, value, memory, out, words, work, cells)?;
+    Ok(true)
 }

@@ -2,6 +2,8 @@
 //
 // The file is a row of instructions, a number for what to do and a value; some have bytes after them. They fill a memory that stays from case
 // to case, say how much is lent, make calls, and print. Any file will do: what isn't there is passed over.
+#![tactic(auto)]
+
 ghost use Rattle.std.specs.Prelude.{◌<◌};
 
 mod beside;
@@ -20,11 +22,15 @@ mod memory;
 mod outcome;
 mod pack;
 mod print;
+mod reader;
 mod records;
 mod rounds;
 mod slices;
 mod states;
 mod terms;
+
+use std::io::{Read, Write};
+use std::{fs, io};
 
 // So many instructions at most.
 const MOST: u32 = 1000000;
@@ -37,29 +43,39 @@ fn less(left: u32, there_was: bool) -> u32
     if there_was { left - 1 } else { 0 }
 }
 
-fn run(
-    fd: i32,
+fn run<R: Read, W: Write>(
+    cases: &mut R,
+    printer: &mut W,
     memory: &mut [u8],
     out: &mut [u8],
     words: &mut [u32],
     work: &mut [u32],
     cells: &mut [u64],
-) {
+) -> io::Result<()> {
     let mut left = MOST;
     while 0 < left {
-        left = less(
-            left,
-            instructions::next(fd, memory, out, words, work, cells),
-        );
+        let there_was = instructions::next(cases, printer, memory, out, words, work, cells)?;
+        left = less(left, there_was);
     }
+    Ok(())
 }
 
-fn main() {
+// A read or a write that fails ends it with that error. What was said before is printed by then.
+fn main(rt: HostRuntime) -> io::Result<()> {
+    let mut cases = fs::open(&rt, "cases")?;
+    let mut printer = io::writer(&rt);
     let mut memory = memory::bytes();
     let mut out = memory::output();
     let mut words = memory::words();
     let mut work = memory::work();
     let mut cells = cells::none();
-    let fd = os::open_read(b"cases");
-    run(fd, &mut memory, &mut out, &mut words, &mut work, &mut cells);
+    run(
+        &mut cases,
+        &mut printer,
+        &mut memory,
+        &mut out,
+        &mut words,
+        &mut work,
+        &mut cells,
+    )
 }

@@ -31,10 +31,7 @@ pub fn unmarked_bytes(s: &[u8], from: usize, to: usize) -> usize {
     let mut count: usize = 0;
     let mut i = from;
     while i < to {
-        count = std::num::wrapping_add_usize(
-            count,
-            slices::one_if(slices::byte_at(s, i) != byte_mark(i)),
-        );
+        count = count.wrapping_add(slices::one_if(slices::byte_at(s, i) != byte_mark(i)));
         i += 1;
     }
     count
@@ -44,10 +41,7 @@ pub fn unmarked_words(s: &[u32], from: usize, to: usize) -> usize {
     let mut count: usize = 0;
     let mut i = from;
     while i < to {
-        count = std::num::wrapping_add_usize(
-            count,
-            slices::one_if(slices::word_at(s, i) != word_mark(i)),
-        );
+        count = count.wrapping_add(slices::one_if(slices::word_at(s, i) != word_mark(i)));
         i += 1;
     }
     count
@@ -57,7 +51,7 @@ fn not_zero(s: &[u32], to: usize) -> usize {
     let mut count: usize = 0;
     let mut i: usize = 0;
     while i < to {
-        count = std::num::wrapping_add_usize(count, slices::one_if(slices::word_at(s, i) != 0));
+        count = count.wrapping_add(slices::one_if(slices::word_at(s, i) != 0));
         i += 1;
     }
     count

@@ -1,7 +1,9 @@
 // The memory that the files of a case stand in, and what is lent.
 ghost use Rattle.std.specs.Prelude.{◌≡◌, ◌≤◌, length};
 
-use crate::slices;
+use crate::{reader, slices};
+use std::io;
+use std::io::Read;
 
 pub fn bytes() -> [u8; 393216]
     ensures { 393216 ≡ length result }
@@ -31,10 +33,16 @@ pub fn work() -> [u32; 16400]
 }
 
 // So many bytes of the cases go to a place of the memory.
-pub fn take(fd: i32, memory: &mut [u8], place: usize, size: usize) {
+pub fn take<R: Read>(
+    cases: &mut R,
+    memory: &mut [u8],
+    place: usize,
+    size: usize,
+) -> io::Result<()> {
     let from = slices::least(place, memory.len());
     let n = slices::least(size, memory.len() - from);
-    io::read_full(fd, &mut memory[from..from + n]);
+    reader::read_full(cases, &mut memory[from..from + n])?;
+    Ok(())
 }
 
 fn mask(bit: usize) -> u8 {

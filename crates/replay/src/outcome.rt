@@ -37,7 +37,7 @@ pub const ASKED: usize = 11;
 
 // 0 or the refusal's number; the two values, of which a refusal's detail is the first; how much was written, a digest of it; and at how many
 // places of an output that the call alone knows the marks are not as they should be.
-#[derive(Drop)]
+#[derive(Clone, Copy)]
 pub struct Outcome {
     pub form: usize,
     pub number: usize,

@@ -186,7 +186,7 @@ fn turns(
 }
 
 // The places of an instruction's calls.
-#[derive(Drop)]
+#[derive(Clone, Copy)]
 struct Places {
     first: usize,
     stride: usize,

@@ -13,7 +13,7 @@ const STEPS_MOST: usize = 16;
 const PAIRS_MOST: usize = 8192;
 
 // A pair that is drawn: its place in the content, its code as in a list of `content`, the state after the one before it.
-#[derive(Drop)]
+#[derive(Clone, Copy)]
 struct Pair {
     place: usize,
     code: usize,
@@ -113,7 +113,7 @@ fn over_masks(start: u64, d: usize, limit: usize, work: &[u32]) -> u64 {
 }
 
 // What was seen so far: how many steps settled something, the items that are settled, and a digest of the states.
-#[derive(Drop)]
+#[derive(Clone, Copy)]
 struct Seen {
     steps: usize,
     settled: u32,
