@@ -1,33 +1,36 @@
 // Answers the file `question` by the extracts that the file `set` names, their numbers in decimal, from the file `book`, which belongs to the file
 // `catalogue` and to the set of its extracts that are matched one-way, which the file `one_way` has, all in the folder it is run in, and writes the
 // file `answer` there.
-use folder::{files, lent};
+#![tactic(auto)]
 
-fn main() {
+use folder::{files, lent};
+use std::io;
+
+fn main(rt: HostRuntime) -> io::Result<()> {
     let mut question = lent::question_bytes();
     let mut catalogue = lent::catalogue_bytes();
     let mut book = lent::sheet_bytes();
     let mut answer = lent::output_bytes();
     let mut work = lent::work_words();
-    let one_way = folder::extracts(b"one_way");
+    let one_way = folder::extracts(&rt, b"one_way");
     if !one_way.good {
-        return;
+        return Ok(());
     }
-    let set = folder::extracts(b"set");
+    let set = folder::extracts(&rt, b"set");
     if !set.good {
-        return;
+        return Ok(());
     }
-    let n = files::read(b"question", &mut question);
-    let m = files::read(b"catalogue", &mut catalogue);
-    let k = files::read(b"book", &mut book);
+    let n = files::read(&rt, b"question", &mut question);
+    let m = files::read(&rt, b"catalogue", &mut catalogue);
+    let k = files::read(&rt, b"book", &mut book);
     let reply = answering::answer_from(
-        &question[0..n],
-        &catalogue[0..m],
+        &question[..n],
+        &catalogue[..m],
         one_way.set,
         set.set,
-        &book[0..k],
+        &book[..k],
         &mut answer,
         &mut work,
     );
-    folder::finish(reply, &answer, b"answer", b"answer.new");
+    folder::finish(&rt, reply, &answer, b"answer", b"answer.new")
 }

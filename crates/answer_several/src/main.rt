@@ -1,56 +1,64 @@
 // Answers the questions of the file `questions`, as many as the file `number` says in decimal, from the file `book`, which belongs to the file
 // `catalogue` and to the set of its extracts that are matched one-way, which the file `one_way` has, all in the folder it is run in, and writes the
 // file `answers` there: the answers one after the other.
+#![tactic(auto)]
+
 use answering::several::Several;
 use folder::{files, lent, lines, numbers};
+use std::io;
+use std::rt::Files;
 
-fn finish(found: Several, answers: &[u8]) {
+fn finish(rt: &(impl Files + Print + Eprint), found: Several, answers: &[u8]) -> io::Result<()> {
     match found {
-        Several::Done(n, sheets) => keep(answers, n, sheets),
-        Several::Refused(x) => lines::refused(x),
+        Several::Done(n, sheets) => keep(rt, answers, n, sheets),
+        Several::Refused(x) => lines::refused(rt, x),
     }
 }
 
 // The first n bytes become the file; a call never answers more than it was lent. The line also says how many sheets of the book were needed.
-fn keep(answers: &[u8], n: usize, sheets: u32) {
+fn keep(
+    rt: &(impl Files + Print + Eprint),
+    answers: &[u8],
+    n: usize,
+    sheets: u32,
+) -> io::Result<()> {
     if answers.len() < n {
-        lines::failed(b"answers");
-        return;
+        lines::failed(rt, b"answers");
+        return Ok(());
     }
-    if files::write(b"answers", b"answers.new", &answers[0..n]) {
-        lines::written(b"answers", n);
-        lines::say(b", ");
-        lines::number(sheets as usize);
-        lines::say(b" sheets\n");
+    if files::write(rt, b"answers", b"answers.new", &answers[..n]) {
+        lines::written(rt, b"answers", n)?;
+        println!(rt; ", {sheets} sheets")?;
     }
+    Ok(())
 }
 
-fn main() {
+fn main(rt: HostRuntime) -> io::Result<()> {
     let mut questions = lent::questions_bytes();
     let mut catalogue = lent::catalogue_bytes();
     let mut book = lent::sheet_bytes();
     let mut answers = lent::answers_bytes();
     let mut work = lent::work_words();
-    let number = numbers::read_number(b"number");
+    let number = numbers::read_number(&rt, b"number");
     if !number.good {
-        lines::failed(b"number");
-        return;
+        lines::failed(&rt, b"number");
+        return Ok(());
     }
-    let one_way = folder::extracts(b"one_way");
+    let one_way = folder::extracts(&rt, b"one_way");
     if !one_way.good {
-        return;
+        return Ok(());
     }
-    let n = files::read(b"questions", &mut questions);
-    let m = files::read(b"catalogue", &mut catalogue);
-    let k = files::read(b"book", &mut book);
+    let n = files::read(&rt, b"questions", &mut questions);
+    let m = files::read(&rt, b"catalogue", &mut catalogue);
+    let k = files::read(&rt, b"book", &mut book);
     let found = answering::answer_several(
-        &questions[0..n],
+        &questions[..n],
         number.value,
-        &catalogue[0..m],
+        &catalogue[..m],
         one_way.set,
-        &book[0..k],
+        &book[..k],
         &mut answers,
         &mut work,
     );
-    finish(found, &answers);
+    finish(&rt, found, &answers)
 }

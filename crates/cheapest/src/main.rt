@@ -1,22 +1,25 @@
 // Finds the cheapest extracts of the file `catalogue` that cover the file `question`, by the file `charges`, which has a decimal number a line for
 // each extract; the file `one_way` names the extracts that are matched one-way. All are in the folder it is run in. Prints the extracts and what they
 // cost.
+#![tactic(auto)]
+
 use containment::costing::Cheapest;
 use folder::{files, lent, lines, numbers};
 use packed::reply::Refusal;
+use std::io;
 
 // Of too many charges no more are lent than show it: all are counted here.
-fn say_refused(x: Refusal, charges: usize) {
+fn say_refused(rt: &impl Print, x: Refusal, charges: usize) -> io::Result<()> {
     match x {
-        Refusal::WrongCharges(_) => lines::refused(Refusal::WrongCharges(charges)),
-        _ => lines::refused(x),
+        Refusal::WrongCharges(_) => lines::refused(rt, Refusal::WrongCharges(charges)),
+        _ => lines::refused(rt, x),
     }
 }
 
-fn say(c: Cheapest, charges: usize) {
+fn say(rt: &impl Print, c: Cheapest, charges: usize) -> io::Result<()> {
     match c {
-        Cheapest::Of(set, sum, _) => lines::cheapest(set, sum),
-        Cheapest::Refused(x) => say_refused(x, charges),
+        Cheapest::Of(set, sum, _) => lines::cheapest(rt, set, sum),
+        Cheapest::Refused(x) => say_refused(rt, x, charges),
     }
 }
 
@@ -30,32 +33,32 @@ fn find(
     work: &mut [u32],
 ) -> Cheapest {
     let n = lent::least(count, charges.len());
-    containment::cheapest(question, catalogue, one_way, &charges[0..n], work)
+    containment::cheapest(question, catalogue, one_way, &charges[..n], work)
 }
 
-fn main() {
+fn main(rt: HostRuntime) -> io::Result<()> {
     let mut question = lent::question_bytes();
     let mut catalogue = lent::catalogue_bytes();
     let mut charges = lent::charge_words();
     let mut work = lent::work_words();
-    let one_way = folder::extracts(b"one_way");
+    let one_way = folder::extracts(&rt, b"one_way");
     if !one_way.good {
-        return;
+        return Ok(());
     }
-    let text = numbers::read_list(b"charges", &mut charges);
+    let text = numbers::read_list(&rt, b"charges", &mut charges);
     if !text.good {
-        lines::failed_at(b"charges", text.count);
-        return;
+        lines::failed_at(&rt, b"charges", text.count);
+        return Ok(());
     }
-    let n = files::read(b"question", &mut question);
-    let m = files::read(b"catalogue", &mut catalogue);
+    let n = files::read(&rt, b"question", &mut question);
+    let m = files::read(&rt, b"catalogue", &mut catalogue);
     let c = find(
-        &question[0..n],
-        &catalogue[0..m],
+        &question[..n],
+        &catalogue[..m],
         one_way.set,
         &charges,
         text.count,
         &mut work,
     );
-    say(c, text.count);
+    say(&rt, c, text.count)
 }

@@ -2,6 +2,8 @@
 // each extract, and `day`; `one_way` names the extracts that are matched one-way. Which call its argument says, of which the first letter counts:
 // `quote` prints the quote, `cheapest` the cheapest set by the file `charges`, `part` writes `part` and `part_answer` from the file `book`, `show`
 // writes `first` and `second`, `first` prints the first day not before the given one.
+#![tactic(auto)]
+
 use containment::costing::Cheapest;
 use containment::days::FirstDay;
 use containment::terms::Terms;
@@ -9,29 +11,39 @@ use folder::days::Days;
 use folder::{both, days, files, lent, lines, numbers};
 use listing::print;
 use packed::reply::{Both, Refusal};
+use std::env::Env;
+use std::io;
+use std::rt::Files;
 
 // Of too many charges no more are lent than show it: all are counted here.
-fn say_refused(x: Refusal, charges: usize) {
+fn say_refused(rt: &impl Print, x: Refusal, charges: usize) -> io::Result<()> {
     match x {
-        Refusal::WrongCharges(_) => lines::refused(Refusal::WrongCharges(charges)),
-        _ => lines::refused(x),
+        Refusal::WrongCharges(_) => lines::refused(rt, Refusal::WrongCharges(charges)),
+        _ => lines::refused(rt, x),
     }
 }
 
-fn say_cheapest(c: Cheapest, charges: usize) {
+fn say_cheapest(rt: &impl Print, c: Cheapest, charges: usize) -> io::Result<()> {
     match c {
-        Cheapest::Of(set, sum, _) => lines::cheapest(set, sum),
-        Cheapest::Refused(x) => say_refused(x, charges),
+        Cheapest::Of(set, sum, _) => lines::cheapest(rt, set, sum),
+        Cheapest::Refused(x) => say_refused(rt, x, charges),
     }
 }
 
-fn cheapest(question: &[u8], catalogue: &[u8], one_way: u16, t: Terms, day: u16) {
+fn cheapest(
+    rt: &(impl Files + Print + Eprint),
+    question: &[u8],
+    catalogue: &[u8],
+    one_way: u16,
+    t: Terms,
+    day: u16,
+) -> io::Result<()> {
     let mut charges = lent::charge_words();
     let mut work = lent::work_words();
-    let text = numbers::read_list(b"charges", &mut charges);
+    let text = numbers::read_list(rt, b"charges", &mut charges);
     if !text.good {
-        lines::failed_at(b"charges", text.count);
-        return;
+        lines::failed_at(rt, b"charges", text.count);
+        return Ok(());
     }
     let n = lent::least(text.count, charges.len());
     let c = containment::cheapest_on(
@@ -40,20 +52,34 @@ fn cheapest(question: &[u8], catalogue: &[u8], one_way: u16, t: Terms, day: u16)
         one_way,
         t,
         day,
-        &charges[0..n],
+        &charges[..n],
         &mut work,
     );
-    say_cheapest(c, text.count);
+    say_cheapest(rt, c, text.count)
 }
 
-fn quote(question: &[u8], catalogue: &[u8], one_way: u16, t: Terms, day: u16) {
+fn quote(
+    rt: &impl Print,
+    question: &[u8],
+    catalogue: &[u8],
+    one_way: u16,
+    t: Terms,
+    day: u16,
+) -> io::Result<()> {
     let mut work = lent::work_words();
-    print::quote(containment::quote_on(question, catalogue, one_way, t, day, &mut work));
+    let q = containment::quote_on(question, catalogue, one_way, t, day, &mut work);
+    print::quote(rt, q)
 }
 
-fn finish_part(found: Both, part: &[u8], answer: &[u8]) {
+fn finish_part(
+    rt: &(impl Files + Print + Eprint),
+    found: Both,
+    part: &[u8],
+    answer: &[u8],
+) -> io::Result<()> {
     match found {
         Both::Done(n, m) => both::keep(
+            rt,
             part,
             n,
             b"part",
@@ -64,33 +90,46 @@ fn finish_part(found: Both, part: &[u8], answer: &[u8]) {
             b"part_answer.new",
             b"part_answer/",
         ),
-        Both::Refused(x) => lines::refused(x),
+        Both::Refused(x) => lines::refused(rt, x),
     }
 }
 
-fn part(question: &[u8], catalogue: &[u8], one_way: u16, t: Terms, day: u16) {
+fn part(
+    rt: &(impl Files + Print + Eprint),
+    question: &[u8],
+    catalogue: &[u8],
+    one_way: u16,
+    t: Terms,
+    day: u16,
+) -> io::Result<()> {
     let mut book = lent::sheet_bytes();
     let mut part = lent::part_bytes();
     let mut answer = lent::output_bytes();
     let mut work = lent::work_words();
-    let k = files::read(b"book", &mut book);
+    let k = files::read(rt, b"book", &mut book);
     let found = answering::part_on(
         question,
         catalogue,
         one_way,
         t,
         day,
-        &book[0..k],
+        &book[..k],
         &mut part,
         &mut answer,
         &mut work,
     );
-    finish_part(found, &part, &answer);
+    finish_part(rt, found, &part, &answer)
 }
 
-fn finish_show(shown: Both, first: &[u8], second: &[u8]) {
+fn finish_show(
+    rt: &(impl Files + Print + Eprint),
+    shown: Both,
+    first: &[u8],
+    second: &[u8],
+) -> io::Result<()> {
     match shown {
         Both::Done(n, m) => both::keep(
+            rt,
             first,
             n,
             b"first",
@@ -101,11 +140,18 @@ fn finish_show(shown: Both, first: &[u8], second: &[u8]) {
             b"second.new",
             b"second/",
         ),
-        Both::Refused(x) => lines::refused(x),
+        Both::Refused(x) => lines::refused(rt, x),
     }
 }
 
-fn show(question: &[u8], catalogue: &[u8], one_way: u16, t: Terms, day: u16) {
+fn show(
+    rt: &(impl Files + Print + Eprint),
+    question: &[u8],
+    catalogue: &[u8],
+    one_way: u16,
+    t: Terms,
+    day: u16,
+) -> io::Result<()> {
     let mut first = lent::shown_bytes();
     let mut second = lent::shown_bytes();
     let mut work = lent::work_words();
@@ -119,24 +165,28 @@ fn show(question: &[u8], catalogue: &[u8], one_way: u16, t: Terms, day: u16) {
         &mut second,
         &mut work,
     );
-    finish_show(shown, &first, &second);
+    finish_show(rt, shown, &first, &second)
 }
 
-fn say_first_day(f: FirstDay) {
+fn say_first_day(rt: &impl Print, f: FirstDay) -> io::Result<()> {
     match f {
-        FirstDay::On(day) => {
-            lines::say(b"first day ");
-            lines::number(day as usize);
-            lines::say(b"\n");
-        }
-        FirstDay::Never => lines::say(b"first day none\n"),
-        FirstDay::Refused(x) => lines::refused(x),
+        FirstDay::On(day) => println!(rt; "first day {day}"),
+        FirstDay::Never => lines::say(rt, b"first day none\n"),
+        FirstDay::Refused(x) => lines::refused(rt, x),
     }
 }
 
-fn first_day(question: &[u8], catalogue: &[u8], one_way: u16, t: Terms, day: u16) {
+fn first_day(
+    rt: &impl Print,
+    question: &[u8],
+    catalogue: &[u8],
+    one_way: u16,
+    t: Terms,
+    day: u16,
+) -> io::Result<()> {
     let mut work = lent::work_words();
-    say_first_day(containment::first_day(question, catalogue, one_way, t, day, &mut work));
+    let f = containment::first_day(question, catalogue, one_way, t, day, &mut work);
+    say_first_day(rt, f)
 }
 
 fn terms_of(d: Days) -> Terms {
@@ -149,47 +199,70 @@ fn terms_of(d: Days) -> Terms {
     }
 }
 
-fn make(letter: u8, question: &[u8], catalogue: &[u8], one_way: u16, t: Terms, day: u16) {
+fn make(
+    rt: &(impl Files + Print + Eprint),
+    letter: u8,
+    question: &[u8],
+    catalogue: &[u8],
+    one_way: u16,
+    t: Terms,
+    day: u16,
+) -> io::Result<()> {
     match letter {
-        b'q' => quote(question, catalogue, one_way, t, day),
-        b'c' => cheapest(question, catalogue, one_way, t, day),
-        b'p' => part(question, catalogue, one_way, t, day),
-        b's' => show(question, catalogue, one_way, t, day),
-        b'f' => first_day(question, catalogue, one_way, t, day),
-        _ => lines::failed(b"argument"),
+        b'q' => quote(rt, question, catalogue, one_way, t, day),
+        b'c' => cheapest(rt, question, catalogue, one_way, t, day),
+        b'p' => part(rt, question, catalogue, one_way, t, day),
+        b's' => show(rt, question, catalogue, one_way, t, day),
+        b'f' => first_day(rt, question, catalogue, one_way, t, day),
+        _ => {
+            lines::failed(rt, b"argument");
+            Ok(())
+        }
     }
 }
 
 // What the text files say is there; the others are read here.
-fn run(letter: u8, one_way: u16, t: Terms, day: u16) {
+fn run(
+    rt: &(impl Files + Print + Eprint),
+    letter: u8,
+    one_way: u16,
+    t: Terms,
+    day: u16,
+) -> io::Result<()> {
     let mut question = lent::question_bytes();
     let mut catalogue = lent::catalogue_bytes();
-    let n = files::read(b"question", &mut question);
-    let m = files::read(b"catalogue", &mut catalogue);
-    make(letter, &question[0..n], &catalogue[0..m], one_way, t, day);
+    let n = files::read(rt, b"question", &mut question);
+    let m = files::read(rt, b"catalogue", &mut catalogue);
+    make(rt, letter, &question[..n], &catalogue[..m], one_way, t, day)
 }
 
-fn main() {
+// The first letter of the argument, 0 where there is none. Of a longer one than there is room for the first letters are there all the same.
+fn letter(env: &impl Env) -> u8 {
     let mut word = [0u8; 16];
-    os::arg(1, &mut word);
-    let one_way = folder::extracts(b"one_way");
+    let _ = env.arg(1, &mut word);
+    word[0]
+}
+
+fn main(rt: HostRuntime) -> io::Result<()> {
+    let one_way = folder::extracts(&rt, b"one_way");
     if !one_way.good {
-        return;
+        return Ok(());
     }
-    let d = days::read_days(b"terms");
+    let d = days::read_days(&rt, b"terms");
     if !d.good {
-        lines::failed_at(b"terms", d.count);
-        return;
+        lines::failed_at(&rt, b"terms", d.count);
+        return Ok(());
     }
-    let day = numbers::read_number(b"day");
+    let day = numbers::read_number(&rt, b"day");
     if !day.good | (65535 < day.value) {
-        lines::failed(b"day");
-        return;
+        lines::failed(&rt, b"day");
+        return Ok(());
     }
     run(
-        word[0],
+        &rt,
+        letter(&rt),
         one_way.set,
         terms_of(d),
         (day.value % 0x1_0000) as u16,
-    );
+    )
 }

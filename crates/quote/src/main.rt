@@ -1,13 +1,17 @@
 // Quotes the file `question` with the file `catalogue`, both in the folder it is run in, and prints the listing or the refusal. All extracts are
 // matched both ways.
+#![tactic(auto)]
+
 use folder::{files, lent};
 use listing::print;
+use std::io;
 
-fn main() {
+fn main(rt: HostRuntime) -> io::Result<()> {
     let mut question = lent::question_bytes();
     let mut catalogue = lent::catalogue_bytes();
     let mut work = lent::work_words();
-    let n = files::read(b"question", &mut question);
-    let m = files::read(b"catalogue", &mut catalogue);
-    print::quote(containment::quote(&question[0..n], &catalogue[0..m], 0, &mut work));
+    let n = files::read(&rt, b"question", &mut question);
+    let m = files::read(&rt, b"catalogue", &mut catalogue);
+    let q = containment::quote(&question[..n], &catalogue[..m], 0, &mut work);
+    print::quote(&rt, q)
 }
