@@ -56,7 +56,7 @@ def _package() -> Iterator[tuple[str, bytes]]:
 def _made() -> Iterator[tuple[str, bytes]]:
     """What is built: the module, and the tables of DOT's grammar."""
     if not os.path.exists(ARCHIVE):
-        sys.exit(f"{ARCHIVE} is missing: rt staticlib yuthaqim makes it")
+        sys.exit(f"{ARCHIVE} is missing: tools/build archive makes it")
     import build
 
     with tempfile.TemporaryDirectory() as room:

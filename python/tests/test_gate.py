@@ -13,9 +13,11 @@ from conftest import TOP
 RT = """\
 #!/bin/bash
 case $1 in
-ci) printf 'rt: packed proved (1 s)\\nrt: ran\\n%s\\n' "${LAST:-3 passed, 0 failed}"; exit "${ENDED:-0}" ;;
-staticlib) echo 'rt: packed proved (1 s)'; echo 'rt: the archive is made'; [ -z "${LOST:-}" ] || exit 1
-    mkdir -p target/staticlib; cp "$ARCHIVE" target/staticlib ;;
+ci) printf 'rt: packed proved\\nrt: ok; must-fail edits: 2 refused%s\\n%s\\n' "${BAD:-}" "${LAST:-3 passed, 0 failed}"
+    mkdir -p crates/quote/out; touch crates/quote/out/quote; exit "${ENDED:-0}" ;;
+lib) printf 'rt: chose --jobs 1 for packed\\nlogic=proved functions=1\\nrt: chose --jobs 1 for yuthaqim_c\\n'
+    [ -z "${LOST:-}" ] || { echo logic=not-proved; exit 1; }
+    echo 'logic=proved functions=1'; mkdir -p out; cp "$ARCHIVE" out/libyuthaqim_c.a ;;
 esac
 """
 
@@ -23,12 +25,14 @@ esac
 @pytest.fixture
 def checkout(tmp_path: Path) -> Path:
     """A checkout with an `rt` of its own, and tests that say what they are told to."""
-    for name in ("bin", "python", "include", "samples"):
+    for name in ("bin", "tools", "python", "include", "samples"):
         shutil.copytree(TOP / name, tmp_path / name, symlinks=True)
     shutil.copytree(TOP / ".ci", tmp_path / ".ci")
-    (tmp_path / "crates").mkdir()
+    (tmp_path / "crates" / "quote" / "src").mkdir(parents=True)
+    (tmp_path / "crates" / "yuthaqim_c").mkdir()
+    (tmp_path / "crates" / "quote" / "src" / "main.rt").touch()
     (tmp_path / "crates.txt").touch()
-    for path in (tmp_path / "crates", tmp_path / "crates.txt"):
+    for path in (tmp_path / "crates.txt", tmp_path / "crates", *(tmp_path / "crates").rglob("*")):
         os.utime(path, (1, 1))
     (tmp_path / "tests" / "c").mkdir(parents=True)
     for name, said in (("programs", "455 cases right"), ("c/run", "0 wrong"), ("people", "400 passed")):
@@ -55,19 +59,27 @@ def test_the_gate_ends_with_the_line_of_rt_ci(checkout: Path) -> None:
     status, out, _ = run(checkout, ".ci/run")
     assert status == 0
     assert out.splitlines() == [
-        "rt: packed proved (1 s)",
-        "rt: ran",
-        "rt staticlib yuthaqim: rt: the archive is made",
+        "rt: packed proved",
+        "rt: ok; must-fail edits: 2 refused",
+        "tools/build archive: target/staticlib/libyuthaqim.a is built",
         "tests/programs: 455 cases right",
         "tests/c/run: 0 wrong",
         "tests/people: 400 passed",
         "3 passed, 0 failed",
     ]
+    assert (checkout / "target" / "bin" / "quote").exists()
 
 
 def test_the_gate_fails_as_rt_ci_does(checkout: Path) -> None:
     status, out, _ = run(checkout, ".ci/run", ENDED="1", LAST="2 passed, 1 failed")
-    assert status == 1 and out.splitlines() == ["rt: packed proved (1 s)", "rt: ran", "2 passed, 1 failed"]
+    assert status == 1
+    assert out.splitlines() == ["rt: packed proved", "rt: ok; must-fail edits: 2 refused", "2 passed, 1 failed"]
+
+
+def test_the_gate_fails_where_an_edit_is_bad(checkout: Path) -> None:
+    status, out, _ = run(checkout, ".ci/run", BAD=", 1 bad")
+    assert status == 1 and out.splitlines()[-1] == "rt ci failed nothing, but a must-fail edit is bad, as told above"
+    assert not (checkout / "target").exists()
 
 
 @pytest.mark.parametrize("name", ["programs", "c/run", "people"])
@@ -91,20 +103,23 @@ def test_the_first_run_builds(checkout: Path) -> None:
     assert (status, out) == (0, "question 4 items, 4 links; 3 extracts; record 12 items, 11 links: accepted\n")
     assert err.splitlines() == [
         "yuthaqim: the library is proved first, which takes about twelve minutes. Each crate is named when it is proved:",
-        "rt: packed proved (1 s)",
+        "packed is being proved",
+        "packed proved",
+        "yuthaqim_c is being proved",
+        "yuthaqim_c proved",
     ]
     assert run(checkout, "bin/yuthaqim", "check", "samples/people")[2] == ""
     (checkout / "crates" / "changed").touch()
-    assert "rt: packed proved" in run(checkout, "bin/yuthaqim", "check", "samples/people")[2]
+    assert "packed proved" in run(checkout, "bin/yuthaqim", "check", "samples/people")[2]
 
 
 def test_a_library_that_is_not_proved(checkout: Path) -> None:
     status, out, err = run(checkout, "bin/yuthaqim", "check", "samples/people", LOST="1")
-    assert status == 3 and out == "" and err.splitlines()[-1] == "rt: the archive is made"
+    assert status == 3 and out == "" and err.splitlines()[-1] == "logic=not-proved"
 
 
 def test_no_kit(checkout: Path) -> None:
-    tools = checkout / "tools"
+    tools = checkout / "few"
     tools.mkdir()
     for tool in ("bash", "dirname", "readlink", "find", "env"):
         (tools / tool).symlink_to(str(shutil.which(tool)))
