@@ -392,7 +392,7 @@ pub record Demand1 : Type 0 where
   pub commit : (r : List ℕ) (s : State) (p : Slip) (room room' words : ℕ) → Settles (with_workspace words (commit_outcome r s p room room'))
   -- a call that there is for a day too is meant both ways
   pub quote : (w : When) (q : List ℕ) (c : Brought) (words : ℕ) → Settles (with_workspace words (quote_when w q c))
-  -- both calls that answer: `answerFrom` and `answerOutcome` are `answerBy` with the set that the client names and with the one that is used else
+  -- both calls that answer: `answer_from` and `answer_outcome` are `answer_by` with the set that the client names and with the one that is used else
   pub answer : (choose : Choose) (q : List ℕ) (c : Brought) (b : List ℕ) (room words : ℕ) → Settles (with_workspace words (answer_by choose q c b room))
   pub show : (w : When) (q : List ℕ) (c : Brought) (room room' words : ℕ) → Settles (with_workspace words (show_when w q c room room'))
   pub part : (w : When) (q : List ℕ) (c : Brought) (b : List ℕ) (room room' words : ℕ) → Settles (with_workspace words (part_when w q c b room room'))
@@ -1176,7 +1176,7 @@ pub record Cheapests : Type 0 where
       → (qs : List ℕ) × (cs : Offered) × Question q qs × Catalogue c cs × Timely cs w
 
 -- ---- what holds of calls for a day alone. "A quote for a day uses only extracts in force, and `uncovered` then says that those in force don't suffice, with
--- T-01 and T-08 read likewise": what holds both ways stands above, of quotes in demand 2, of showings in demand 3 and `no-other-way-in`, of the part and of the
+-- T-01 and T-08 read likewise": what holds both ways stands above, of quotes in demand 2, of showings in demand 3 and `no_other_way_in`, of the part and of the
 -- cheapest set.
 
 -- the numbers that a list of terms is handed on as: its length, and the days of its first sixteen entries

@@ -40,7 +40,7 @@ unfolding emptied each
 emptied_each f [] = refl
 emptied_each f (x ∷ l) = ap (λ ls. [] ∷ ls) (emptied_each f l)
 
--- both cases of `allOrNone`
+-- both cases of `all_or_none`
 pub all_or_none_case : (Q : List (List ℕ) → Type 0) (ls : List (List ℕ)) → (((l : List ℕ) → In l ls → 0 < length l) → Q ls) → ((l : List ℕ) × In l ls × (length l ≡ 0) → Q (emptied ls)) → Q (all_or_none ls)
 unfolding all_or_none
 all_or_none_case Q ls f g = step (any_empty ls) (λ e. f (none_empty ls e)) (λ e. g (one_empty ls e))

@@ -52,15 +52,15 @@ ascending_none = refl
 -- lists with the same members have the same codes
 pub ascending_same : (l m : List Pair) → ((f : Pair) → In f l → In f m) → ((f : Pair) → In f m → In f l) → ascending l ≡ ascending m
 unfolding ascending
-ascending_same l m p q = distinct_same _ _ λ z. rule_both_ways (over l m p z) (over m l q z)
+ascending_same l m p q = distinct_same _ _ λ z. implied_same (over l m p z) (over m l q z)
   where
     over : (a b : List Pair) → ((f : Pair) → In f a → In f b) → (z : ℕ) → member z (each (λ f. code f.0 f.1) a) ≡ true → member z (each (λ f. code f.0 f.1) b) ≡ true
     over a b h z t = let r = each_in (λ f. code f.0 f.1) a (member_in _ t) in in_member (subst (λ c. In c (each (λ f. code f.0 f.1) b)) (sym r.2) (in_each (λ f. code f.0 f.1) (h r.0 r.1)))
 
-    rule_both_ways : {b c : Bool} → (b ≡ true → c ≡ true) → (c ≡ true → b ≡ true) → b ≡ c
-    rule_both_ways {b = true} f g = sym (f refl)
-    rule_both_ways {b = false} {c = true} f g = g refl
-    rule_both_ways {b = false} {c = false} f g = refl
+    implied_same : {b c : Bool} → (b ≡ true → c ≡ true) → (c ≡ true → b ≡ true) → b ≡ c
+    implied_same {b = true} f g = sym (f refl)
+    implied_same {b = false} {c = true} f g = g refl
+    implied_same {b = false} {c = false} f g = refl
 
 -- ---- order and length
 pub ascending_increasing : (l : List Pair) → Increasing (ascending l)

@@ -27,7 +27,7 @@ lowest_of x n l =
     let h = lowest_has 32 x (⊎_elim (λ (z : 0 < x). z) (λ (z : x ≤ 0). absurd (n (omega arith))) (lt_or_ge 0 x)) l in
     (h.0, h.1, lowest_least 32 x)
 
--- arrays of nothing-at
+-- arrays of `nothing_at`
 pub room_blank : (k n : ℕ) {leave arrive out : List ℕ} → n ≤ k → leave ≡ replicate k 0 → arrive ≡ replicate k 0 → out ≡ replicate k 0 → NodeRoom n leave arrive out
 room_blank k n l a b c =
     let z = blank_long k c in

@@ -157,12 +157,12 @@ module _ (e : Edge) (es fewer : List ℕ) (narrow : NarrowEdges (edges_in es)) (
 
   members : (z : ℕ) → member z (distinct (ranks fewer)) ≡ member z (keep u (distinct (ranks es)))
   members z =
-      rule_both_ways (member z (distinct (ranks fewer))) (member z (keep u (distinct (ranks es)))) (λ h. in_member (to z (member_in _ h))) (λ h. in_member (by z (member_in _ h)))
+      implied_same (member z (distinct (ranks fewer))) (member z (keep u (distinct (ranks es)))) (λ h. in_member (to z (member_in _ h))) (λ h. in_member (by z (member_in _ h)))
     where
-      rule_both_ways : (a b : Bool) → (a ≡ true → b ≡ true) → (b ≡ true → a ≡ true) → a ≡ b
-      rule_both_ways true b f g = sym (f refl)
-      rule_both_ways false true f g = g refl
-      rule_both_ways false false f g = refl
+      implied_same : (a b : Bool) → (a ≡ true → b ≡ true) → (b ≡ true → a ≡ true) → a ≡ b
+      implied_same true b f g = sym (f refl)
+      implied_same false true f g = g refl
+      implied_same false false f g = refl
 
   ranks_but : distinct (ranks fewer) ≡ keep u (distinct (ranks es))
   ranks_but = increasing_unique _ _ (distinct_increasing (ranks fewer)) (keep_increasing u (distinct (ranks es)) (distinct_increasing (ranks es))) members

@@ -1,4 +1,4 @@
--- `bits::get_bytes` meets its contract. The invariant: v is the number of the first i bytes.
+-- `bits::get_bytes` meets its contract.
 use mathlib.Core.Path.{◌≡◌, sym, ◌∙◌}
 use Prim.Native.Nat.{◌+◌, ◌*◌}
 use native.Mathlib.Omega.{arith}

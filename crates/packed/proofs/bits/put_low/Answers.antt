@@ -1,4 +1,4 @@
--- `bits::put_low` meets its contract. The invariant: all but the bits left are written, up to the byte p.
+-- `bits::put_low` meets its contract.
 use mathlib.Core.Path.{◌∙◌, refl}
 use Prim.Native.Nat.{◌*◌}
 use native.Mathlib.Omega.{arith}

@@ -1,5 +1,4 @@
 -- `packed::catalogue::edge_counts` meets its contract.
--- `packed::catalogue::edge_counts` meets its contract.
 use borrow.Author.Tests.{ltb-true}
 use Prim.Native.Nat.{◌<◌}
 use Rattle.packed.proofs.RoundTrip.{and_yes}

@@ -1,5 +1,4 @@
 -- `packed::catalogue::edge_counts` meets its contract.
--- `packed::catalogue::edge_counts` meets its contract.
 use Prim.Native.Nat.{◌+◌, ◌-◌, ◌*◌, ◌≤◌}
 use Rattle.packed.proofs.EdgeCounts.{Counting}
 use Rattle.packed.proofs.catalogue.edge_counts.Given as goal

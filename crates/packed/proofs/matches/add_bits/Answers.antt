@@ -1,4 +1,4 @@
--- `packed::matches::add_bits` meets its contract. The invariant: the first k bits were looked at.
+-- `packed::matches::add_bits` meets its contract.
 use Prim.Native.Nat.{◌+◌}
 use mathlib.Core.Path.{sym}
 use native.Mathlib.Omega.{arith}

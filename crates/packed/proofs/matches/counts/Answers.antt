@@ -1,4 +1,4 @@
--- `packed::matches::counts` meets its contract. The invariant: the first i masks were counted.
+-- `packed::matches::counts` meets its contract.
 use mathlib.Core.Path.{◌≡◌}
 use native.Mathlib.Omega.{arith}
 use Rattle.packed.proofs.MatchLaws.{counts_start, counts_next, counts_most, counts_few}

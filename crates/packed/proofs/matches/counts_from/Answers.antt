@@ -1,4 +1,4 @@
--- `packed::matches::counts_from` meets its contract. The invariant: the first e of the counts were copied.
+-- `packed::matches::counts_from` meets its contract.
 use mathlib.Core.Path.{◌≡◌}
 use native.Mathlib.Omega.{arith}
 use Rattle.packed.proofs.MatchLaws.{part_start, part_next}

@@ -1,4 +1,4 @@
--- `packed::matches::is_none` meets its contract. The invariant: the first e counts were looked at.
+-- `packed::matches::is_none` meets its contract.
 use Prim.Native.Nat.{ℕ}
 use mathlib.Core.Path.{◌≡◌, refl, ap, sym, ◌∙◌}
 use mathlib.Core.Bool.{Bool, ◌||◌}

@@ -1,4 +1,4 @@
--- `packed::matches::named` meets its contract. The invariant: the first i masks were looked at.
+-- `packed::matches::named` meets its contract.
 use Prim.Native.Nat.{◌+◌}
 use mathlib.Core.Path.{◌≡◌}
 use native.Mathlib.Omega.{arith}

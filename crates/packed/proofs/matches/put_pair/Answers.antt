@@ -1,4 +1,4 @@
--- `packed::matches::put_pair` meets its contract. The invariant: the first k bits of the mask were looked at.
+-- `packed::matches::put_pair` meets its contract.
 use Prim.Native.Nat.{◌+◌}
 use native.Mathlib.Omega.{arith}
 use lib.Count.{count_trailing_zeros}

@@ -1,4 +1,4 @@
--- `packed::matches::sum` meets its contract. The invariant: the first e counts were added.
+-- `packed::matches::sum` meets its contract.
 use Prim.Native.Nat.{ℕ, ◌+◌}
 use mathlib.Core.Path.{◌≡◌, refl, ap, sym, ◌∙◌}
 use lib.ListN.{get_or}

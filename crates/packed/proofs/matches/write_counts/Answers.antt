@@ -1,4 +1,4 @@
--- `packed::matches::write_counts` meets its contract. The invariant: the first e counts were written.
+-- `packed::matches::write_counts` meets its contract.
 use mathlib.Core.Path.{◌≡◌, refl}
 use native.Mathlib.Omega.{arith}
 use Rattle.packed.proofs.ScatterLaws.{counts_begin, counts_bound, counts_put}

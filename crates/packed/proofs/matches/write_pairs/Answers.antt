@@ -1,4 +1,4 @@
--- `packed::matches::write_pairs` meets its contract. The invariant: the first i pairs were put.
+-- `packed::matches::write_pairs` meets its contract.
 use Prim.Native.Nat.{◌<◌, ◌+◌, ◌/◌, ◌^◌}
 use mathlib.Core.Path.{◌≡◌}
 use native.Mathlib.Omega.{arith}

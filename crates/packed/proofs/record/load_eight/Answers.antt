@@ -1,4 +1,4 @@
--- `packed::record::load_eight` meets its contract. The invariant: j edges more were read.
+-- `packed::record::load_eight` meets its contract.
 use native.Mathlib.Omega.{arith}
 use mathlib.Core.Path.{◌≡◌}
 use Prim.Native.Nat.{◌<◌}

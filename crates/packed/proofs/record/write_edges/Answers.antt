@@ -1,4 +1,4 @@
--- `packed::record::write_edges` meets its contract. The invariant: what is left are so many edges, of at least the rank `least`, of 27 bits each.
+-- `packed::record::write_edges` meets its contract.
 use mathlib.Core.Path.{refl}
 use native.Mathlib.Omega.{arith}
 use lib.Dec.{lit≤}

@@ -1,4 +1,4 @@
--- `packed::sheet::read_lists` meets its contract. The invariant: what is left are so many lists.
+-- `packed::sheet::read_lists` meets its contract.
 use mathlib.Core.Path.{refl}
 use native.Mathlib.Omega.{arith}
 use Rattle.packed.proofs.ReadingLaws.{starts, left_is}

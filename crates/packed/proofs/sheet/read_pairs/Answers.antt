@@ -1,4 +1,4 @@
--- `packed::sheet::read_pairs` meets its contract. The invariant: what is left are so many pairs, with a code of at least `least`.
+-- `packed::sheet::read_pairs` meets its contract.
 use borrow.Author.Rules.{rules}
 use mathlib.Core.Path.{refl}
 use native.Mathlib.Omega.{arith}

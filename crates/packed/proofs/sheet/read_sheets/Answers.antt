@@ -1,4 +1,4 @@
--- `packed::sheet::read_sheets` meets its contract. The invariant: what is left is the book from its sheet j on.
+-- `packed::sheet::read_sheets` meets its contract.
 use mathlib.Core.Path.{refl}
 use native.Mathlib.Omega.{arith}
 use Rattle.packed.proofs.ReadingLaws.{starts, left_is}

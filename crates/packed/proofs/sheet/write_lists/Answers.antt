@@ -1,4 +1,4 @@
--- `packed::sheet::write_lists` meets its contract. The invariant: what is left are so many lists, of at most 196622 bits each.
+-- `packed::sheet::write_lists` meets its contract.
 use mathlib.Core.Path.{refl}
 use native.Mathlib.Omega.{arith}
 use lib.Dec.{lit≤}

@@ -1,4 +1,4 @@
--- `packed::sheet::write_pairs` meets its contract. The invariant: what is left are so many pairs, with a code of at least `least`, of 24 bits each.
+-- `packed::sheet::write_pairs` meets its contract.
 use mathlib.Core.Path.{refl}
 use native.Mathlib.Omega.{arith}
 use lib.Dec.{lit≤}

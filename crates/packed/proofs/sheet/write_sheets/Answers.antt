@@ -1,4 +1,4 @@
--- `packed::sheet::write_sheets` meets its contract. The invariant: what is left is the book from its sheet j on, and each sheet took at most 800000 bytes.
+-- `packed::sheet::write_sheets` meets its contract.
 use borrow.Author.Rules.{rules}
 use mathlib.Core.Path.{refl}
 use native.Mathlib.Omega.{arith}

@@ -1,4 +1,4 @@
--- `workspace::clear` meets its contract. The invariant: the first i words are zero, the others as they were.
+-- `workspace::clear` meets its contract.
 use mathlib.Core.Path.{◌≡◌}
 use Prim.Native.Nat.{◌<◌}
 use native.Mathlib.Omega.{arith}
