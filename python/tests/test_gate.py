@@ -70,6 +70,14 @@ def test_the_gate_ends_with_the_line_of_rt_ci(checkout: Path) -> None:
     assert (checkout / "target" / "bin" / "quote").exists()
 
 
+def test_the_gate_builds_the_archive_anew(checkout: Path) -> None:
+    stale = checkout / "target" / "staticlib" / "libyuthaqim.a"
+    stale.parent.mkdir(parents=True)
+    stale.write_text("that of yesterday")
+    assert run(checkout, ".ci/run")[0] == 0
+    assert stale.read_bytes() != b"that of yesterday"
+
+
 def test_the_gate_fails_as_rt_ci_does(checkout: Path) -> None:
     status, out, _ = run(checkout, ".ci/run", ENDED="1", LAST="2 passed, 1 failed")
     assert status == 1
