@@ -4,7 +4,7 @@
  * be had from a book, showing why it is uncovered, and all that quotes for a day on which not all extracts are in force;
  * and entering a link into a record, after asking what it would change.
  *
- * Every function of this header is proved to meet its contract for every input: see crates/yuthaqim/src/lib.rt.
+ * Every function of this header is proved to meet its contract for every input: see crates/yuthaqim_c/src/lib.rt.
  *
  * What is lent. A call is lent its inputs, its outputs and words to work in, each as a pointer and a length. Lengths of
  * bytes count bytes, lengths of words count words of 32 bits, lengths of indexes count entries of 16 bits. There is no
@@ -21,10 +21,10 @@
  * before a call. Afterwards the first YUTHAQIM_WORK_WORDS of them are zero and those beyond are as they were; on
  * YUTHAQIM_DESK all of them are as they were.
  *
- * The stack, as measured on large files: sorting an old record 117,096 bytes, committing 115,568, answering several
- * questions 106,920, finding a part 99,768, answering 92,568, making a book 90,312, searching 89,144, asking 87,864,
- * searching by an index 87,288, quoting 28,968, the first day 25,016, showing 22,872, the cheapest set 22,856, checking
- * an index 8,576, reading a book 2,760, writing one 2,568, the others under 1,900. So 128 KB suffice.
+ * The stack, as measured on large files: sorting an old record 123,208 bytes, committing 115,585, answering several
+ * questions 109,304, finding a part 100,152, answering 92,504, making a book 90,792, searching 89,624, asking 88,360,
+ * searching by an index 87,864, quoting 37,192, the first day 29,144, showing 27,016, the cheapest set 26,952, checking
+ * an index 8,576, reading a book 6,776, writing one 6,648, the others under 1,900. So 128 KB suffice.
  *
  * Content is a file's fields in order, one word each, padding left out. That of a pattern or a record is the number of
  * items, the number of links, the kind of each item or in a record its kinds, and for each link its from, its to and its
