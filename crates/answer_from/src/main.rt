@@ -7,27 +7,25 @@ use folder::{files, lent};
 use std::io;
 
 fn main(rt: HostRuntime) -> io::Result<()> {
-    let mut question = lent::question_bytes();
-    let mut catalogue = lent::catalogue_bytes();
-    let mut book = lent::sheet_bytes();
-    let mut answer = lent::output_bytes();
-    let mut work = lent::work_words();
-    let one_way = folder::extracts(&rt, b"one_way");
-    if !one_way.good {
+    let mut question = [0; lent::QUESTION];
+    let mut catalogue = [0; lent::CATALOGUE];
+    let mut book = [0; lent::SHEET];
+    let mut answer = [0; lent::OUTPUT];
+    let mut work = [0; lent::WORK];
+    let Some(one_way) = folder::extracts(&rt, b"one_way") else {
         return Ok(());
-    }
-    let set = folder::extracts(&rt, b"set");
-    if !set.good {
+    };
+    let Some(set) = folder::extracts(&rt, b"set") else {
         return Ok(());
-    }
+    };
     let n = files::read(&rt, b"question", &mut question);
     let m = files::read(&rt, b"catalogue", &mut catalogue);
     let k = files::read(&rt, b"book", &mut book);
     let reply = answering::answer_from(
         &question[..n],
         &catalogue[..m],
-        one_way.set,
-        set.set,
+        one_way,
+        set,
         &book[..k],
         &mut answer,
         &mut work,

@@ -10,8 +10,8 @@ use std::rt::Files;
 
 fn finish(rt: &(impl Files + Print + Eprint), found: Several, answers: &[u8]) -> io::Result<()> {
     match found {
-        Several::Done(n, sheets) => keep(rt, answers, n, sheets),
-        Several::Refused(x) => lines::refused(rt, x),
+        Ok((n, sheets)) => keep(rt, answers, n, sheets),
+        Err(x) => lines::refused(rt, x),
     }
 }
 
@@ -34,28 +34,26 @@ fn keep(
 }
 
 fn main(rt: HostRuntime) -> io::Result<()> {
-    let mut questions = lent::questions_bytes();
-    let mut catalogue = lent::catalogue_bytes();
-    let mut book = lent::sheet_bytes();
+    let mut questions = [0; lent::QUESTIONS];
+    let mut catalogue = [0; lent::CATALOGUE];
+    let mut book = [0; lent::SHEET];
     let mut answers = lent::answers_bytes();
-    let mut work = lent::work_words();
-    let number = numbers::read_number(&rt, b"number");
-    if !number.good {
+    let mut work = [0; lent::WORK];
+    let Some(number) = numbers::read_number(&rt, b"number") else {
         lines::failed(&rt, b"number");
         return Ok(());
-    }
-    let one_way = folder::extracts(&rt, b"one_way");
-    if !one_way.good {
+    };
+    let Some(one_way) = folder::extracts(&rt, b"one_way") else {
         return Ok(());
-    }
+    };
     let n = files::read(&rt, b"questions", &mut questions);
     let m = files::read(&rt, b"catalogue", &mut catalogue);
     let k = files::read(&rt, b"book", &mut book);
     let found = answering::answer_several(
         &questions[..n],
-        number.value,
+        number,
         &catalogue[..m],
-        one_way.set,
+        one_way,
         &book[..k],
         &mut answers,
         &mut work,

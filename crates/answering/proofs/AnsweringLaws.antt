@@ -14,7 +14,6 @@ use Rattle.packed.specs.Walks.{book_pairs, Different}
 use Rattle.packed.specs.Calls.{Outcome, refuse, FulfilsOne, rejected, read_file, judged, read_book, within_pairs, fit_file}
 use Rattle.packed.specs.declared.reply.Refusal.{Refusal}
 use Rattle.packed.specs.declared.reply.Refusal.TheVariants.{NotContained}
-use Rattle.packed.specs.declared.reply.Reply.TheVariants as reply-is
 use Rattle.packed.specs.declared.by_value.Pattern.{Pattern as Given}
 use Rattle.packed.proofs.WalkLaws.{book_pairs_lem}
 use Rattle.packed.proofs.CallLaws.{read_says, judged_accepted, gathered_many, gathered_few, refusal_answered, body_declined}
@@ -37,6 +36,7 @@ use Rattle.containment.proofs.AnswerLaws.{views_many}
 use Rattle.containment.proofs.ChoiceLaws.{lowest_leaves, lowest_covers, lowest_used}
 use Rattle.answering.proofs.BookLaws.{booked_by}
 use Rattle.answering.proofs.CandidateLaws.{agrees_by}
+use Rattle.std.specs.Prelude.{Err}
 
 -- ---- the sheet of what the join kept
 module _ {q : Given} {table : List ℕ} {set : ℕ} {s counts : List ℕ} {k d : ℕ} {w w' : List ℕ} (j : Joined q table set s counts k d w w') (p : Pool d w) where
@@ -122,11 +122,11 @@ module _ {q : Given} (t : Query q) {counts : List ℕ} {k : ℕ} (v : ViewCounts
   answer_is bs = rw (pattern_same (plain t) t.holds, is, views_many v.views v.one_way, ← t.holds.edges)
 
   pub unloaded_answered : (x : Refusal) → ((a : List ℕ → Outcome) → judged (read_book v.views.content s) (λ bs. within_pairs v.views.content bs (a bs)) ≡ refuse (number_of x) (detail_of x))
-      → {out' : List ℕ} → out' ≡ out → FulfilsOne (judged (read_book v.views.content s) answers) (reply_told (reply-is.Refused x)) out out'
+      → {out' : List ℕ} → out' ≡ out → FulfilsOne (judged (read_book v.views.content s) answers) (reply_told (Err x)) out out'
   unloaded_answered x e p = rw p (refusal_answered (out ∷ []) ((λ i. judged (read_book content_of s) (λ bs. answer_is bs i)) ∙ e _) refl)
 
   module _ {d : ℕ} {w : List ℕ} (b : Loaded v.views.content s counts k d w) {lowest : ℕ} (low : lowest ≡ lowest_unmatched table set k q.edges) where
-    pub uncovered_answered : lowest < q.edges → FulfilsOne (judged (read_book v.views.content s) answers) (reply_told (reply-is.Refused (NotContained lowest))) out out
+    pub uncovered_answered : lowest < q.edges → FulfilsOne (judged (read_book v.views.content s) answers) (reply_told (Err (NotContained lowest))) out out
     uncovered_answered h =
         body_declined answers b.is out refl (NotContained lowest) (answer_is b.fields ∙ b.few _ ∙ rw (lowest_leaves table set k q.edges low h, low))
 

@@ -36,8 +36,8 @@ supports_supported Q L s e f k = record {
   head_back = λ b g i q. let r = s.arriving_to b e f.0 f.1 k g i q in ((r.0, f.1), r.1, refl);
 }
 
-pub choice_greatest : (Q : Pattern) (cs : Offer) → GreatestChoice Q (λ e f. In f (cs e)) (λ e f. In (e, f) (choice Q cs))
-choice_greatest Q cs = record {
+pub choice_greatest : (L : Edge → Pair → Type 0) (Q : Pattern) (cs : Offer) → GreatestChoice L Q (λ e f. In f (cs e)) (λ e f. In (e, f) (choice Q cs))
+choice_greatest L Q cs = record {
   chooses = λ e f k. choice_candidate Q cs k;
   supports = record {
     leaving_from = λ e v v' k g i q. begins ((choice_supported Q cs k).tail g i q);
@@ -45,7 +45,7 @@ choice_greatest Q cs = record {
     arriving_from = λ b e v v' k g i q. closes ((choice_supported Q cs k).tail_back b g i q);
     arriving_to = λ b e v v' k g i q. closes ((choice_supported Q cs k).head_back b g i q);
   };
-  greatest = λ L c s. choice_most Q cs L c (supports_supported Q L s);
+  greatest = λ c s. choice_most Q cs L c (supports_supported Q L s);
 }
   where
     begins : {g : Edge} {v : ℕ} → (h : Pair) × In (g, h) (choice Q cs) × (h.0 ≡ v) → (x : ℕ) × In (g, (v, x)) (choice Q cs)
@@ -55,9 +55,9 @@ choice_greatest Q cs = record {
     closes {g} {v} (h, k, q) = (h.0, subst (λ z. In (g, (h.0, z)) (choice Q cs)) q k)
 
 -- the same of candidates and of a choice that are said in other words
-module _ {Q : Pattern} {C C' K K' : Edge → Pair → Type 0} (offers : (e : Edge) (f : Pair) → C e f → C' e f) (offered : (e : Edge) (f : Pair) → C' e f → C e f)
+module _ {Q : Pattern} {L C C' K K' : Edge → Pair → Type 0} (offers : (e : Edge) (f : Pair) → C e f → C' e f) (offered : (e : Edge) (f : Pair) → C' e f → C e f)
     (keeps : (e : Edge) (f : Pair) → K e f → K' e f) (kept : (e : Edge) (f : Pair) → K' e f → K e f) where
-  pub greatest_as : GreatestChoice Q C K → GreatestChoice Q C' K'
+  pub greatest_as : GreatestChoice L Q C K → GreatestChoice L Q C' K'
   greatest_as g = record {
     chooses = λ e f k. let r = g.chooses e f (kept e f k) in (r.0, offers e f r.1);
     supports = record {
@@ -66,7 +66,7 @@ module _ {Q : Pattern} {C C' K K' : Edge → Pair → Type 0} (offers : (e : Edg
       arriving_from = λ b e v v' k h i q. let r = g.supports.arriving_from b e v v' (kept e (v, v') k) h i q in (r.0, keeps h (r.0, v) r.1);
       arriving_to = λ b e v v' k h i q. let r = g.supports.arriving_to b e v v' (kept e (v, v') k) h i q in (r.0, keeps h (r.0, v') r.1);
     };
-    greatest = λ L c s e f l. keeps e f (g.greatest L (λ h x k. let r = c h x k in (r.0, offered h x r.1)) s e f l);
+    greatest = λ c s e f l. keeps e f (g.greatest (λ h x k. let r = c h x k in (r.0, offered h x r.1)) s e f l);
   }
 
 module _ (Q : Pattern) (Ps : List Pattern) (sheets : List (List (List ℕ))) (set : ℕ) where
@@ -105,9 +105,9 @@ module _ (Q : Pattern) (Ps : List Pattern) (sheets : List (List (List ℕ))) (se
   abbrev Keeps : Edge → Pair → Type 0
   Keeps e f = JoinedPair Q views e f
 
-  greatest_choice : GreatestChoice Q (Candidate Q Ps sheets set) Keeps
+  greatest_choice : (L : Edge → Pair → Type 0) → GreatestChoice L Q (Candidate Q Ps sheets set) Keeps
   unfolding join
-  greatest_choice = greatest_as (λ e f i. candidate_say i) (λ e f c. candidate_by c) (λ e f k. k) (λ e f k. k) (choice_greatest Q (candidates Q views))
+  greatest_choice L = greatest_as (λ e f i. candidate_say i) (λ e f c. candidate_by c) (λ e f k. k) (λ e f k. k) (choice_greatest L Q (candidates Q views))
 
   -- ---- the lists of the answer
   abbrev Complete : Type 0
@@ -129,9 +129,8 @@ module _ (Q : Pattern) (Ps : List Pattern) (sheets : List (List (List ℕ))) (se
         λ m. subst (λ l. In (code f.0 f.1) l) (sym at) (ascending_by (answer_by_lem Q views (complete_by Q views m.0) m.1)),
       )
 
-pub answer_joins : (set : ℕ) (qs : List ℕ) (cs : Offered) (bs : List ℕ) → Joins set qs cs bs
-answer_joins set qs cs bs = record {
-  keeps = Keeps (pattern_of qs) (view_patterns cs) (sheets_in (edge_counts cs.content) bs) set;
-  is = greatest_choice (pattern_of qs) (view_patterns cs) (sheets_in (edge_counts cs.content) bs) set;
+pub answer_joins : (L : Edge → Pair → Type 0) (set : ℕ) (qs : List ℕ) (cs : Offered) (bs : List ℕ) → Joins L set qs cs bs
+answer_joins L set qs cs bs = record {
+  is = greatest_choice (pattern_of qs) (view_patterns cs) (sheets_in (edge_counts cs.content) bs) set L;
   lists = answer_lists (pattern_of qs) (view_patterns cs) (sheets_in (edge_counts cs.content) bs) set;
 }

@@ -26,24 +26,24 @@ module _ (Q : Pattern) (S : Nodes) (cs : Offer) where
   joined : {e : Edge} {f : Pair} → T (S e.from) → In f (state_at S Q cs e) → JoinedIn S Q cs e f
   joined t i = ⊎_elim (λ r. r.1) (λ r. absurd (r.0 t)) (state_say S Q cs i)
 
-  settled : GreatestChoice (leaving_of S Q) (λ e f. In f (cs e)) (λ e f. T (S e.from) × State e f)
+  settled : (L : Edge → Pair → Type 0) → GreatestChoice L (leaving_of S Q) (λ e f. In f (cs e)) (λ e f. T (S e.from) × State e f)
   unfolding join_in
-  settled =
+  settled L =
       greatest_as (λ e f i. i) (λ e f i. i)
       (λ e f j. let c = join_in_candidate S Q cs j in (c.from, (c.edge, state_old S Q cs j)))
       (λ e f k. joined k.0 k.1.1)
-      (choice_greatest (leaving_of S Q) cs)
+      (choice_greatest L (leaving_of S Q) cs)
 
   others : (e : Edge) → In e Q.edges → (T (S e.from) → ⊥) → (f : Pair) → State e f ↔ In f (cs e)
   others e i n f = (λ k. state_candidate S Q cs k.1, λ c. (i, state_new S Q cs e f n c))
 
-  after_step : AfterStep Q S cs State
-  after_step = record { settled = settled; others = others }
+  after_step : (L : Edge → Pair → Type 0) → AfterStep L Q S cs State
+  after_step L = record { settled = settled L; others = others }
 
   -- said in other words
-  after_as : (K : Edge → Pair → Type 0) → ((e : Edge) (f : Pair) → State e f → K e f) → ((e : Edge) (f : Pair) → K e f → State e f) → AfterStep Q S cs K
-  after_as K to from = record {
-    settled = greatest_as (λ e f i. i) (λ e f i. i) (λ e f k. (k.0, to e f k.1)) (λ e f k. (k.0, from e f k.1)) settled;
+  after_as : (L K : Edge → Pair → Type 0) → ((e : Edge) (f : Pair) → State e f → K e f) → ((e : Edge) (f : Pair) → K e f → State e f) → AfterStep L Q S cs K
+  after_as L K to from = record {
+    settled = greatest_as (λ e f i. i) (λ e f i. i) (λ e f k. (k.0, to e f k.1)) (λ e f k. (k.0, from e f k.1)) (settled L);
     others = λ e i n f. (λ k. (others e i n f).0 (from e f k), λ c. to e f ((others e i n f).1 c));
   }
 
@@ -70,8 +70,8 @@ module _ {q : Given} {d : ℕ} {w : List ℕ} {cs : Offer} (h : Holds q d w cs) 
         held = h.held p.0 n.at p.1 n.below (in_cast p.2 c');
       }
 
-words : (q : Given) (d steps settled : ℕ) (w w' : List ℕ) → Ran q d steps w settled w' → (cs : Offer) → Holds q d w cs → AfterStep (pattern_in q) (bit settled) cs (HeldFor q d w')
-words q d steps settled w w' ran cs h = let s = ran.state cs h in after_as (pattern_in q) (bit settled) cs (HeldFor q d w') (words_by s) (words_say s)
+words : (L : Edge → Pair → Type 0) (q : Given) (d steps settled : ℕ) (w w' : List ℕ) → Ran q d steps w settled w' → (cs : Offer) → Holds q d w cs → AfterStep L (pattern_in q) (bit settled) cs (HeldFor q d w')
+words L q d steps settled w w' ran cs h = let s = ran.state cs h in after_as (pattern_in q) (bit settled) cs L (HeldFor q d w') (words_by s) (words_say s)
 
 stays : (Q : Pattern) (S S' : Nodes) → Shut Q S → ((v : ℕ) → T (S v) → T (S' v)) → (cs : Offer) (e : Edge) → T (S e.from) → (f : Pair)
     → In f (state_at S' Q cs e) ↔ In f (state_at S Q cs e)
@@ -85,25 +85,25 @@ unfolding leaving_of
 whole Q S all = ap (λ (es : List Edge). record { labels = Q.labels; edges = es; rule = one_way }) (keep_all (λ e. S e.from) Q.edges all)
 
 -- ---- the pruning
-prunes : (q : Given) (d : ℕ) (w w' : List ℕ) → Pruned q d w w' → (cs : Offer) → Holds q d w cs → GreatestChoice (pattern_in q) (λ e f. In f (cs e)) (HeldFor q d w')
-prunes q d w w' p cs h =
+prunes : (L : Edge → Pair → Type 0) (q : Given) (d : ℕ) (w w' : List ℕ) → Pruned q d w w' → (cs : Offer) → Holds q d w cs → GreatestChoice L (pattern_in q) (λ e f. In f (cs e)) (HeldFor q d w')
+prunes L q d w w' p cs h =
     let s = p.state cs h in
     greatest_as (λ e f i. i) (λ e f i. i)
     (λ e f k. words_by s e f ((choice_candidate (pattern_in q) cs k).0, in_kept _ k))
     (λ e f k. kept_in _ (words_say s e f k).1)
-    (choice_greatest (pattern_in q) cs)
+    (choice_greatest L (pattern_in q) cs)
 
-from_steps : (Q : Pattern) (S : Nodes) (cs : Offer) (K : Edge → Pair → Type 0) → GreatestChoice Q (λ e f. In f (state_at S Q cs e)) K → GreatestChoice Q (λ e f. In f (cs e)) K
-from_steps Q S cs K g = record {
+from_steps : (K L : Edge → Pair → Type 0) (Q : Pattern) (S : Nodes) (cs : Offer) → GreatestChoice L Q (λ e f. In f (state_at S Q cs e)) K → GreatestChoice L Q (λ e f. In f (cs e)) K
+from_steps K L Q S cs g = record {
   chooses = λ e f k. let r = g.chooses e f k in (r.0, state_candidate S Q cs r.1);
   supports = g.supports;
-  greatest = λ L c s. g.greatest L (choice_state S Q cs L c (supports_supported Q L s)) s;
+  greatest = λ c s. g.greatest (choice_state S Q cs L c (supports_supported Q L s)) s;
 }
 
-after_both : (q : Given) (d steps settled : ℕ) (w w' w'' : List ℕ) → Ran q d steps w settled w' → Pruned q d w' w'' → (cs : Offer) → Holds q d w cs
-    → GreatestChoice (pattern_in q) (λ e f. In f (cs e)) (HeldFor q d w'')
-after_both q d steps settled w w' w'' ran pruned cs h =
-    from_steps (pattern_in q) (bit settled) cs (HeldFor q d w'') (prunes q d w' w'' pruned (state_at (bit settled) (pattern_in q) cs) (ran.state cs h))
+after_both : (L : Edge → Pair → Type 0) (q : Given) (d steps settled : ℕ) (w w' w'' : List ℕ) → Ran q d steps w settled w' → Pruned q d w' w'' → (cs : Offer) → Holds q d w cs
+    → GreatestChoice L (pattern_in q) (λ e f. In f (cs e)) (HeldFor q d w'')
+after_both L q d steps settled w w' w'' ran pruned cs h =
+    from_steps (HeldFor q d w'') L (pattern_in q) (bit settled) cs (prunes L q d w' w'' pruned (state_at (bit settled) (pattern_in q) cs) (ran.state cs h))
 
 -- ---- the steps
 module _ (Q : Pattern) (s : T (sound Q)) where
@@ -131,8 +131,8 @@ module _ (Q : Pattern) (s : T (sound Q)) where
       let c = ready_one Q ends S u l n in
       (λ v. S v or together Q c.0 v, record { node = c.0; there = c.1; new = c.2; ready = c.3; adds = λ v h. refl })
 
-pub by_steps : BySteps
-by_steps = record {
+pub by_steps : (K L : Edge → Pair → Type 0) → BySteps K L
+by_steps K L = record {
   leads_self = reaches_self;
   leads_on = λ Q u. reaches_shut Q u;
   leads_least = λ Q s. reaches_least Q (ends Q s);
@@ -141,12 +141,12 @@ by_steps = record {
   inward = inward;
   goes_on = goes_on;
   few = λ Q s k S steps. steps_few Q (ends Q s) steps;
-  state = after_step;
-  words = words;
+  state = λ Q S cs. after_step Q S cs L;
+  words = words L;
   stays = stays;
   whole = whole;
   rule_both_ways = given_rule;
-  prunes = prunes;
-  from_steps = from_steps;
-  after_both = after_both;
+  prunes = prunes L;
+  from_steps = from_steps K L;
+  after_both = after_both L;
 }

@@ -9,7 +9,7 @@ use native.Mathlib.Omega.{arith}
 use Rattle.packed.specs.Contents.{edge_counts, sheet_fields, sheets_in}
 use Rattle.packed.specs.Calls.{give, refuse, with_workspace, read_pattern, read_sheet, read_book, fit_file, record_bytes}
 use Rattle.engine.specs.Lists.{In, each}
-use Rattle.engine.specs.Simulation.{Pattern, Graph, bit, pattern_of, graph_of, as_graph, match_sets, view_sheet}
+use Rattle.engine.specs.Simulation.{Edge, Pair, Pattern, Graph, bit, pattern_of, graph_of, as_graph, match_sets, view_sheet}
 use Rattle.matching.specs.Join.{without, answer_sets}
 use Rattle.matching.specs.Search.{sheet_bytes, view_sheets}
 use Rattle.engine.proofs.ListLaws.{each_same}
@@ -155,9 +155,9 @@ demand_3 = record {
   refused = λ q c b qs cs bs p d k room words e. refused-whole q c qs cs p d b bs k room words e;
 }
 
-pub answers : Answering
-answers = record {
-  joins = answer_joins;
+pub answers : (L : Edge → Pair → Type 0) → Answering L
+answers L = record {
+  joins = answer_joins L;
   same = same_answer;
   chooses = used_chosen;
   chooses_all = used_all;

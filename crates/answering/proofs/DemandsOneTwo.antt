@@ -384,17 +384,17 @@ module _ (cs : Offered) (a : ℕ) (l : a < length (view_patterns cs)) where
   extract_ruled : extract_of cs a ≡ ruled (extract_of cs a).rule (pattern_of (get_or (views_of cs.content) a []))
   extract_ruled = extract_at ∙ sym (ap (λ (P : Pattern). ruled P.rule (pattern_of (get_or (views_of cs.content) a []))) extract_at)
 
-pub demand_2 : Demand2
+pub demand_2 : (R : ℕ → ℕ → Type 0) → Demand2 R
 unfolding fits fields_of ends view_sheets
-demand_2 = record {
+demand_2 R = record {
   rule_both_ways = query_rule;
   extract_one_way = one_way_in;
   extract_both_ways = both_ways_out;
   extract_is = extract_ruled;
   extracts_many = views_number;
   simulates = sim_is;
-  greatest = sim_most;
-  one_way_too = λ P G R s. record { fit = s.fit; follow = s.follow; arrive = λ e. absurd (rules-differ e) };
+  greatest = λ P G. sim_most P G R;
+  one_way_too = λ P G s. record { fit = s.fit; follow = s.follow; arrive = λ e. absurd (rules-differ e) };
   searches = way_searched;
   books = book_made;
   sheets_many = λ cs G. length_each (λ P. view_sheet P G) (view_patterns cs);

@@ -11,15 +11,15 @@ use Rattle.packed.specs.Calls.{give, told_of, fronts, outputs_of, fit, Settled, 
 use Rattle.packed.proofs.RefusalNumbers.{refusal_numbered}
 use Rattle.engine.specs.Simulation.{pattern_of}
 use Rattle.matching.specs.Offered.{Brought, Offered, view_patterns}
-use Rattle.containment.specs.Quote.{quoted_in, QuoteValues, flat, blank, one, mapping, values_from, quote_values, quote_for, quote_told}
+use Rattle.containment.specs.Quote.{CoverageReply, quoted_in, QuoteValues, flat, blank, one, mapping, values_from, quote_values, quote_for, quote_told}
 use Rattle.containment.specs.Listing.{lines_after, chosen_line, line_of, line_outcome}
 use Rattle.answering.specs.Demands.{Question, Catalogue, Leaves, masks_in, When, usable_when, Timely, quote_when, UncoveredListing, Listings}
-use Rattle.containment.specs.declared.quote_type.Coverage.{Coverage}
 use Rattle.containment.specs.declared.quote_type.Coverage.TheVariants as coverage-is
 use Rattle.containment.specs.declared.quote_type.Quote.{Quote}
 use Rattle.containment.proofs.ChoiceLaws.{chosen_none}
 use Rattle.containment.proofs.ListingLaws.{line_first, line_beyond, line_last, line_link, line_length}
 use Rattle.answering.proofs.WhenLaws.{goes_on_when, quote_by}
+use Rattle.std.specs.Prelude.{Ok, Err}
 
 -- ---- a quote's values stand in what it tells
 
@@ -32,21 +32,21 @@ ends_same (u ∷ a) (v ∷ b) n e = let r = ends_same a b n (ap (drop 1) e) in (
 
 -- a quote r that tells the values v of an uncovered question
 record Tells (r : Quote) (v : QuoteValues) : Type 0 where
-  pub coverage : r.coverage ≡ coverage-is.Uncovered
+  pub coverage : r.coverage ≡ Ok coverage-is.Uncovered
   pub mapping : r.mapping ≡ v.mapping
   pub edges : r.edges ≡ v.edges
   pub chosen : r.chosen ≡ v.chosen
 
 module _ (v : QuoteValues) (none : v.covered ≡ 0) where
-  told_by : (x : Coverage) (t : List ℕ) (m set e : ℕ) → quote_told (record { coverage = x; mapping = t; edges = m; chosen = set; lowest = e }) ≡ told 0 (flat v)
+  told_by : (x : CoverageReply) (t : List ℕ) (m set e : ℕ) → quote_told (record { coverage = x; mapping = t; edges = m; chosen = set; lowest = e }) ≡ told 0 (flat v)
       → Tells (record { coverage = x; mapping = t; edges = m; chosen = set; lowest = e }) v
   unfolding quote_told flat
-  told_by coverage-is.Covered t m set e h = absurd (let z : ◌≡◌ {A = ℕ} 1 0 = cc in omega arith)
-  told_by coverage-is.Uncovered t m set e h =
+  told_by (Ok coverage-is.Covered) t m set e h = absurd (let z : ◌≡◌ {A = ℕ} 1 0 = cc in omega arith)
+  told_by (Ok coverage-is.Uncovered) t m set e h =
       let l : t ++ (m ∷ set ∷ e ∷ []) ≡ v.mapping ++ (v.edges ∷ v.chosen ∷ v.lowest ∷ []) = cc in
       let s = ends_same t v.mapping refl l in
       record { coverage = refl; mapping = s.0; edges = ap (λ (y : List ℕ). get_or y 0 0) s.1; chosen = ap (λ (y : List ℕ). get_or y 1 0) s.1 }
-  told_by (coverage-is.Refused x) t m set e h = absurd (let n = (refusal_numbered x).least in let z : number_of x ≡ 0 = cc in omega arith)
+  told_by (Err x) t m set e h = absurd (let n = (refusal_numbered x).least in let z : number_of x ≡ 0 = cc in omega arith)
 
 -- ---- the listing
 module _ (w : When) (q : List ℕ) (c : Brought) (qs : List ℕ) (cs : Offered) (eq : Question q qs) (ec : Catalogue c cs) (y : Timely cs w) (no : Leaves (usable_when w cs) qs cs) (r : Quote) where

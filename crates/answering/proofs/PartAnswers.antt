@@ -18,7 +18,6 @@ use Rattle.packed.specs.ByValue.{HoldsPattern}
 use Rattle.packed.specs.Refusals.{told, number_of, reply_told, both_told}
 use Rattle.packed.specs.Calls.{Outcome, give, refuse, told_of, fronts, outputs_of, Fulfils, FulfilsOne, judged, read_book, within_pairs, fit_file}
 use Rattle.packed.specs.declared.reply.Refusal.{Refusal}
-use Rattle.packed.specs.declared.reply.Reply.TheVariants as reply-is
 use Rattle.packed.specs.declared.by_value.Pattern.{Pattern as Given}
 use Rattle.packed.proofs.OrderCases.{lt_or_ge}
 use Rattle.packed.proofs.Sets.{sets_front}
@@ -48,7 +47,6 @@ use Rattle.answering.specs.Parting.{Takes, Picked, in_rows, Partable}
 use Rattle.containment.specs.Steps.{Query, ViewCounts, quoted_as, Handed, HoldsFields, Loaded, offer_of}
 use Rattle.containment.specs.declared.query.Fields.{Fields}
 use Rattle.containment.specs.declared.judging.Judged.{Judged}
-use Rattle.packed.specs.declared.reply.Both.TheVariants as both_is
 use Rattle.containment.proofs.ChoiceLaws.{matched_say, matched_by_lem, chosen_within, used_covered, lowest_whole}
 use Rattle.containment.proofs.ColumnLaws.{column_in, columns_agree, covers_same, chosen_same}
 use Rattle.answering.proofs.QuoteLaws.{test_is, place_of, matched_places, set_covers_exactly}
@@ -56,6 +54,7 @@ use Rattle.containment.proofs.QueryLaws.{plain, query_number, query_edge}
 use Rattle.containment.proofs.AnswerLaws.{query_few, views_few, views_many, views_sound}
 use Rattle.answering.proofs.AnsweringLaws.{used_is, used_lowest, book_agrees, covered_is}
 use Rattle.answering.proofs.PartTable.{usable_sound, part_table}
+use Rattle.std.specs.Prelude.{Ok, Err}
 
 -- ---- which edges are taken
 module _ {q : Given} (t : Query q) {counts : List ℕ} {k : ℕ} (v : ViewCounts counts k) (usable : ℕ) {table : List ℕ} (is : table ≡ table_of (quoted_as t v usable)) {taken : ℕ}
@@ -259,14 +258,14 @@ abbrev fitted : List ℕ → Bool → Outcome
 fitted o b = pick b (refuse 12 (length o)) (give [] (o ∷ []))
 
 module _ (part answer p o : List ℕ) {part' answer' : List ℕ} where
-  refused_first : (x : Refusal) → part' ≡ part → (b : Bool) → FulfilsOne (fitted o b) (reply_told (reply-is.Refused x)) answer answer'
-      → Fulfils [] (with_first p (fitted o b)) (both_told (both_is.Refused x)) (part ∷ answer ∷ []) (part' ∷ answer' ∷ [])
+  refused_first : (x : Refusal) → part' ≡ part → (b : Bool) → FulfilsOne (fitted o b) (reply_told (Err x)) answer answer'
+      → Fulfils [] (with_first p (fitted o b)) (both_told (Err x)) (part ∷ answer ∷ []) (part' ∷ answer' ∷ [])
   unfolding with_first told_of outputs_of
   refused_first x q true g = record { result = g.result; outputs = ap₂ (λ (a b : List ℕ). a ∷ b ∷ []) q (ap (λ l. get_or l 0 []) g.outputs) }
   refused_first x q false g = absurd (let e = g.result in let z : number_of x ≡ 0 = cc in omega (arith, (refusal_numbered x).least))
 
-  given_first : {n : ℕ} (m : ℕ) → n ≡ length p → n ≤ length part → part' ≡ sets part 0 p → (b : Bool) → FulfilsOne (fitted o b) (reply_told (reply-is.Done m)) answer answer'
-      → Fulfils [] (with_first p (fitted o b)) (both_told (both_is.Done n m)) (part ∷ answer ∷ []) (part' ∷ answer' ∷ [])
+  given_first : {n : ℕ} (m : ℕ) → n ≡ length p → n ≤ length part → part' ≡ sets part 0 p → (b : Bool) → FulfilsOne (fitted o b) (reply_told (Ok m)) answer answer'
+      → Fulfils [] (with_first p (fitted o b)) (both_told (Ok (n, m))) (part ∷ answer ∷ []) (part' ∷ answer' ∷ [])
   unfolding with_first told_of outputs_of fronts
   given_first m z l q true g = absurd (let e = g.result in let z : ◌≡◌ {A = ℕ} 0 12 = cc in omega arith)
   given_first m z l q false g = record {
@@ -286,11 +285,11 @@ module _ (part answer p : List ℕ) {n : ℕ} (size : n ≡ length p) where
     fits-is = let e = le-ltb (length part) (length p) (omega (arith, size)) in rw (e, fit_file_fits.is (length answer) o)
 
     -- the answer is refused
-    pub part_refused : (x : Refusal) {part' answer' : List ℕ} → part' ≡ part → FulfilsOne (fit_file (length answer) o) (reply_told (reply-is.Refused x)) answer answer'
-        → Fulfils [] (fit_part (length part) p (fit_file (length answer) o)) (both_told (both_is.Refused x)) (part ∷ answer ∷ []) (part' ∷ answer' ∷ [])
+    pub part_refused : (x : Refusal) {part' answer' : List ℕ} → part' ≡ part → FulfilsOne (fit_file (length answer) o) (reply_told (Err x)) answer answer'
+        → Fulfils [] (fit_part (length part) p (fit_file (length answer) o)) (both_told (Err x)) (part ∷ answer ∷ []) (part' ∷ answer' ∷ [])
     part_refused x q g = rw fits-is (refused_first part answer p o x q (over_file (length answer) (length o)) (rw (fit_file_fits.is (length answer) o) at g))
 
     -- both are given
-    pub part_given : (m : ℕ) {part' answer' : List ℕ} → part' ≡ sets part 0 p → FulfilsOne (fit_file (length answer) o) (reply_told (reply-is.Done m)) answer answer'
-        → Fulfils [] (fit_part (length part) p (fit_file (length answer) o)) (both_told (both_is.Done n m)) (part ∷ answer ∷ []) (part' ∷ answer' ∷ [])
+    pub part_given : (m : ℕ) {part' answer' : List ℕ} → part' ≡ sets part 0 p → FulfilsOne (fit_file (length answer) o) (reply_told (Ok m)) answer answer'
+        → Fulfils [] (fit_part (length part) p (fit_file (length answer) o)) (both_told (Ok (n, m))) (part ∷ answer ∷ []) (part' ∷ answer' ∷ [])
     part_given m q g = rw fits-is (given_first part answer p o m size fits q (over_file (length answer) (length o)) (rw (fit_file_fits.is (length answer) o) at g))

@@ -30,7 +30,6 @@ use Rattle.answering.specs.Parting.{EndTaken, taken_fields, Adds, Takes, Picked}
 use Rattle.containment.specs.declared.query.Fields.{Fields}
 use Rattle.containment.proofs.SetBits.{never}
 use Rattle.answering.proofs.QuoteLaws.{test_is}
-use Rattle.containment.proofs.FieldLaws.{front_one}
 
 -- ---- the nodes at the edges that are taken
 module _ (q : Given) (taken : ℕ) where
@@ -65,9 +64,6 @@ adds_then {h = h} {xs} {ys} a b fs x = subst (λ l. HoldsFields l h) (append_ass
 
 adds_cast : {f g : Fields} {xs ys : List ℕ} → xs ≡ ys → Adds xs f g → Adds ys f g
 adds_cast {f} {g} e a = subst (λ l. Adds l f g) e a
-
-pub adds_word : {f g : Fields} (x : ℕ) → f.number < 114 → g.words ≡ set f.words f.number x → g.number ≡ f.number + 1 → Adds (x ∷ []) f g
-adds_word x l w n fs h = record { front = rw (w, n) (front_one x l h.front); most = omega arith }
 
 -- the labels
 module _ (nodes : ℕ) (ls : List ℕ) where

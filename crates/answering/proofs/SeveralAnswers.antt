@@ -5,7 +5,7 @@ use mathlib.Core.Bool.{Bool, true, false, ◌||◌}
 use mathlib.Core.Logic.{⊎_elim}
 use mathlib.Core.List.{List, [], ◌∷◌, ◌++◌, flatten, append-nil, append_assoc}
 use lib.ListN.{length, take, drop, get_or, set, replicate, length-append, length-set}
-use lib.Seq.{sets, length-sets, ext_get_or, get_or-set_same, get_or-set_other}
+use lib.Seq.{sets, length-sets, get_or-set_same, get_or-set_other}
 use lib.Dec.{ltb}
 use borrow.Author.Count.{below_more}
 use borrow.Author.Tests.{ltb-false}
@@ -24,7 +24,7 @@ use Rattle.packed.proofs.OrderCases.{lt_or_ge}
 use Rattle.packed.proofs.Sets.{sets_append, sets_front, sets_swap}
 use Rattle.packed.proofs.CallLaws.{many_pairs, refusal_answered}
 use Rattle.engine.specs.Lists.{up_to}
-use Rattle.engine.specs.Simulation.{Pattern, pattern_of}
+use Rattle.engine.specs.Simulation.{Pattern}
 use Rattle.engine.specs.Loaded.{Fair, pattern_in, Edges}
 use Rattle.engine.specs.Matched.{ViewAt}
 use Rattle.engine.specs.declared.views.View.{View as Read}
@@ -42,19 +42,17 @@ use Rattle.matching.proofs.PatternLaws.{pattern_same}
 use Rattle.matching.proofs.TakingSheets.{booked_keep}
 use Rattle.matching.proofs.BookLaws.{size_at_most, made_size, made_bytes, nothing_made, rest_written}
 use Rattle.containment.specs.Choice.{every_view}
-use Rattle.containment.specs.Quote.{table_of}
 use Rattle.containment.specs.Answer.{views_in, answer_bytes}
 use Rattle.answering.specs.Several.{question_at, answer_at, any_long, fit_several, several_told}
-use Rattle.containment.specs.Steps.{Query, quoted_as, offer_of}
-use Rattle.answering.specs.SeveralSteps.{TableFrom, Answerable, answers_of, Held, Makes, Measured, Writable, Written}
+use Rattle.containment.specs.Steps.{Query, offer_of}
+use Rattle.answering.specs.SeveralSteps.{Answerable, answers_of, Held, Makes, Measured, Writable, Written}
 use Rattle.answering.specs.Demands.{Book}
-use Rattle.answering.specs.declared.several.Several.TheVariants as several-is
 use Rattle.answering.specs.declared.several.Sizes.{Sizes}
 use Rattle.containment.proofs.QueryLaws.{fair, plain}
-use Rattle.containment.proofs.MappingLaws.{mapping_length}
 use Rattle.answering.proofs.AnsweringLaws.{joined_marked, book_agrees}
 use Rattle.answering.proofs.CoveredBytes.{answer_sheet}
 use Rattle.answering.proofs.SeveralLaws.{AskedFrom, asked_start, asked_inside, asked_query, asked_more, neither}
+use Rattle.std.specs.Prelude.{Ok, Err}
 
 -- ---- outputs one after the other
 flatten_last : (ls : List (List ℕ)) (l : List ℕ) → flatten (ls ++ (l ∷ [])) ≡ flatten ls ++ l
@@ -120,7 +118,7 @@ few_pairs cs bs h =
     (lt_or_ge 8192 (length (pairs_of (edge_counts cs) bs)))
 
 -- the pairs stay
-abbrev pub answerable_keep : {s : List ℕ} {number : ℕ} {tables used book counts : List ℕ} {k d : ℕ} {w w' : List ℕ}
+abbrev pub answerable_keep : {s : List ℕ} {number : ℕ} {tables : List (List ℕ)} {used book counts : List ℕ} {k d : ℕ} {w w' : List ℕ}
     → Answerable s number tables used book counts k d w → Edges w w' → Answerable s number tables used book counts k d w'
 answerable_keep x g = record {
   asked = x.asked;
@@ -132,7 +130,7 @@ answerable_keep x g = record {
   loaded = record { fields = x.loaded.fields; is = x.loaded.is; few = x.loaded.few; pairs = booked_keep x.loaded.pairs g };
 }
 
-module _ {s : List ℕ} {number : ℕ} {tables used book counts : List ℕ} {k d : ℕ} {w : List ℕ} (x : Answerable s number tables used book counts k d w) where
+module _ {s : List ℕ} {number : ℕ} {tables : List (List ℕ)} {used book counts : List ℕ} {k d : ℕ} {w : List ℕ} (x : Answerable s number tables used book counts k d w) where
   abbrev content : List ℕ
   content = x.views.views.content
 
@@ -186,15 +184,11 @@ module _ {s : List ℕ} {number : ℕ} {tables used book counts : List ℕ} {k d
           let b : Book content book x.loaded.fields = record { read = x.loaded.is; few = few_pairs content x.loaded.fields x.loaded.few } in
           e ∙ ap length turn-answer ∙ (answer_sheet (offer_of x.views) book x.loaded.fields b (pattern_in v.pattern) (get_or used i 0)).size
 
-      table_is : {table : List ℕ} → TableFrom i tables table → table ≡ table_of (quoted_as query x.views every_view)
+      pub turn_agrees : Agrees v.pattern (get_or tables i []) (get_or used i 0) book counts k (views_for i)
       unfolding question_at
-      table_is {table} h =
-          let n = h.long in
-          ext_get_or 0 table (table_of (quoted_as query x.views every_view)) (n ∙ sym (mapping_length (pattern_of query.content) (view_patterns (offer_of x.views))))
-          (λ j b. h.each j (omega arith) ∙ x.table i j l (omega arith))
-
-      pub turn_agrees : {table : List ℕ} → TableFrom i tables table → Agrees v.pattern table (get_or used i 0) book counts k (views_for i)
-      turn_agrees {table} h = book_agrees query x.views book every_view (table_is h) (get_or used i 0) [] x.loaded refl table (λ e a _ _ _. ap (λ (r : List ℕ). get_or r (16 * e + a) 0) (table_is h))
+      turn_agrees =
+          let t = x.table i l in
+          book_agrees query x.views book every_view t (get_or used i 0) [] x.loaded refl (get_or tables i []) (λ e a _ _ _. ap (λ (r : List ℕ). get_or r (16 * e + a) 0) t)
 
       -- its answer is counted, from whatever pairs it is made
       counted_next : {n size : ℕ} {w₂ : List ℕ} → Held n v.pattern.edges (answer_sets (pattern_in v.pattern) (views_for i)) w₂ → Edges w₁ w₂ → size ≡ length (answers_of x i)
@@ -220,10 +214,10 @@ module _ {s : List ℕ} {number : ℕ} {tables used book counts : List ℕ} {k d
   measuring_start e = record { counted = counted_start; eight = ap length e; sizes = λ j l. absurd (omega arith); any = refl; last = λ j e. absurd (omega arith) }
 
   module _ {each : List ℕ} {total : ℕ} {long : Bool} {edges byte i : ℕ} {w₁ : List ℕ} (m : Measuring each total long edges byte i w₁) where
-    module _ (l : i < number) (v : Read) (at : ViewAt s byte v) {table : List ℕ} (h : TableFrom i tables table) {w₂ : List ℕ}
-        (j : Joined v.pattern table (get_or used i 0) book counts k d w₁ w₂) where
+    module _ (l : i < number) (v : Read) (at : ViewAt s byte v) {w₂ : List ℕ}
+        (j : Joined v.pattern (get_or tables i []) (get_or used i 0) book counts k d w₁ w₂) where
       pub measuring_held : Held d v.pattern.edges (answer_sets (pattern_in v.pattern) (views_for i)) w₂
-      measuring_held = joined_held (turn_fair m.counted l v at) j (counted_booked m.counted).pool (views_for i) (turn_agrees m.counted l v at h)
+      measuring_held = joined_held (turn_fair m.counted l v at) j (counted_booked m.counted).pool (views_for i) (turn_agrees m.counted l v at)
 
       module _ {size : ℕ} (e : size ≡ sheet_length v.pattern.edges (pair_count (matches_of d v.pattern.edges w₂))) where
         size_is : size ≡ length (answers_of x i)
@@ -272,14 +266,14 @@ module _ {s : List ℕ} {number : ℕ} {tables used book counts : List ℕ} {k d
     filling_some l = omega (arith, y.most)
 
     -- the next query is joined again
-    pub filling_held : (l : i < n) (v : Read) (a : ViewAt s byte v) {table : List ℕ} → TableFrom i tables table → {d' : ℕ} {w₂ : List ℕ}
-        → ((vs : List View) → Agrees v.pattern table (get_or used i 0) book counts k vs → get_or sizes i 0 ≡ sheet_size (answer_sets (pattern_in v.pattern) vs)
+    pub filling_held : (l : i < n) (v : Read) (a : ViewAt s byte v) {d' : ℕ} {w₂ : List ℕ}
+        → ((vs : List View) → Agrees v.pattern (get_or tables i []) (get_or used i 0) book counts k vs → get_or sizes i 0 ≡ sheet_size (answer_sets (pattern_in v.pattern) vs)
         → Held d' v.pattern.edges (answer_sets (pattern_in v.pattern) vs) w₂)
         → Held d' v.pattern.edges (answer_sets (pattern_in v.pattern) (views_for i)) w₂
-    filling_held l v a h f =
+    filling_held l v a f =
         let c = z.counted in
         let b = filling_some l in
-        f (views_for i) (turn_agrees c b v a h) (turn_size c b v a (y.each i l))
+        f (views_for i) (turn_agrees c b v a) (turn_size c b v a (y.each i l))
 
     -- and its answer written
     module _ (l : i < n) (v : Read) (a : ViewAt s byte v) {d' : ℕ} {w₂ : List ℕ} (h : Held d' v.pattern.edges (answer_sets (pattern_in v.pattern) (views_for i)) w₂)
@@ -302,9 +296,6 @@ module _ {s : List ℕ} {number : ℕ} {tables used book counts : List ℕ} {k d
             ∙ ap (sets out₀ 0) (sym (outputs_more (answers_of x) i));
       }
 
-    pub filling_end : n ≤ i → Written (answers_of x) n out₀ out
-    filling_end h = let e : i ≡ n = omega (arith, z.upto) in z.front ∙ ap (λ (j : ℕ). sets out₀ 0 (flatten (up_to (answers_of x) j))) e
-
 -- ---- from the sizes to the bytes
 module _ {o : ℕ → List ℕ} {n d : ℕ} {r : Sizes} {w w' : List ℕ} (m : Measured o n d r w w') (out : List ℕ) where
   several_fits : (b : Bool) → (ltb (length out) r.total || r.long) ≡ b → (needed : ℕ)
@@ -316,7 +307,7 @@ module _ {o : ℕ → List ℕ} {n d : ℕ} {r : Sizes} {w w' : List ℕ} (m : M
       ∙ ap (λ (a : Bool). pick a (refuse 12 r.total) (give (needed ∷ []) (flatten (up_to o n) ∷ []))) e
 
   pub several_tight : (needed : ℕ) → (ltb (length out) r.total || r.long) ≡ true
-      → Fulfils [] (fit_several (length out) needed o n) (several_told (several-is.Refused (NoRoom r.total))) (out ∷ []) (out ∷ [])
+      → Fulfils [] (fit_several (length out) needed o n) (several_told (Err (NoRoom r.total))) (out ∷ []) (out ∷ [])
   several_tight needed e = refusal_answered (out ∷ []) (several_fits true e needed) refl
 
   module _ (e : (ltb (length out) r.total || r.long) ≡ false) where
@@ -324,7 +315,7 @@ module _ {o : ℕ → List ℕ} {n d : ℕ} {r : Sizes} {w w' : List ℕ} (m : M
     several-room = ltb-false (length out) r.total (neither (ltb (length out) r.total) r.long e).0
 
     pub several_given : (needed : ℕ) {out' : List ℕ} → out' ≡ sets out 0 (flatten (up_to o n))
-        → Fulfils [] (fit_several (length out) needed o n) (several_told (several-is.Done r.total needed)) (out ∷ []) (out' ∷ [])
+        → Fulfils [] (fit_several (length out) needed o n) (several_told (Ok (r.total, needed))) (out ∷ []) (out' ∷ [])
     unfolding told_of outputs_of fronts
     several_given needed q =
         let f = several_fits false e needed in

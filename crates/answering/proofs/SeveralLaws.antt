@@ -4,6 +4,7 @@ use mathlib.Core.Path.{◌≡◌, refl, sym, ap, ap₂, subst, ◌∙◌}
 use mathlib.Core.Bool.{Bool, true, false, ◌||◌}
 use mathlib.Core.Logic.{⊎_elim}
 use mathlib.Core.List.{List, []}
+use Rattle.std.specs.Prelude.{Option, Some, None}
 use lib.ListN.{length, drop, get_or, replicate, set, length-set, length-drop}
 use lib.Seq.{drop-cons, get_or-set_same, get_or-set_other}
 use lib.Dec.{eqb, ltb}
@@ -12,7 +13,6 @@ use native.Mathlib.Omega.{arith}
 use native.Mathlib.Nat.{mod-lt, zero-lt-suc}
 use native.Mathlib.Numerals.{add-one}
 use borrow.Author.Tests.{lt-ltb, le-ltb, ltb-false, eq-eqb}
-use Rattle.packed.specs.Format.{pick}
 use Rattle.packed.specs.Formats.{pattern, patterns}
 use Rattle.packed.specs.Contents.{edges_of, edge_counts, sheets_in, patterns_in}
 use Rattle.packed.specs.Plain.{PlainPattern}
@@ -36,10 +36,10 @@ use Rattle.engine.proofs.ViewLaws.{Advanced, advance, questions_ahead}
 use Rattle.matching.proofs.PlaceLaws.{rank_same}
 use Rattle.matching.proofs.OfferedLaws.{judged_rejected}
 use Rattle.containment.specs.Choice.{lowest_unmatched, used}
-use Rattle.containment.specs.Quote.{Quoted, mapping, table_of, covering, lowest_left, used_by}
+use Rattle.containment.specs.Quote.{Quoted, mapping, table_of, lowest_left, used_by}
 use Rattle.answering.specs.Several.{question_at, counted, all_covered, is_needed, sheets_needed, answer_at, fit_several, several_in, several_outcome}
 use Rattle.containment.specs.Steps.{Query, Views, ViewCounts, Loaded, offer_of}
-use Rattle.answering.specs.SeveralSteps.{Asked, asked_at, TablePut, TableFrom, first_lowest, Mapped, Answerable}
+use Rattle.answering.specs.SeveralSteps.{Asked, asked_at, first_lowest, uncovered_or, Mapped, Answerable}
 use Rattle.containment.proofs.SetBits.{never, bit_zero}
 use Rattle.containment.proofs.ChoiceLaws.{lowest_leaves, lowest_covers}
 use Rattle.containment.proofs.AnswerLaws.{views_many}
@@ -78,57 +78,6 @@ module _ {s : List ℕ} {number i byte : ℕ} (f : AskedFrom s number i byte) (l
     ahead = λ a. subst (λ (j : ℕ). Ahead s r.next (drop j (patterns_in number a.content))) (sym (add-one i)) (asked_next a).ahead;
   }
 
--- ---- tables one after the other
-
--- the first n words of the table went to place i
-pub record TableUpto (i n : ℕ) (table tables tables' : List ℕ) : Type 0 where
-  pub long : length tables' ≡ length tables
-  pub here : (k : ℕ) → k < n → get_or tables' (512 * i + k) 0 ≡ get_or table k 0
-  pub others : (j k : ℕ) → (j ≡ i → ⊥) → k < 512 → get_or tables' (512 * j + k) 0 ≡ get_or tables (512 * j + k) 0
-
-pub upto_start : {i : ℕ} {table tables : List ℕ} → TableUpto i 0 table tables tables
-upto_start = record { long = refl; here = λ k l. absurd (omega arith); others = λ j k d l. refl }
-
-pub upto_more : {i n : ℕ} {table tables tables' : List ℕ} → TableUpto i n table tables tables' → i < 8 → n < 512 → length tables ≡ 4096
-    → TableUpto i (n + 1) table tables (set tables' (512 * i + n) (get_or table n 0))
-upto_more {i} {n} {table} {tables} {tables'} h li ln long =
-    let at : ℕ = 512 * i + n in
-    let x : ℕ = get_or table n 0 in
-    let in_tables : at < length tables' = omega (arith, h.long) in
-    record {
-      long = length-set tables' at x ∙ h.long;
-      here = λ k l.
-          ⊎_elim (λ (p : k < n). get_or-set_other tables' at (512 * i + k) x 0 (λ e. omega arith) ∙ h.here k p)
-          (λ (p : n ≤ k). let e : n ≡ k = omega arith in subst (λ (m : ℕ). get_or (set tables' at x) (512 * i + m) 0 ≡ get_or table m 0) e (get_or-set_same tables' at x 0 in_tables))
-          (lt_or_ge k n);
-      others = λ j k d l. get_or-set_other tables' at (512 * j + k) x 0 (λ e. d (omega arith)) ∙ h.others j k d l;
-    }
-
-pub upto_end : {i n : ℕ} {table tables tables' : List ℕ} → TableUpto i n table tables tables' → n ≡ 512 → TablePut i table tables tables'
-upto_end h e = record { long = h.long; here = λ k l. h.here k (omega arith); others = h.others }
-
--- the first n words came from the table at place i
-pub record TableTaken (i n : ℕ) (tables r : List ℕ) : Type 0 where
-  pub long : length r ≡ 512
-  pub each : (k : ℕ) → k < n → get_or r k 0 ≡ get_or tables (512 * i + k) 0
-
-pub taken_start : {i : ℕ} {tables r : List ℕ} → r ≡ replicate 512 0 → TableTaken i 0 tables r
-taken_start e = record { long = ap length e ∙ refl; each = λ k l. absurd (omega arith) }
-
-pub taken_more : {i n : ℕ} {tables r : List ℕ} → TableTaken i n tables r → n < 512 → TableTaken i (n + 1) tables (set r n (get_or tables (512 * i + n) 0))
-taken_more {i} {n} {tables} {r} h ln =
-    let x : ℕ = get_or tables (512 * i + n) 0 in
-    record {
-      long = length-set r n x ∙ h.long;
-      each = λ k l.
-          ⊎_elim (λ (p : k < n). get_or-set_other r n k x 0 (λ e. omega arith) ∙ h.each k p)
-          (λ (p : n ≤ k). let e : n ≡ k = omega arith in subst (λ (m : ℕ). get_or (set r n x) m 0 ≡ get_or tables (512 * i + m) 0) e (get_or-set_same r n x 0 (omega (arith, h.long))))
-          (lt_or_ge k n);
-    }
-
-pub taken_end : {i n : ℕ} {tables r : List ℕ} → TableTaken i n tables r → n ≡ 512 → TableFrom i tables r
-taken_end h e = record { long = h.long; each = λ k l. h.each k (omega arith) }
-
 -- ---- the queries mapped one by one
 
 -- a view is in one of two sets
@@ -147,32 +96,28 @@ bit_either a b k =
     ap (λ (n : ℕ). eqb n 1) (bit_or_lem a b k) ∙ either (a / 2 ^ k % 2) (b / 2 ^ k % 2) (mod-lt (a / 2 ^ k) (zero-lt-suc 1)) (mod-lt (b / 2 ^ k) (zero-lt-suc 1))
 
 -- one query more, of which low is the lowest unmatched edge, or m
-covers_more : (x : ℕ → Quoted) (n lowest low m : ℕ) → ((a : Outcome) → all_covered x n a ≡ pick (ltb lowest 32) (refuse 11 lowest) a)
-    → low ≡ lowest_left (x n) (x n).usable → m ≡ edges_of (x n).content → m ≤ 32
-    → (a : Outcome) → all_covered x (suc n) a ≡ pick (ltb (first_lowest lowest low m) 32) (refuse 11 (first_lowest lowest low m)) a
+covers_more : (x : ℕ → Quoted) (n : ℕ) (lowest : Option ℕ) (low m : ℕ) → ((a : Outcome) → all_covered x n a ≡ uncovered_or lowest a)
+    → low ≡ lowest_left (x n) (x n).usable → m ≡ edges_of (x n).content
+    → (a : Outcome) → all_covered x (suc n) a ≡ uncovered_or (first_lowest lowest low m) a
 unfolding all_covered first_lowest
-covers_more x n lowest low m h e d few a = h _ ∙ go (ltb lowest 32) refl
-  where
-    go : (b : Bool) → ltb lowest 32 ≡ b
-        → pick b (refuse 11 lowest) (pick (covering (x n) (x n).usable) a (refuse 11 (lowest_left (x n) (x n).usable)))
-        ≡ pick (ltb (pick b lowest (pick (ltb low m) low 32)) 32) (refuse 11 (pick b lowest (pick (ltb low m) low 32))) a
-    go true p = rw p
-    go false p =
-        ⊎_elim
-        (λ (l : low < m).
-        let c = lowest_leaves (table_of (x n)) (x n).usable (length (view_patterns (x n).offer)) (edges_of (x n).content) e (omega (arith, d)) in
-        rw (c, lt-ltb low m l, lt-ltb low 32 (omega arith)) (ap (refuse 11) (sym e)))
-        (λ (l : m ≤ low).
-        let c = lowest_covers (table_of (x n)) (x n).usable (length (view_patterns (x n).offer)) (edges_of (x n).content) e (omega (arith, d)) in
-        rw (c, le-ltb low m l))
-        (lt_or_ge low m)
+covers_more x n (Some f) low m h e d a = h _
+covers_more x n None low m h e d a =
+    h _
+    ∙ ⊎_elim
+    (λ (l : low < m).
+    let c = lowest_leaves (table_of (x n)) (x n).usable (length (view_patterns (x n).offer)) (edges_of (x n).content) e (omega (arith, d)) in
+    rw (c, lt-ltb low m l) (ap (refuse 11) (sym e)))
+    (λ (l : m ≤ low).
+    let c = lowest_covers (table_of (x n)) (x n).usable (length (view_patterns (x n).offer)) (edges_of (x n).content) e (omega (arith, d)) in
+    rw (c, le-ltb low m l))
+    (lt_or_ge low m)
 
-pub mapped_start : (x : ℕ → Quoted) {tables used : List ℕ} → length tables ≡ 4096 → used ≡ replicate 8 0 → Mapped x 0 tables used 0 32
+pub mapped_start : (x : ℕ → Quoted) {tables : List (List ℕ)} {used : List ℕ} → length tables ≡ 8 → used ≡ replicate 8 0 → Mapped x 0 tables used 0 None
 unfolding is_needed all_covered
 mapped_start x l e = record {
   long = l;
   eight = ap length e ∙ refl;
-  table = λ i k p q. absurd (omega arith);
+  table = λ i p. absurd (omega arith);
   used_is = λ i p. absurd (omega arith);
   needs = λ a. bit_zero a;
   covers = λ a. refl;
@@ -184,38 +129,36 @@ pub record Found (y : Quoted) (table : List ℕ) (views low m : ℕ) : Type 0 wh
   pub used_is : views ≡ used_by y
   pub lowest_is : low ≡ lowest_left y y.usable
   pub edges_is : m ≡ edges_of y.content
-  pub few : m ≤ 32
 
-pub mapped_more : {x : ℕ → Quoted} {i : ℕ} {tables used : List ℕ} {needed lowest : ℕ} → Mapped x i tables used needed lowest → i < 8
-    → {table : List ℕ} {views low m : ℕ} → Found (x i) table views low m → {tables' : List ℕ} → TablePut i table tables tables'
-    → {lowest' : ℕ} → lowest' ≡ first_lowest lowest low m → Mapped x (i + 1) tables' (set used i views) (bit_or needed views) lowest'
+pub mapped_more : {x : ℕ → Quoted} {i : ℕ} {tables : List (List ℕ)} {used : List ℕ} {needed : ℕ} {lowest : Option ℕ} → Mapped x i tables used needed lowest → i < 8
+    → {table : List ℕ} {views low m : ℕ} → Found (x i) table views low m
+    → {lowest' : Option ℕ} → lowest' ≡ first_lowest lowest low m → Mapped x (i + 1) (set tables i table) (set used i views) (bit_or needed views) lowest'
 unfolding is_needed
-mapped_more {x} {i} {tables} {used} {needed} {lowest} h l {table} {views} {low} {m} f {tables'} put first = record {
-  long = put.long ∙ h.long;
+mapped_more {x} {i} {tables} {used} {needed} {lowest} h l {table} {views} {low} {m} f first = record {
+  long = length-set tables i table ∙ h.long;
   eight = length-set used i views ∙ h.eight;
-  table = λ j k p q.
-      ⊎_elim (λ (g : j < i). put.others j k (λ e. omega arith) q ∙ h.table j k g q)
-      (λ (g : i ≤ j). let e : i ≡ j = omega arith in subst (λ (n : ℕ). get_or tables' (512 * n + k) 0 ≡ get_or (table_of (x n)) k 0) e (put.here k q ∙ ap (λ (t : List ℕ). get_or t k 0) f.table_is))
+  table = λ j p.
+      ⊎_elim (λ (g : j < i). get_or-set_other tables i j table [] (λ e. omega arith) ∙ h.table j g)
+      (λ (g : i ≤ j). let e : i ≡ j = omega arith in subst (λ (n : ℕ). get_or (set tables i table) n [] ≡ table_of (x n)) e (get_or-set_same tables i table [] (omega (arith, h.long)) ∙ f.table_is))
       (lt_or_ge j i);
   used_is = λ j p.
       ⊎_elim (λ (g : j < i). get_or-set_other used i j views 0 (λ e. omega arith) ∙ h.used_is j g)
       (λ (g : i ≤ j). let e : i ≡ j = omega arith in subst (λ (n : ℕ). get_or (set used i views) n 0 ≡ used_by (x n)) e (get_or-set_same used i views 0 (omega (arith, h.eight)) ∙ f.used_is))
       (lt_or_ge j i);
   needs = λ a. rw (add-one i) (bit_either needed views a ∙ ap₂ ◌||◌ (h.needs a) (ap (λ (s : ℕ). bit s a) f.used_is));
-  covers = λ a. rw (first, add-one i) (covers_more x i lowest low m h.covers f.lowest_is f.edges_is f.few a);
+  covers = λ a. rw (first, add-one i) (covers_more x i lowest low m h.covers f.lowest_is f.edges_is a);
 }
 
 -- the i-th of the accepted queries, whose table was made
 module _ {s : List ℕ} {number : ℕ} (a : Asked s number) {c : List ℕ} {k : ℕ} (v : Views c k) (one i : ℕ) {q : Given} (holds : HoldsPattern (get_or (patterns_in number a.content) i []) q)
     {table : List ℕ} (is : table ≡ mapping (pattern_of (get_or (patterns_in number a.content) i [])) (view_patterns (offers v.content one))) where
-  pub asked_found : {views low : ℕ} → q.edges ≤ 32 → low ≡ lowest_unmatched table 65535 k q.edges → views ≡ used table 65535 q.edges k → Found (asked_at a v one i) table views low q.edges
+  pub asked_found : {views low : ℕ} → low ≡ lowest_unmatched table 65535 k q.edges → views ≡ used table 65535 q.edges k → Found (asked_at a v one i) table views low q.edges
   unfolding question_at
-  asked_found few l u = record {
+  asked_found l u = record {
     table_is = is;
     used_is = u ∙ rw (is, views_many v one, ← holds.edges);
     lowest_is = l ∙ rw (is, views_many v one, ← holds.edges);
     edges_is = holds.edges;
-    few = few;
   }
 
 -- ---- what is answered from a book
@@ -231,29 +174,29 @@ module _ {s : List ℕ} {number : ℕ} (a : Asked s number) {counts : List ℕ} 
   unfolding several_in
   several_unloaded e = e _
 
-  module _ {d : ℕ} {w : List ℕ} (l : Loaded v.views.content b counts k d w) {tables used : List ℕ} {needed lowest : ℕ} (m : Mapped (asked_at a v.views v.one_way) number tables used needed lowest) where
+  module _ {d : ℕ} {w : List ℕ} (l : Loaded v.views.content b counts k d w) {tables : List (List ℕ)} {used : List ℕ} {needed : ℕ} {lowest : Option ℕ} (m : Mapped (asked_at a v.views v.one_way) number tables used needed lowest) where
     loaded-is : judged (read_book content b) (λ bs. several_in asked number (offer_of v) bs room)
-        ≡ pick (ltb lowest 32) (refuse 11 lowest)
+        ≡ uncovered_or lowest
         (fit_several room (sheets_needed asked number (length (view_patterns (offer_of v)))) (answer_at asked (sheets_in (edge_counts content) l.fields)) number)
     unfolding several_in
     loaded-is = judged_accepted _ l.is ∙ l.few _ ∙ m.covers _
 
-    pub several_uncovered : lowest < 32 → judged (read_book v.views.content b) (λ bs. several_in (asked_at a v.views v.one_way) number (offer_of v) bs room) ≡ refuse 11 lowest
-    several_uncovered h = loaded-is ∙ rw (lt-ltb lowest 32 h)
+    pub several_uncovered : {e : ℕ} → lowest ≡ Some e → judged (read_book v.views.content b) (λ bs. several_in (asked_at a v.views v.one_way) number (offer_of v) bs room) ≡ refuse 11 e
+    several_uncovered h = loaded-is ∙ rw h
 
-    several-covered : {sheets : ℕ} → 32 ≤ lowest → sheets ≡ rank (bit needed) k
+    several-covered : {sheets : ℕ} → lowest ≡ None → sheets ≡ rank (bit needed) k
         → judged (read_book content b) (λ bs. several_in asked number (offer_of v) bs room) ≡ fit_several room sheets (answer_at asked (sheets_in (edge_counts content) l.fields)) number
     unfolding sheets_needed
     several-covered {sheets} h e =
         let n : rank (λ i. is_needed asked number i) (length (view_patterns (offer_of v))) ≡ sheets =
         ap (rank (is_needed asked number)) (views_many v.views v.one_way) ∙ sym (e ∙ rank_same (bit needed) (is_needed asked number) k (λ i q. m.needs i)) in
-        loaded-is ∙ rw (le-ltb lowest 32 h) (ap (λ (t : ℕ). fit_several room t (answer_at asked (sheets_in (edge_counts content) l.fields)) number) n)
+        loaded-is ∙ rw h (ap (λ (t : ℕ). fit_several room t (answer_at asked (sheets_in (edge_counts content) l.fields)) number) n)
 
     -- the pairs that were loaded are enough to answer from
     abbrev pub answerable : Answerable s number tables used b counts k d w
     answerable = record { asked = a; views = v; long = m.long; eight = m.eight; table = m.table; used_is = m.used_is; loaded = l }
 
-    pub several_answered : {sheets : ℕ} {r : Told} {outs outs' : List (List ℕ)} → 32 ≤ lowest → sheets ≡ rank (bit needed) k
+    pub several_answered : {sheets : ℕ} {r : Told} {outs outs' : List (List ℕ)} → lowest ≡ None → sheets ≡ rank (bit needed) k
         → Fulfils [] (fit_several room sheets (answer_at (asked_at a v.views v.one_way) (sheets_in (edge_counts v.views.content) l.fields)) number) r outs outs'
         → Fulfils [] (judged (read_book v.views.content b) (λ bs. several_in (asked_at a v.views v.one_way) number (offer_of v) bs room)) r outs outs'
     several_answered {r = r} {outs} {outs'} h e f = subst (λ y. Fulfils [] y r outs outs') (sym (several-covered h e)) f

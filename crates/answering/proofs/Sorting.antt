@@ -125,9 +125,9 @@ lists_before s ws o P p i l f k =
     let y = ends_matching P (graph_of (sorted_fields ws)) (sorted_kind s ws o) (get_or P.edges i no_edge) (p _ (in_at P.edges i no_edge l)) f in
     (λ j. y.0 (x.0 j), λ m. x.1 (y.1 m))
 
-pub sorting : Sorting
+pub sorting : (R : ℕ → ℕ → Type 0) → Sorting R
 unfolding record_sorted
-sorting = record {
+sorting R = record {
   accepts = λ s ws. (
     λ e. let r = read_says 40964 3 old_record s ws e in (r.1, (old_accepted s ws).0 r.0),
     λ q. accepted_by (read_finds 40964 3 old_record s q.0) ((old_accepted s ws).1 q.1),
@@ -141,6 +141,6 @@ sorting = record {
   kinds = sorted_kind;
   sheets = λ s ws o P. ap sheet_bytes (alike_sets P (graph_of (sorted_fields ws)) (graph_of ws) (alike s ws o));
   extract_sheets = λ s ws o P. ap sheet_bytes (alike_views P (graph_of (sorted_fields ws)) (graph_of ws) (alike s ws o));
-  as_before = λ s ws o P p. ends_sim P (graph_of (sorted_fields ws)) p (sorted_kind s ws o);
+  as_before = λ s ws o P p. ends_sim P (graph_of (sorted_fields ws)) p (sorted_kind s ws o) R;
   lists_before = lists_before;
 }

@@ -3,6 +3,7 @@
 -- The contract of each client call is `Settled` (packed/specs/Calls.antt) over one of the answers named here: it says of the result, of every
 -- lent byte and of every word of the workspace what they are once that answer is known. So what is said here of answers holds of the programs.
 -- An answer is a function of the bytes, fields and sets that are lent, of the length of each output (`room`) and of the workspace (`words`).
+-- Each of the laws below is the contract of a function of src/demands.rt, so that the check of the crate wants its proof.
 -- Proofs: proofs/DemandsOneTwo.antt and proofs/DemandThree.antt, by proofs/DemandRules.antt, DemandSheets.antt, DemandIndex.antt and DemandJoin.antt; of the
 -- join by steps, proofs/DemandSteps.antt; of the empty catalogue, proofs/EmptyCatalogues.antt; of the part, proofs/Parts.antt; of several
 -- questions, proofs/Severals.antt; of the cheapest set, proofs/CheapestSets.antt; of calls for a day, proofs/OnDays.antt, by proofs/WhenLaws.antt; of links
@@ -21,7 +22,7 @@ use Rattle.packed.specs.Calls.{Outcome, give, refuse, fronts, Settled, FulfilsOn
 use Rattle.engine.specs.Lists.{In, some, keep, each}
 use Rattle.engine.specs.Simulation.{Pair, Edge, between, no_edge, one_way, both_ways, Pattern, ruled, Graph, pattern_of, graph_of, given_edge, pattern_in, as_graph, bit, fits, IsSim, MatchingBy, sim, sound, match_sets, view_sheet}
 use Rattle.engine.specs.Index.{index_of}
-use Rattle.matching.specs.Join.{without, Offer, answer_sets, matched}
+use Rattle.matching.specs.Join.{without, Offer, join, answer_sets, matched}
 use Rattle.matching.specs.Components.{reaches, Nodes, leaving_of, state_at, Shut, OneStep, StepsTo, pair_at, IsHeld, Holds, Ran, Pruned}
 use Rattle.matching.specs.Part.{rank, number, part_of, pattern_fields, pattern_bytes}
 use Rattle.matching.specs.Offered.{Brought, brings, Offered, offers, view_patterns, judge_set, RightSet, WrongSet}
@@ -582,7 +583,8 @@ pub record RoundTrip (Such : List ℕ → Type 0) (read : List ℕ → ℕ → O
   pub again : (s ws : List ℕ) (room room' words : ℕ) → with_workspace words (write ws room) ≡ give [] (s ∷ []) → length ws ≤ room'
       → with_workspace words (read s room') ≡ give [] (ws ∷ [])
 
-pub record Demand2 : Type 1 where
+-- R is any relation of items, which what is said of every simulation is said of
+pub record Demand2 (R : ℕ → ℕ → Type 0) : Type 0 where
   -- "the question itself always both ways": by the links that leave an item, and "for each pattern link from u'' to u there is a record link from some v'' to v
   -- with (u'', v'') in the relation"; an extract in the set one-way, by the links that leave alone, "the others both ways", on a record as on a question
   pub rule_both_ways : (ps : List ℕ) → (pattern_of ps).rule ≡ both_ways
@@ -593,9 +595,9 @@ pub record Demand2 : Type 1 where
   pub extracts_many : (cs : Offered) → length (view_patterns cs) ≡ length (views_of cs.content)
   -- "the greatest simulation": sim is one, and every simulation lies in it; what a simulation is, by either rule, is said in matching/specs/Simulation.antt
   pub simulates : (P : Pattern) (G : Graph) → IsSim P G (λ u v. In (u, v) (sim P G))
-  pub greatest : (P : Pattern) (G : Graph) (R : ℕ → ℕ → Type 0) → IsSim P G R → (u v : ℕ) → R u v → In (u, v) (sim P G)
+  pub greatest : (P : Pattern) (G : Graph) → IsSim P G R → (u v : ℕ) → R u v → In (u, v) (sim P G)
   -- a simulation both ways is one one-way: so an extract matched one-way goes with a question, which is matched both ways
-  pub one_way_too : (P : Pattern) (G : Graph) (R : ℕ → ℕ → Type 0) → IsSim P G R → IsSim (ruled one_way P) G R
+  pub one_way_too : (P : Pattern) (G : Graph) → IsSim P G R → IsSim (ruled one_way P) G R
   -- a search gives the match sets as a sheet, and a book has a sheet of them for each extract: "an extract's lists are its sheet by that rule"
   pub searches : (way : Way) (p r ps rs : List ℕ) → Question p ps → Record r rs → (room : ℕ) → search_by way p r rs room ≡ fit_file room (sheet_of (pattern_of ps) rs)
   pub books : (c : Brought) (r : List ℕ) (cs : Offered) (rs : List ℕ) → Catalogue c cs → Record r rs → (room : ℕ) → make_book_outcome c r room ≡ fit_file room (book_of cs rs)
@@ -725,7 +727,8 @@ EndsMatching P G e f = (kind : ℕ) × Matching P G (between e.from e.to kind) f
 abbrev pub AllKind0 : Pattern → Type 0
 AllKind0 P = (e : Edge) → In e P.edges → e.kind ≡ 0
 
-pub record Sorting : Type 1 where
+-- R is any relation of items, as in Demand 2
+pub record Sorting (R : ℕ → ℕ → Type 0) : Type 0 where
   -- "read by the old rules": these are said plainly in packed/specs/OldRecord.antt
   pub accepts : (s ws : List ℕ) → OldFile s ws ↔ ((length s ≤ old_record_most) × OldRecordFile s ws)
   pub files : (s : List ℕ) (room : ℕ) → HandsUp (first (read_old_record s) then_none) (record_sorted s room)
@@ -744,8 +747,7 @@ pub record Sorting : Type 1 where
   pub extract_sheets : (s ws : List ℕ) → OldFile s ws → (P : Pattern) → extract_sheet_of P (sorted_fields ws) ≡ extract_sheet_of P ws
   -- "its sheets stay the same for patterns whose links all have kind 0": these are matched as where links have no kinds, one-way as both ways, and list
   -- the same pairs
-  pub as_before : (s ws : List ℕ) → OldFile s ws → (P : Pattern) → AllKind0 P
-      → (R : ℕ → ℕ → Type 0) → IsSim P (graph_of (sorted_fields ws)) R ↔ EndsSim P (graph_of (sorted_fields ws)) R
+  pub as_before : (s ws : List ℕ) → OldFile s ws → (P : Pattern) → AllKind0 P → IsSim P (graph_of (sorted_fields ws)) R ↔ EndsSim P (graph_of (sorted_fields ws)) R
   pub lists_before : (s ws : List ℕ) → OldFile s ws → (P : Pattern) → AllKind0 P → (i : ℕ) → i < length P.edges → (f : Pair) → f.1 < 4096
       → In (code f.0 f.1) (get_or (match_sets P (graph_of (sorted_fields ws))) i []) ↔ EndsMatching P (graph_of (sorted_fields ws)) (get_or P.edges i no_edge) f
 
@@ -834,22 +836,26 @@ pub record SupportsItself (Q : Pattern) (K : Edge → Pair → Type 0) : Type 0 
   pub arriving_from : Q.rule ≡ both_ways → (e : Edge) (v v' : ℕ) → K e (v, v') → (g : Edge) → In g Q.edges → g.to ≡ e.from → (x : ℕ) × K g (x, v)
   pub arriving_to : Q.rule ≡ both_ways → (e : Edge) (v v' : ℕ) → K e (v, v') → (g : Edge) → In g Q.edges → g.to ≡ e.to → (x : ℕ) × K g (x, v')
 
--- "the greatest choice of pairs from the candidates such that .."
-pub record GreatestChoice (Q : Pattern) (Candidates K : Edge → Pair → Type 0) : Type 1 where
+-- "the greatest choice of pairs from the candidates such that ..": it has all that any other such choice L has
+pub record GreatestChoice (L : Edge → Pair → Type 0) (Q : Pattern) (Candidates K : Edge → Pair → Type 0) : Type 0 where
   pub chooses : Chooses Q Candidates K
   pub supports : SupportsItself Q K
-  pub greatest : (L : Edge → Pair → Type 0) → Chooses Q Candidates L → SupportsItself Q L → (e : Edge) (f : Pair) → L e f → K e f
+  pub greatest : Chooses Q Candidates L → SupportsItself Q L → (e : Edge) (f : Pair) → L e f → K e f
+
+-- what the answer from a book by the extracts in a set keeps
+abbrev pub keeps : ℕ → List ℕ → Offered → List ℕ → Edge → Pair → Type 0
+keeps set qs cs bs e f = In (e, f) (join (pattern_of qs) (views_in set (view_patterns cs) (sheets_in (edge_counts cs.content) bs)))
 
 -- the answer lists, for each link, what the greatest choice keeps; "if any link keeps none", nothing is found
-pub record Joins (set : ℕ) (qs : List ℕ) (cs : Offered) (bs : List ℕ) : Type 1 where
-  pub keeps : Edge → Pair → Type 0
-  pub is : GreatestChoice (pattern_of qs) (Candidate (pattern_of qs) (view_patterns cs) (sheets_in (edge_counts cs.content) bs) set) keeps
+pub record Joins (L : Edge → Pair → Type 0) (set : ℕ) (qs : List ℕ) (cs : Offered) (bs : List ℕ) : Type 0 where
+  pub is : GreatestChoice L (pattern_of qs) (Candidate (pattern_of qs) (view_patterns cs) (sheets_in (edge_counts cs.content) bs) set) (keeps set qs cs bs)
   pub lists : (i : ℕ) → i < length (pattern_of qs).edges → (f : Pair) → f.1 < 4096
-      → In (code f.0 f.1) (get_or (answer_of set qs cs bs) i []) ↔ (((e : Edge) → In e (pattern_of qs).edges → (h : Pair) × keeps e h) × keeps (link_of qs i) f)
+      → In (code f.0 f.1) (get_or (answer_of set qs cs bs) i []) ↔ (((e : Edge) → In e (pattern_of qs).edges → (h : Pair) × keeps set qs cs bs e h) × keeps set qs cs bs (link_of qs i) f)
 
-pub record Answering : Type 1 where
+-- L is any choice, which the greatest one is held against
+pub record Answering (L : Edge → Pair → Type 0) : Type 0 where
   -- "the answer is the greatest choice ..", from any book, also one "that belongs to no record"
-  pub joins : (set : ℕ) (qs : List ℕ) (cs : Offered) (bs : List ℕ) → Joins set qs cs bs
+  pub joins : (set : ℕ) (qs : List ℕ) (cs : Offered) (bs : List ℕ) → Joins L set qs cs bs
   -- "two accepted books that agree on the chosen sheets give the same answer": on those of the set that answers, where it covers the question. Whatever rule the
   -- sheets were made by: what else is promised of a book is said of one that was made with the same set
   pub same : (choose : Choose) (q : List ℕ) (c : Brought) (qs : List ℕ) (cs : Offered) (b b' bs bs' : List ℕ) → Question q qs → Catalogue c cs → Book cs.content b bs
@@ -893,8 +899,8 @@ pub record AddsOne (Q : Pattern) (S S' : Nodes) : Type 0 where
 
 -- where K e f says that the pair f is held for the link e of the question, and the lists cs have the candidates: "the settled links", which are those that leave
 -- S, "hold the greatest choice for them alone, and all others still their candidates"
-pub record AfterStep (Q : Pattern) (S : Nodes) (cs : Offer) (K : Edge → Pair → Type 0) : Type 1 where
-  pub settled : GreatestChoice (leaving_of S Q) (λ e f. In f (cs e)) (λ e f. T (S e.from) × K e f)
+pub record AfterStep (L : Edge → Pair → Type 0) (Q : Pattern) (S : Nodes) (cs : Offer) (K : Edge → Pair → Type 0) : Type 0 where
+  pub settled : GreatestChoice L (leaving_of S Q) (λ e f. In f (cs e)) (λ e f. T (S e.from) × K e f)
   pub others : (e : Edge) → In e Q.edges → (T (S e.from) → ⊥) → (f : Pair) → K e f ↔ In f (cs e)
 
 -- the words w of the program hold the pair f for the link e of the question
@@ -907,7 +913,8 @@ pub record HeldFor (q : Given) (d : ℕ) (w : List ℕ) (e : Edge) (f : Pair) : 
   pub is_pair : f ≡ pair_at w place
   pub held : IsHeld w place link
 
-pub record BySteps : Type 1 where
+-- K and L are any choices: what pruning may leave, and one that the greatest is held against
+pub record BySteps (K L : Edge → Pair → Type 0) : Type 0 where
   -- what leading to is: each item leads to itself, and to what a link leads to from an item that it leads to; and to no more, since whatever set has an item and
   -- with each item what its links lead to has all that it leads to
   pub leads_self : (Q : Pattern) (u : ℕ) → T (reaches Q u u)
@@ -922,24 +929,26 @@ pub record BySteps : Type 1 where
   pub goes_on : (Q : Pattern) → T (sound Q) → (S : Nodes) (u : ℕ) → u < length Q.labels → (T (S u) → ⊥) → (S' : Nodes) × OneStep Q S S'
   pub few : (Q : Pattern) → T (sound Q) → (k : ℕ) (S : Nodes) → StepsTo Q k S → k ≤ length Q.labels
   -- "after each step, .., the settled links hold the greatest choice for them alone, and all others still their candidates"
-  pub state : (Q : Pattern) (S : Nodes) (cs : Offer) → AfterStep Q S cs (λ e f. In e Q.edges × In f (state_at S Q cs e))
+  pub state : (Q : Pattern) (S : Nodes) (cs : Offer) → AfterStep L Q S cs (λ e f. In e Q.edges × In f (state_at S Q cs e))
   -- so it is in the words that the steps of the program leave, whatever candidates they held at first: `Ran` is the contract of `matching::steps::run`, which
-  -- makes so many steps as it is asked for, and what the contract of the join, `matching::join::join`, says of its words before the pruning
+  -- makes so many steps as it is asked for. The contract of the join, `Joined` of matching/specs/Joining.antt, says that there are words that hold the candidates
+  -- and words to which `Ran` leads from them, not which words of the program these are
   pub words : (q : Given) (d steps settled : ℕ) (w w' : List ℕ) → Ran q d steps w settled w' → (cs : Offer) → Holds q d w cs
-      → AfterStep (pattern_in q) (bit settled) cs (HeldFor q d w')
+      → AfterStep L (pattern_in q) (bit settled) cs (HeldFor q d w')
   -- what is settled stays: the greatest choice for more links, cut to those that leave S, is the greatest choice for these
   pub stays : (Q : Pattern) (S S' : Nodes) → Shut Q S → ((v : ℕ) → T (S v) → T (S' v)) → (cs : Offer) (e : Edge) → T (S e.from) → (f : Pair)
       → In f (state_at S' Q cs e) ↔ In f (state_at S Q cs e)
   -- the steps "stay one-way": where all items are settled, the settled links are all of the question, matched one-way
   pub whole : (Q : Pattern) (S : Nodes) → ((e : Edge) → In e Q.edges → T (S e.from)) → leaving_of S Q ≡ ruled one_way Q
   -- "pruning both ways starts from what they leave, before the zeroing": whatever candidates the words held, pruning leaves the greatest choice from them both
-  -- ways. `Pruned` is the contract of `matching::steps::prune`, and what the contract of the join says of its last words before the zeroing
+  -- ways. `Pruned` is the contract of `matching::steps::prune`; the contract of the join says that `Pruned` leads to the words that it leaves, before the zeroing,
+  -- from some to which `Ran` leads
   pub rule_both_ways : (q : Given) → (pattern_in q).rule ≡ both_ways
-  pub prunes : (q : Given) (d : ℕ) (w w' : List ℕ) → Pruned q d w w' → (cs : Offer) → Holds q d w cs → GreatestChoice (pattern_in q) (λ e f. In f (cs e)) (HeldFor q d w')
+  pub prunes : (q : Given) (d : ℕ) (w w' : List ℕ) → Pruned q d w w' → (cs : Offer) → Holds q d w cs → GreatestChoice L (pattern_in q) (λ e f. In f (cs e)) (HeldFor q d w')
   -- whatever items are settled, the greatest choice from what is held then is the greatest choice from the candidates; so it is in the words after both
-  pub from_steps : (Q : Pattern) (S : Nodes) (cs : Offer) (K : Edge → Pair → Type 0) → GreatestChoice Q (λ e f. In f (state_at S Q cs e)) K → GreatestChoice Q (λ e f. In f (cs e)) K
+  pub from_steps : (Q : Pattern) (S : Nodes) (cs : Offer) → GreatestChoice L Q (λ e f. In f (state_at S Q cs e)) K → GreatestChoice L Q (λ e f. In f (cs e)) K
   pub after_both : (q : Given) (d steps settled : ℕ) (w w' w'' : List ℕ) → Ran q d steps w settled w' → Pruned q d w' w'' → (cs : Offer) → Holds q d w cs
-      → GreatestChoice (pattern_in q) (λ e f. In f (cs e)) (HeldFor q d w'')
+      → GreatestChoice L (pattern_in q) (λ e f. In f (cs e)) (HeldFor q d w'')
 
 -- ---- what holds of the part. "For an uncovered question clients want the part that the extracts do answer: its matched links, with their items renumbered upward."
 

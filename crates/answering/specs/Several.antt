@@ -1,6 +1,7 @@
 -- Several queries answered in one call from one book.
-use Rattle.std.specs.Prelude.{ℕ, zero, suc, Bool, false, ◌||◌, length, get_or, eqb, ltb}
+use Rattle.std.specs.Prelude.{ℕ, zero, suc, Bool, false, ◌||◌, length, get_or, eqb, ltb, Result, Ok, Err}
 use mathlib.Core.List.{List, [], ◌∷◌, flatten}
+use Rattle.packed.specs.declared.reply.Refusal.{Refusal}
 use Rattle.packed.specs.Limits.{questions_most, book_most}
 use Rattle.packed.specs.Format.{pick}
 use Rattle.packed.specs.Contents.{patterns_in, edge_counts, sheets_in}
@@ -12,8 +13,6 @@ use Rattle.matching.specs.Part.{rank}
 use Rattle.matching.specs.Offered.{Brought, Offered, view_patterns, offered}
 use Rattle.containment.specs.Quote.{Quoted, quoted_by, covering, lowest_left, used_by}
 use Rattle.containment.specs.Answer.{answer_bytes}
-use Rattle.answering.specs.declared.several.Several.{Several}
-use Rattle.answering.specs.declared.several.Several.TheVariants as several-is
 
 -- the question i of so many with the content ws, beside what the catalogue offers
 unfoldable pub question_at : ℕ → List ℕ → Offered → ℕ → Quoted
@@ -66,7 +65,11 @@ several_outcome q number c b room =
     judged (read_book o.content b) (λ bs.
     several_in (question_at number ws o) number o bs room))))
 
+-- the bytes written and the sheets needed, or the refusal
+abbrev pub Several : Type 0
+Several = Result (ℕ × ℕ) Refusal
+
 -- what its result tells: the bytes written and the sheets needed
 abbrev pub several_told : Several → Told
-several_told (several-is.Done bytes sheets) = told 0 (bytes ∷ sheets ∷ [])
-several_told (several-is.Refused x) = told (number_of x) (detail_of x ∷ [])
+several_told (Ok (bytes, sheets)) = told 0 (bytes ∷ sheets ∷ [])
+several_told (Err x) = told (number_of x) (detail_of x ∷ [])

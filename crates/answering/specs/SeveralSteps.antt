@@ -1,6 +1,6 @@
 -- inner: what the steps of answering several queries in one call promise one another.
-use Rattle.std.specs.Prelude.{ℕ, ◌+◌, ◌*◌, ◌<◌, ◌≤◌, ◌≡◌, length, get_or, ltb}
-use mathlib.Core.List.{List, flatten}
+use Rattle.std.specs.Prelude.{ℕ, ◌+◌, ◌<◌, ◌≤◌, ◌≡◌, length, get_or, ltb, Option, Some, None}
+use mathlib.Core.List.{List, [], flatten}
 use Rattle.std.proofs.lemmas.List.Edits.{sets}
 use Rattle.packed.specs.Limits.{questions_most}
 use Rattle.packed.specs.Format.{ok, pick, decode}
@@ -31,47 +31,42 @@ pub record Asked (s : List ℕ) (number : ℕ) : Type 0 where
 abbrev pub asked_at : {s : List ℕ} {number : ℕ} → Asked s number → {c : List ℕ} {k : ℕ} → Views c k → ℕ → ℕ → Quoted
 asked_at {number = number} a v one = question_at number a.content (offers v.content one)
 
--- ---- their tables, one after the other, of 512 words each
+-- ---- their tables
 
--- the table goes to place i
-pub record TablePut (i : ℕ) (table tables tables' : List ℕ) : Type 0 where
-  pub long : length tables' ≡ length tables
-  pub here : (k : ℕ) → k < 512 → get_or tables' (512 * i + k) 0 ≡ get_or table k 0
-  pub others : (j k : ℕ) → (j ≡ i → ⊥) → k < 512 → get_or tables' (512 * j + k) 0 ≡ get_or tables (512 * j + k) 0
+-- the lowest unmatched edge of the first query that isn't covered, if one isn't, where before is that of those before the last, whose own is low, or m
+unfoldable pub first_lowest : Option ℕ → ℕ → ℕ → Option ℕ
+first_lowest (Some e) low m = Some e
+first_lowest None low m = pick (ltb low m) (Some low) None
 
--- r is the table at place i
-pub record TableFrom (i : ℕ) (tables r : List ℕ) : Type 0 where
-  pub long : length r ≡ 512
-  pub each : (k : ℕ) → k < 512 → get_or r k 0 ≡ get_or tables (512 * i + k) 0
-
--- the lowest unmatched edge of the first query that isn't covered, or 32, where before is that of those before the last, whose own is low, or m
-unfoldable pub first_lowest : ℕ → ℕ → ℕ → ℕ
-first_lowest before low m = pick (ltb before 32) before (pick (ltb low m) low 32)
+-- 11 with that edge, or else another answer
+abbrev pub uncovered_or : Option ℕ → Outcome → Outcome
+uncovered_or (Some e) a = refuse 11 e
+uncovered_or None a = a
 
 -- the first n queries are mapped: their tables and the views that answer each stand at their places; the views that answer one of them, and the
--- lowest unmatched edge of the first that isn't covered, or 32
-pub record Mapped (x : ℕ → Quoted) (n : ℕ) (tables used : List ℕ) (needed lowest : ℕ) : Type 0 where
-  pub long : length tables ≡ 4096
+-- lowest unmatched edge of the first that isn't covered, if one isn't
+pub record Mapped (x : ℕ → Quoted) (n : ℕ) (tables : List (List ℕ)) (used : List ℕ) (needed : ℕ) (lowest : Option ℕ) : Type 0 where
+  pub long : length tables ≡ 8
   pub eight : length used ≡ 8
-  pub table : (i k : ℕ) → i < n → k < 512 → get_or tables (512 * i + k) 0 ≡ get_or (table_of (x i)) k 0
+  pub table : (i : ℕ) → i < n → get_or tables i [] ≡ table_of (x i)
   pub used_is : (i : ℕ) → i < n → get_or used i 0 ≡ used_by (x i)
   pub needs : (a : ℕ) → bit needed a ≡ is_needed x n a
-  pub covers : (a : Outcome) → all_covered x n a ≡ pick (ltb lowest 32) (refuse 11 lowest) a
+  pub covers : (a : Outcome) → all_covered x n a ≡ uncovered_or lowest a
 
 -- ---- their answers
 
 -- the queries may be answered: they are mapped, and the pairs of a book stand in the workspace
-pub record Answerable (s : List ℕ) (number : ℕ) (tables used book counts : List ℕ) (k d : ℕ) (w : List ℕ) : Type 0 where
+pub record Answerable (s : List ℕ) (number : ℕ) (tables : List (List ℕ)) (used book counts : List ℕ) (k d : ℕ) (w : List ℕ) : Type 0 where
   pub asked : Asked s number
   pub views : ViewCounts counts k
-  pub long : length tables ≡ 4096
+  pub long : length tables ≡ 8
   pub eight : length used ≡ 8
-  pub table : (i j : ℕ) → i < number → j < 512 → get_or tables (512 * i + j) 0 ≡ get_or (table_of (asked_at asked views.views views.one_way i)) j 0
+  pub table : (i : ℕ) → i < number → get_or tables i [] ≡ table_of (asked_at asked views.views views.one_way i)
   pub used_is : (i : ℕ) → i < number → get_or used i 0 ≡ used_by (asked_at asked views.views views.one_way i)
   pub loaded : Loaded views.views.content book counts k d w
 
 -- what each gets by itself
-abbrev pub answers_of : {s : List ℕ} {number : ℕ} {tables used book counts : List ℕ} {k d : ℕ} {w : List ℕ} → Answerable s number tables used book counts k d w → ℕ → List ℕ
+abbrev pub answers_of : {s : List ℕ} {number : ℕ} {tables : List (List ℕ)} {used book counts : List ℕ} {k d : ℕ} {w : List ℕ} → Answerable s number tables used book counts k d w → ℕ → List ℕ
 answers_of x = answer_at (asked_at x.asked x.views.views x.views.one_way) (sheets_in (edge_counts x.views.views.content) x.loaded.fields)
 
 -- the first d pairs of the workspace make the sheet for m edges with these lists

@@ -16,23 +16,30 @@ ghost use Rattle.containment.specs.Steps.{Query, ViewCounts, quoted_as, LoadedTo
 use containment::{choose, judging};
 use matching::join;
 use packed::by_value::Pattern;
-use packed::reply::{Refusal, Reply};
+use packed::reply::{File, Refusal, Reply};
 use packed::{accept, gather, limits, matches};
+
+// A book whose different pairs stand at the front of the workspace: how many edges each of its views has, how many views there are, and how many
+// pairs.
+#[derive(Clone, Copy)]
+pub struct BookPairs<'a> {
+    pub book: &'a [u8],
+    pub counts: [u32; 16],
+    pub views: usize,
+    pub number: usize,
+}
 
 // A book is judged, and its different pairs go to the front of the workspace: how many they are.
 pub fn load_book(book: &[u8], counts: [u32; 16], k: usize, work: &mut [u32]) -> Reply
     requires { ViewCounts counts k × (length work.old ≡ 16384) }
     ensures { (v : ViewCounts counts k) → LoadedTo v.views.content book.now counts k work.new result }
 {
-    let verdict = accept::accept_book(book, counts, k, &mut work[0..0]);
-    let Reply::Done(_) = verdict else {
-        return verdict;
-    };
+    accept::accept_book(book, counts, k, &mut work[0..0])?;
     let d = gather::gather_book(book, counts, k, work);
     if limits::PAIRS_MOST < d {
-        return Reply::Refused(Refusal::TooManyPairs(4));
+        return Err(Refusal::TooManyPairs(File::Sheet));
     }
-    Reply::Done(d)
+    Ok(d)
 }
 
 // Answers from the pairs of a book that stand in the workspace, by the views in the set.
@@ -40,18 +47,15 @@ pub fn answer_pairs(
     q: Pattern,
     table: &[u32; 512],
     set: u32,
-    book: &[u8],
-    counts: [u32; 16],
-    k: usize,
-    d: usize,
+    b: BookPairs<'_>,
     out: &mut [u8],
     work: &mut [u32],
 ) -> Reply
-    requires { Fair q × Booked book.now counts k d work.old }
-    ensures { (vs : List View) → Agrees q table.now set book.now counts k vs → FulfilsOne (fit_file (length out.old) (sheet_bytes (answer_sets (pattern_in q) vs))) (reply_told result) out.old out.new }
+    requires { Fair q × Booked b.book.now b.counts b.views b.number work.old }
+    ensures { (vs : List View) → Agrees q table.now set b.entry.book.now b.entry.counts b.entry.views vs → FulfilsOne (fit_file (length out.old) (sheet_bytes (answer_sets (pattern_in q) vs))) (reply_told result) out.old out.new }
 {
-    join::join(q, table, set, book, counts, k, d, work);
-    matches::give_sheet(work, d, q.edges as u32, out)
+    join::join(q, table, set, b.book, b.counts, b.views, b.number, work);
+    matches::give_sheet(work, b.number, q.edges as u32, out)
 }
 
 // Answers from a book by the views in the set, once what the client brings is judged. The lowest edge that the set leaves unmatched is known.
@@ -69,14 +73,17 @@ fn answer_book(
     requires { Query q × ViewCounts counts k × (lowest ≡ lowest_unmatched table.now set k q.edges) × (length work.old ≡ 16384) }
     ensures { (t : Query q) (v : ViewCounts counts k) (usable : ℕ) → table.now ≡ table_of (quoted_as t v usable) → FulfilsOne (judged (read_book v.views.content book.now) (λ bs. answer_in set (quoted_as t v usable) bs (length out.old))) (reply_told result) out.old out.new }
 {
-    let loaded = load_book(book, counts, k, work);
-    let Reply::Done(d) = loaded else {
-        return loaded;
-    };
+    let d = load_book(book, counts, k, work)?;
     if lowest < q.edges {
-        return Reply::Refused(Refusal::NotContained(lowest as u32));
+        return Err(Refusal::NotContained(lowest as u32));
     }
-    answer_pairs(q, table, set, book, counts, k, d, out, work)
+    let b = BookPairs {
+        book,
+        counts,
+        views: k,
+        number: d,
+    };
+    answer_pairs(q, table, set, b, out, work)
 }
 
 // Answers by the views that the quote chooses.
@@ -91,11 +98,7 @@ pub fn answer(
     requires { length work.old ≡ 16384 }
     ensures { FulfilsOne (answer_outcome question.now (brings catalogue.now one_way) book.now (length out.old)) (reply_told result) out.old out.new }
 {
-    let f = judging::judge(question, catalogue, one_way, work);
-    let verdict = f.verdict;
-    let Reply::Done(_) = verdict else {
-        return verdict;
-    };
+    let f = judging::judge(question, catalogue, one_way, work)?;
     let table = f.table;
     let q = f.query;
     let counts = f.edges;
@@ -119,11 +122,7 @@ pub fn answer_from(
     requires { length work.old ≡ 16384 }
     ensures { FulfilsOne (answer_from question.now (brings catalogue.now one_way) set book.now (length out.old)) (reply_told result) out.old out.new }
 {
-    let f = judging::judge(question, catalogue, one_way, work);
-    let verdict = f.verdict;
-    let Reply::Done(_) = verdict else {
-        return verdict;
-    };
+    let f = judging::judge(question, catalogue, one_way, work)?;
     let table = f.table;
     let q = f.query;
     let counts = f.edges;

@@ -2,6 +2,7 @@
 #![tactic(auto)]
 
 mod answering;
+pub mod demands;
 mod parting;
 pub mod several;
 mod showing;
@@ -24,6 +25,19 @@ use several::Several;
 // How much of the workspace is zero after every call.
 const CLEARED: usize = limits::WORKSPACE;
 
+// The call is lent the words to work in, and these are cleared behind it; without enough of them it is refused. A function that takes the call as a
+// closure would not do: its caller learns nothing of the outputs that the closure fills.
+macro_rules! lent {
+    ($work:ident, $small:expr, $call:expr) => {{
+        if $work.len() < limits::WORKSPACE {
+            return $small;
+        }
+        let r = $call;
+        workspace::clear($work, CLEARED);
+        r
+    }};
+}
+
 // Answers a question from a book by the extracts that its quote chooses: writes the question's sheet.
 pub fn answer(
     question: &[u8],
@@ -35,19 +49,18 @@ pub fn answer(
 ) -> Reply
     ensures { OneOutput (answer_outcome question.now (brings catalogue.now one_way) book.now) (reply_told result) out.old out.new work.old work.new }
 {
-    if work.len() < limits::WORKSPACE {
-        return Reply::Refused(Refusal::SmallWorkspace);
-    }
-    let r = answering::answer(
-        question,
-        catalogue,
-        one_way as u32,
-        book,
-        out,
-        &mut work[0..limits::WORKSPACE],
-    );
-    workspace::clear(work, CLEARED);
-    r
+    lent!(
+        work,
+        Err(Refusal::SmallWorkspace),
+        answering::answer(
+            question,
+            catalogue,
+            one_way as u32,
+            book,
+            out,
+            &mut work[0..limits::WORKSPACE],
+        )
+    )
 }
 
 // The same by the extracts in a set that the client names: the bit worth 2^j for extract j. Bits that name no extract count for nothing.
@@ -62,20 +75,19 @@ pub fn answer_from(
 ) -> Reply
     ensures { OneOutput (answer_from question.now (brings catalogue.now one_way) set book.now) (reply_told result) out.old out.new work.old work.new }
 {
-    if work.len() < limits::WORKSPACE {
-        return Reply::Refused(Refusal::SmallWorkspace);
-    }
-    let r = answering::answer_from(
-        question,
-        catalogue,
-        one_way as u32,
-        set as u32,
-        book,
-        out,
-        &mut work[0..limits::WORKSPACE],
-    );
-    workspace::clear(work, CLEARED);
-    r
+    lent!(
+        work,
+        Err(Refusal::SmallWorkspace),
+        answering::answer_from(
+            question,
+            catalogue,
+            one_way as u32,
+            set as u32,
+            book,
+            out,
+            &mut work[0..limits::WORKSPACE],
+        )
+    )
 }
 
 // Shows why a question is not covered: writes it as a record, and the same without its lowest unmatched link.
@@ -89,19 +101,18 @@ pub fn show_uncovered(
 ) -> Both
     ensures { Settled [] (with_workspace (length work.old) (show_outcome question.now (brings catalogue.now one_way) (length first.old) (length second.old))) (both_told result) (first.old ∷ second.old ∷ []) (first.new ∷ second.new ∷ []) work.old work.new }
 {
-    if work.len() < limits::WORKSPACE {
-        return Both::Refused(Refusal::SmallWorkspace);
-    }
-    let r = showing::show(
-        question,
-        catalogue,
-        one_way as u32,
-        first,
-        second,
-        &mut work[0..limits::WORKSPACE],
-    );
-    workspace::clear(work, CLEARED);
-    r
+    lent!(
+        work,
+        Err(Refusal::SmallWorkspace),
+        showing::show(
+            question,
+            catalogue,
+            one_way as u32,
+            first,
+            second,
+            &mut work[0..limits::WORKSPACE],
+        )
+    )
 }
 
 // The part of a question that the extracts do answer: writes its matched links as a pattern, and the answer that this gets from a book.
@@ -116,20 +127,19 @@ pub fn part(
 ) -> Both
     ensures { Settled [] (with_workspace (length work.old) (part_outcome question.now (brings catalogue.now one_way) book.now (length part.old) (length answer.old))) (both_told result) (part.old ∷ answer.old ∷ []) (part.new ∷ answer.new ∷ []) work.old work.new }
 {
-    if work.len() < limits::WORKSPACE {
-        return Both::Refused(Refusal::SmallWorkspace);
-    }
-    let r = parting::part(
-        question,
-        catalogue,
-        one_way as u32,
-        book,
-        part,
-        answer,
-        &mut work[0..limits::WORKSPACE],
-    );
-    workspace::clear(work, CLEARED);
-    r
+    lent!(
+        work,
+        Err(Refusal::SmallWorkspace),
+        parting::part(
+            question,
+            catalogue,
+            one_way as u32,
+            book,
+            part,
+            answer,
+            &mut work[0..limits::WORKSPACE],
+        )
+    )
 }
 
 // Answers several questions from one book: writes their sheets one after the other, each as its question gets it by itself. The result also says how
@@ -145,20 +155,19 @@ pub fn answer_several(
 ) -> Several
     ensures { Settled [] (with_workspace (length work.old) (several_outcome questions.now number (brings catalogue.now one_way) book.now (length out.old))) (several_told result) (out.old ∷ []) (out.new ∷ []) work.old work.new }
 {
-    if work.len() < limits::WORKSPACE {
-        return Several::Refused(Refusal::SmallWorkspace);
-    }
-    let r = several::answer_several(
-        questions,
-        number,
-        catalogue,
-        one_way as u32,
-        book,
-        out,
-        &mut work[0..limits::WORKSPACE],
-    );
-    workspace::clear(work, CLEARED);
-    r
+    lent!(
+        work,
+        Err(Refusal::SmallWorkspace),
+        several::answer_several(
+            questions,
+            number,
+            catalogue,
+            one_way as u32,
+            book,
+            out,
+            &mut work[0..limits::WORKSPACE],
+        )
+    )
 }
 
 // The part of a question that the extracts in force on a day do answer, and its answer from a book by these.
@@ -175,22 +184,21 @@ pub fn part_on(
 ) -> Both
     ensures { Settled [] (with_workspace (length work.old) (part_on question.now (brings catalogue.now one_way) terms day book.now (length part.old) (length answer.old))) (both_told result) (part.old ∷ answer.old ∷ []) (part.new ∷ answer.new ∷ []) work.old work.new }
 {
-    if work.len() < limits::WORKSPACE {
-        return Both::Refused(Refusal::SmallWorkspace);
-    }
-    let r = parting::part_on(
-        question,
-        catalogue,
-        one_way as u32,
-        terms,
-        day,
-        book,
-        part,
-        answer,
-        &mut work[0..limits::WORKSPACE],
-    );
-    workspace::clear(work, CLEARED);
-    r
+    lent!(
+        work,
+        Err(Refusal::SmallWorkspace),
+        parting::part_on(
+            question,
+            catalogue,
+            one_way as u32,
+            terms,
+            day,
+            book,
+            part,
+            answer,
+            &mut work[0..limits::WORKSPACE],
+        )
+    )
 }
 
 // Shows why a question is not covered on a day: the second record lacks the lowest link that no extract in force matches.
@@ -206,19 +214,18 @@ pub fn show_on(
 ) -> Both
     ensures { Settled [] (with_workspace (length work.old) (show_on question.now (brings catalogue.now one_way) terms day (length first.old) (length second.old))) (both_told result) (first.old ∷ second.old ∷ []) (first.new ∷ second.new ∷ []) work.old work.new }
 {
-    if work.len() < limits::WORKSPACE {
-        return Both::Refused(Refusal::SmallWorkspace);
-    }
-    let r = showing::show_on(
-        question,
-        catalogue,
-        one_way as u32,
-        terms,
-        day,
-        first,
-        second,
-        &mut work[0..limits::WORKSPACE],
-    );
-    workspace::clear(work, CLEARED);
-    r
+    lent!(
+        work,
+        Err(Refusal::SmallWorkspace),
+        showing::show_on(
+            question,
+            catalogue,
+            one_way as u32,
+            terms,
+            day,
+            first,
+            second,
+            &mut work[0..limits::WORKSPACE],
+        )
+    )
 }

@@ -19,13 +19,14 @@ ghost use Rattle.containment.specs.Terms.{part_on};
 ghost use Rattle.answering.specs.Parting.{EndTaken, taken_fields, Adds, Takes, Picked, in_rows, Partable};
 
 use crate::answering;
+use crate::answering::BookPairs;
 use containment::judging::Judged;
 use containment::query::Fields;
 use containment::terms::Terms;
 use containment::{choose, judging, mapping, query};
 use matching::sets;
 use packed::by_value::Pattern;
-use packed::reply::{Both, Part, Refusal, Reply};
+use packed::reply::{Both, Refusal};
 use packed::{by_value, pattern};
 
 // Those of the first m edges that one of the first k views in the set matches.
@@ -43,13 +44,10 @@ fn nodes_at(q: Pattern, taken: u32) -> u32
     ensures { Mask (EndTaken q taken q.edges) result }
 {
     let mut nodes: u32 = 0;
-    let m = q.edges;
-    let mut e: usize = 0;
-    while e < m {
+    for e in 0..q.edges {
         if sets::is_in(taken, e) {
             nodes = nodes | (sets::only(q.from[e] as usize) | sets::only(q.to[e] as usize));
         }
-        e += 1;
     }
     nodes
 }
@@ -60,12 +58,10 @@ pub fn number_in(set: u32, n: usize) -> u32
     ensures { (result ≡ rank (bit set) n) × (result ≤ n) }
 {
     let mut number: u32 = 0;
-    let mut i: usize = 0;
-    while i < n {
+    for i in 0..n {
         if sets::is_in(set, i) {
             number += 1;
         }
-        i += 1;
     }
     number
 }
@@ -100,13 +96,10 @@ fn with_labels(f: Fields, q: Pattern, nodes: u32) -> Fields
     ensures { (result.number ≤ f.number + q.nodes) × Adds (at_places (bit nodes) (take q.nodes q.labels)) f result }
 {
     let mut g = f;
-    let n = q.nodes;
-    let mut u: usize = 0;
-    while u < n {
+    for u in 0..q.nodes {
         if sets::is_in(nodes, u) {
             g = with_word(g, q.labels[u]);
         }
-        u += 1;
     }
     g
 }
@@ -125,15 +118,12 @@ fn with_edges(f: Fields, q: Pattern, taken: u32, nodes: u32) -> Fields
     ensures { Adds (taken_fields q taken nodes q.edges) f result }
 {
     let mut g = f;
-    let m = q.edges;
-    let mut e: usize = 0;
-    while e < m {
+    for e in 0..q.edges {
         if sets::is_in(taken, e) {
             let from = number_in(nodes, q.from[e] as usize);
             let to = number_in(nodes, q.to[e] as usize);
             g = with_edge(g, from, to, q.kind[e]);
         }
-        e += 1;
     }
     g
 }
@@ -155,15 +145,12 @@ pub fn part_rows(table: &[u32; 512], taken: u32, m: usize) -> [u32; 512]
     ensures { Picked (in_rows taken) table.now (16 * m) result }
 {
     let mut rows = mapping::no_mapping();
-    let end = 16 * m;
     let mut j: usize = 0;
-    let mut k: usize = 0;
-    while k < end {
+    for k in 0..16 * m {
         if sets::is_in(taken, k / 16) {
             rows[j] = table[k];
             j += 1;
         }
-        k += 1;
     }
     rows
 }
@@ -174,78 +161,71 @@ fn write_part(words: &[u32], out: &mut [u8]) -> usize
 {
     let r = pattern::judge_pattern_fields(words, out);
     match r {
-        Part::Upto(size, _) => size,
-        Part::Refused(_) => 0,
+        Ok((size, _)) => size,
+        Err(_) => 0,
     }
 }
 
-// The part with the edges that are taken, all that the views match, and its answer from the d pairs of a book that stand in the workspace.
+// The part with the edges that are taken, all that the views match, and its answer from the pairs of a book that stand in the workspace.
 // The part is written last, so that nothing is written unless both fit.
 fn part_pairs(
     q: Pattern,
     table: &[u32; 512],
     usable: u32,
     taken: u32,
-    book: &[u8],
-    counts: [u32; 16],
-    k: usize,
-    d: usize,
+    b: BookPairs<'_>,
     part: &mut [u8],
     answer: &mut [u8],
     work: &mut [u32],
 ) -> Both
-    requires { Partable q counts k table.now usable taken book.now d work.old }
-    ensures { (x : Partable q counts k table.now usable taken book.now d work.old) → Fulfils [] (fit_part (length part.old) (part_bytes (quoted_as x.query x.views usable)) (answer_for used_by book.now (length answer.old) (part_quoted (quoted_as x.query x.views usable)))) (both_told result) (part.old ∷ answer.old ∷ []) (part.new ∷ answer.new ∷ []) }
+    requires { Partable q b.counts b.views table.now usable taken b.book.now b.number work.old }
+    ensures { (x : Partable q b.entry.counts b.entry.views table.now usable taken b.entry.book.now b.entry.number work.old) → Fulfils [] (fit_part (length part.old) (part_bytes (quoted_as x.query x.views usable)) (answer_for used_by b.entry.book.now (length answer.old) (part_quoted (quoted_as x.query x.views usable)))) (both_told result) (part.old ∷ answer.old ∷ []) (part.new ∷ answer.new ∷ []) }
 {
     let f = part_fields(q, taken);
     let words = f.words;
     let n = f.number;
     let size = write_part(&words[0..n], &mut part[0..0]);
     if part.len() < size {
-        return Both::Refused(Refusal::NoRoom(size));
+        return Err(Refusal::NoRoom(size));
     }
     let p = by_value::pattern_of(&words[0..n]);
     let columns = choose::columns_in(table, usable);
     let rows = part_rows(&columns, taken, q.edges);
-    let set = choose::choose(&rows, usable, k, p.edges);
-    let r = answering::answer_pairs(p, &rows, set, book, counts, k, d, answer, work);
-    match r {
-        Reply::Done(length) => {
-            write_part(&words[0..n], part);
-            Both::Done(size, length)
-        }
-        Reply::Refused(x) => Both::Refused(x),
-    }
+    let set = choose::choose(&rows, usable, b.views, p.edges);
+    let length = answering::answer_pairs(p, &rows, set, b, answer, work)?;
+    write_part(&words[0..n], part);
+    Ok((size, length))
 }
 
 // The part, once what the client brings beside the book is judged.
-fn part_judged(f: Judged, book: &[u8], part: &mut [u8], answer: &mut [u8], work: &mut [u32]) -> Both
-    requires { AnyJudged f × (length work.old ≡ 16384) }
-    ensures { (g : (Quoted → Outcome) → Outcome) → JudgedTo g f f.verdict → Fulfils [] (g (part_for book.now (length part.old) (length answer.old))) (both_told result) (part.old ∷ answer.old ∷ []) (part.new ∷ answer.new ∷ []) }
+fn part_judged(
+    judged: Result<Judged, Refusal>,
+    book: &[u8],
+    part: &mut [u8],
+    answer: &mut [u8],
+    work: &mut [u32],
+) -> Both
+    requires { AnyJudged judged × (length work.old ≡ 16384) }
+    ensures { (g : (Quoted → Outcome) → Outcome) → JudgedTo g judged → Fulfils [] (g (part_for book.now (length part.old) (length answer.old))) (both_told result) (part.old ∷ answer.old ∷ []) (part.new ∷ answer.new ∷ []) }
 {
-    let verdict = f.verdict;
-    if let Reply::Refused(x) = verdict {
-        return Both::Refused(x);
-    }
+    let f = judged?;
     let table = f.table;
     let q = f.query;
     let k = f.views;
     let counts = f.edges;
-    let loaded = answering::load_book(book, counts, k, work);
-    let d = match loaded {
-        Reply::Done(d) => d,
-        Reply::Refused(x) => {
-            return Both::Refused(x);
-        }
-    };
+    let d = answering::load_book(book, counts, k, work)?;
     let usable = f.usable;
     let taken = matched_edges(&table, usable, k, q.edges);
     if taken == 0 {
-        return Both::Refused(Refusal::NotContained(0));
+        return Err(Refusal::NotContained(0));
     }
-    part_pairs(
-        q, &table, usable, taken, book, counts, k, d, part, answer, work,
-    )
+    let b = BookPairs {
+        book,
+        counts,
+        views: k,
+        number: d,
+    };
+    part_pairs(q, &table, usable, taken, b, part, answer, work)
 }
 
 pub fn part(
@@ -264,7 +244,7 @@ pub fn part(
     part_judged(f, book, part, answer, work)
 }
 
-// For a day, by the views in force.
+// For a day, by the views in force. It is apart from `part` since other things are judged, in an order of their own; the rest is one function.
 pub fn part_on(
     question: &[u8],
     catalogue: &[u8],

@@ -1,6 +1,6 @@
 // Several queries answered in one call from one book, whose pairs are gathered once. The table of each is made before the book is loaded,
-// which takes the room; a table is 512 words, and theirs stand one after the other.
-ghost use Rattle.std.specs.Prelude.{◌≡◌, List, [], ◌∷◌, ℕ, ◌<◌, ◌≤◌, length, replicate};
+// which takes the room. There is no heap, so what is held of the queries stands in arrays for the most there may be.
+ghost use Rattle.std.specs.Prelude.{◌≡◌, List, [], ◌∷◌, ℕ, ◌≤◌, length};
 ghost use Rattle.packed.specs.Calls.{Fulfils, judged, read_book};
 ghost use Rattle.engine.specs.Loaded.{Fair, pattern_in, Edges};
 ghost use Rattle.matching.specs.Join.{View, answer_sets};
@@ -10,74 +10,20 @@ ghost use Rattle.matching.specs.Joining.{Agrees};
 ghost use Rattle.matching.specs.Offered.{brings};
 ghost use Rattle.answering.specs.Several.{several_in, fit_several, several_outcome, several_told};
 ghost use Rattle.containment.specs.Steps.{Views, ViewCounts, offer_of};
-ghost use Rattle.answering.specs.SeveralSteps.{Asked, asked_at, TablePut, TableFrom, first_lowest, Mapped, Answerable, answers_of, Measured, Held, Writable, Written};
+ghost use Rattle.answering.specs.SeveralSteps.{Asked, asked_at, first_lowest, Mapped, Answerable, answers_of, Measured, Held, Writable, Written};
 
+use crate::answering::BookPairs;
 use crate::{answering, parting};
 use containment::{choose, mapping};
 use engine::views;
 use matching::{join, offered};
 use packed::accept::CatalogueFile;
 use packed::by_value::Pattern;
-use packed::reply::{Refusal, Reply};
+use packed::reply::Refusal;
 use packed::{accept, limits, matches};
 
 // How many bytes were written, and how many sheets of the book were needed; or why there is nothing.
-#[derive(Clone, Copy)]
-pub enum Several {
-    Done(usize, u32),
-    Refused(Refusal),
-}
-
-fn no_tables() -> [u32; 4096]
-    ensures { result ≡ replicate 4096 0 }
-{
-    [0u32; 4096]
-}
-
-fn no_sets() -> [u32; 8]
-    ensures { result ≡ replicate 8 0 }
-{
-    [0u32; 8]
-}
-
-fn no_sizes() -> [usize; 8]
-    ensures { result ≡ replicate 8 0 }
-{
-    [0usize; 8]
-}
-
-// The table goes to place i.
-fn put_table(tables: &mut [u32; 4096], i: usize, table: &[u32; 512])
-    requires { (i < 8) × (length tables.old ≡ 4096) }
-    ensures { TablePut i table.now tables.old tables.new }
-{
-    let first = 512 * i;
-    let mut k: usize = 0;
-    while k < 512 {
-        let at = first + k;
-        tables[at] = table[k];
-        k += 1;
-    }
-}
-
-// The table at place i.
-fn table_at(tables: &[u32; 4096], i: usize) -> [u32; 512]
-    requires { i < 8 }
-    ensures { TableFrom i tables.now result }
-{
-    let mut table = mapping::no_mapping();
-    let first = 512 * i;
-    let mut k: usize = 0;
-    while k < 512 {
-        let at = first + k;
-        table[k] = tables[at];
-        k += 1;
-    }
-    table
-}
-
-// Which edge is told of an uncovered query: none as yet.
-const NONE: u32 = 32;
+pub type Several = Result<(usize, u32), Refusal>;
 
 // The views that answer each query, those that answer one of them, and the lowest edge that no view matches of the first query that isn't
 // covered.
@@ -85,21 +31,28 @@ const NONE: u32 = 32;
 pub struct Sets {
     pub used: [u32; 8],
     pub needed: u32,
-    pub lowest: u32,
+    pub lowest: Option<u32>,
 }
 
 // The lowest unmatched edge of the first query that isn't covered, where the last of them has m edges: low is its own, or m.
-fn first_lowest(before: u32, low: usize, m: usize) -> u32
+#[tactic(auto, unfolding(crate::specs::SeveralSteps::first_lowest))]
+fn first_lowest(before: Option<u32>, low: usize, m: usize) -> Option<u32>
     requires { m ≤ 32 }
     ensures { result ≡ first_lowest before low m }
 {
-    if before < NONE {
-        return before;
+    match before {
+        Some(e) => Some(e),
+        None => { if low < m { Some(low as u32) } else { None } }
     }
-    if low < m {
-        return low as u32;
-    }
-    NONE
+}
+
+// Queries, so many in one file, each with its table and the views that answer it.
+#[derive(Clone, Copy)]
+struct Queries<'a, 'b> {
+    file: &'a [u8],
+    number: usize,
+    tables: &'b [[u32; 512]; 8],
+    used: [u32; 8],
 }
 
 // The tables of the queries, and the views that answer each.
@@ -110,30 +63,28 @@ fn map_queries(
     one_way: u32,
     k: usize,
     counts: [u32; 16],
-    tables: &mut [u32; 4096],
+    tables: &mut [[u32; 512]; 8],
     work: &mut [u32],
 ) -> Sets
-    requires { Asked questions.now number × Views catalogue.now k × EdgesCounted catalogue.now k counts × (length catalogue.now ≤ 65536) × (length tables.old ≡ 4096) × (length work.old ≡ 16384) }
+    requires { Asked questions.now number × Views catalogue.now k × EdgesCounted catalogue.now k counts × (length catalogue.now ≤ 65536) × (length work.old ≡ 16384) }
     ensures { (a : Asked questions.now number) (v : Views catalogue.now k) → Mapped (asked_at a v one_way) number tables.new result.used result.needed result.lowest }
 {
-    let mut used = no_sets();
+    let mut used = [0; 8];
     let mut needed: u32 = 0;
-    let mut lowest: u32 = NONE;
+    let mut lowest = None;
     let mut byte: usize = 0;
-    let mut i: usize = 0;
-    while i < number {
+    for i in 0..number {
         let v = views::view_at(questions, byte);
         let q = v.pattern;
         let table = mapping::map_views(q, catalogue, one_way, k, counts, work);
         let masks = choose::masks_of(&table, k, q.edges);
         let low = choose::lowest_in(&masks, choose::EVERY_VIEW, k, q.edges);
         let set = choose::use_views(&masks, choose::EVERY_VIEW, low, k, q.edges);
-        put_table(tables, i, &table);
+        tables[i] = table;
         used[i] = set;
         needed = needed | set;
         lowest = first_lowest(lowest, low, q.edges);
         byte = v.next;
-        i += 1;
     }
     Sets {
         used,
@@ -152,38 +103,34 @@ pub struct Sizes {
     pub edges: u32,
 }
 
-fn measure(
-    questions: &[u8],
-    number: usize,
-    tables: &[u32; 4096],
-    used: [u32; 8],
-    book: &[u8],
-    counts: [u32; 16],
-    k: usize,
-    d: usize,
-    work: &mut [u32],
-) -> Sizes
-    requires { Answerable questions.now number tables.now used book.now counts k d work.old }
-    ensures { (x : Answerable questions.now number tables.now used book.now counts k d work.old) → Measured (answers_of x) number d result work.old work.new }
+fn measure(a: Queries<'_, '_>, b: BookPairs<'_>, work: &mut [u32]) -> Sizes
+    requires { Answerable a.file.now a.number a.tables.now a.used b.book.now b.counts b.views b.number work.old }
+    ensures { (x : Answerable a.entry.file.now a.entry.number a.entry.tables.now a.entry.used b.entry.book.now b.entry.counts b.entry.views b.entry.number work.old) → Measured (answers_of x) a.entry.number b.entry.number result work.old work.new }
 {
-    let mut each = no_sizes();
+    let mut each = [0; 8];
     let mut total: usize = 0;
     let mut long = false;
     let mut edges: u32 = 0;
     let mut byte: usize = 0;
-    let mut i: usize = 0;
-    while i < number {
-        let v = views::view_at(questions, byte);
+    for i in 0..a.number {
+        let v = views::view_at(a.file, byte);
         let q = v.pattern;
         edges = q.edges as u32;
-        let table = table_at(tables, i);
-        join::join(q, &table, used[i], book, counts, k, d, work);
-        let size = matches::sheet_size(work, d, edges);
+        join::join(
+            q,
+            &a.tables[i],
+            a.used[i],
+            b.book,
+            b.counts,
+            b.views,
+            b.number,
+            work,
+        );
+        let size = matches::sheet_size(work, b.number, edges);
         each[i] = size;
         total += size;
         long = long | (limits::BOOK_MOST < size);
         byte = v.next;
-        i += 1;
     }
     Sizes {
         each,
@@ -200,91 +147,72 @@ fn join_again(
     table: &[u32; 512],
     set: u32,
     size: usize,
-    book: &[u8],
-    counts: [u32; 16],
-    k: usize,
-    d: usize,
+    b: BookPairs<'_>,
     work: &mut [u32],
 ) -> usize
-    requires { Fair q × Booked book.now counts k d work.old }
-    ensures { Edges work.old work.new × ((vs : List View) → Agrees q table.now set book.now counts k vs → size ≡ sheet_size (answer_sets (pattern_in q) vs) → Held result q.edges (answer_sets (pattern_in q) vs) work.new) }
+    requires { Fair q × Booked b.book.now b.counts b.views b.number work.old }
+    ensures { Edges work.old work.new × ((vs : List View) → Agrees q table.now set b.entry.book.now b.entry.counts b.entry.views vs → size ≡ sheet_size (answer_sets (pattern_in q) vs) → Held result q.edges (answer_sets (pattern_in q) vs) work.new) }
 {
     if size == 1 {
         return 0;
     }
-    join::join(q, table, set, book, counts, k, d, work);
-    d
+    join::join(q, table, set, b.book, b.counts, b.views, b.number, work);
+    b.number
 }
 
 // The answers of the first so many, each from the byte after the one before.
 fn write_answers(
-    questions: &[u8],
+    a: Queries<'_, '_>,
     number: usize,
-    tables: &[u32; 4096],
-    used: [u32; 8],
     sizes: [usize; 8],
-    book: &[u8],
-    counts: [u32; 16],
-    k: usize,
-    d: usize,
+    b: BookPairs<'_>,
     out: &mut [u8],
     work: &mut [u32],
 )
-    requires { (all : ℕ) × (x : Answerable questions.now all tables.now used book.now counts k d work.old) × Writable (answers_of x) number all sizes out.old }
-    ensures { (all : ℕ) (x : Answerable questions.now all tables.now used book.now counts k d work.old) → Writable (answers_of x) number all sizes out.old → Written (answers_of x) number out.old out.new }
+    requires { (x : Answerable a.file.now a.number a.tables.now a.used b.book.now b.counts b.views b.number work.old) × Writable (answers_of x) number a.number sizes out.old }
+    ensures { (x : Answerable a.entry.file.now a.entry.number a.entry.tables.now a.entry.used b.entry.book.now b.entry.counts b.entry.views b.entry.number work.old) → Writable (answers_of x) number a.entry.number sizes out.old → Written (answers_of x) number out.old out.new }
 {
     let mut at: usize = 0;
     let mut byte: usize = 0;
-    let mut i: usize = 0;
-    while i < number {
-        let v = views::view_at(questions, byte);
+    for i in 0..number {
+        let v = views::view_at(a.file, byte);
         let q = v.pattern;
-        let table = table_at(tables, i);
-        let n = join_again(q, &table, used[i], sizes[i], book, counts, k, d, work);
+        let n = join_again(q, &a.tables[i], a.used[i], sizes[i], b, work);
         at += matches::write_sheet(work, n, q.edges as u32, &mut out[at..]);
         byte = v.next;
-        i += 1;
     }
 }
 
 // The answers from the pairs of a book that stand in the workspace, once each query is known to be covered and its sheets are counted. Nothing is
 // written before all sizes are known; the last answer is written first, while its pairs are marked.
 fn answer_pairs(
-    questions: &[u8],
-    number: usize,
-    tables: &[u32; 4096],
-    used: [u32; 8],
-    book: &[u8],
-    counts: [u32; 16],
-    k: usize,
-    d: usize,
+    a: Queries<'_, '_>,
+    b: BookPairs<'_>,
     sheets: u32,
     out: &mut [u8],
     work: &mut [u32],
 ) -> Several
-    requires { (1 ≤ number) × Answerable questions.now number tables.now used book.now counts k d work.old }
-    ensures { (x : Answerable questions.now number tables.now used book.now counts k d work.old) → Fulfils [] (fit_several (length out.old) sheets (answers_of x) number) (several_told result) (out.old ∷ []) (out.new ∷ []) }
+    requires { (1 ≤ a.number) × Answerable a.file.now a.number a.tables.now a.used b.book.now b.counts b.views b.number work.old }
+    ensures { (x : Answerable a.entry.file.now a.entry.number a.entry.tables.now a.entry.used b.entry.book.now b.entry.counts b.entry.views b.entry.number work.old) → Fulfils [] (fit_several (length out.old) sheets (answers_of x) a.entry.number) (several_told result) (out.old ∷ []) (out.new ∷ []) }
 {
-    let s = measure(questions, number, tables, used, book, counts, k, d, work);
+    let s = measure(a, b, work);
     let total = s.total;
     if (out.len() < total) | s.long {
-        return Several::Refused(Refusal::NoRoom(total));
+        return Err(Refusal::NoRoom(total));
     }
     let sizes = s.each;
-    let last = number - 1;
+    let last = a.number - 1;
     let at = total - sizes[last];
-    matches::write_sheet(work, d, s.edges, &mut out[at..]);
-    write_answers(
-        questions, last, tables, used, sizes, book, counts, k, d, out, work,
-    );
-    Several::Done(total, sheets)
+    matches::write_sheet(work, b.number, s.edges, &mut out[at..]);
+    write_answers(a, last, sizes, b, out, work);
+    Ok((total, sheets))
 }
 
 // The answers from a book, once the questions and the catalogue are judged.
 fn answer_book(
     questions: &[u8],
     number: usize,
-    tables: &[u32; 4096],
+    tables: &[[u32; 512]; 8],
     sets: Sets,
     counts: [u32; 16],
     k: usize,
@@ -295,21 +223,25 @@ fn answer_book(
     requires { (length work.old ≡ 16384) × (1 ≤ number) × ((a : Asked questions.now number) × (v : ViewCounts counts k) × Mapped (asked_at a v.views v.one_way) number tables.now sets.used sets.needed sets.lowest) }
     ensures { (a : Asked questions.now number) (v : ViewCounts counts k) → Mapped (asked_at a v.views v.one_way) number tables.now sets.used sets.needed sets.lowest → Fulfils [] (judged (read_book v.views.content book.now) (λ bs. several_in (asked_at a v.views v.one_way) number (offer_of v) bs (length out.old))) (several_told result) (out.old ∷ []) (out.new ∷ []) }
 {
-    let loaded = answering::load_book(book, counts, k, work);
-    let d = match loaded {
-        Reply::Done(d) => d,
-        Reply::Refused(x) => {
-            return Several::Refused(x);
-        }
-    };
-    if sets.lowest < NONE {
-        return Several::Refused(Refusal::NotContained(sets.lowest));
+    let d = answering::load_book(book, counts, k, work)?;
+    if let Some(e) = sets.lowest {
+        return Err(Refusal::NotContained(e));
     }
     let sheets = parting::number_in(sets.needed, k);
     let used = sets.used;
-    answer_pairs(
-        questions, number, tables, used, book, counts, k, d, sheets, out, work,
-    )
+    let a = Queries {
+        file: questions,
+        number,
+        tables,
+        used,
+    };
+    let b = BookPairs {
+        book,
+        counts,
+        views: k,
+        number: d,
+    };
+    answer_pairs(a, b, sheets, out, work)
 }
 
 pub fn answer_several(
@@ -325,21 +257,11 @@ pub fn answer_several(
     ensures { Fulfils [] (several_outcome questions.now number (brings catalogue.now one_way) book.now (length out.old)) (several_told result) (out.old ∷ []) (out.new ∷ []) }
 {
     if (number == 0) | (limits::QUESTIONS_MOST < number) {
-        return Several::Refused(Refusal::WrongQuestions(number as usize));
+        return Err(Refusal::WrongQuestions(number as usize));
     }
-    let asked = accept::accept_questions(questions, number, work);
-    if let Reply::Refused(x) = asked {
-        return Several::Refused(x);
-    }
-    let CatalogueFile {
-        verdict,
-        views,
-        edges,
-    } = offered::accept_offer(catalogue, one_way, work);
-    if let Reply::Refused(x) = verdict {
-        return Several::Refused(x);
-    }
-    let mut tables = no_tables();
+    accept::accept_questions(questions, number, work)?;
+    let CatalogueFile { views, edges, .. } = offered::accept_offer(catalogue, one_way, work)?;
+    let mut tables = [[0; 512]; 8];
     let sets = map_queries(
         questions,
         number as usize,

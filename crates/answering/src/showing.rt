@@ -12,7 +12,7 @@ use containment::judging::Judged;
 use containment::terms::Terms;
 use containment::{choose, judging, query};
 use packed::by_value::Pattern;
-use packed::reply::{Both, Refusal, Reply};
+use packed::reply::{Both, Refusal};
 
 // The two records of a query that is not covered, whose lowest unmatched edge is e.
 fn show_both(q: Pattern, e: usize, first: &mut [u8], second: &mut [u8], work: &mut [u32]) -> Both
@@ -21,33 +21,35 @@ fn show_both(q: Pattern, e: usize, first: &mut [u8], second: &mut [u8], work: &m
 {
     let a = query::write_graph(q, 32, &mut first[0..0], work);
     if first.len() < a {
-        return Both::Refused(Refusal::NoRoom(a));
+        return Err(Refusal::NoRoom(a));
     }
     let b = query::write_graph(q, e, &mut second[0..0], work);
     if second.len() < b {
-        return Both::Refused(Refusal::NoRoom(b));
+        return Err(Refusal::NoRoom(b));
     }
     query::write_graph(q, 32, first, work);
     query::write_graph(q, e, second, work);
-    Both::Done(a, b)
+    Ok((a, b))
 }
 
 // The same, once what the client brings is judged, or why there is nothing to show.
-fn show_judged(f: Judged, first: &mut [u8], second: &mut [u8], work: &mut [u32]) -> Both
-    requires { AnyJudged f × (length work.old ≡ 16384) }
-    ensures { (g : (Quoted → Outcome) → Outcome) → JudgedTo g f f.verdict → Fulfils [] (g (show_for (length first.old) (length second.old))) (both_told result) (first.old ∷ second.old ∷ []) (first.new ∷ second.new ∷ []) }
+fn show_judged(
+    judged: Result<Judged, Refusal>,
+    first: &mut [u8],
+    second: &mut [u8],
+    work: &mut [u32],
+) -> Both
+    requires { AnyJudged judged × (length work.old ≡ 16384) }
+    ensures { (g : (Quoted → Outcome) → Outcome) → JudgedTo g judged → Fulfils [] (g (show_for (length first.old) (length second.old))) (both_told result) (first.old ∷ second.old ∷ []) (first.new ∷ second.new ∷ []) }
 {
-    let verdict = f.verdict;
-    if let Reply::Refused(x) = verdict {
-        return Both::Refused(x);
-    }
+    let f = judged?;
     let table = f.table;
     let q = f.query;
     let e = choose::lowest_unmatched(&table, f.usable, f.views, q.edges);
     if e < q.edges {
         return show_both(q, e, first, second, work);
     }
-    Both::Refused(Refusal::Contained)
+    Err(Refusal::Contained)
 }
 
 pub fn show(
@@ -65,7 +67,7 @@ pub fn show(
     show_judged(f, first, second, work)
 }
 
-// For a day, of the views in force.
+// For a day, of the views in force. It is apart from `show` since other things are judged, in an order of their own; the rest is one function.
 pub fn show_on(
     question: &[u8],
     catalogue: &[u8],

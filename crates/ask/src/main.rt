@@ -19,8 +19,8 @@ fn keep(rt: &(impl Files + Print + Eprint), set: u16, slip: Slip) -> io::Result<
 
 fn finish(rt: &(impl Files + Print + Eprint), asked: Asked) -> io::Result<()> {
     match asked {
-        Asked::Done(set, slip) => keep(rt, set, slip),
-        Asked::Refused(x) => lines::refused(rt, x),
+        Ok((set, slip)) => keep(rt, set, slip),
+        Err(x) => lines::refused(rt, x),
     }
 }
 
@@ -31,9 +31,9 @@ fn run(
     state: State,
     link: Link,
 ) -> io::Result<()> {
-    let mut catalogue = lent::catalogue_bytes();
-    let mut record = lent::record_bytes();
-    let mut work = lent::work_words();
+    let mut catalogue = [0; lent::CATALOGUE];
+    let mut record = [0; lent::RECORD];
+    let mut work = [0; lent::WORK];
     let n = files::read(rt, b"catalogue", &mut catalogue);
     let m = files::read(rt, b"record", &mut record);
     let asked = matching::ask(
@@ -48,21 +48,18 @@ fn run(
 }
 
 fn main(rt: HostRuntime) -> io::Result<()> {
-    let one_way = folder::extracts(&rt, b"one_way");
-    if !one_way.good {
+    let Some(one_way) = folder::extracts(&rt, b"one_way") else {
         return Ok(());
-    }
-    let mut state = [0u32; 2];
-    if !folder::list(&rt, b"state", &mut state) {
+    };
+    let Some(state) = folder::list::<2>(&rt, b"state") else {
         return Ok(());
-    }
-    let mut link = [0u32; 3];
-    if !folder::list(&rt, b"link", &mut link) {
+    };
+    let Some(link) = folder::list::<3>(&rt, b"link") else {
         return Ok(());
-    }
+    };
     run(
         &rt,
-        one_way.set,
+        one_way,
         State {
             links: state[0],
             change: state[1],

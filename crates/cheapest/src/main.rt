@@ -5,21 +5,12 @@
 
 use containment::costing::Cheapest;
 use folder::{files, lent, lines, numbers};
-use packed::reply::Refusal;
 use std::io;
-
-// Of too many charges no more are lent than show it: all are counted here.
-fn say_refused(rt: &impl Print, x: Refusal, charges: usize) -> io::Result<()> {
-    match x {
-        Refusal::WrongCharges(_) => lines::refused(rt, Refusal::WrongCharges(charges)),
-        _ => lines::refused(rt, x),
-    }
-}
 
 fn say(rt: &impl Print, c: Cheapest, charges: usize) -> io::Result<()> {
     match c {
-        Cheapest::Of(set, sum, _) => lines::cheapest(rt, set, sum),
-        Cheapest::Refused(x) => say_refused(rt, x, charges),
+        Ok((set, sum, _)) => lines::cheapest(rt, set, sum),
+        Err(x) => lines::refused(rt, lines::with_charges(x, charges)),
     }
 }
 
@@ -32,33 +23,34 @@ fn find(
     count: usize,
     work: &mut [u32],
 ) -> Cheapest {
-    let n = lent::least(count, charges.len());
+    let n = count.min(charges.len());
     containment::cheapest(question, catalogue, one_way, &charges[..n], work)
 }
 
 fn main(rt: HostRuntime) -> io::Result<()> {
-    let mut question = lent::question_bytes();
-    let mut catalogue = lent::catalogue_bytes();
-    let mut charges = lent::charge_words();
-    let mut work = lent::work_words();
-    let one_way = folder::extracts(&rt, b"one_way");
-    if !one_way.good {
+    let mut question = [0; lent::QUESTION];
+    let mut catalogue = [0; lent::CATALOGUE];
+    let mut charges = [0; lent::CHARGES];
+    let mut work = [0; lent::WORK];
+    let Some(one_way) = folder::extracts(&rt, b"one_way") else {
         return Ok(());
-    }
-    let text = numbers::read_list(&rt, b"charges", &mut charges);
-    if !text.good {
-        lines::failed_at(&rt, b"charges", text.count);
-        return Ok(());
-    }
+    };
+    let count = match numbers::read_list(&rt, b"charges", &mut charges) {
+        Ok(count) => count,
+        Err(wrong) => {
+            lines::failed_at(&rt, b"charges", wrong.line);
+            return Ok(());
+        }
+    };
     let n = files::read(&rt, b"question", &mut question);
     let m = files::read(&rt, b"catalogue", &mut catalogue);
     let c = find(
         &question[..n],
         &catalogue[..m],
-        one_way.set,
+        one_way,
         &charges,
-        text.count,
+        count,
         &mut work,
     );
-    say(&rt, c, text.count)
+    say(&rt, c, count)
 }

@@ -9,7 +9,6 @@ use folder::{entries, files, lent, lines};
 use matching::entering;
 use matching::entering::Answered;
 use matching::state::Slip;
-use packed::reply::Both;
 use std::io;
 use std::rt::Files;
 
@@ -68,12 +67,12 @@ fn keep(
         lines::failed(rt, b"record");
         return Ok(());
     }
-    if 4098 < m {
+    if lent::INDEX < m {
         lines::failed(rt, b"index");
         return Ok(());
     }
     let size = 2 * m;
-    let mut bytes = lent::index_bytes();
+    let mut bytes = [0; lent::INDEX_BYTES];
     entries::pack(index, &mut bytes);
     if !make(rt, &record[..n], &bytes[..size], state) {
         return Ok(());
@@ -95,17 +94,17 @@ fn finish(
     let answer = done.answer;
     let state = [done.links, done.change];
     match answer {
-        Both::Done(n, m) => keep(rt, record, n, index, m, &state),
-        Both::Refused(x) => lines::refused(rt, x),
+        Ok((n, m)) => keep(rt, record, n, index, m, &state),
+        Err(x) => lines::refused(rt, x),
     }
 }
 
 // What the text files say is there; the record is read here.
 fn run(rt: &(impl Files + Print + Eprint), links: u32, change: u32, slip: Slip) -> io::Result<()> {
-    let mut record = lent::record_bytes();
-    let mut out = lent::output_bytes();
-    let mut index = lent::index_entries();
-    let mut work = lent::work_words();
+    let mut record = [0; lent::RECORD];
+    let mut out = [0; lent::OUTPUT];
+    let mut index = [0; lent::INDEX];
+    let mut work = [0; lent::WORK];
     let n = files::read(rt, b"record", &mut record);
     let done = entering::commit(
         &record[..n],
@@ -120,14 +119,12 @@ fn run(rt: &(impl Files + Print + Eprint), links: u32, change: u32, slip: Slip) 
 }
 
 fn main(rt: HostRuntime) -> io::Result<()> {
-    let mut state = [0u32; 2];
-    if !folder::list(&rt, b"state", &mut state) {
+    let Some(state) = folder::list::<2>(&rt, b"state") else {
         return Ok(());
-    }
-    let mut slip = [0u32; 4];
-    if !folder::list(&rt, b"slip", &mut slip) {
+    };
+    let Some(slip) = folder::list::<4>(&rt, b"slip") else {
         return Ok(());
-    }
+    };
     run(
         &rt,
         state[0],

@@ -1,6 +1,6 @@
 -- The answers of quoting and of showing, from what their parts found.
 use Prim.Native.Nat.{ℕ, ◌<◌, ◌≤◌}
-use mathlib.Core.Path.{◌≡◌, refl, sym, subst, ◌∙◌}
+use mathlib.Core.Path.{◌≡◌, refl, sym, ap, subst, ◌∙◌}
 use mathlib.Core.Bool.{true, false}
 use mathlib.Core.List.{List, [], ◌∷◌}
 use lib.ListN.{length, replicate}
@@ -15,25 +15,26 @@ use Rattle.packed.specs.Accepting.{Held, HoldsViews}
 use Rattle.packed.specs.Refusals.{Told, told, number_of, detail_of}
 use Rattle.packed.specs.Calls.{Outcome, refuse, told_of, fronts, outputs_of, Fulfils, accepted, read_pattern, read_catalogue, record_bytes, fit_both}
 use Rattle.packed.specs.declared.reply.Refusal.{Refusal}
-use Rattle.packed.specs.declared.reply.Reply.{Reply}
-use Rattle.packed.specs.declared.reply.Reply.TheVariants as reply-is
+use Rattle.packed.specs.Parts.{Reply}
 use Rattle.packed.specs.declared.by_value.Pattern.{Pattern as Given}
 use Rattle.packed.proofs.Accepted.{catalogue_read_lem}
 use Rattle.packed.proofs.AcceptedBounds.{catalogue_views}
 use Rattle.packed.proofs.CallLaws.{refusal_answered, read_says}
 use Rattle.engine.specs.Lists.{In}
-use Rattle.engine.specs.Simulation.{Pattern, sound}
+use Rattle.engine.specs.Simulation.{Pattern, pattern_of, sound}
 use Rattle.matching.specs.Offered.{offers, view_patterns}
 use Rattle.matching.proofs.OfferedLaws.{views_number, view_of_lem, view_sound}
 use Rattle.containment.specs.Choice.{covers_in, columns_in, lowest_unmatched, chosen}
 use Rattle.containment.specs.Quote.{blank, flat, Quoted, table_of, values_from, quote_values, quote_for, quote_told}
 use Rattle.containment.specs.Show.{graph_fields, fewer_fields, show_for}
-use Rattle.containment.specs.Steps.{Query, Views, ViewCounts, quoted_as, JudgedTo, shown_fields}
+use Rattle.containment.specs.Steps.{Query, Views, ViewCounts, quoted_as, Handed, JudgedTo, shown_fields}
 use Rattle.containment.specs.declared.judging.Judged.{Judged}
 use Rattle.containment.specs.declared.quote_type.Coverage.TheVariants as coverage-is
 use Rattle.containment.proofs.ChoiceLaws.{chosen_none, lowest_leaves, lowest_covers}
+use Rattle.containment.proofs.MappingLaws.{mapping_length}
 use Rattle.containment.proofs.QueryLaws.{few_edges}
 use Rattle.containment.proofs.NotingLaws.{views_many as contents-many}
+use Rattle.std.specs.Prelude.{Result, Ok, Err}
 
 -- ---- what is judged
 
@@ -46,25 +47,25 @@ module _ {none : List ℕ} {r : Told} (f : (Quoted → Outcome) → Outcome) (k 
   judged_on e b = rw (e k) b
 
 -- what holds of one way of judging holds of another that agrees with it
-pub judged_by : {f g : (Quoted → Outcome) → Outcome} → ((k : Quoted → Outcome) → f k ≡ g k) → (r : Judged) (v : Reply) → JudgedTo g r v → JudgedTo f r v
-judged_by e r (reply-is.Done n) h = record { query = h.query; views = h.views; on = λ k. e k ∙ h.on k; table = h.table }
-judged_by e r (reply-is.Refused x) h = (λ k. e k ∙ h.0 k, h.1)
+pub judged_by : {f g : (Quoted → Outcome) → Outcome} → ((k : Quoted → Outcome) → f k ≡ g k) → (r : Result Judged Refusal) → JudgedTo g r → JudgedTo f r
+judged_by e (Ok r) h = record { query = h.query; views = h.views; on = λ k. e k ∙ h.on k; table = h.table }
+judged_by e (Err x) h = λ k. e k ∙ h k
 
 -- ---- what a quote tells
 
 pub refused_told : (x : Refusal) (t : List ℕ) → t ≡ replicate 512 0
-    → quote_told (record { coverage = coverage-is.Refused x; mapping = t; edges = 0; chosen = 0; lowest = 0 }) ≡ told (number_of x) (detail_of x ∷ blank)
+    → quote_told (record { coverage = Err x; mapping = t; edges = 0; chosen = 0; lowest = 0 }) ≡ told (number_of x) (detail_of x ∷ blank)
 unfolding quote_told
 refused_told x t e = rw e
 
 module _ (t : List ℕ) (set m k : ℕ) {masks : List ℕ} (shown : masks ≡ columns_in set t) where
   pub covered_told : (c : ℕ) → covers_in t set k m ≡ true → c ≡ chosen t set m k
-      → quote_told (record { coverage = coverage-is.Covered; mapping = masks; edges = m; chosen = c; lowest = 0 }) ≡ told 0 (flat (values_from t set m k))
+      → quote_told (record { coverage = Ok coverage-is.Covered; mapping = masks; edges = m; chosen = c; lowest = 0 }) ≡ told 0 (flat (values_from t set m k))
   unfolding quote_told values_from
   covered_told c h e = rw (h, e, shown)
 
   pub uncovered_told : (e : ℕ) → covers_in t set k m ≡ false → e ≡ lowest_unmatched t set k m
-      → quote_told (record { coverage = coverage-is.Uncovered; mapping = masks; edges = m; chosen = 0; lowest = e }) ≡ told 0 (flat (values_from t set m k))
+      → quote_told (record { coverage = Ok coverage-is.Uncovered; mapping = masks; edges = m; chosen = 0; lowest = e }) ≡ told 0 (flat (values_from t set m k))
   unfolding quote_told values_from
   uncovered_told e h q = rw (h, q, chosen_none t set m k h, shown)
 
@@ -102,6 +103,12 @@ module _ {s : List ℕ} {k : ℕ} (v : Views s k) where
     -- each of them is sound
     pub views_sound : (P : Pattern) → In P (view_patterns (offers v.content one)) → T (sound P)
     views_sound P i = let o = view_of_lem (offers v.content one) i in rw o.holds (view_sound s v.content v.is o.at o.below one)
+
+-- what is handed on is small
+pub handed_few : {f : (Quoted → Outcome) → Outcome} {r : Judged} → Handed f r → (r.query.edges ≤ 32) × (r.views ≤ 16) × (length r.table ≡ 512)
+handed_few {f} {r} h =
+    let Ps = view_patterns (offers h.views.views.content h.views.one_way) in
+    (query_few h.query, views_few h.views.views, ap length h.table ∙ mapping_length (pattern_of h.query.content) Ps)
 
 module _ {q : Given} (t : Query q) {counts : List ℕ} {k : ℕ} (v : ViewCounts counts k) (usable : ℕ) {table : List ℕ} (e : table ≡ table_of (quoted_as t v usable)) where
   pub quote_given : {r : Told} → r ≡ told 0 (flat (values_from table usable q.edges k)) → Fulfils blank (quote_for (quoted_as t v usable)) r [] []

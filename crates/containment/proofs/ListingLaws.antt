@@ -15,9 +15,10 @@ use Rattle.packed.specs.declared.reply.Refusal.TheVariants.{NoRoom}
 use Rattle.packed.proofs.OrderCases.{lt_or_ge}
 use Rattle.engine.specs.Simulation.{bit}
 use Rattle.containment.specs.Listing.{digits, decimal, concat, edge_text, edges_text, views_text, view_text, chosen_text, or_none, bytes, first_line, refused_line, link_line, chosen_line, lines_after, line_of}
-use Rattle.containment.specs.declared.quote_type.Coverage.{Coverage}
+use Rattle.containment.specs.Quote.{CoverageReply}
 use Rattle.containment.specs.declared.quote_type.Coverage.TheVariants as coverage-is
 use Rattle.containment.specs.declared.quote_type.Quote.{Quote}
+use Rattle.std.specs.Prelude.{Ok, Err}
 
 -- ---- numbers in decimal
 -- a number has one digit, or some before its last
@@ -122,11 +123,11 @@ last_length set =
     pick_length (eqb (set % 2 ^ 16) 0) (bytes "extracts none\n") (bytes "extracts" ++ (chosen_text set ++ bytes "\n")) 4096 (omega arith)
     (omega (arith, length-append (chosen_text set) (bytes "\n"), chosen_length set))
 
-first_length : (v : Coverage) → length (first_line v) ≤ 4096
+first_length : (v : CoverageReply) → length (first_line v) ≤ 4096
 unfolding refused_line
-first_length coverage-is.Covered = omega arith
-first_length coverage-is.Uncovered = omega arith
-first_length (coverage-is.Refused x) =
+first_length (Ok coverage-is.Covered) = omega arith
+first_length (Ok coverage-is.Uncovered) = omega arith
+first_length (Err x) =
     omega (arith, length-append (decimal (number_of x)) (bytes " " ++ (decimal (detail_of x) ++ bytes "\n")), length-append (decimal (detail_of x)) (bytes "\n"), decimal_length (number_of x), decimal_length (detail_of x))
 
 pub line_length : (q : Quote) (k : ℕ) → length (line_of q k) ≤ 4096
@@ -237,7 +238,7 @@ four a b c d = a ++ (b ++ (c ++ (d ++ replicate 448 0)))
 
 -- the worked example
 pub covered_listing :
-    lines_up_to (record { coverage = coverage-is.Covered; mapping = four (row 1 1 0) (row 0 0 1) (row 0 2 0) (row 0 0 2); edges = 4; chosen = 6; lowest = 0 }) 7
+    lines_up_to (record { coverage = Ok coverage-is.Covered; mapping = four (row 1 1 0) (row 0 0 1) (row 0 2 0) (row 0 0 2); edges = 4; chosen = 6; lowest = 0 }) 7
     ≡ bytes "quote covered\n"
     ∷ bytes "link 0 by 0.0 1.0\n"
     ∷ bytes "link 1 by 2.0\n"
@@ -251,7 +252,7 @@ covered_listing = refl
 
 -- the same question with the extract 1 alone
 pub uncovered_listing :
-    lines_up_to (record { coverage = coverage-is.Uncovered; mapping = four (row 1 0 0) (row 0 0 0) (row 2 0 0) (row 0 0 0); edges = 4; chosen = 0; lowest = 1 }) 7
+    lines_up_to (record { coverage = Ok coverage-is.Uncovered; mapping = four (row 1 0 0) (row 0 0 0) (row 2 0 0) (row 0 0 0); edges = 4; chosen = 0; lowest = 1 }) 7
     ≡ bytes "quote uncovered\n"
     ∷ bytes "link 0 by 0.0\n"
     ∷ bytes "link 1 by none\n"
@@ -264,7 +265,7 @@ unfolding line_of link_line chosen_line or_none views_text edges_text edge_text 
 uncovered_listing = refl
 
 pub refused_listing :
-    lines_up_to (record { coverage = coverage-is.Refused (NoRoom 18446744073709551615); mapping = replicate 512 0; edges = 0; chosen = 0; lowest = 0 }) 2
+    lines_up_to (record { coverage = Err (NoRoom 18446744073709551615); mapping = replicate 512 0; edges = 0; chosen = 0; lowest = 0 }) 2
     ≡ bytes "refused 12 18446744073709551615\n"
     ∷ []
     ∷ []

@@ -102,8 +102,17 @@ placed_again {ps = ps} g b d =
     record {
       fair = d.fair;
       edges = d.edges;
+      some = d.some;
       each = λ e l. (let h = d.each e l in (h.0, g.same (get_or ps e 0) (omega (arith, h.0)) ∙ h.1));
     }
+
+-- they are all at the front
+module _ {q : Given} {n m : ℕ} {w ps : List ℕ} (d : Placed q n m w ps) where
+  pub placed_many : length (take n ps) ≡ n
+  placed_many = length-take-le n ps d.some
+
+  pub placed_front : Placed q n m w (take n ps)
+  placed_front = record { fair = d.fair; edges = d.edges; some = omega (arith, placed_many); each = λ e l. rw (get_or-take n ps e 0 l) (d.each e l) }
 
 -- ---- the query's record in the workspace
 in_place : {x : ℕ} {l : List ℕ} → In x l → OneOf (length l) (λ i. get_or l i 0 ≡ x)

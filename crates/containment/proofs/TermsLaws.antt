@@ -11,9 +11,10 @@ use native.Mathlib.Nat.{pow-suc}
 use native.Mathlib.Numerals.{add-one}
 use native.Mathlib.Omega.{arith}
 use borrow.Author.Tests.{ltb-true, ltb-false, lt-ltb, le-ltb, leb-true, le-leb, lt-leb, eq-eqb, ne_eqb}
+use Rattle.std.specs.Prelude.{Option, None}
 use Rattle.packed.specs.Format.{pick}
 use Rattle.packed.specs.Contents.{edges_of}
-use Rattle.packed.specs.Calls.{Outcome, give, refuse, told_of, fronts, outputs_of, Fulfils, accepted, rejected}
+use Rattle.packed.specs.Calls.{Outcome, give, refuse, told_of, fronts, outputs_of, Fulfils, accepted, rejected, judged}
 use Rattle.packed.specs.Refusals.{told}
 use Rattle.packed.proofs.CallLaws.{judged_accepted}
 use Rattle.packed.proofs.OrderCases.{lt_or_ge, eq_or_ne, trichotomy, and_both}
@@ -22,9 +23,9 @@ use Rattle.engine.specs.Masks.{OneOf}
 use Rattle.matching.specs.Offered.{Brought, offers, view_patterns, judge_set, with_set}
 use Rattle.matching.proofs.OfferedLaws.{judged_rejected}
 use Rattle.containment.specs.Choice.{covers_in}
-use Rattle.containment.specs.Quote.{Quoted, quoted_in, table_of}
+use Rattle.containment.specs.Quote.{Quoted, quoted, quoted_in, table_of}
 use Rattle.containment.specs.Steps.{Query, Views, ViewCounts, quoted_as}
-use Rattle.containment.specs.Terms.{InForce, from_day, to_day, first_turned, judge_terms, is_in_force, in_force, offered_on, sooner, earliest, day_values, first_day_for}
+use Rattle.containment.specs.Terms.{InForce, from_day, to_day, first_turned, judge_terms, is_in_force, in_force, judge_day, usable_for, offered_for, quoted_for, sooner, earliest, day_values, first_day_for}
 use Rattle.containment.specs.declared.terms.Terms.{Terms}
 use Rattle.packed.specs.declared.by_value.Pattern.{Pattern as Given}
 use Rattle.containment.proofs.SetBits.{test_cases, never, bit_over, more_self, more_other}
@@ -83,23 +84,28 @@ module _ (t : Terms) (k : ℕ) where
   unfolding judge_terms
   terms_right e l = rw (eq-eqb t.number k e, le-ltb (first_turned t k) k l)
 
--- what is handed on for a day beside k accepted views, or refused
-module _ (qs : List ℕ) (c : Brought) (t : Terms) (day : ℕ) {k : ℕ} (v : Views c.file k) where
-  pub terms_refused : {n d : ℕ} → judge_terms t k ≡ rejected n d → (f : Quoted → Outcome) → offered_on qs c t day f ≡ refuse n d
-  terms_refused e f = judged_accepted _ v.is ∙ judged_rejected _ (ap (judge_terms t) (contents-many v) ∙ e)
+-- what is handed on beside k accepted views, for a day or for none, or refused
+module _ (qs : List ℕ) (c : Brought) (day : Option (Terms × ℕ)) {k : ℕ} (v : Views c.file k) where
+  pub terms_refused : {n d : ℕ} → judge_day day k ≡ rejected n d → (f : Quoted → Outcome) → offered_for day qs c f ≡ refuse n d
+  terms_refused e f = judged_accepted _ v.is ∙ judged_rejected _ (ap (judge_day day) (contents-many v) ∙ e)
 
-  module _ (right : judge_terms t k ≡ accepted []) where
-    to_set : (f : Quoted → Outcome) → offered_on qs c t day f ≡ with_set c.one_way v.content (λ o. f (quoted_in (in_force t day (length (view_patterns o))) qs o))
-    to_set f = judged_accepted _ v.is ∙ judged_accepted _ (ap (judge_terms t) (contents-many v) ∙ right)
+  module _ (right : judge_day day k ≡ accepted []) where
+    to_set : (f : Quoted → Outcome) → offered_for day qs c f ≡ with_set c.one_way v.content (λ o. f (quoted_in (usable_for day (length (view_patterns o))) qs o))
+    to_set f = judged_accepted _ v.is ∙ judged_accepted _ (ap (judge_day day) (contents-many v) ∙ right)
 
-    pub set_refused : {n d : ℕ} → judge_set c.one_way k ≡ rejected n d → (f : Quoted → Outcome) → offered_on qs c t day f ≡ refuse n d
+    pub set_refused : {n d : ℕ} → judge_set c.one_way k ≡ rejected n d → (f : Quoted → Outcome) → offered_for day qs c f ≡ refuse n d
     set_refused e f = to_set f ∙ judged_rejected _ (ap (judge_set c.one_way) (contents-many v) ∙ e)
 
     pub terms_handed : judge_set c.one_way k ≡ accepted []
-        → (f : Quoted → Outcome) → offered_on qs c t day f ≡ f (quoted_in (in_force t day k) qs (offers v.content c.one_way))
+        → (f : Quoted → Outcome) → offered_for day qs c f ≡ f (quoted_in (usable_for day k) qs (offers v.content c.one_way))
     terms_handed e f =
         to_set f ∙ judged_accepted _ (ap (judge_set c.one_way) (contents-many v) ∙ e)
-        ∙ ap (λ (n : ℕ). f (quoted_in (in_force t day n) qs (offers v.content c.one_way))) (views_many v c.one_way)
+        ∙ ap (λ (n : ℕ). f (quoted_in (usable_for day n) qs (offers v.content c.one_way))) (views_many v c.one_way)
+
+-- for no day every view may be used
+pub quoted_none : (q : List ℕ) (c : Brought) (f : Quoted → Outcome) → quoted q c f ≡ quoted_for None q c f
+unfolding judged
+quoted_none q c f = refl
 
 -- ---- the views in force
 -- one number more: its bit, and the bits below

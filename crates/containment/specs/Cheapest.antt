@@ -1,5 +1,6 @@
 -- The cheapest set of views that covers a query. Each view of a catalogue has a charge; a set has the bit worth 2 ^ a for the view a.
-use Rattle.std.specs.Prelude.{ℕ, zero, suc, ◌+◌, ◌-◌, ◌^◌, ◌<◌, ◌≡◌, ◌⊎◌, Bool, true, false, ◌&&◌, ◌||◌, List, [], ◌∷◌, length, get_or, eqb, ltb}
+use Rattle.std.specs.Prelude.{ℕ, zero, suc, ◌+◌, ◌-◌, ◌^◌, ◌<◌, ◌≡◌, ◌⊎◌, Bool, true, false, ◌&&◌, ◌||◌, List, [], ◌∷◌, length, get_or, eqb, ltb, Result, Ok, Err}
+use Rattle.packed.specs.declared.reply.Refusal.{Refusal}
 use Rattle.packed.specs.Format.{pick}
 use Rattle.packed.specs.Contents.{edges_of}
 use Rattle.packed.specs.Calls.{Outcome, give, refuse}
@@ -8,8 +9,6 @@ use Rattle.engine.specs.Simulation.{bit}
 use Rattle.matching.specs.Offered.{Brought, view_patterns}
 use Rattle.containment.specs.Choice.{covers_in, columns_in, lowest_unmatched, chosen}
 use Rattle.containment.specs.Quote.{Quoted, quoted, table_of}
-use Rattle.containment.specs.declared.costing.Cheapest.{Cheapest}
-use Rattle.containment.specs.declared.costing.Cheapest.TheVariants as cheapest_is
 
 -- ---- what is asked
 
@@ -98,7 +97,11 @@ cheapest_for charges x =
 unfoldable pub cheapest_outcome : List ℕ → Brought → List ℕ → Outcome
 cheapest_outcome q c charges = quoted q c (cheapest_for charges)
 
+-- the set, the sum of its charges and the chosen views, or the refusal
+abbrev pub Cheapest : Type 0
+Cheapest = Result (ℕ × ℕ × ℕ) Refusal
+
 -- what its result tells
 abbrev pub cheapest_told : Cheapest → Told
-cheapest_told (cheapest_is.Of set sum chosen) = told 0 (set ∷ sum ∷ chosen ∷ [])
-cheapest_told (cheapest_is.Refused x) = told (number_of x) (detail_of x ∷ [])
+cheapest_told (Ok (set, sum, chosen)) = told 0 (set ∷ sum ∷ chosen ∷ [])
+cheapest_told (Err x) = told (number_of x) (detail_of x ∷ [])

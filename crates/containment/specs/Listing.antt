@@ -1,5 +1,5 @@
 -- The lines of a quote's listing, byte for byte.
-use Rattle.std.specs.Prelude.{ℕ, zero, suc, ◌+◌, ◌-◌, ◌*◌, ◌/◌, ◌%◌, ◌^◌, List, [], ◌∷◌, ◌++◌, get_or, eqb, ltb}
+use Rattle.std.specs.Prelude.{ℕ, zero, suc, ◌+◌, ◌-◌, ◌*◌, ◌/◌, ◌%◌, ◌^◌, List, [], ◌∷◌, ◌++◌, get_or, eqb, ltb, Ok, Err}
 use Prim.Native.Char.{code}
 use Prim.Native.String.{String, [] as []ˢ, ◌∷◌ as ◌∷ˢ◌}
 use Rattle.packed.specs.Format.{pick}
@@ -7,7 +7,7 @@ use Rattle.packed.specs.Refusals.{number_of, detail_of}
 use Rattle.packed.specs.Calls.{Outcome, fit}
 use Rattle.packed.specs.declared.reply.Refusal.{Refusal}
 use Rattle.engine.specs.Simulation.{bit}
-use Rattle.containment.specs.declared.quote_type.Coverage.{Coverage}
+use Rattle.containment.specs.Quote.{CoverageReply}
 use Rattle.containment.specs.declared.quote_type.Coverage.TheVariants as coverage-is
 use Rattle.containment.specs.declared.quote_type.Quote.{Quote}
 
@@ -68,16 +68,16 @@ unfoldable pub refused_line : Refusal → List ℕ
 refused_line x = bytes "refused " ++ (decimal (number_of x) ++ (bytes " " ++ (decimal (detail_of x) ++ bytes "\n")))
 
 -- the first line
-abbrev pub first_line : Coverage → List ℕ
-first_line coverage-is.Covered = bytes "quote covered\n"
-first_line coverage-is.Uncovered = bytes "quote uncovered\n"
-first_line (coverage-is.Refused x) = refused_line x
+abbrev pub first_line : CoverageReply → List ℕ
+first_line (Ok coverage-is.Covered) = bytes "quote covered\n"
+first_line (Ok coverage-is.Uncovered) = bytes "quote uncovered\n"
+first_line (Err x) = refused_line x
 
 -- how many lines follow the first: one for each of n edges and the last, or none
-abbrev pub after : Coverage → ℕ → ℕ
-after coverage-is.Covered n = n + 1
-after coverage-is.Uncovered n = n + 1
-after (coverage-is.Refused x) n = 0
+abbrev pub after : CoverageReply → ℕ → ℕ
+after (Ok coverage-is.Covered) n = n + 1
+after (Ok coverage-is.Uncovered) n = n + 1
+after (Err x) n = 0
 
 abbrev pub lines_after : Quote → ℕ
 lines_after q = after q.coverage q.edges

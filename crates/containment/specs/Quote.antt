@@ -1,5 +1,6 @@
 -- What a quote answers: which edges of each view match each edge of the query, whether the query is covered, and the chosen views.
-use Rattle.std.specs.Prelude.{ℕ, ◌+◌, ◌*◌, ◌/◌, ◌%◌, List, [], ◌∷◌, ◌++◌, Bool, ◌&&◌, length, get_or, replicate, ltb}
+use Rattle.std.specs.Prelude.{ℕ, ◌+◌, ◌*◌, ◌/◌, ◌%◌, List, [], ◌∷◌, ◌++◌, Bool, ◌&&◌, length, get_or, replicate, ltb, Result, Ok, Err}
+use Rattle.packed.specs.declared.reply.Refusal.{Refusal}
 pub use Rattle.packed.specs.Bits.{one}
 use Rattle.packed.specs.Format.{pick}
 use Rattle.packed.specs.Contents.{edges_of}
@@ -124,11 +125,15 @@ quote_outcome q c = quoted q c quote_for
 abbrev pub blank : List ℕ
 blank = flat (record { covered = 0; mapping = replicate 512 0; edges = 0; chosen = 0; lowest = 0 })
 
+-- whether the query is covered, or the refusal
+abbrev pub CoverageReply : Type 0
+CoverageReply = Result Coverage Refusal
+
 -- what a quote tells
-abbrev pub covered_of : Coverage → ℕ
-covered_of coverage-is.Covered = 1
-covered_of coverage-is.Uncovered = 0
-covered_of (coverage-is.Refused x) = 0
+abbrev pub covered_of : CoverageReply → ℕ
+covered_of (Ok coverage-is.Covered) = 1
+covered_of (Ok coverage-is.Uncovered) = 0
+covered_of (Err x) = 0
 
 abbrev pub values_of : Quote → QuoteValues
 values_of q = record { covered = covered_of q.coverage; mapping = q.mapping; edges = q.edges; chosen = q.chosen; lowest = q.lowest }
@@ -136,7 +141,7 @@ values_of q = record { covered = covered_of q.coverage; mapping = q.mapping; edg
 unfoldable pub quote_told : Quote → Told
 quote_told q = by q.coverage
   where
-    by : Coverage → Told
-    by coverage-is.Covered = told 0 (flat (values_of q))
-    by coverage-is.Uncovered = told 0 (flat (values_of q))
-    by (coverage-is.Refused x) = told (number_of x) (detail_of x ∷ flat (values_of q))
+    by : CoverageReply → Told
+    by (Ok coverage-is.Covered) = told 0 (flat (values_of q))
+    by (Ok coverage-is.Uncovered) = told 0 (flat (values_of q))
+    by (Err x) = told (number_of x) (detail_of x ∷ flat (values_of q))

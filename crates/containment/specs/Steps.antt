@@ -1,16 +1,15 @@
 -- inner: what the steps of quoting, of answering and of showing promise one another.
-use Rattle.std.specs.Prelude.{ℕ, zero, suc, ◌+◌, ◌*◌, ◌/◌, ◌%◌, ◌^◌, ◌<◌, ◌≤◌, ◌≡◌, List, [], ◌∷◌, ◌++◌, map, length, get_or, take, replicate, eqb, ltb}
+use Rattle.std.specs.Prelude.{ℕ, zero, suc, ◌+◌, ◌*◌, ◌/◌, ◌%◌, ◌^◌, ◌<◌, ◌≤◌, ◌≡◌, List, [], ◌∷◌, ◌++◌, map, length, get_or, take, replicate, eqb, ltb, Result, Ok, Err}
 use Rattle.std.proofs.lemmas.List.Edits.{sets}
 use Rattle.packed.specs.Format.{ok, pick, decode}
 use Rattle.packed.specs.Formats.{pattern}
 use Rattle.packed.specs.Contents.{edges_of, edge_counts, edge_word, sorted_edges}
-use Rattle.packed.specs.ByValue.{HoldsPattern, NoPattern, Small}
-use Rattle.packed.specs.Accepting.{NoViews}
+use Rattle.packed.specs.ByValue.{HoldsPattern, Small}
 use Rattle.packed.specs.Calls.{Outcome, refuse, accepted, judged, read_catalogue, read_book, within_pairs, record_bytes}
 use Rattle.packed.specs.Matches.{marked_from, any_empty, codes_of, masks_of, Named, sum_of}
+use Rattle.packed.specs.declared.reply.Refusal.{Refusal}
 use Rattle.packed.specs.Refusals.{number_of, detail_of}
-use Rattle.packed.specs.declared.reply.Reply.{Reply}
-use Rattle.packed.specs.declared.reply.Reply.TheVariants as reply-is
+use Rattle.packed.specs.Parts.{Reply}
 use Rattle.packed.specs.declared.by_value.Pattern.{Pattern as Given}
 use Rattle.engine.specs.Masks.{OneOf}
 use Rattle.engine.specs.Loaded.{Fair}
@@ -56,21 +55,14 @@ pub record Handed (f : (Quoted → Outcome) → Outcome) (r : Judged) : Type 0 w
   pub on : (k : Quoted → Outcome) → f k ≡ k (quoted_as query views r.usable)
   pub table : r.table ≡ table_of (quoted_as query views r.usable)
 
--- what is given beside a refusal: nothing
-pub record NoQuery (r : Judged) : Type 0 where
-  pub query : NoPattern r.query
-  pub views : NoViews r.views r.edges
-  pub usable : r.usable ≡ 0
-  pub table : r.table ≡ replicate 512 0
-
 -- what the calls that judge by f go on with, or what each of them refuses
-abbrev pub JudgedTo : ((Quoted → Outcome) → Outcome) → Judged → Reply → Type 0
-JudgedTo f r (reply-is.Done n) = Handed f r
-JudgedTo f r (reply-is.Refused x) = ((k : Quoted → Outcome) → f k ≡ refuse (number_of x) (detail_of x)) × NoQuery r
+abbrev pub JudgedTo : ((Quoted → Outcome) → Outcome) → Result Judged Refusal → Type 0
+JudgedTo f (Ok r) = Handed f r
+JudgedTo f (Err x) = (k : Quoted → Outcome) → f k ≡ refuse (number_of x) (detail_of x)
 
 -- it was judged, in whatever way
-abbrev pub AnyJudged : Judged → Type 0
-AnyJudged r = (f : (Quoted → Outcome) → Outcome) × JudgedTo f r r.verdict
+abbrev pub AnyJudged : Result Judged Refusal → Type 0
+AnyJudged r = (f : (Quoted → Outcome) → Outcome) × JudgedTo f r
 
 -- ---- a book
 
@@ -83,8 +75,8 @@ pub record Loaded (cs s counts : List ℕ) (k d : ℕ) (w : List ℕ) : Type 0 w
 
 -- so many pairs were loaded, or what each call that answers from the book refuses
 abbrev pub LoadedTo : List ℕ → List ℕ → List ℕ → ℕ → List ℕ → Reply → Type 0
-LoadedTo cs s counts k w (reply-is.Done d) = Loaded cs s counts k d w
-LoadedTo cs s counts k w (reply-is.Refused x) =
+LoadedTo cs s counts k w (Ok d) = Loaded cs s counts k d w
+LoadedTo cs s counts k w (Err x) =
     (a : List ℕ → Outcome) → judged (read_book cs s) (λ bs. within_pairs cs bs (a bs)) ≡ refuse (number_of x) (detail_of x)
 
 -- ---- a query read as a record
@@ -153,6 +145,7 @@ Present q m w = (e : ℕ) → e < q.edges → OneOf m (λ i. get_or w i 0 ≡ wo
 pub record Placed (q : Given) (n m : ℕ) (w ps : List ℕ) : Type 0 where
   pub fair : Fair q
   pub edges : n ≡ q.edges
+  pub some : n ≤ length ps
   pub each : (e : ℕ) → e < n → (get_or ps e 0 < m) × (get_or w (get_or ps e 0) 0 ≡ word_at q e)
 
 -- only the first n of column a may differ, in a table with 16 columns

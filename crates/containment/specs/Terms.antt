@@ -1,20 +1,19 @@
 -- Terms: the days on which each view is in force, and what is answered for a day.
-use Rattle.std.specs.Prelude.{ℕ, zero, suc, ◌+◌, ◌^◌, ◌<◌, ◌≤◌, min, ◌≡◌, List, [], ◌∷◌, Bool, ◌&&◌, length, get_or, set, replicate, eqb, leb, ltb}
+use Rattle.std.specs.Prelude.{ℕ, zero, suc, ◌+◌, ◌^◌, ◌<◌, ◌≤◌, min, ◌≡◌, Option, Some, None, Result, Ok, Err, List, [], ◌∷◌, Bool, ◌&&◌, length, get_or, set, replicate, eqb, leb, ltb}
+use Rattle.packed.specs.declared.reply.Refusal.{Refusal}
 use Rattle.packed.specs.Format.{pick}
 use Rattle.packed.specs.Contents.{views_of}
 use Rattle.packed.specs.Calls.{Outcome, give, Verdict, accepted, rejected, judged, read_pattern, read_catalogue}
 use Rattle.packed.specs.Refusals.{Told, told, number_of, detail_of}
-use Rattle.packed.specs.declared.reply.Reply.{Reply}
-use Rattle.packed.specs.declared.reply.Reply.TheVariants as reply-is
+use Rattle.packed.specs.Parts.{Reply}
 use Rattle.matching.specs.Offered.{Brought, view_patterns, with_set}
+use Rattle.containment.specs.Choice.{every_view}
 use Rattle.containment.specs.Quote.{Quoted, quoted_in, covering, quote_for}
 use Rattle.containment.specs.Cheapest.{cheapest_for}
 use Rattle.containment.specs.Part.{part_for}
 use Rattle.containment.specs.Show.{show_for}
 use Rattle.containment.specs.declared.terms.Term.{Term}
 use Rattle.containment.specs.declared.terms.Terms.{Terms}
-use Rattle.containment.specs.declared.days.FirstDay.{FirstDay}
-use Rattle.containment.specs.declared.days.FirstDay.TheVariants as first_day_is
 
 -- ---- "a list of entries, each a from-day and a to-day, one per extract, as 16-bit day numbers", in plain numbers: its length, and the days of
 -- the first sixteen entries
@@ -79,6 +78,24 @@ offered_on qs c t day k =
 abbrev pub quoted_on : List ℕ → Brought → Terms → ℕ → (Quoted → Outcome) → Outcome
 quoted_on q c t day k = judged (read_pattern q) (λ qs. offered_on qs c t day k)
 
+-- inner: for a day with its terms, or for none: then there are no terms to judge, and all views may be used
+abbrev pub judge_day : Option (Terms × ℕ) → ℕ → Verdict
+judge_day None k = accepted []
+judge_day (Some d) k = judge_terms d.0 k
+
+abbrev pub usable_for : Option (Terms × ℕ) → ℕ → ℕ
+usable_for None k = every_view
+usable_for (Some d) k = in_force d.0 d.1 k
+
+abbrev pub offered_for : Option (Terms × ℕ) → List ℕ → Brought → (Quoted → Outcome) → Outcome
+offered_for day qs c k =
+    judged (read_catalogue c.file) (λ cs.
+    judged (judge_day day (length (views_of cs))) (λ _.
+    with_set c.one_way cs (λ o. k (quoted_in (usable_for day (length (view_patterns o))) qs o))))
+
+abbrev pub quoted_for : Option (Terms × ℕ) → List ℕ → Brought → (Quoted → Outcome) → Outcome
+quoted_for day q c k = judged (read_pattern q) (λ qs. offered_for day qs c k)
+
 -- ---- what is answered for a day: "uses only extracts in force"
 
 unfoldable pub quote_on : List ℕ → Brought → Terms → ℕ → Outcome
@@ -118,13 +135,22 @@ first_day_for t day x = give (day_values (earliest (covered_on t x) t day (lengt
 unfoldable pub first_day : List ℕ → Brought → Terms → ℕ → Outcome
 first_day q c t day = quoted_on q c t day (first_day_for t day)
 
+-- the day, if any, or the refusal
+abbrev pub FirstDay : Type 0
+FirstDay = Result (Option ℕ) Refusal
+
 -- what its result tells
 abbrev pub first_day_told : FirstDay → Told
-first_day_told (first_day_is.On d) = told 0 (1 ∷ d ∷ [])
-first_day_told first_day_is.Never = told 0 (0 ∷ 0 ∷ [])
-first_day_told (first_day_is.Refused x) = told (number_of x) (detail_of x ∷ [])
+first_day_told (Ok (Some d)) = told 0 (1 ∷ d ∷ [])
+first_day_told (Ok None) = told 0 (0 ∷ 0 ∷ [])
+first_day_told (Err x) = told (number_of x) (detail_of x ∷ [])
 
 -- inner: what terms are told, beside k views
 abbrev pub TermsJudged : Terms → ℕ → Reply → Type 0
-TermsJudged t k (reply-is.Done n) = judge_terms t k ≡ accepted []
-TermsJudged t k (reply-is.Refused x) = judge_terms t k ≡ rejected (number_of x) (detail_of x)
+TermsJudged t k (Ok n) = judge_terms t k ≡ accepted []
+TermsJudged t k (Err x) = judge_terms t k ≡ rejected (number_of x) (detail_of x)
+
+-- inner: the same of the terms of a day, if there is one
+abbrev pub DayJudged : Option (Terms × ℕ) → ℕ → Reply → Type 0
+DayJudged day k (Ok n) = judge_day day k ≡ accepted []
+DayJudged day k (Err x) = judge_day day k ≡ rejected (number_of x) (detail_of x)

@@ -10,31 +10,21 @@ use matching::sets;
 // The set of all views.
 pub const EVERY_VIEW: u32 = 65535;
 
-// The table with the columns of the views in the set alone.
+// The table with the columns of the views in the set alone: the table itself, where every view is in the set.
 pub fn columns_in(table: &[u32; 512], set: u32) -> [u32; 512]
     requires { length table.now ≡ 512 }
     ensures { result ≡ columns_in set table.now }
 {
+    if set == EVERY_VIEW {
+        return *table;
+    }
     let mut columns = mapping::no_mapping();
-    let mut k: usize = 0;
-    while k < 512 {
+    for k in 0..512 {
         if sets::is_in(set, k % 16) {
             columns[k] = table[k];
         }
-        k += 1;
     }
     columns
-}
-
-// The same where the table need not be kept: where every view is in the set, it is the table.
-pub fn columns_of(table: [u32; 512], set: u32) -> [u32; 512]
-    requires { length table ≡ 512 }
-    ensures { result ≡ columns_in set table }
-{
-    if set == EVERY_VIEW {
-        return table;
-    }
-    columns_in(&table, set)
 }
 
 // The mask of those of the first m edges that the view a matches.
@@ -43,13 +33,11 @@ fn edges_of(mapping: &[u32; 512], a: usize, m: usize) -> u32
     ensures { Mask (EdgeMatchedBy mapping.now a m) result }
 {
     let mut mask: u32 = 0;
-    let mut e: usize = 0;
-    while e < m {
+    for e in 0..m {
         let at = 16 * e + a;
         if mapping[at] != 0 {
             mask = mask | sets::only(e);
         }
-        e += 1;
     }
     mask
 }
@@ -60,10 +48,8 @@ pub fn masks_of(mapping: &[u32; 512], k: usize, m: usize) -> [u32; 16]
     ensures { Masked mapping.now k m result }
 {
     let mut masks = [0u32; 16];
-    let mut a: usize = 0;
-    while a < k {
+    for a in 0..k {
         masks[a] = edges_of(mapping, a, m);
-        a += 1;
     }
     masks
 }
@@ -83,12 +69,10 @@ pub fn union(masks: &[u32; 16], set: u32, k: usize) -> u32
     ensures { (t : List ℕ) (m : ℕ) → Masked t k m masks.now → Mask (EdgeMatchedIn t m set k) result }
 {
     let mut matched: u32 = 0;
-    let mut a: usize = 0;
-    while a < k {
+    for a in 0..k {
         if sets::is_in(set, a) {
             matched = matched | masks[a];
         }
-        a += 1;
     }
     matched
 }
@@ -107,11 +91,8 @@ pub fn lowest_in(masks: &[u32; 16], set: u32, k: usize, m: usize) -> usize
     ensures { (t : List ℕ) → Masked t k m masks.now → result ≡ lowest_unmatched t set k m }
 {
     let matched = union(masks, set, k);
-    let mut e: usize = 0;
-    while e < m {
-        if sets::is_in(matched, e) {
-            e += 1;
-        } else {
+    for e in 0..m {
+        if !sets::is_in(matched, e) {
             return e;
         }
     }
@@ -134,14 +115,12 @@ fn take_views(masks: &[u32; 16], set: u32, k: usize) -> u32
 {
     let mut first: u32 = 0;
     let mut matched: u32 = 0;
-    let mut a: usize = 0;
-    while a < k {
+    for a in 0..k {
         let more = matched | masks[a];
         if sets::is_in(set, a) & (more != matched) {
             first = first + sets::only(a);
             matched = more;
         }
-        a += 1;
     }
     first
 }
@@ -153,15 +132,13 @@ fn drop_views(masks: &[u32; 16], first: u32, k: usize, m: usize) -> u32
 {
     let all = first_edges(m);
     let mut set = first;
-    let mut a: usize = 0;
-    while a < k {
+    for a in 0..k {
         if sets::is_in(set, a) {
             let less = set - sets::only(a);
             if union(masks, less, k) == all {
                 set = less;
             }
         }
-        a += 1;
     }
     set
 }

@@ -1,26 +1,19 @@
 // The cheapest set of views that covers a query: the views still undecided are settled highest first, each taken or left, as far as that can still
 // give the best.
 ghost use Rattle.std.specs.Prelude.{◌≡◌, [], ℕ, ◌+◌, ◌≤◌, ◌<◌, length, get_or};
-ghost use Rattle.packed.specs.Calls.{Outcome, Fulfils, told_of};
+ghost use Rattle.packed.specs.Calls.{Fulfils, told_of};
 ghost use Rattle.matching.specs.Offered.{brings};
-ghost use Rattle.containment.specs.Quote.{Quoted};
-ghost use Rattle.containment.specs.Cheapest.{cheapest_from, cheapest_for, cheapest_outcome, cheapest_told};
-ghost use Rattle.containment.specs.Steps.{JudgedTo, AnyJudged};
-ghost use Rattle.containment.specs.Terms.{cheapest_on};
+ghost use Rattle.containment.specs.Cheapest.{cheapest_from, cheapest_for, cheapest_told};
+ghost use Rattle.containment.specs.Terms.{quoted_for};
 ghost use Rattle.containment.specs.Tries.{TriedRoom, taking, is_first, foremost_tried, settled, best_of, is_behind, reached, Reaches};
 
-use crate::judging::Judged;
 use crate::terms::Terms;
 use crate::{choose, judging};
 use matching::sets;
-use packed::reply::{Refusal, Reply};
+use packed::reply::Refusal;
 
 // The cheapest set, the sum of its charges, and the set that a quote chooses; or why there is none.
-#[derive(Clone, Copy)]
-pub enum Cheapest {
-    Of(u16, u64, u16),
-    Refused(Refusal),
-}
+pub type Cheapest = Result<(u16, u64, u16), Refusal>;
 
 // A set of views: the sum of their charges, how many they are, the set with its bits turned round (of two sets the one that has the lowest view
 // in which they differ has the greater), and the edges that they match.
@@ -85,10 +78,8 @@ fn reach_of(masks: &[u32; 16]) -> [u32; 17]
     ensures { (u : ℕ) → u ≤ 16 → get_or result u 0 ≡ reached masks.now u }
 {
     let mut reach = [0u32; 17];
-    let mut a: usize = 0;
-    while a < 16 {
+    for a in 0..16 {
         reach[a + 1] = reach[a] | masks[a];
-        a += 1;
     }
     reach
 }
@@ -129,7 +120,7 @@ fn cheapest_of(mapping: &[u32; 512], usable: u32, charges: &[u32], k: usize, m: 
 {
     let e = choose::lowest_unmatched(mapping, usable, k, m);
     if e < m {
-        return Cheapest::Refused(Refusal::NotContained(e as u32));
+        return Err(Refusal::NotContained(e as u32));
     }
     let columns = choose::columns_in(mapping, usable);
     let masks = choose::masks_of(&columns, k, m);
@@ -151,55 +142,25 @@ fn cheapest_of(mapping: &[u32; 512], usable: u32, charges: &[u32], k: usize, m: 
         none,
     );
     let chosen = choose::choose(mapping, usable, k, m);
-    Cheapest::Of(x.set as u16, x.sum, chosen as u16)
+    Ok((x.set as u16, x.sum, chosen as u16))
 }
 
-// The same, once what the client brings is judged.
-fn cheapest_judged(f: Judged, charges: &[u32]) -> Cheapest
-    requires { AnyJudged f }
-    ensures { (g : (Quoted → Outcome) → Outcome) → JudgedTo g f f.verdict → Fulfils [] (g (cheapest_for charges.now)) (cheapest_told result) [] [] }
-{
-    let verdict = f.verdict;
-    if let Reply::Refused(x) = verdict {
-        return Cheapest::Refused(x);
-    }
-    let k = f.views;
-    let number = charges.len();
-    if number != k {
-        return Cheapest::Refused(Refusal::WrongCharges(number));
-    }
-    let table = f.table;
-    let q = f.query;
-    cheapest_of(&table, f.usable, charges, k, q.edges)
-}
-
+// For a day with its terms of the views in force, for none of all.
 pub(crate) fn find_cheapest(
     question: &[u8],
     catalogue: &[u8],
     one_way: u32,
+    day: Option<(Terms, u16)>,
     charges: &[u32],
     work: &mut [u32],
 ) -> Cheapest
     requires { length work.old ≡ 16384 }
-    ensures { Fulfils [] (cheapest_outcome question.now (brings catalogue.now one_way) charges.now) (cheapest_told result) [] [] }
+    ensures { Fulfils [] (quoted_for day question.now (brings catalogue.now one_way) (cheapest_for charges.now)) (cheapest_told result) [] [] }
 {
-    let f = judging::judge(question, catalogue, one_way, work);
-    cheapest_judged(f, charges)
-}
-
-// For a day, of the views in force.
-pub(crate) fn find_cheapest_on(
-    question: &[u8],
-    catalogue: &[u8],
-    one_way: u32,
-    terms: Terms,
-    day: u16,
-    charges: &[u32],
-    work: &mut [u32],
-) -> Cheapest
-    requires { length work.old ≡ 16384 }
-    ensures { Fulfils [] (cheapest_on question.now (brings catalogue.now one_way) terms day charges.now) (cheapest_told result) [] [] }
-{
-    let f = judging::judge_on(question, catalogue, one_way, terms, day, work);
-    cheapest_judged(f, charges)
+    let f = judging::judge_for(question, catalogue, one_way, day, work)?;
+    let number = charges.len();
+    if number != f.views {
+        return Err(Refusal::WrongCharges(number));
+    }
+    cheapest_of(&f.table, f.usable, charges, f.views, f.query.edges)
 }

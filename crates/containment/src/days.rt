@@ -8,15 +8,10 @@ ghost use Rattle.containment.specs.Terms.{in_force, sooner, earliest, first_day,
 
 use crate::terms::Terms;
 use crate::{choose, judging, terms};
-use packed::reply::{Refusal, Reply};
+use packed::reply::Refusal;
 
 // The day, none, or why there is no answer.
-#[derive(Clone, Copy)]
-pub enum FirstDay {
-    On(u16),
-    Never,
-    Refused(Refusal),
-}
+pub type FirstDay = Result<Option<u16>, Refusal>;
 
 // The day after the last.
 const AFTER: u32 = 65536;
@@ -46,10 +41,8 @@ fn earliest_of(table: &[u32; 512], t: Terms, day: u16, k: usize, m: usize) -> u3
 {
     let masks = choose::masks_of(table, k, m);
     let mut found = sooner_of(&masks, t, day, day, AFTER, k, m);
-    let mut a: usize = 0;
-    while a < k {
+    for a in 0..k {
         found = sooner_of(&masks, t, day, t.from[a], found, k, m);
-        a += 1;
     }
     found
 }
@@ -65,16 +58,10 @@ pub(crate) fn find_first_day(
     requires { length work.old ≡ 16384 }
     ensures { Fulfils [] (first_day question.now (brings catalogue.now one_way) t day) (first_day_told result) [] [] }
 {
-    let f = judging::judge_on(question, catalogue, one_way, t, day, work);
-    let verdict = f.verdict;
-    if let Reply::Refused(x) = verdict {
-        return FirstDay::Refused(x);
-    }
-    let table = f.table;
-    let q = f.query;
-    let d = earliest_of(&table, t, day, f.views, q.edges);
+    let f = judging::judge_on(question, catalogue, one_way, t, day, work)?;
+    let d = earliest_of(&f.table, t, day, f.views, f.query.edges);
     if d < AFTER {
-        return FirstDay::On(d as u16);
+        return Ok(Some(d as u16));
     }
-    FirstDay::Never
+    Ok(None)
 }

@@ -1,5 +1,5 @@
 // The table of a query and the views of a catalogue: which edges of each view match each edge of the query.
-ghost use Rattle.std.specs.Prelude.{◌≡◌, ℕ, ◌+◌, ◌*◌, ◌/◌, ◌%◌, ◌^◌, ◌≤◌, ◌<◌, length, get_or, replicate};
+ghost use Rattle.std.specs.Prelude.{◌≡◌, ℕ, ◌+◌, ◌*◌, ◌≤◌, ◌<◌, length, get_or, replicate};
 ghost use Rattle.packed.specs.Format.{ok, decode};
 ghost use Rattle.packed.specs.Formats.{record'};
 ghost use Rattle.packed.specs.LoadedGraph.{Holds};
@@ -16,13 +16,12 @@ use crate::query;
 use engine::matched;
 use matching::batches;
 use packed::by_value::Pattern;
-use packed::graph::Graph;
 use packed::{graph, limits, matches};
 
 pub fn no_mapping() -> [u32; 512]
     ensures { result ≡ replicate 512 0 }
 {
-    [0u32; 512]
+    query::no_words()
 }
 
 // The place of a word among the first m, or m.
@@ -30,20 +29,12 @@ fn place_of(work: &[u32], m: usize, word: u32) -> usize
     requires { m ≤ length work.now }
     ensures { PlaceOf work.now m word result }
 {
-    let mut i: usize = 0;
-    while i < m {
+    for i in 0..m {
         if work[i] == word {
             return i;
         }
-        i += 1;
     }
     m
-}
-
-fn no_places() -> [usize; 32]
-    ensures { result ≡ replicate 32 0 }
-{
-    [0usize; 32]
 }
 
 // The place of each edge of the query among the first m words, where they stand.
@@ -51,58 +42,35 @@ fn places_of(q: Pattern, m: usize, work: &[u32]) -> [usize; 32]
     requires { Fair q × (m ≤ 8192) × (length work.now ≡ 16384) × Present q m work.now }
     ensures { Placed q q.edges m work.now result }
 {
-    let mut places = no_places();
-    let n = q.edges;
-    let mut e: usize = 0;
-    while e < n {
+    let mut places = [0usize; 32];
+    for e in 0..q.edges {
         let word = q.kind[e] * limits::PAIRS + (q.from[e] * limits::NODES + q.to[e]);
         places[e] = place_of(work, m, word);
-        e += 1;
     }
     places
 }
 
-// The masks of one view, in column a of the table: of each of the n edges of the query the m bits from the bit o on of the mask at its place.
-fn note_masks(
-    table: &mut [u32; 512],
-    a: usize,
-    places: &[usize; 32],
-    n: usize,
-    o: u32,
-    m: u32,
-    work: &[u32],
-)
-    requires { (a < 16) × (n ≤ 32) × (o + m ≤ 32) × (length table.old ≡ 512) × (length work.now ≡ 16384) × ((e : ℕ) → e < n → get_or places.now e 0 < 8192) }
-    ensures { Column a n (λ e x. x ≡ get_or work.now (8192 + get_or places.now e 0) 0 / 2 ^ o % 2 ^ m) table.old table.new }
-{
-    let mut e: usize = 0;
-    while e < n {
-        let mask = limits::HELD + places[e];
-        let at = 16 * e + a;
-        table[at] = matches::bits_from(work[mask], o, m);
-        e += 1;
-    }
-}
-
-// The same from the lists of the view: nothing, where one of them would be empty. What each edge is held for says which edges match it, not the lists,
-// which say nothing of kinds.
+// The masks of one view, in column a of the table: of each edge of the query the m bits from the bit o on of the mask at its place; nothing,
+// where one of the view's lists would be empty. What each edge is held for says which edges match it, not the lists, which say nothing of kinds.
 fn note_view(
     table: &mut [u32; 512],
     a: usize,
-    places: &[usize; 32],
-    n: usize,
+    places: &[usize],
     named: u32,
     o: u32,
     m: u32,
     work: &[u32],
 )
-    requires { (a < 16) × (n ≤ 32) × (o + m ≤ 32) × (length table.old ≡ 512) × (length work.now ≡ 16384) × ((e : ℕ) → e < n → get_or places.now e 0 < 8192) × ((e : ℕ) → get_or table.old (16 * e + a) 0 ≡ 0) }
-    ensures { (d : ℕ) → Named d work.now named → Column a n (λ e x. x ≡ noted_mask o m d work.now (get_or places.now e 0)) table.old table.new }
+    requires { (a < 16) × (length places.now ≤ 32) × (o + m ≤ 32) × (length table.old ≡ 512) × (length work.now ≡ 16384) × ((e : ℕ) → e < length places.now → get_or places.now e 0 < 8192) × ((e : ℕ) → get_or table.old (16 * e + a) 0 ≡ 0) }
+    ensures { (d : ℕ) → Named d work.now named → Column a (length places.now) (λ e x. x ≡ noted_mask o m d work.now (get_or places.now e 0)) table.old table.new }
 {
     if !matches::lists_all(named, o, m) {
         return;
     }
-    note_masks(table, a, places, n, o, m, work);
+    for e in 0..places.len() {
+        let mask = limits::HELD + places[e];
+        table[16 * e + a] = matches::bits_from(work[mask], o, m);
+    }
 }
 
 // The views a .. next of a batch, each by its own bits: as many as it has edges.
@@ -111,29 +79,19 @@ fn note_batch(
     a: usize,
     next: usize,
     counts: [u32; 16],
-    places: &[usize; 32],
-    n: usize,
+    places: &[usize],
     named: u32,
     work: &[u32],
 )
-    requires { AnyNamed work.now named × (a ≤ next) × (next ≤ 16) × (n ≤ 32) × (sum_of next counts ≤ sum_of a counts + 32) × (length table.old ≡ 512) × (length work.now ≡ 16384) × ((e : ℕ) → e < n → get_or places.now e 0 < 8192) × ((i e : ℕ) → a ≤ i → i < 16 → get_or table.old (16 * e + i) 0 ≡ 0) }
-    ensures { (d : ℕ) → Named d work.now named → BatchNoted a next n counts d work.now places.now table.old table.new }
+    requires { AnyNamed work.now named × (a ≤ next) × (next ≤ 16) × (length places.now ≤ 32) × (sum_of next counts ≤ sum_of a counts + 32) × (length table.old ≡ 512) × (length work.now ≡ 16384) × ((e : ℕ) → e < length places.now → get_or places.now e 0 < 8192) × ((i e : ℕ) → a ≤ i → i < 16 → get_or table.old (16 * e + i) 0 ≡ 0) }
+    ensures { (d : ℕ) → Named d work.now named → BatchNoted a next (length places.now) counts d work.now places.now table.old table.new }
 {
     let mut at: u32 = 0;
-    let mut j: usize = a;
-    while j < next {
+    for j in a..next {
         let m = counts[j];
-        note_view(table, j, places, n, named, at, m, work);
+        note_view(table, j, places, named, at, m, work);
         at += m;
-        j += 1;
     }
-}
-
-// A word for each node that a query can have, or for each view.
-pub fn no_words() -> [u32; 16]
-    ensures { result ≡ replicate 16 0 }
-{
-    [0u32; 16]
 }
 
 // The masks of the k views of a catalogue, with so many edges each, on the record s of the query, with n nodes and m edges: the views are matched in
@@ -154,22 +112,32 @@ fn note_views(
 {
     let places = places_of(q, m, work);
     let mut mapping = no_mapping();
-    let mut leave = no_words();
-    let mut arrive = no_words();
-    let mut held = no_words();
+    let mut leave = query::no_words::<16>();
+    let mut arrive = query::no_words::<16>();
+    let mut held = query::no_words::<16>();
     let mut byte: usize = 1;
     let mut a: usize = 0;
+    // Not a range: a turn goes on by as many views as its batch takes.
     while a < k {
         let f = batches::fill(catalogue, one_way, k, counts, a, byte);
-        matched::match_batch(s, n, m, f.batch, work, &mut leave, &mut arrive, &mut held);
+        matched::match_batch(
+            s,
+            n,
+            m,
+            f.batch,
+            None,
+            work,
+            &mut leave,
+            &mut arrive,
+            &mut held,
+        );
         let named = matches::named(work, m);
         note_batch(
             &mut mapping,
             a,
             f.next,
             counts,
-            &places,
-            q.edges,
+            &places[..q.edges],
             named,
             work,
         );
@@ -177,12 +145,6 @@ fn note_views(
         a = f.next;
     }
     mapping
-}
-
-fn no_bytes() -> [u8; 176]
-    ensures { result ≡ replicate 176 0 }
-{
-    [0u8; 176]
 }
 
 // The table of the query and the k views of a catalogue, with so many edges each.
@@ -197,11 +159,11 @@ pub fn map_views(
     requires { Query q × Views catalogue.now k × EdgesCounted catalogue.now k counts × (length catalogue.now ≤ 65536) × (length work.old ≡ 16384) }
     ensures { (t : Query q) (v : Views catalogue.now k) → result ≡ mapping (pattern_of t.content) (view_patterns (offers v.content one_way)) }
 {
-    let mut bytes = no_bytes();
+    let mut bytes = [0u8; 176];
     let size = query::write_graph(q, 32, &mut bytes, work);
     let g = graph::load_record(&bytes[0..size], work);
     match g {
-        Graph::Of(n, m) => {
+        Ok((n, m)) => {
             note_views(
                 q,
                 &bytes[0..size],
@@ -214,6 +176,6 @@ pub fn map_views(
                 work,
             )
         }
-        Graph::Refused(_) => no_mapping(),
+        Err(_) => no_mapping(),
     }
 }

@@ -4,21 +4,22 @@ ghost use Rattle.packed.specs.Contents.{ranks};
 ghost use Rattle.engine.specs.Loaded.{Fair};
 ghost use Rattle.containment.specs.Steps.{Query, powers, edges_but, RanksFront, label_fields, fields_but, Front, Extends, HoldsFields, Graphed};
 
+use matching::sets;
 use packed::by_value::Pattern;
-use packed::reply::Part;
 use packed::{limits, record, sort};
 
-// The content of a record or of a pattern, at the front of a table.
+// The content of a record or of a pattern, at the front of a table: no heap is used, so an array with its number goes by value.
 #[derive(Clone, Copy)]
 pub struct Fields {
     pub words: [u32; 114],
     pub number: usize,
 }
 
-pub fn no_words() -> [u32; 114]
-    ensures { result ≡ replicate 114 0 }
+// So many words, all zero.
+pub fn no_words<const N: usize>() -> [u32; N]
+    ensures { result ≡ replicate N 0 }
 {
-    [0u32; 114]
+    [0u32; N]
 }
 
 // The words with two more, after the first n.
@@ -28,17 +29,8 @@ pub fn with_two(before: [u32; 114], n: usize, a: u32, b: u32) -> [u32; 114]
 {
     let mut words = before;
     words[n] = a;
-    let next = n + 1;
-    words[next] = b;
+    words[n + 1] = b;
     words
-}
-
-// The mask of one label.
-fn only(label: u32) -> u32
-    requires { label < 32 }
-    ensures { result ≡ 2 ^ label }
-{
-    1 << label
 }
 
 // The words with the labels, after the first two: each node has its own label alone.
@@ -47,12 +39,8 @@ fn with_labels(before: [u32; 114], p: Pattern) -> [u32; 114]
     ensures { Extends 2 p.nodes (powers (take p.nodes p.labels)) before result }
 {
     let mut words = before;
-    let n = p.nodes;
-    let mut u: usize = 0;
-    while u < n {
-        let at = 2 + u;
-        words[at] = only(p.labels[u]);
-        u += 1;
+    for u in 0..p.nodes {
+        words[2 + u] = sets::only(p.labels[u] as usize);
     }
     words
 }
@@ -62,15 +50,12 @@ fn load_ranks(p: Pattern, skip: usize, work: &mut [u32]) -> usize
     requires { Fair p × (length work.old ≡ 16384) }
     ensures { RanksFront (ranks (edges_but p.from p.to p.kind skip p.edges)) result work.new }
 {
-    let m = p.edges;
     let mut k: usize = 0;
-    let mut e: usize = 0;
-    while e < m {
+    for e in 0..p.edges {
         if e != skip {
             work[k] = (p.from[e] * limits::NODES + p.to[e]) * limits::KINDS + p.kind[e];
             k += 1;
         }
-        e += 1;
     }
     k
 }
@@ -107,11 +92,9 @@ pub fn write_graph(p: Pattern, skip: usize, out: &mut [u8], work: &mut [u32]) ->
     ensures { (t : Query p) → Graphed t.content skip result out.old out.new }
 {
     let f = graph_fields(p, skip, work);
-    let words = f.words;
-    let n = f.number;
-    let r = record::judge_record_fields(&words[0..n], out);
+    let r = record::judge_record_fields(&f.words[0..f.number], out);
     match r {
-        Part::Upto(size, _) => size,
-        Part::Refused(_) => 0,
+        Ok((size, _)) => size,
+        Err(_) => 0,
     }
 }

@@ -1,7 +1,8 @@
 // Terms: the days on which each view is in force.
-ghost use Rattle.std.specs.Prelude.{◌≡◌, ◌<◌, ◌≤◌, min};
-ghost use Rattle.containment.specs.Terms.{no_terms, with_term, first_turned, TermsJudged, is_in_force, in_force};
+ghost use Rattle.std.specs.Prelude.{◌≡◌, ◌<◌, ◌≤◌};
+ghost use Rattle.containment.specs.Terms.{no_terms, with_term, first_turned, TermsJudged, DayJudged, is_in_force, in_force, usable_for};
 
+use crate::choose;
 use matching::sets;
 use packed::reply::{Refusal, Reply};
 
@@ -13,20 +14,14 @@ pub struct Term {
     pub to: u16,
 }
 
-// How many entries a list of terms has, and the days of the first sixteen; zero beyond them.
+// How many entries a list of terms has, and the days of the first sixteen; zero beyond them. It goes by
+// value through the C interface, so the days stay in arrays with their number.
 #[repr(C)]
 #[derive(Clone, Copy)]
 pub struct Terms {
     pub number: usize,
     pub from: [u16; 16],
     pub to: [u16; 16],
-}
-
-// As many entries as are noted, of n.
-pub(crate) fn capped(n: usize) -> usize
-    ensures { result ≡ min n 16 }
-{
-    if n < 16 { n } else { 16 }
 }
 
 // Nothing is noted of so many entries.
@@ -56,11 +51,8 @@ pub fn first_turned(t: Terms, k: usize) -> usize
     requires { k ≤ 16 }
     ensures { result ≡ first_turned t k }
 {
-    let mut a: usize = 0;
-    while a < k {
-        if t.from[a] < t.to[a] {
-            a += 1;
-        } else {
+    for a in 0..k {
+        if t.to[a] <= t.from[a] {
             return a;
         }
     }
@@ -74,13 +66,24 @@ pub fn judge_terms(t: Terms, k: usize) -> Reply
 {
     let number = t.number;
     if number != k {
-        return Reply::Refused(Refusal::WrongTerms(number));
+        return Err(Refusal::WrongTerms(number));
     }
     let turned = first_turned(t, k);
     if turned < k {
-        return Reply::Refused(Refusal::WrongTerms(turned));
+        return Err(Refusal::WrongTerms(turned));
     }
-    Reply::Done(0)
+    Ok(0)
+}
+
+// The terms of a day, if there is one, are judged beside k views.
+pub(crate) fn judge_day(day: Option<(Terms, u16)>, k: usize) -> Reply
+    requires { k ≤ 16 }
+    ensures { DayJudged day k result }
+{
+    match day {
+        Some((t, _)) => judge_terms(t, k),
+        None => Ok(0),
+    }
 }
 
 // Whether a day lies in a term: the from-day counts, the to-day doesn't.
@@ -96,12 +99,21 @@ pub fn in_force(t: Terms, day: u16, k: usize) -> u32
     ensures { result ≡ in_force t day k }
 {
     let mut set: u32 = 0;
-    let mut a: usize = 0;
-    while a < k {
+    for a in 0..k {
         if is_in_force(t.from[a], t.to[a], day) {
             set = set + sets::only(a);
         }
-        a += 1;
     }
     set
+}
+
+// Those of k views that may be used: the ones in force on a day, or all where there is none.
+pub(crate) fn usable_for(day: Option<(Terms, u16)>, k: usize) -> u32
+    requires { k ≤ 16 }
+    ensures { result ≡ usable_for day k }
+{
+    match day {
+        Some((t, d)) => in_force(t, d, k),
+        None => choose::EVERY_VIEW,
+    }
 }

@@ -15,7 +15,7 @@ use Rattle.engine.specs.Masks.{Has, OneOf}
 use Rattle.engine.specs.Sweeping.{from_of, Ends, held_at}
 use Rattle.engine.proofs.ListLaws.{decide}
 use Rattle.engine.proofs.MaskBits.{and_say, and_by, minus_say, minus_by, part_le, one_last, one_more, one_cases}
-use Rattle.engine.specs.Places.{ByStart, BeginsBelow, Cut, Firsts, FirstsMade, Entered, Empty, Cleared, Behind, Marked, highest, Carried}
+use Rattle.engine.specs.Places.{ByStart, BeginsBelow, Cut, Firsts, Indexed, FirstsMade, Entered, Empty, Cleared, Behind, Marked, highest, Carried}
 use Rattle.engine.specs.Worklist.{missed_by}
 use Rattle.engine.specs.Rounds.{End}
 
@@ -178,6 +178,9 @@ firsts_again {d} {n} {w} {w'} {first} same F =
             above = λ j a b. (let e = same j b in let y = C.above j a b in omega arith);
           };
     }
+
+pub indexed_again : {d n : ℕ} {w w' first : List ℕ} → ((i : ℕ) → i < d → get_or w' i 0 ≡ get_or w i 0) → Indexed d n w first → Indexed d n w' first
+indexed_again same F = (F.0, firsts_again same F.1)
 
 pub ends_part : {n d l b : ℕ} {w : List ℕ} → Ends n d w → n ≤ l → b ≤ d → Ends l b w
 ends_part E p q =

@@ -32,6 +32,7 @@ pub mod RestingLaws
 pub mod IndexLaws
 pub mod OwnIndex
 pub mod EndLaws
+pub mod SideLaws
 pub mod SetLaws
 pub mod TurnLaws
 -- what the engine's rest is

@@ -11,17 +11,16 @@ use lib.Bits.{bit_and, bit_or, bit_xor}
 use Rattle.packed.proofs.OrderCases.{eq_or_ne}
 use Rattle.packed.proofs.ByValueLaws.{nothing_at}
 use Rattle.engine.specs.Masks.{Has, OneOf}
-use Rattle.engine.specs.Sweeping.{from_of, sum_to, held_at, Swept, LookedUp}
+use Rattle.engine.specs.Sweeping.{sum_to, held_at, Swept, LookedUp}
 use Rattle.engine.proofs.MaskBits.{none_has, or_left, or_right, or_cases, and_say, and_by, minus_say, minus_by, part_le, lowest_has}
 use Rattle.packed.specs.Contents.{word_from, word_to}
 use Rattle.engine.specs.Rounds.{End, Sound, Loses, Prepared, Fixed}
-use Rattle.engine.specs.Places.{Firsts, Backs}
 use Rattle.engine.specs.MarkedSet.{IsSet, IsMarked, TakenOut, AllMarked, MarkedBy}
+use Rattle.engine.specs.Sides.{Placed}
 use Rattle.engine.specs.Worklist.{FineBy, Rest, Keeps, Half, Turned, Late}
 use Rattle.engine.proofs.SoundLaws.{sound_none, sound_then, from_same, to_same, held_by, swept_sound, loses_none, losing_sound, losing_back_sound}
 use Rattle.engine.proofs.RoundLaws.{swept_falls, swept_within}
-use Rattle.engine.proofs.IndexLaws.{Looked, in_range, of_range}
-use Rattle.engine.proofs.EndLaws.{ends_at, ends_of}
+use Rattle.engine.proofs.IndexLaws.{Looked}
 use Rattle.engine.proofs.SetLaws.{cast, sum_set, sum_bound}
 
 -- ---- one word of a list loses the members of b
@@ -53,40 +52,27 @@ pub record Missed (near far : End) (due d : ℕ) (w masks others : List ℕ) (v 
   pub found : (e : ℕ) → Has (get_or masks v 0) e → Has due e → (Has miss e → ⊥)
       → OneOf d (λ i. (near (get_or w i 0) ≡ v) × Has (held_at w i) e × Has (get_or others (far (get_or w i 0)) 0) e)
 
--- by an index
-pub missed_out : {n d due : ℕ} {w first leave arrive : List ℕ} {v miss : ℕ} → Firsts d n w first → v < n
-    → Looked word_to (λ i. i) w (get_or first v 0) (get_or first (v + 1) 0) arrive (bit_and (get_or leave v 0) due) miss → Missed word_from word_to due d w leave arrive v miss
-missed_out {due = due} {leave = leave} {v = v} F l L =
+-- by an index of the pairs by their near ends
+pub missed_side : (near far : End) {d due : ℕ} {w masks others : List ℕ} {start num : ℕ → ℕ} {v miss : ℕ} → Placed near d w start num v
+    → Looked far num w (start v) (start (v + 1)) others (bit_and (get_or masks v 0) due) miss → Missed near far due d w masks others v miss
+missed_side near far {due = due} {w = w} {masks = masks} {others = others} {num = num} {v = v} P L =
     record {
-      part = λ e h. and_say (get_or leave v 0) due e (L.part e h);
-      missing = λ e h o. (let r = in_range F v l o.at o.below o.holds.0 in L.missing e h (record { at = o.at; below = r.1; holds = (r.0, o.holds.1, o.holds.2) }));
-      found = λ e h k n.
-          (let o = L.found e (and_by _ _ e h k) n in
-          let r = of_range F v l o.at o.holds.0 o.below in
-          record { at = o.at; below = r.0; holds = (r.1, o.holds.1, o.holds.2) });
-    }
-
--- by the numbers of the pairs by their ends
-pub missed_in : {n d asked : ℕ} {w back rev leave arrive : List ℕ} {v miss : ℕ} → Backs d n w back rev → v < n
-    → Looked word_from (λ j. get_or rev j 0) w (get_or back v 0) (get_or back (v + 1) 0) leave (bit_and (get_or arrive v 0) asked) miss → Missed word_to word_from asked d w arrive leave v miss
-missed_in {d = d} {asked = asked} {w = w} {rev = rev} {leave = leave} {arrive = arrive} {v = v} B l L =
-    record {
-      part = λ e h. and_say (get_or arrive v 0) asked e (L.part e h);
+      part = λ e h. and_say (get_or masks v 0) due e (L.part e h);
       missing = λ e h o.
-          (let r = ends_at B v l o.at o.below o.holds.0 in
+          (let r = P.at o.at o.below o.holds.0 in
           L.missing e h (record {
             at = r.at;
             below = r.below;
             holds = (
               r.holds.0,
               subst (λ (i : ℕ). Has (held_at w i) e) (sym r.holds.1) o.holds.1,
-              subst (λ (i : ℕ). Has (get_or leave (from_of w i) 0) e) (sym r.holds.1) o.holds.2,
+              subst (λ (i : ℕ). Has (get_or others (far (get_or w i 0)) 0) e) (sym r.holds.1) o.holds.2,
             );
           }));
       found = λ e h k n.
           (let o = L.found e (and_by _ _ e h k) n in
-          let r = ends_of B v l o.at o.holds.0 o.below in
-          record { at = get_or rev o.at 0; below = r.0; holds = (r.1, o.holds.1, o.holds.2) });
+          let r = P.of o.at o.holds.0 o.below in
+          record { at = num o.at; below = r.0; holds = (r.1, o.holds.1, o.holds.2) });
     }
 
 module _ (near far : End) (due asked : ℕ) (here there masks others s : List ℕ) {n d : ℕ} {w : List ℕ} {v miss : ℕ} (l : v < n) (M : Missed near far due d w masks others v miss) where

@@ -12,5 +12,6 @@ pub mod Rounds
 pub mod Rows
 pub mod Starting
 pub mod Places
+pub mod Sides
 pub mod MarkedSet
 pub mod Worklist

@@ -16,14 +16,6 @@ missed_by far num w masks want a (suc k) =
     let miss = missed_by far num w masks want a k in
     bit_xor miss (bit_and miss (bit_and (held_at w (num (a + k))) (get_or masks (far (get_or w (num (a + k)) 0)) 0)))
 
--- the links of want that none of the k pairs from a on offers: each offers those that it is held for and that may arrive at its end
-abbrev pub missed : List ℕ → List ℕ → ℕ → ℕ → ℕ → ℕ
-missed w arrive want a k = missed_by word_to (λ i. i) w arrive want a k
-
--- the same of the k pairs whose numbers stand in rev from a on: each offers the links that may leave its start
-abbrev pub missed_back : List ℕ → List ℕ → List ℕ → ℕ → ℕ → ℕ → ℕ
-missed_back w rev leave want a k = missed_by word_from (λ j. get_or rev j 0) w leave want a k
-
 -- ---- the nodes one by one
 -- the links of due that are in the masks at x are offered by the pairs whose near end is x: they are in the other masks at the far end
 abbrev pub FineBy : End → End → ℕ → ℕ → List ℕ → List ℕ → List ℕ → ℕ → Type 0

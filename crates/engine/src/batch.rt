@@ -21,18 +21,6 @@ pub struct Batch {
     pub back: u32,
 }
 
-fn no_labels() -> [u32; 64]
-    ensures { result ≡ replicate 64 0 }
-{
-    [0u32; 64]
-}
-
-fn no_links() -> [u32; 32]
-    ensures { result ≡ replicate 32 0 }
-{
-    [0u32; 32]
-}
-
 // The batch of no pattern.
 pub fn none() -> Batch
     ensures { FairBatch result × (result.nodes ≡ 0) × (result.edges ≡ 0) }
@@ -40,41 +28,30 @@ pub fn none() -> Batch
     Batch {
         nodes: 0,
         edges: 0,
-        labels: no_labels(),
-        from: no_links(),
-        to: no_links(),
-        kind: no_links(),
+        labels: [0; 64],
+        from: [0; 32],
+        to: [0; 32],
+        kind: [0; 32],
         back: 0,
     }
 }
 
-// The labels with the first n of others put from a on.
-fn put_labels(labels: [u32; 64], a: usize, others: &[u32; 16], n: usize) -> [u32; 64]
-    requires { (n ≤ 16) × (a + n ≤ 64) × (length labels ≡ 64) }
-    ensures { PutFrom a n 0 others.now labels result }
-{
-    let mut t = labels;
-    let mut u: usize = 0;
-    while u < n {
-        let at = a + u;
-        t[at] = others[u];
-        u += 1;
-    }
-    t
-}
-
-// The numbers of links with the first m of others, each with a added, put from o on.
-fn put_links(links: [u32; 32], o: usize, others: &[u32; 32], m: usize, a: usize) -> [u32; 32]
-    requires { (o + m ≤ 32) × (a ≤ 64) × (length links ≡ 32) × ((e : ℕ) → e < m → get_or others.now e 0 < 16) }
-    ensures { PutFrom o m a others.now links result }
+// The numbers with the first m of others, each with a added, put from o on.
+fn put<const N: usize, const M: usize>(
+    numbers: [u32; N],
+    o: usize,
+    others: &[u32; M],
+    m: usize,
+    a: usize,
+) -> [u32; N]
+    requires { (m ≤ M) × (o + m ≤ N) × (a ≤ 64) × ((e : ℕ) → e < m → get_or others.now e 0 < 32) }
+    ensures { PutFrom o m a others.now numbers.entry result }
 {
     let first = a as u32;
-    let mut t = links;
-    let mut e: usize = 0;
-    while e < m {
+    let mut t = numbers;
+    for e in 0..m {
         let at = o + e;
         t[at] = first + others[e];
-        e += 1;
     }
     t
 }
@@ -92,14 +69,10 @@ pub fn add(b: Batch, p: Pattern, both: bool) -> Batch
     let from = p.from;
     let to = p.to;
     let kind = p.kind;
-    let old_labels = b.labels;
-    let old_from = b.from;
-    let old_to = b.to;
-    let old_kind = b.kind;
-    let new_labels = put_labels(old_labels, a, &labels, n);
-    let new_from = put_links(old_from, o, &from, m, a);
-    let new_to = put_links(old_to, o, &to, m, a);
-    let new_kind = put_links(old_kind, o, &kind, m, 0);
+    let new_labels = put(b.labels, a, &labels, n, 0);
+    let new_from = put(b.from, o, &from, m, a);
+    let new_to = put(b.to, o, &to, m, a);
+    let new_kind = put(b.kind, o, &kind, m, 0);
     let asked = link_tables::asked(both, o, m);
     Batch {
         nodes: a + n,

@@ -1,27 +1,20 @@
 // Where the pairs that begin at a node stand, and what they offer.
 ghost use Rattle.std.specs.Prelude.{◌≡◌, ℕ, ◌+◌, ◌-◌, ◌<◌, ◌≤◌, max, length, get_or};
-ghost use Rattle.engine.specs.Sweeping.{from_of, Ends};
+ghost use Rattle.engine.specs.Sweeping.{Ends};
+ghost use Rattle.engine.specs.Worklist.{missed_by};
 ghost use Rattle.engine.specs.Places.{ByStart, Empty, Cleared, Marked, Carried, FirstsMade, Compared, IndexJudged};
-ghost use Rattle.engine.specs.Worklist.{missed, missed_back};
 
+use crate::sides::Side;
 use packed::limits;
 use packed::reply::{Refusal, Reply};
-
-pub fn wide(x: u16) -> usize
-    ensures { result ≡ x }
-{
-    x as usize
-}
 
 // Clears the entries up to n.
 fn clear(n: usize, first: &mut [u16])
     requires { n < length first.old }
     ensures { Cleared n first.old first.new }
 {
-    let mut v: usize = 0;
-    while v <= n {
+    for v in 0..n + 1 {
         first[v] = 0;
-        v += 1;
     }
 }
 
@@ -30,26 +23,14 @@ fn mark(work: &[u32], d: usize, n: usize, first: &mut [u16])
     requires { (d ≤ 8192) × (length work.now ≡ 16384) × ByStart d work.now × (n < length first.old) × Empty n first.old }
     ensures { Marked d n work.now first.old first.new }
 {
-    let mut i: usize = 0;
-    while i < d {
+    for i in 0..d {
         let f = (work[i] / limits::NODES % limits::NODES) as usize;
         if n <= f {
             return;
         }
-        i += 1;
         let at = f + 1;
-        first[at] = i as u16;
+        first[at] = (i + 1) as u16;
     }
-}
-
-// The greater of two numbers.
-fn greater(a: u16, b: u16) -> u16
-    ensures { result ≡ max a b }
-{
-    if a < b {
-        return b;
-    }
-    a
 }
 
 // Each entry up to n becomes the greatest up to it.
@@ -58,11 +39,9 @@ fn carry(n: usize, first: &mut [u16])
     ensures { Carried n first.old first.new }
 {
     let mut most: u16 = 0;
-    let mut v: usize = 0;
-    while v <= n {
-        most = greater(most, first[v]);
+    for v in 0..n + 1 {
+        most = most.max(first[v]);
         first[v] = most;
-        v += 1;
     }
 }
 
@@ -81,14 +60,12 @@ fn differs(n: usize, own: &[u16], index: &[u16]) -> usize
     requires { (n < length own.now) × (n < length index.now) }
     ensures { Compared n own.now index.now result }
 {
-    let mut v: usize = 0;
-    while v <= n {
+    for v in 0..n + 1 {
         if own[v] != index[v] {
             return v;
         }
-        v += 1;
     }
-    v
+    n + 1
 }
 
 // How many entries an index has, if it is that of the pairs.
@@ -98,56 +75,40 @@ pub fn judge(work: &[u32], d: usize, n: usize, index: &[u16]) -> Reply
 {
     let entries = n + 1;
     if index.len() != entries {
-        return Reply::Refused(Refusal::WrongIndex(index.len()));
+        return Err(Refusal::WrongIndex(index.len()));
     }
     let mut own: [u16; 4097] = [0; 4097];
     firsts(work, d, n, &mut own);
     let v = differs(n, &own, index);
     if v <= n {
-        return Reply::Refused(Refusal::WrongIndex(v));
+        return Err(Refusal::WrongIndex(v));
     }
-    Reply::Done(entries)
+    Ok(entries)
 }
 
-// The links of want that no pair from a up to b offers: each offers those that it is held for and that may arrive at its end. The two are the entries of an
-// index at a node and after it, and nothing else looks at the links that leave the node.
-pub fn look(work: &[u32], a: usize, b: usize, arrive: &[u32], want: u32) -> u32
-    requires { (a ≤ b) × Ends (length arrive.now) b work.now }
-    ensures { result ≡ missed work.now arrive.now want a (b - a) }
+// The links of want that none of the pairs offers whose numbers stand from a up to b: each offers those that it is held for and that are in the masks at its
+// far end. The two are where the pairs of a node begin and end, and nothing else looks at the links of the node.
+pub fn look<N: Side, F: Side>(
+    work: &[u32],
+    a: usize,
+    b: usize,
+    rev: &[u16],
+    masks: &[u32],
+    want: u32,
+) -> u32
+    requires { (a ≤ b) × (length work.now ≡ 16384) × ((k : ℕ) → a ≤ k → k < b → N.numbered rev.now k × (N.number rev.now k < 8192) × (F.end (get_or work.now (N.number rev.now k) 0) < length masks.now)) }
+    ensures { result ≡ missed_by F.end (N.number rev.now) work.now masks.now want a (b - a) }
 {
     let mut miss = want;
-    let mut i = a;
-    while i < b {
+    for k in a..b {
         if miss == 0 {
             return 0;
         }
-        let t = (work[i] % limits::NODES) as usize;
+        let i = N::number(rev, k);
+        let t = F::end(work[i]);
         let at = limits::HELD + i;
-        let offer = work[at] & arrive[t];
-        miss = miss ^ (miss & offer);
-        i += 1;
-    }
-    miss
-}
-
-// The links of want that none of the pairs offers whose numbers stand in rev from a up to b: each offers those that it is held for and that may leave
-// its start.
-pub fn look_back(work: &[u32], a: usize, b: usize, rev: &[u16], leave: &[u32], want: u32) -> u32
-    requires { (a ≤ b) × (b ≤ length rev.now) × (length work.now ≡ 16384) × ((k : ℕ) → a ≤ k → k < b → (get_or rev.now k 0 < 8192) × (from_of work.now (get_or rev.now k 0) < length leave.now)) }
-    ensures { result ≡ missed_back work.now rev.now leave.now want a (b - a) }
-{
-    let mut miss = want;
-    let mut k = a;
-    while k < b {
-        if miss == 0 {
-            return 0;
-        }
-        let i = wide(rev[k]);
-        let f = (work[i] / limits::NODES % limits::NODES) as usize;
-        let at = limits::HELD + i;
-        let offer = work[at] & leave[f];
-        miss = miss ^ (miss & offer);
-        k += 1;
+        let offer = work[at] & masks[t];
+        miss ^= miss & offer;
     }
     miss
 }

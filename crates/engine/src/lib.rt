@@ -9,6 +9,7 @@ pub mod index;
 pub mod link_tables;
 mod marked;
 pub mod matched;
+pub mod sides;
 mod start;
 pub mod sweeps;
 mod turns;

@@ -25,18 +25,10 @@ fn row(b: &[u32; 32], m: usize, x: u32) -> u32
     ensures { RowOf b.now m x result }
 {
     let mut r: u32 = 0;
-    let mut k: usize = 0;
-    while k < m {
-        r = r | one(x, b[k], k as u32);
-        k += 1;
+    for k in 0..m {
+        r |= one(x, b[k], k as u32);
     }
     r
-}
-
-fn no_items() -> [u32; 64]
-    ensures { result ≡ replicate 64 0 }
-{
-    [0u32; 64]
 }
 
 // For each item below 64 the links below m that have it in b.
@@ -44,15 +36,12 @@ fn by_item(b: &[u32; 32], m: usize) -> [u32; 64]
     requires { m ≤ 32 }
     ensures { ByItem b.now m result }
 {
-    let mut t = no_items();
-    let mut k: usize = 0;
-    while k < m {
+    let mut t = [0u32; 64];
+    for k in 0..m {
         if b[k] < 64 {
             let x = b[k] as usize;
-            let old = t[x];
-            t[x] = old | start::one(k);
+            t[x] |= start::one(k);
         }
-        k += 1;
     }
     t
 }
@@ -68,29 +57,15 @@ fn look(items: &[u32; 64], b: &[u32; 32], m: usize, x: u32) -> u32
     row(b, m, x)
 }
 
-fn no_rows() -> [u32; 32]
-    ensures { result ≡ replicate 32 0 }
-{
-    [0u32; 32]
-}
-
-fn no_table() -> [u32; 128]
-    ensures { result ≡ replicate 128 0 }
-{
-    [0u32; 128]
-}
-
 // For each link the links that have in b what it has in a.
 fn rows(a: &[u32; 32], b: &[u32; 32], m: usize) -> [u32; 32]
     requires { m ≤ 32 }
     ensures { RowsOf a.now b.now m result }
 {
     let items = by_item(b, m);
-    let mut t = no_rows();
-    let mut e: usize = 0;
-    while e < m {
+    let mut t = [0u32; 32];
+    for e in 0..m {
         t[e] = look(&items, b, m, a[e]);
-        e += 1;
     }
     t
 }
@@ -118,12 +93,10 @@ pub fn table(a: &[u32; 32], b: &[u32; 32], m: usize) -> [u32; 128]
 {
     let each = rows(a, b, m);
     let most = (m + 3) / 4 * 16;
-    let mut t = no_table();
-    let mut i: usize = 0;
-    while i < most {
+    let mut t = [0u32; 128];
+    for i in 0..most {
         let w = word(&each, &t, i);
         t[i] = w;
-        i += 1;
     }
     t
 }
@@ -134,7 +107,7 @@ pub fn table_if(back: u32, a: &[u32; 32], b: &[u32; 32], m: usize) -> [u32; 128]
     ensures { (e : ℕ) → Has back e → Tabled a.now b.now m result }
 {
     if back == 0 {
-        return no_table();
+        return [0; 128];
     }
     table(a, b, m)
 }

@@ -3,15 +3,9 @@
 ghost use Rattle.std.specs.Prelude.{◌≡◌, ℕ, ◌+◌, ◌<◌, ◌≤◌, min, length};
 ghost use Rattle.engine.specs.MarkedSet.{IsSet, NumberAdded, Marks, AllMarked, FirstWord, Drawn, TakenOut, IsMarked};
 
-use crate::{index, start};
+use crate::start;
 
 const CURSOR: usize = 256;
-
-fn least(a: u32, b: u32) -> u32
-    ensures { result ≡ min a b }
-{
-    if a < b { a } else { b }
-}
 
 fn add(set: &mut [u32], x: usize)
     requires { IsSet set.old × (x < 8192) }
@@ -23,7 +17,7 @@ fn add(set: &mut [u32], x: usize)
     let bit: u32 = 1 << place;
     set[at] = old | bit;
     let low = set[CURSOR];
-    set[CURSOR] = least(low, at as u32);
+    set[CURSOR] = low.min(at as u32);
 }
 
 // The first word that is not zero, or 256.
@@ -31,14 +25,13 @@ fn first_word(set: &[u32]) -> usize
     requires { IsSet set.now }
     ensures { FirstWord set.now result }
 {
-    let mut i = set[CURSOR] as usize;
-    while i < 256 {
+    let cursor = set[CURSOR] as usize;
+    for i in cursor..CURSOR {
         if set[i] != 0 {
             return i;
         }
-        i += 1;
     }
-    i
+    CURSOR
 }
 
 // Takes the lowest number out of the set; 8192 if there is none.
@@ -64,10 +57,10 @@ pub fn mark(first: &[u16], back: &[u16], v: usize, set: &mut [u32])
     ensures { Marks first.now back.now v set.old set.new }
 {
     let next = v + 1;
-    let a = index::wide(first[v]);
-    let b = index::wide(first[next]);
-    let c = index::wide(back[v]);
-    let d = index::wide(back[next]);
+    let a = first[v] as usize;
+    let b = first[next] as usize;
+    let c = back[v] as usize;
+    let d = back[next] as usize;
     let x = if b + d < a + c + 16 { v } else { 4096 + v };
     add(set, x);
 }
@@ -77,10 +70,8 @@ pub fn mark_all(n: usize, first: &[u16], back: &[u16], set: &mut [u32])
     requires { (n ≤ 4096) × (n < length first.now) × IsSet set.old × (n < length back.now) × ((v : ℕ) → v < 4096 → IsMarked set.old v → ⊥) }
     ensures { AllMarked n set.new }
 {
-    let mut v: usize = 0;
-    while v < n {
+    for v in 0..n {
         mark(first, back, v, set);
-        v += 1;
     }
 }
 

@@ -8,18 +8,6 @@ ghost use Rattle.engine.specs.Batches.{FairBatch};
 use crate::batch::Batch;
 use packed::{by_value, limits};
 
-fn no_kinds() -> [u32; 8]
-    ensures { result ≡ replicate 8 0 }
-{
-    [0u32; 8]
-}
-
-fn no_links() -> [u32; 32]
-    ensures { result ≡ replicate 32 0 }
-{
-    [0u32; 32]
-}
-
 // The link, or the label, k alone.
 pub fn one(k: usize) -> u32
     requires { k < 32 }
@@ -33,13 +21,10 @@ fn by_kind(kinds: &[u32; 32], m: usize) -> [u32; 8]
     requires { (m ≤ 32) × ((e : ℕ) → e < m → get_or kinds.now e 0 < 8) }
     ensures { ByKind kinds.now m result }
 {
-    let mut t = no_kinds();
-    let mut e: usize = 0;
-    while e < m {
+    let mut t = [0u32; 8];
+    for e in 0..m {
         let k = kinds[e] as usize;
-        let old = t[k];
-        t[k] = old | one(e);
-        e += 1;
+        t[k] |= one(e);
     }
     t
 }
@@ -50,12 +35,10 @@ pub fn hold(work: &mut [u32], d: usize, kinds: &[u32; 32], m: usize)
     ensures { KindsHeld kinds.now m d work.old work.new }
 {
     let t = by_kind(kinds, m);
-    let mut i: usize = 0;
-    while i < d {
+    for i in 0..d {
         let k = (work[i] / limits::PAIRS) as usize;
         let at = limits::HELD + i;
         work[at] = t[k];
-        i += 1;
     }
 }
 
@@ -64,14 +47,11 @@ fn by_label(labels: &[u32; 64], ends: &[u32; 32], m: usize) -> [u32; 32]
     requires { (m ≤ 32) × ((e : ℕ) → e < m → get_or ends.now e 0 < 64) × ((e : ℕ) → e < m → get_or labels.now (get_or ends.now e 0) 0 < 32) }
     ensures { ByLabel labels.now ends.now m result }
 {
-    let mut t = no_links();
-    let mut e: usize = 0;
-    while e < m {
+    let mut t = [0u32; 32];
+    for e in 0..m {
         let u = ends[e] as usize;
         let l = labels[u] as usize;
-        let old = t[l];
-        t[l] = old | one(e);
-        e += 1;
+        t[l] |= one(e);
     }
     t
 }
@@ -82,10 +62,8 @@ fn labels_used(labels: &[u32; 64], n: usize) -> u32
     ensures { Mask (λ l. OneOf n (λ u. get_or labels.now u 0 ≡ l)) result }
 {
     let mut r: u32 = 0;
-    let mut u: usize = 0;
-    while u < n {
-        r = r | one(labels[u] as usize);
-        u += 1;
+    for u in 0..n {
+        r |= one(labels[u] as usize);
     }
     r
 }
@@ -133,13 +111,11 @@ pub fn spread(s: &[u8], n: usize, b: Batch, leave: &mut [u32], arrive: &mut [u32
     let leaving = by_label(&labels, &from, b.edges);
     let arriving = by_label(&labels, &to, b.edges);
     let used = labels_used(&labels, b.nodes);
-    let mut v: usize = 0;
-    while v < n {
+    for v in 0..n {
         let x = by_value::labels_at(s, v);
         let links = links_of(&leaving, &arriving, x & used);
         leave[v] = links.leave;
         arrive[v] = links.arrive;
         held[v] = 0;
-        v += 1;
     }
 }

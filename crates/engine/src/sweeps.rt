@@ -1,13 +1,29 @@
 // Sweeps over the pairs and settling of the nodes: the words of the d pairs stand from word 0 on, with their codes in the low 24 bits, and from 8192 on for
-// each the links that it is held for.
-// `due` are the links whose items are being settled, `free` those that are not settled yet, `back` those that are asked as they arrive. Tables: `leaving` and
-// `arriving` have the links that leave and that arrive at an item which a link leaves, `ending` and `starting` those that arrive at and that leave an item at
-// which a link arrives.
+// each the links that it is held for. The masks of the nodes are lent one by one: a struct of the three takes a loan of each part in every function, and three
+// clauses that the loans stay.
 ghost use Rattle.std.specs.Prelude.{◌≡◌, ◌+◌, ◌<◌, ◌≤◌, length};
 ghost use Rattle.engine.specs.Sweeping.{Ends, Starts, Carried, Swept, Arrived, LookedUp, Left, NodesSettled};
 ghost use Rattle.engine.specs.Rounds.{Prepared, Fixed, BackSettled, Round};
 
 use packed::limits;
+
+// `due` are the links whose items are being settled, `free` those that are not settled yet, `back` those that are asked as they arrive.
+#[derive(Clone, Copy)]
+pub struct Rule {
+    pub free: u32,
+    pub due: u32,
+    pub back: u32,
+}
+
+// `leaving` and `arriving` have the links that leave and that arrive at an item which a link leaves, `ending` and `starting` those that arrive at and that leave an
+// item at which a link arrives. The last two serve only where links are asked as they arrive.
+#[derive(Clone, Copy)]
+pub struct Tables<'a> {
+    pub leaving: &'a [u32; 128],
+    pub arriving: &'a [u32; 128],
+    pub ending: &'a [u32; 128],
+    pub starting: &'a [u32; 128],
+}
 
 // run, if the pair begins where the last one did.
 fn carried(f: usize, last: usize, run: u32) -> u32
@@ -24,8 +40,7 @@ pub fn sweep(work: &mut [u32], d: usize, leave: &[u32], arrive: &[u32], free: u3
 {
     let mut last: usize = 0;
     let mut run: u32 = 0;
-    let mut i: usize = 0;
-    while i < d {
+    for i in 0..d {
         let x = work[i];
         let f = (x / limits::NODES % limits::NODES) as usize;
         let t = (x % limits::NODES) as usize;
@@ -37,7 +52,6 @@ pub fn sweep(work: &mut [u32], d: usize, leave: &[u32], arrive: &[u32], free: u3
         run = carried(f, last, run) | kept;
         held[f] = run;
         last = f;
-        i += 1;
     }
 }
 
@@ -46,34 +60,25 @@ pub fn arrivals(work: &[u32], d: usize, held: &mut [u32])
     requires { Ends (length held.old) d work.now }
     ensures { Arrived d work.now held.old held.new }
 {
-    let mut i: usize = 0;
-    while i < d {
+    for i in 0..d {
         let t = (work[i] % limits::NODES) as usize;
         let at = limits::HELD + i;
-        let old = held[t];
-        held[t] = old | work[at];
-        i += 1;
+        held[t] |= work[at];
     }
-}
-
-fn wide(x: u32) -> usize
-    ensures { result ≡ x }
-{
-    x as usize
 }
 
 // What the table has for the members of x.
 pub fn look_up(t: &[u32; 128], x: u32) -> u32
     ensures { LookedUp t.now x result }
 {
-    let a = wide(x % 16);
-    let b = 16 + wide(x / 16 % 16);
-    let c = 32 + wide(x / 256 % 16);
-    let d = 48 + wide(x / 4096 % 16);
-    let e = 64 + wide(x / 65536 % 16);
-    let f = 80 + wide(x / 1048576 % 16);
-    let g = 96 + wide(x / 16777216 % 16);
-    let h = 112 + wide(x / 268435456 % 16);
+    let a = (x % 16) as usize;
+    let b = 16 + (x / 16 % 16) as usize;
+    let c = 32 + (x / 256 % 16) as usize;
+    let d = 48 + (x / 4096 % 16) as usize;
+    let e = 64 + (x / 65536 % 16) as usize;
+    let f = 80 + (x / 1048576 % 16) as usize;
+    let g = 96 + (x / 16777216 % 16) as usize;
+    let h = 112 + (x / 268435456 % 16) as usize;
     let low = (t[a] | t[b]) | (t[c] | t[d]);
     let high = (t[e] | t[f]) | (t[g] | t[h]);
     low | high
@@ -105,16 +110,14 @@ pub fn settle(
     ensures { NodesSettled n due leaving.now arriving.now leave.old arrive.old held.old result leave.new arrive.new held.new }
 {
     let mut lost: u32 = 0;
-    let mut v: usize = 0;
-    while v < n {
+    for v in 0..n {
         let a = leave[v];
         let b = arrive[v];
         let miss = (a & due) & !held[v];
         held[v] = 0;
         leave[v] = without(leaving, miss, a);
         arrive[v] = without(arriving, miss, b);
-        lost = lost | miss;
-        v += 1;
+        lost |= miss;
     }
     lost
 }
@@ -139,7 +142,8 @@ pub fn round(
     settle(n, leave, arrive, held, due, leaving, arriving)
 }
 
-// The nodes settled as links arrive at them: the same, with the ends of pairs and of links changed for each other. The links that were missed.
+// The nodes settled as links arrive at them: the same, with the ends of pairs and of links changed for each other. The links that were missed. A sweep can't be
+// changed so: the pairs stand in the order of their starts alone.
 fn round_back(
     work: &[u32],
     d: usize,
@@ -166,24 +170,38 @@ fn round_both(
     leave: &mut [u32],
     arrive: &mut [u32],
     held: &mut [u32],
-    free: u32,
-    due: u32,
-    back: u32,
-    leaving: &[u32; 128],
-    arriving: &[u32; 128],
-    ending: &[u32; 128],
-    starting: &[u32; 128],
+    rule: Rule,
+    tables: &Tables<'_>,
 ) -> u32
     requires { Prepared n d work.old leave.old arrive.old held.old }
-    ensures { Fixed n free due back d leaving.now arriving.now ending.now starting.now work.old leave.old arrive.old held.old result work.new leave.new arrive.new held.new }
+    ensures { Fixed n rule.free rule.due rule.back d tables.now.leaving.now tables.now.arriving.now tables.now.ending.now tables.now.starting.now work.old leave.old arrive.old held.old result work.new leave.new arrive.new held.new }
 {
     let lost = round(
-        work, d, n, leave, arrive, held, free, due, leaving, arriving,
+        work,
+        d,
+        n,
+        leave,
+        arrive,
+        held,
+        rule.free,
+        rule.due,
+        tables.leaving,
+        tables.arriving,
     );
-    if back == 0 {
+    if rule.back == 0 {
         return lost;
     }
-    let more = round_back(work, d, n, leave, arrive, held, back, ending, starting);
+    let more = round_back(
+        work,
+        d,
+        n,
+        leave,
+        arrive,
+        held,
+        rule.back,
+        tables.ending,
+        tables.starting,
+    );
     lost | more
 }
 
@@ -195,26 +213,17 @@ pub fn fix(
     leave: &mut [u32],
     arrive: &mut [u32],
     held: &mut [u32],
-    free: u32,
-    due: u32,
-    back: u32,
-    leaving: &[u32; 128],
-    arriving: &[u32; 128],
-    ending: &[u32; 128],
-    starting: &[u32; 128],
+    rule: Rule,
+    tables: &Tables<'_>,
 ) -> u32
     requires { Prepared n d work.old leave.old arrive.old held.old }
-    ensures { Fixed n free due back d leaving.now arriving.now ending.now starting.now work.old leave.old arrive.old held.old result work.new leave.new arrive.new held.new }
+    ensures { Fixed n rule.free rule.due rule.back d tables.now.leaving.now tables.now.arriving.now tables.now.ending.now tables.now.starting.now work.old leave.old arrive.old held.old result work.new leave.new arrive.new held.new }
 {
-    let mut left: usize = 12;
-    while left > 0 {
-        let lost = round_both(
-            work, d, n, leave, arrive, held, free, due, back, leaving, arriving, ending, starting,
-        );
+    for _ in 0..12 {
+        let lost = round_both(work, d, n, leave, arrive, held, rule, tables);
         if lost == 0 {
             return 0;
         }
-        left -= 1;
     }
     1
 }

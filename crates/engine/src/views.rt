@@ -4,7 +4,7 @@ ghost use Rattle.packed.specs.Reading.{Stands};
 ghost use Rattle.engine.specs.Matched.{ViewAt};
 
 use packed::by_value::Pattern;
-use packed::reply::Part;
+use packed::reply::File;
 use packed::{by_value, pattern};
 
 // A pattern, and the byte after it.
@@ -14,23 +14,19 @@ pub struct View {
     pub next: usize,
 }
 
-fn no_words() -> [u32; 114] {
-    [0u32; 114]
-}
-
 // The pattern that begins on a byte of such a file. Which file it is doesn't matter: where none is, the refusal is not told.
 pub fn view_at(s: &[u8], byte: usize) -> View
     requires { Stands s.now (8 * byte) 0 }
     ensures { ViewAt s.now byte result }
 {
-    let mut words = no_words();
-    let p = pattern::read_pattern(s, byte, 2, &mut words, 0);
+    let mut words = [0u32; 114];
+    let p = pattern::read_pattern(s, byte, File::Catalogue, &mut words, 0);
     match p {
-        Part::Upto(next, n) => {
+        Ok((next, n)) => {
             let pattern = by_value::pattern_of(&words[0..n]);
             View { pattern, next }
         }
-        Part::Refused(_) => {
+        Err(_) => {
             let pattern = by_value::no_pattern();
             View {
                 pattern,

@@ -1,8 +1,9 @@
 -- Byte by byte a list is read as its lines say.
-use Rattle.std.proofs.Common.{◌≡◌, ℕ, suc, ◌+◌, ◌-◌, ◌*◌, ◌%◌, ◌^◌, ◌<◌, ◌≤◌, Bool, true, false, ◌&&◌, eqb, leb, List, [], ◌∷◌, ◌++◌, length, get_or, set, sym, refl, ap, ◌∙◌, ap₂, append_assoc, append-nil, mod-eq_of_lt, arith, le-ltb, lt-ltb, ne_eqb, eqb-true, le-leb, leb-false, leb-true}
+use Rattle.std.proofs.Common.{◌≡◌, ℕ, suc, Some, None, Ok, Err, ◌+◌, ◌-◌, ◌*◌, ◌%◌, ◌^◌, ◌<◌, ◌≤◌, Bool, true, false, ◌&&◌, eqb, leb, List, [], ◌∷◌, ◌++◌, length, get_or, set, sym, refl, ap, ◌∙◌, ap₂, append_assoc, append-nil, mod-eq_of_lt, arith, le-ltb, lt-ltb, ne_eqb, eqb-true, le-leb, leb-false, leb-true}
 use borrow.Author.Tests.{lt-leb}
 use Rattle.packed.specs.Format.{pick}
 use Rattle.folder.specs.declared.numbers.Text.{Text}
+use Rattle.folder.specs.declared.numbers.WrongLine.{WrongLine}
 use Rattle.folder.specs.Numbers.{most, is_digit, line_feed, onto, lines_of, all_digits, is_there, value_from, value_of, is_charge, Listed, list_of, list_told, ListRead, NumberTold, number, none, number_in, number_told, NumberRead}
 use Rattle.folder.specs.Reading.{empty_text, with_line, with_digit, is_number, State, state, end_line, next_in_list, next, steps, at_end, listed, whole, OfText}
 use Rattle.folder.proofs.NumberLaws.{below_digits}
@@ -333,7 +334,7 @@ pub list_read : (ws bs : List ℕ) → length bs + 1 < 2 ^ 64 → listed (whole 
 unfolding empty_text
 list_read ws bs h = says bs [] (empty_text true) ws (start true) (omega arith)
 
-pub list_reads : (ws ws' : List ℕ) (t : Text) → OfText true ws (state t ws') → ListRead ws (list_told t ws')
+pub list_reads : (ws ws' : List ℕ) (t : Text) → OfText true ws (state t ws') → ListRead ws (listed (state t ws'))
 list_reads ws ws' t h = record { bytes = h.bytes; few = h.few; is = ap listed h.is ∙ list_read ws h.bytes (omega (arith, h.few)) }
 
 -- ---- one number
@@ -349,7 +350,7 @@ at_least n ws (l ∷ ls) = by (is_charge l) refl (at_least (n + 1) (set ws n (va
     by false h k = rw (bad_line n ws l ls h) (omega arith)
 
 -- what is told of a list with one word, if one number is wanted
-abbrev one_of : Listed → NumberTold
+abbrev pub one_of : Listed → NumberTold
 one_of t = pick (t.good && eqb t.count 1) (number (get_or t.words 0 0)) none
 
 never : (t : Listed) → t.good && eqb t.count 1 ≡ false → one_of t ≡ none
@@ -372,7 +373,19 @@ one_number (l ∷ k ∷ ls) = by (is_charge l) refl (is_charge k) refl
     by true h false g = rw (h, g)
     by false h d g = rw h
 
-pub number_reads : (t : Text) (ws : List ℕ) → ListRead (0 ∷ []) (list_told t ws)
-    → NumberRead (number_told (record { good = t.good && eqb t.count 1; value = get_or ws 0 0 }))
-unfolding number_told
-number_reads t ws h = record { bytes = h.bytes; few = h.few; is = ap one_of h.is ∙ one_number (lines_of h.bytes) }
+pub number_reads : (t : Listed) → ListRead (0 ∷ []) t → NumberRead (one_of t)
+number_reads t h = record { bytes = h.bytes; few = h.few; is = ap one_of h.is ∙ one_number (lines_of h.bytes) }
+
+-- the number of a list of one line
+pub number_one : (n : ℕ) (ws : List ℕ) → n ≡ 1 → ListRead (0 ∷ []) (list_told (Ok n) ws) → NumberRead (number_told (Some (get_or ws 0 0)))
+unfolding list_told number_told
+number_one n ws e h = rw e at (number_reads _ h)
+
+-- a list of another number of lines has none, and so has one with a line that is no number
+pub number_other : (n : ℕ) (ws : List ℕ) → eqb n 1 ≡ false → ListRead (0 ∷ []) (list_told (Ok n) ws) → NumberRead (number_told None)
+unfolding list_told number_told
+number_other n ws e h = rw e at (number_reads _ h)
+
+pub number_failed : (w : WrongLine) (ws : List ℕ) → ListRead (0 ∷ []) (list_told (Err w) ws) → NumberRead (number_told None)
+unfolding list_told number_told
+number_failed w ws h = number_reads _ h

@@ -4,8 +4,8 @@ use lib.Bits.{bit_or}
 use borrow.Author.Tests.{lt-leb}
 use Rattle.folder.specs.declared.numbers.Text.{Text}
 use Rattle.folder.specs.Numbers.{most, is_digit, line_feed, space, all_digits, is_there, value_from, value_of}
-use Rattle.folder.specs.Numbers.{Piece, onto_piece, pieces_of, is_member, with_member, SetTold, members, failed, set_of, set_told, SetRead}
-use Rattle.folder.specs.Reading.{empty_text, with_line, with_digit, end_member, next_in_set, State, state, next, steps, at_end, whole, OfText}
+use Rattle.folder.specs.Numbers.{Piece, onto_piece, pieces_of, is_member, with_member, SetTold, members, failed, set_of, SetRead}
+use Rattle.folder.specs.Reading.{empty_text, with_line, with_digit, end_member, next_in_set, State, state, next, steps, at_end, whole, set_in, OfText}
 use Rattle.folder.proofs.NumberLaws.{below_digits}
 use Rattle.folder.proofs.ListLaws.{first_digit, other_digits, digit_no_feed, value_there, Within, fresh, start, within_digit}
 use Rattle.folder.proofs.ListLaws.{digit_count, bad_stays, next_digit, line_count, at_line_end, at_end_within, bad_line_is, digit_added, digit_kept}
@@ -176,29 +176,29 @@ set_other t b g e f = simp (g, e, f)
 
 -- ---- a whole set
 
-told_good : (t : Text) → t.good ≡ true → set_told t ≡ members t.set
-unfolding set_told
+told_good : (t : Text) → t.good ≡ true → set_in t ≡ members t.set
+unfolding set_in
 told_good t h = simp h
 
-told_line : (t : Text) → set_told (with_line t true) ≡ members t.set
-unfolding set_told with_line
+told_line : (t : Text) → set_in (with_line t true) ≡ members t.set
+unfolding set_in with_line
 told_line t = refl
 
-told_bad : (u : Text) → u.good ≡ false → set_told u ≡ failed u.count
-unfolding set_told
+told_bad : (u : Text) → u.good ≡ false → set_in u ≡ failed u.count
+unfolding set_in
 told_bad u e = simp e
 
-told_failed : (t : Text) (m : ℕ) → t.count + m + 1 < 2 ^ 64 → set_told (with_line t false) ≡ failed (t.count + 1)
+told_failed : (t : Text) (m : ℕ) → t.count + m + 1 < 2 ^ 64 → set_in (with_line t false) ≡ failed (t.count + 1)
 told_failed t m h = told_bad (with_line t false) (bad_line_is t) ∙ ap failed (line_count t false m h)
 
 -- what is told at the end of a text
 abbrev told_of : State → SetTold
-told_of s = set_told (at_end s).text
+told_of s = set_in (at_end s).text
 
 ends_failed : (t : Text) (ws bs : List ℕ) (m : ℕ) → t.count + m + 1 < 2 ^ 64 → told_of (steps (state (with_line t false) ws) bs) ≡ failed (t.count + 1)
 ends_failed t ws bs m h =
     ap told_of (bad_stays (state (with_line t false) ws) bs (bad_line_is t))
-    ∙ ap (λ (s : State). set_told s.text) (at_line_end t false ws)
+    ∙ ap (λ (s : State). set_in s.text) (at_line_end t false ws)
     ∙ told_failed t m h
 
 line_set : (t : Text) → (with_line t true).set ≡ t.set
@@ -291,7 +291,7 @@ last_says p t ws w there k =
     (at_end_within t ws (w.begun ∙ there), next_set t ws line_feed w.good w.kind (below_digits 10 (omega arith)), piece_last (t.count + 1) p w.digits)
     (by (is_member p) refl)
   where
-    by : (c : Bool) → is_member p ≡ c → set_told (next_in_set t line_feed) ≡ set_of t.set (piece (t.count + 1) p ∷ [])
+    by : (c : Bool) → is_member p ≡ c → set_in (next_in_set t line_feed) ≡ set_of t.set (piece (t.count + 1) p ∷ [])
     by true h =
         let u = member_ends t p w h in
         rw (set_feed t u.within.good, good_piece t.set (t.count + 1) p [] h, none_left (with_member t.set p))
@@ -308,14 +308,14 @@ says [] = says_none
 says (b ∷ bs) = says_more b bs (says bs)
 
 -- byte by byte a set is read as its pieces say
-pub set_read : (ws bs : List ℕ) → length bs + 1 < 2 ^ 64 → set_told (whole false ws bs).text ≡ set_of 0 (pieces_of 1 bs)
+pub set_read : (ws bs : List ℕ) → length bs + 1 < 2 ^ 64 → set_in (whole false ws bs).text ≡ set_of 0 (pieces_of 1 bs)
 unfolding empty_text
 set_read ws bs h = says bs [] (empty_text false) ws (start false) (omega arith)
 
-pub set_reads : (ws ws' : List ℕ) (t : Text) → OfText false ws (state t ws') → SetRead (set_told t)
+pub set_reads : (ws ws' : List ℕ) (t : Text) → OfText false ws (state t ws') → SetRead (set_in t)
 set_reads ws ws' t h =
     record {
       bytes = h.bytes;
       few = h.few;
-      is = ap (λ (s : State). set_told s.text) h.is ∙ set_read ws h.bytes (omega (arith, h.few));
+      is = ap (λ (s : State). set_in s.text) h.is ∙ set_read ws h.bytes (omega (arith, h.few));
     }

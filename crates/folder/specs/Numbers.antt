@@ -1,8 +1,7 @@
 -- Text files of decimal numbers: what the bytes of `charges` (decisions 8.8 and 8.9), of `set` and `one_way` (decision 8.12) and of `number` (decision 8.21) say.
-use Rattle.std.specs.Prelude.{◌≡◌, ℕ, ◌+◌, ◌-◌, ◌*◌, ◌^◌, ◌≤◌, Bool, true, false, ◌&&◌, List, [], ◌∷◌, length, ◌==◌, bit_or, nat_le, slice_set}
+use Rattle.std.specs.Prelude.{◌≡◌, ℕ, ◌+◌, ◌-◌, ◌*◌, ◌^◌, ◌≤◌, Bool, true, false, ◌&&◌, List, [], ◌∷◌, length, ◌==◌, bit_or, nat_le, slice_set, Option, Some, None, Result, Ok, Err}
 use Rattle.packed.specs.Format.{pick}
-use Rattle.folder.specs.declared.numbers.Text.{Text}
-use Rattle.folder.specs.declared.numbers.Number.{Number}
+use Rattle.folder.specs.declared.numbers.WrongLine.{WrongLine}
 
 -- 8.8: a number is at most this
 abbrev pub most : ℕ
@@ -81,8 +80,9 @@ number_in (l ∷ []) = pick (is_charge l) (number (value_of l)) none
 number_in (l ∷ k ∷ ls) = none
 
 -- what reading tells of a number
-unfoldable pub number_told : Number → NumberTold
-number_told n = pick n.good (number n.value) none
+unfoldable pub number_told : Option ℕ → NumberTold
+number_told (Some x) = number x
+number_told None = none
 
 -- ---- a set: numbers between spaces and line ends
 
@@ -123,14 +123,16 @@ set_of x [] = members x
 set_of x (q ∷ qs) = pick (is_member q.bytes) (set_of (with_member x q.bytes) qs) (failed q.line)
 
 -- what reading tells of a set
-unfoldable pub set_told : Text → SetTold
-set_told t = pick t.good (members t.set) (failed t.count)
+unfoldable pub set_told : Result ℕ WrongLine → SetTold
+set_told (Ok x) = members x
+set_told (Err w) = failed w.line
 
 -- ---- a file
 
 -- what reading tells of a list, with the words that were lent
-abbrev pub list_told : Text → List ℕ → Listed
-list_told t ws = record { count = t.count; good = t.good; words = ws }
+unfoldable pub list_told : Result ℕ WrongLine → List ℕ → Listed
+list_told (Ok n) ws = record { count = n; good = true; words = ws }
+list_told (Err w) ws = record { count = w.line; good = false; words = ws }
 
 -- No contract can say which bytes the system reads. Some text was read, no longer than a file can be, and what is told is what its lines say..
 pub record ListRead (ws : List ℕ) (l : Listed) : Type 0 where

@@ -2,7 +2,7 @@
 use Rattle.std.specs.Prelude.{◌≡◌, ℕ, ◌+◌, ◌-◌, ◌*◌, ◌%◌, ◌^◌, ◌≤◌, Bool, true, false, not, ◌&&◌, ◌||◌, List, [], ◌∷◌, length, set, ◌==◌, bit_or, nat_le, nat_lt}
 use Rattle.packed.specs.Format.{pick}
 use Rattle.folder.specs.declared.numbers.Text.{Text}
-use Rattle.folder.specs.Numbers.{most, is_digit, line_feed, space, Listed, list_told}
+use Rattle.folder.specs.Numbers.{most, is_digit, line_feed, space, Listed, SetTold, members, failed}
 
 -- ---- a text so far
 
@@ -78,7 +78,11 @@ at_end s = pick s.text.begun (next s line_feed) s
 
 -- what a state tells of a list
 abbrev pub listed : State → Listed
-listed s = list_told s.text s.words
+listed s = record { count = s.text.count; good = s.text.good; words = s.words }
+
+-- what a text tells of a set
+unfoldable pub set_in : Text → SetTold
+set_in t = pick t.good (members t.set) (failed t.count)
 
 -- the state after the last byte
 abbrev pub whole : Bool → List ℕ → List ℕ → State

@@ -1,7 +1,15 @@
 // The two outputs of one program. Neither takes its name before both are written.
 use crate::{files, lines};
+use packed::reply::Both;
 use std::io;
 use std::rt::Files;
+
+// Where an output goes: the name that it takes, and the one that it has until then.
+#[derive(Clone, Copy)]
+struct Names<'a> {
+    name: &'a [u8],
+    temporary: &'a [u8],
+}
 
 // Both under their temporary names, or neither.
 fn make(
@@ -23,57 +31,120 @@ fn make(
 
 // Both take their names, one after the other. A folder under the name of the second would stop it, and is looked for before the first is there: by
 // that name with a slash behind it.
-fn place(
-    rt: &(impl Files + Eprint),
-    first_name: &[u8],
-    temporary: &[u8],
-    second_name: &[u8],
-    other: &[u8],
-    folder: &[u8],
-) -> bool {
+fn place(rt: &(impl Files + Eprint), first: Names, second: Names, folder: &[u8]) -> bool {
     if files::opens(rt, folder) {
-        lines::failed(rt, second_name);
-        files::remove(rt, temporary);
-        files::remove(rt, other);
+        lines::failed(rt, second.name);
+        files::remove(rt, first.temporary);
+        files::remove(rt, second.temporary);
         return false;
     }
-    if files::place(rt, temporary, first_name) {
-        return files::place(rt, other, second_name);
+    if files::place(rt, first.temporary, first.name) {
+        return files::place(rt, second.temporary, second.name);
     }
-    files::remove(rt, other);
+    files::remove(rt, second.temporary);
     false
 }
 
-// The first n bytes of the one output and m of the other become the files of these names, each by way of a new file of its temporary name, and a
-// line says how long they are. A call never answers more than it was lent.
-pub fn keep(
+// Each becomes the file of its name, by way of a new file of its temporary name, and a line says how long they are.
+fn keep(
     rt: &(impl Files + Print + Eprint),
     first: &[u8],
-    n: usize,
-    first_name: &[u8],
-    temporary: &[u8],
+    first_names: Names,
     second: &[u8],
-    m: usize,
-    second_name: &[u8],
-    other: &[u8],
+    second_names: Names,
     folder: &[u8],
 ) -> io::Result<()> {
-    if first.len() < n {
-        lines::failed(rt, first_name);
+    if !make(
+        rt,
+        first,
+        first_names.temporary,
+        second,
+        second_names.temporary,
+    ) {
         return Ok(());
     }
-    if second.len() < m {
-        lines::failed(rt, second_name);
-        return Ok(());
-    }
-    if !make(rt, &first[..n], temporary, &second[..m], other) {
-        return Ok(());
-    }
-    if place(rt, first_name, temporary, second_name, other, folder) {
-        lines::written(rt, first_name, n)?;
+    if place(rt, first_names, second_names, folder) {
+        lines::written(rt, first_names.name, first.len())?;
         lines::say(rt, b", ")?;
-        lines::written(rt, second_name, m)?;
+        lines::written(rt, second_names.name, second.len())?;
         lines::say(rt, b"\n")?;
     }
     Ok(())
+}
+
+// The first n bytes of the one output and m of the other. A call never answers more than it was lent.
+fn keep_written(
+    rt: &(impl Files + Print + Eprint),
+    first: Option<&[u8]>,
+    first_names: Names,
+    second: Option<&[u8]>,
+    second_names: Names,
+    folder: &[u8],
+) -> io::Result<()> {
+    let Some(first) = first else {
+        lines::failed(rt, first_names.name);
+        return Ok(());
+    };
+    let Some(second) = second else {
+        lines::failed(rt, second_names.name);
+        return Ok(());
+    };
+    keep(rt, first, first_names, second, second_names, folder)
+}
+
+// A call that wrote a part of a question and its answer is finished: they become the files `part` and `part_answer`. A refusal is printed and leaves
+// the folder as it was.
+pub fn finish_part(
+    rt: &(impl Files + Print + Eprint),
+    found: Both,
+    part: &[u8],
+    answer: &[u8],
+) -> io::Result<()> {
+    let part_names = Names {
+        name: b"part",
+        temporary: b"part.new",
+    };
+    let answer_names = Names {
+        name: b"part_answer",
+        temporary: b"part_answer.new",
+    };
+    match found {
+        Ok((n, m)) => keep_written(
+            rt,
+            part.get(..n),
+            part_names,
+            answer.get(..m),
+            answer_names,
+            b"part_answer/",
+        ),
+        Err(x) => lines::refused(rt, x),
+    }
+}
+
+// The same with the records that show why a question is uncovered, and the files `first` and `second`.
+pub fn finish_show(
+    rt: &(impl Files + Print + Eprint),
+    shown: Both,
+    first: &[u8],
+    second: &[u8],
+) -> io::Result<()> {
+    let first_names = Names {
+        name: b"first",
+        temporary: b"first.new",
+    };
+    let second_names = Names {
+        name: b"second",
+        temporary: b"second.new",
+    };
+    match shown {
+        Ok((n, m)) => keep_written(
+            rt,
+            first.get(..n),
+            first_names,
+            second.get(..m),
+            second_names,
+            b"second/",
+        ),
+        Err(x) => lines::refused(rt, x),
+    }
 }

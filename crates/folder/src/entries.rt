@@ -50,10 +50,7 @@ pub fn counted(reply: Reply, count: usize) -> Reply {
     if count <= 4098 {
         return reply;
     }
-    match reply {
-        Reply::Done(_) => reply,
-        Reply::Refused(x) => Reply::Refused(with_count(x, count)),
-    }
+    reply.map_err(|x| with_count(x, count))
 }
 
 fn with_count(x: Refusal, count: usize) -> Refusal {

@@ -1,4 +1,5 @@
-// Files by their names. What can't be done is said on standard error, and leaves the files that were there as they were.
+// Files by their names. What can't be done is said on standard error, and leaves the files that were there as they were. It is said where it fails, so
+// an answer of true or false is all that is left to hand on, and an error would have nothing in it.
 ghost use Rattle.std.specs.Prelude.{◌≤◌, length};
 
 use crate::lines;
@@ -18,7 +19,8 @@ pub(crate) fn text(name: &[u8]) -> &str {
     str::from_utf8(name).unwrap_or("")
 }
 
-// Reads until the buffer is full, the file ends or a read fails: how many bytes there are at the buffer's front.
+// Reads until the buffer is full, the file ends or a read fails: how many bytes there are at the buffer's front. Each turn goes on by as much as a
+// read gave, so no range counts it.
 pub(crate) fn read_full(file: &mut impl Read, buf: &mut [u8]) -> usize
     ensures { result ≤ length buf.new }
 {

@@ -12,39 +12,40 @@ pub mod lent;
 pub mod lines;
 pub mod numbers;
 
-use numbers::Text;
+use numbers::WrongLine;
 use packed::reply::Reply;
 use std::io;
 use std::rt::Files;
 
 // The extracts that the file of this name has the numbers of. One that has anything else is a failure, and is said to be one.
-pub fn extracts(rt: &(impl Files + Eprint), name: &[u8]) -> Text {
-    let text = numbers::read_set(rt, name);
-    if !text.good {
-        lines::failed_at(rt, name, text.count);
+pub fn extracts(rt: &(impl Files + Eprint), name: &[u8]) -> Option<u16> {
+    match numbers::read_set(rt, name) {
+        Ok(set) => Some(set),
+        Err(wrong) => {
+            lines::failed_at(rt, name, wrong.line);
+            None
+        }
     }
-    text
 }
 
 // The first line at fault in a text that should have so many numbers, one to a line: it may be the one behind its last.
-fn fault(text: Text, wanted: usize) -> usize {
-    let lines = if text.good {
-        text.count.wrapping_add(1)
-    } else {
-        text.count
+fn fault(text: Result<usize, WrongLine>, wanted: usize) -> usize {
+    let line = match text {
+        Ok(lines) => lines.wrapping_add(1),
+        Err(wrong) => wrong.line,
     };
-    lent::least(lines, wanted.wrapping_add(1))
+    line.min(wanted.wrapping_add(1))
 }
 
-// The numbers of the file of this name, one to a line, as many as there are places. One that has anything else is a failure, and is said to be one.
-pub fn list(rt: &(impl Files + Eprint), name: &[u8], out: &mut [u32]) -> bool {
-    let text = numbers::read_list(rt, name, out);
-    let wanted = out.len();
-    if text.good & (text.count == wanted) {
-        return true;
+// The numbers of the file of this name, one to a line. One that has anything else, or another number of them, is a failure, and is said to be one.
+pub fn list<const N: usize>(rt: &(impl Files + Eprint), name: &[u8]) -> Option<[u32; N]> {
+    let mut list = [0; N];
+    let text = numbers::read_list(rt, name, &mut list);
+    if text == Ok(N) {
+        return Some(list);
     }
-    lines::failed_at(rt, name, fault(text, wanted));
-    false
+    lines::failed_at(rt, name, fault(text, N));
+    None
 }
 
 // A call that wrote one output is finished: the output becomes the file of this name, by way of a new file of the temporary name, and a line
@@ -57,8 +58,8 @@ pub fn finish(
     temporary: &[u8],
 ) -> io::Result<()> {
     match reply {
-        Reply::Done(n) => keep(rt, out, n, name, temporary),
-        Reply::Refused(x) => lines::refused(rt, x),
+        Ok(n) => keep(rt, out, n, name, temporary),
+        Err(x) => lines::refused(rt, x),
     }
 }
 
@@ -70,11 +71,11 @@ fn keep(
     name: &[u8],
     temporary: &[u8],
 ) -> io::Result<()> {
-    if out.len() < n {
+    let Some(written) = out.get(..n) else {
         lines::failed(rt, name);
         return Ok(());
-    }
-    if files::write(rt, name, temporary, &out[..n]) {
+    };
+    if files::write(rt, name, temporary, written) {
         lines::written(rt, name, n)?;
         lines::say(rt, b"\n")?;
     }

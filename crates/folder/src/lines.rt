@@ -1,8 +1,9 @@
 // What programs print.
-ghost use Rattle.std.specs.Prelude.{◌<◌};
+ghost use Rattle.std.specs.Prelude.{◌<◌, ◌≡◌, eqb};
+ghost use Rattle.packed.specs.Format.{pick};
+ghost use Rattle.packed.specs.Refusals.{number_of, detail_of};
 
 use crate::files;
-use packed::reply;
 use packed::reply::Refusal;
 use std::io;
 
@@ -34,7 +35,17 @@ pub fn failed_at(rt: &impl Eprint, name: &[u8], line: usize) {
 
 // The line of a refusal.
 pub fn refused(rt: &impl Print, x: Refusal) -> io::Result<()> {
-    println!(rt; "refused {} {}", reply::number_of(x), reply::detail_of(x))
+    println!(rt; "refused {} {}", x.number(), x.detail())
+}
+
+// A refusal beside so many charges: of too many no more are lent than show it, and all are counted here.
+pub fn with_charges(x: Refusal, charges: usize) -> Refusal
+    ensures { (number_of result ≡ number_of x) × (detail_of result ≡ pick (eqb (number_of x) 15) charges (detail_of x)) }
+{
+    match x {
+        Refusal::WrongCharges(_) => Refusal::WrongCharges(charges),
+        _ => x,
+    }
 }
 
 // " a" where the set has the extract a.

@@ -1,8 +1,8 @@
 // Text files of decimal numbers, read a byte at a time: a file of any length is read to its end, and its lines are counted. A list has one number
 // a line. In a set spaces and line ends stand between the numbers, which are below 16.
-ghost use Rattle.std.specs.Prelude.{◌≡◌, true, set};
+ghost use Rattle.std.specs.Prelude.{◌≡◌, ℕ, List, set};
 ghost use Rattle.folder.specs.Numbers.{list_told, set_told, number_told, ListRead, SetRead, NumberRead};
-ghost use Rattle.folder.specs.Reading.{empty_text, with_line, with_digit, end_member, next_in_set, state, end_line, next_in_list, next, steps, at_end, Follows, OfText};
+ghost use Rattle.folder.specs.Reading.{empty_text, with_line, with_digit, end_member, next_in_set, state, end_line, next_in_list, next, steps, at_end, listed, set_in, Follows, OfText};
 
 use crate::files;
 use std::fs;
@@ -12,12 +12,19 @@ use std::rt::Files;
 // A number is at most this.
 const MOST: u64 = 0xffff_ffff;
 
+// The line of a text that is not as it should be, counted from 1.
+#[derive(Clone, Copy, PartialEq, Eq)]
+pub struct WrongLine {
+    pub line: usize,
+}
+
 // A text so far: how many lines it has, whether they are as they should be, the numbers of a set, and the number that has begun.
+// The laws of specs/Reading.antt are stated on these fields, one by one.
 #[derive(Clone, Copy)]
 pub struct Text {
-    pub count: usize,
-    pub good: bool,
-    pub set: u16,
+    count: usize,
+    good: bool,
+    set: u16,
     is_list: bool,
     begun: bool,
     value: u64,
@@ -71,6 +78,7 @@ fn with_digit(text: Text, digit: u8) -> Text
     }
 }
 
+// By the index: with `get_mut` the proof of this clause was tried, and didn't close.
 fn put(out: &mut [u32], i: usize, x: u32)
     ensures { out.new ≡ set out.old i x }
 {
@@ -222,39 +230,53 @@ fn read(rt: &impl Files, name: &[u8], is_list: bool, out: &mut [u32]) -> Text
     }
 }
 
+// What a text tells of a list, whatever words were lent for its numbers.
+#[tactic(auto, unfolding(crate::specs::Numbers::list_told))]
+fn list_of(text: Text) -> Result<usize, WrongLine>
+    ensures { (ws : List ℕ) → list_told result ws ≡ listed (state text ws) }
+{
+    if !text.good {
+        return Err(WrongLine { line: text.count });
+    }
+    Ok(text.count)
+}
+
+// What a text tells of a set.
+#[tactic(auto, unfolding(crate::specs::Numbers::set_told, crate::specs::Reading::set_in))]
+fn set_of(text: Text) -> Result<u16, WrongLine>
+    ensures { set_told result ≡ set_in text }
+{
+    if !text.good {
+        return Err(WrongLine { line: text.count });
+    }
+    Ok(text.set)
+}
+
 // The numbers of a list, as far as the output goes, and how many lines it has; or the line that is no number. A file that can't be opened has
 // none.
-#[tactic(auto, using(crate::proofs::ListLaws::list_reads))]
-pub fn read_list(rt: &impl Files, name: &[u8], out: &mut [u32]) -> Text
+pub fn read_list(rt: &impl Files, name: &[u8], out: &mut [u32]) -> Result<usize, WrongLine>
     ensures { ListRead out.old (list_told result out.new) }
 {
-    read(rt, name, true, out)
+    let text = read(rt, name, true, out);
+    list_of(text)
 }
 
 // The numbers of a set, as bits; or the line that has something else. A file that can't be opened has none.
-pub fn read_set(rt: &impl Files, name: &[u8]) -> Text
+pub fn read_set(rt: &impl Files, name: &[u8]) -> Result<u16, WrongLine>
     ensures { SetRead (set_told result) }
 {
     let mut none = [0u32; 1];
-    read(rt, name, false, &mut none)
-}
-
-// A number, or that there is none.
-#[derive(Clone, Copy)]
-pub struct Number {
-    pub good: bool,
-    pub value: u32,
+    let text = read(rt, name, false, &mut none);
+    set_of(text)
 }
 
 // The one number of a list of one line. A file that can't be opened has none.
-#[tactic(auto, using(crate::proofs::ListLaws::number_reads))]
-pub fn read_number(rt: &impl Files, name: &[u8]) -> Number
+pub fn read_number(rt: &impl Files, name: &[u8]) -> Option<u32>
     ensures { NumberRead (number_told result) }
 {
     let mut value = [0u32; 1];
-    let text = read_list(rt, name, &mut value);
-    Number {
-        good: text.good & (text.count == 1),
-        value: value[0],
+    match read_list(rt, name, &mut value) {
+        Ok(1) => Some(value[0]),
+        _ => None,
     }
 }

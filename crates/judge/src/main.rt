@@ -9,7 +9,7 @@ ghost use Rattle.std.specs.Prelude.{◌≡◌, length};
 use folder::days::Days;
 use folder::{days, entries, files, lent, lines, numbers};
 use matching::offered;
-use packed::reply::{Refusal, Reply};
+use packed::reply::{File, Refusal, Reply};
 use packed::{accept, limits};
 use std::io;
 use std::rt::Files;
@@ -18,15 +18,15 @@ fn say(rt: &impl Print, name: &[u8], reply: Reply) -> io::Result<()> {
     lines::say(rt, name)?;
     lines::say(rt, b" ")?;
     match reply {
-        Reply::Done(_) => lines::say(rt, b"accepted\n"),
-        Reply::Refused(x) => lines::refused(rt, x),
+        Ok(_) => lines::say(rt, b"accepted\n"),
+        Err(x) => lines::refused(rt, x),
     }
 }
 
 fn judge_pattern(rt: &(impl Files + Print), pattern: &[u8], name: &[u8]) -> io::Result<()> {
     if files::is_there(rt, name) {
-        let mut content = lent::content_words();
-        let mut work = lent::work_words();
+        let mut content = [0; lent::CONTENT];
+        let mut work = [0; lent::WORK];
         let reply = packed::read_pattern(pattern, &mut content, &mut work);
         say(rt, name, reply)?;
     }
@@ -35,8 +35,8 @@ fn judge_pattern(rt: &(impl Files + Print), pattern: &[u8], name: &[u8]) -> io::
 
 fn judge_catalogue(rt: &(impl Files + Print), catalogue: &[u8]) -> io::Result<()> {
     if files::is_there(rt, b"catalogue") {
-        let mut content = lent::content_words();
-        let mut work = lent::work_words();
+        let mut content = [0; lent::CONTENT];
+        let mut work = [0; lent::WORK];
         let reply = packed::read_catalogue(catalogue, &mut content, &mut work);
         say(rt, b"catalogue", reply)?;
     }
@@ -45,10 +45,10 @@ fn judge_catalogue(rt: &(impl Files + Print), catalogue: &[u8]) -> io::Result<()
 
 fn judge_record(rt: &(impl Files + Print), name: &[u8]) -> io::Result<()> {
     if files::is_there(rt, name) {
-        let mut record = lent::record_bytes();
+        let mut record = [0; lent::RECORD];
         let n = files::read(rt, name, &mut record);
-        let mut content = lent::content_words();
-        let mut work = lent::work_words();
+        let mut content = [0; lent::CONTENT];
+        let mut work = [0; lent::WORK];
         let reply = packed::read_record(&record[..n], &mut content, &mut work);
         say(rt, name, reply)?;
     }
@@ -57,10 +57,10 @@ fn judge_record(rt: &(impl Files + Print), name: &[u8]) -> io::Result<()> {
 
 fn judge_sheet(rt: &(impl Files + Print), pattern: &[u8], name: &[u8]) -> io::Result<()> {
     if files::is_there(rt, name) {
-        let mut sheet = lent::sheet_bytes();
+        let mut sheet = [0; lent::SHEET];
         let n = files::read(rt, name, &mut sheet);
-        let mut content = lent::content_words();
-        let mut work = lent::work_words();
+        let mut content = [0; lent::CONTENT];
+        let mut work = [0; lent::WORK];
         let reply = packed::read_sheet(pattern, &sheet[..n], &mut content, &mut work);
         say(rt, name, reply)?;
     }
@@ -69,10 +69,10 @@ fn judge_sheet(rt: &(impl Files + Print), pattern: &[u8], name: &[u8]) -> io::Re
 
 fn judge_book(rt: &(impl Files + Print), catalogue: &[u8]) -> io::Result<()> {
     if files::is_there(rt, b"book") {
-        let mut book = lent::sheet_bytes();
+        let mut book = [0; lent::SHEET];
         let n = files::read(rt, b"book", &mut book);
-        let mut content = lent::content_words();
-        let mut work = lent::work_words();
+        let mut content = [0; lent::CONTENT];
+        let mut work = [0; lent::WORK];
         let reply = packed::read_book(catalogue, &book[..n], &mut content, &mut work);
         say(rt, b"book", reply)?;
     }
@@ -80,7 +80,7 @@ fn judge_book(rt: &(impl Files + Print), catalogue: &[u8]) -> io::Result<()> {
 }
 
 fn judge_part(rt: &(impl Files + Print)) -> io::Result<()> {
-    let mut part = lent::question_bytes();
+    let mut part = [0; lent::QUESTION];
     let n = files::read(rt, b"part", &mut part);
     judge_pattern(rt, &part[..n], b"part")?;
     judge_sheet(rt, &part[..n], b"part_answer")
@@ -95,22 +95,21 @@ fn accepted(questions: &[u8], number: u32, work: &mut [u32]) -> Reply
             return accept::accept_questions(questions, number, work);
         }
     }
-    Reply::Refused(Refusal::WrongQuestions(number as usize))
+    Err(Refusal::WrongQuestions(number as usize))
 }
 
 fn judge_questions(rt: &(impl Files + Print + Eprint)) -> io::Result<()> {
     if !files::is_there(rt, b"questions") {
         return Ok(());
     }
-    let number = numbers::read_number(rt, b"number");
-    if !number.good {
+    let Some(number) = numbers::read_number(rt, b"number") else {
         lines::failed(rt, b"number");
         return Ok(());
-    }
-    let mut questions = lent::questions_bytes();
+    };
+    let mut questions = [0; lent::QUESTIONS];
     let n = files::read(rt, b"questions", &mut questions);
-    let mut work = lent::work_words();
-    let reply = accepted(&questions[..n], number.value, &mut work);
+    let mut work = [0; lent::WORK];
+    let reply = accepted(&questions[..n], number, &mut work);
     say(rt, b"questions", reply)
 }
 
@@ -118,78 +117,74 @@ fn judge_index(rt: &(impl Files + Print + Eprint)) -> io::Result<()> {
     if !files::is_there(rt, b"index") {
         return Ok(());
     }
-    let mut bytes = lent::index_bytes();
+    let mut bytes = [0; lent::INDEX_BYTES];
     let size = files::read_whole(rt, b"index", &mut bytes);
     if size % 2 == 1 {
         lines::failed(rt, b"index");
         return Ok(());
     }
-    let mut index = lent::index_entries();
+    let mut index = [0; lent::INDEX];
     entries::unpack(&bytes, &mut index);
-    let mut record = lent::record_bytes();
+    let mut record = [0; lent::RECORD];
     let m = files::read(rt, b"record", &mut record);
-    let mut work = lent::work_words();
-    let n = lent::least(size / 2, index.len());
+    let mut work = [0; lent::WORK];
+    let n = (size / 2).min(index.len());
     let reply = matching::check_index(&record[..m], &index[..n], &mut work);
     say(rt, b"index", entries::counted(reply, size / 2))
 }
 
 // Beside an accepted catalogue there is a charge for each of its extracts.
 fn charged(reply: Reply, extracts: u32, charges: usize) -> Reply {
-    match reply {
-        Reply::Done(_) => {
-            if extracts as usize == charges {
-                reply
-            } else {
-                Reply::Refused(Refusal::WrongCharges(charges))
-            }
-        }
-        Reply::Refused(_) => reply,
+    let n = reply?;
+    if extracts as usize != charges {
+        return Err(Refusal::WrongCharges(charges));
     }
+    Ok(n)
 }
 
 fn judge_charges(rt: &(impl Files + Print + Eprint), catalogue: &[u8]) -> io::Result<()> {
     if !files::is_there(rt, b"charges") {
         return Ok(());
     }
-    let mut charges = lent::charge_words();
-    let text = numbers::read_list(rt, b"charges", &mut charges);
-    if !text.good {
-        lines::failed_at(rt, b"charges", text.count);
-        return Ok(());
-    }
-    let mut content = lent::content_words();
-    let mut work = lent::work_words();
+    let mut charges = [0; lent::CHARGES];
+    let count = match numbers::read_list(rt, b"charges", &mut charges) {
+        Ok(count) => count,
+        Err(wrong) => {
+            lines::failed_at(rt, b"charges", wrong.line);
+            return Ok(());
+        }
+    };
+    let mut content = [0; lent::CONTENT];
+    let mut work = [0; lent::WORK];
     let reply = packed::read_catalogue(catalogue, &mut content, &mut work);
-    say(rt, b"charges", charged(reply, content[0], text.count))
+    say(rt, b"charges", charged(reply, content[0], count))
 }
 
 // Beside an accepted catalogue there is a line for each of its extracts, whose from-day is below its to-day.
 fn dated(reply: Reply, extracts: u32, d: Days) -> Reply {
-    let Reply::Done(_) = reply else {
-        return reply;
-    };
+    let n = reply?;
     if extracts as usize != d.count {
-        return Reply::Refused(Refusal::WrongTerms(d.count));
+        return Err(Refusal::WrongTerms(d.count));
     }
-    let turned = days::first_turned(d, d.count);
-    if turned < d.count {
-        return Reply::Refused(Refusal::WrongTerms(turned));
+    if let Some(turned) = d.first_turned() {
+        return Err(Refusal::WrongTerms(turned));
     }
-    reply
+    Ok(n)
 }
 
 fn judge_terms(rt: &(impl Files + Print + Eprint), catalogue: &[u8]) -> io::Result<()> {
     if !files::is_there(rt, b"terms") {
         return Ok(());
     }
-    let d = days::read_days(rt, b"terms");
-    if !d.good {
-        lines::failed_at(rt, b"terms", d.count);
-        return Ok(());
-    }
-    let mut content = lent::content_words();
-    let mut work = lent::work_words();
+    let d = match days::read_days(rt, b"terms") {
+        Ok(days) => days,
+        Err(wrong) => {
+            lines::failed_at(rt, b"terms", wrong.line);
+            return Ok(());
+        }
+    };
+    let mut content = [0; lent::CONTENT];
+    let mut work = [0; lent::WORK];
     let reply = packed::read_catalogue(catalogue, &mut content, &mut work);
     say(rt, b"terms", dated(reply, content[0], d))
 }
@@ -199,98 +194,93 @@ fn judge_one_way(rt: &(impl Files + Print + Eprint), catalogue: &[u8]) -> io::Re
     if !files::is_there(rt, b"one_way") {
         return Ok(());
     }
-    let text = folder::extracts(rt, b"one_way");
-    if !text.good {
+    let Some(one_way) = folder::extracts(rt, b"one_way") else {
         return Ok(());
-    }
-    let mut work = lent::work_words();
-    let f = offered::accept_offer(catalogue, text.set as u32, &mut work);
-    let verdict = f.verdict;
-    say(rt, b"one_way", verdict)
+    };
+    let mut work = [0; lent::WORK];
+    let offer = offered::accept_offer(catalogue, u32::from(one_way), &mut work);
+    say(rt, b"one_way", offer.map(|f| f.fields))
+}
+
+// The day of the file `day`, 0 to 65,535.
+fn read_day(rt: &impl Files) -> Option<u16> {
+    u16::try_from(numbers::read_number(rt, b"day")?).ok()
 }
 
 fn judge_day(rt: &(impl Files + Print + Eprint)) -> io::Result<()> {
     if !files::is_there(rt, b"day") {
         return Ok(());
     }
-    let day = numbers::read_number(rt, b"day");
-    if day.good & (day.value <= 65535) {
-        lines::say(rt, b"day accepted\n")?;
-    } else {
-        lines::failed(rt, b"day");
+    match read_day(rt) {
+        Some(_) => lines::say(rt, b"day accepted\n"),
+        None => {
+            lines::failed(rt, b"day");
+            Ok(())
+        }
     }
-    Ok(())
 }
 
 fn judge_set(rt: &(impl Files + Print + Eprint)) -> io::Result<()> {
     if !files::is_there(rt, b"set") {
         return Ok(());
     }
-    let text = folder::extracts(rt, b"set");
-    if text.good {
-        lines::say(rt, b"set accepted\n")?;
+    match folder::extracts(rt, b"set") {
+        Some(_) => lines::say(rt, b"set accepted\n"),
+        None => Ok(()),
     }
-    Ok(())
 }
 
 // Beside an accepted record the state has its number of links.
 fn stated(reply: Reply, links: u32, state: u32) -> Reply {
-    match reply {
-        Reply::Done(_) => {
-            if links == state {
-                reply
-            } else {
-                Reply::Refused(Refusal::OutOfRange(3))
-            }
-        }
-        Reply::Refused(_) => reply,
+    let n = reply?;
+    if links != state {
+        return Err(Refusal::OutOfRange(File::Record));
     }
+    Ok(n)
 }
 
 fn judge_state(rt: &(impl Files + Print + Eprint)) -> io::Result<()> {
     if !files::is_there(rt, b"state") {
         return Ok(());
     }
-    let mut state = [0u32; 2];
-    if !folder::list(rt, b"state", &mut state) {
+    let Some(state) = folder::list::<2>(rt, b"state") else {
         return Ok(());
-    }
-    let mut record = lent::record_bytes();
+    };
+    let mut record = [0; lent::RECORD];
     let n = files::read(rt, b"record", &mut record);
-    let mut content = lent::content_words();
-    let mut work = lent::work_words();
+    let mut content = [0; lent::CONTENT];
+    let mut work = [0; lent::WORK];
     let reply = packed::read_record(&record[..n], &mut content, &mut work);
     say(rt, b"state", stated(reply, content[1], state[0]))
 }
 
+// This and the next are apart: one for N numbers would have to require that so many fit into memory.
 fn judge_link(rt: &(impl Files + Print + Eprint)) -> io::Result<()> {
     if !files::is_there(rt, b"link") {
         return Ok(());
     }
-    let mut link = [0u32; 3];
-    if folder::list(rt, b"link", &mut link) {
-        lines::say(rt, b"link accepted\n")?;
+    match folder::list::<3>(rt, b"link") {
+        Some(_) => lines::say(rt, b"link accepted\n"),
+        None => Ok(()),
     }
-    Ok(())
 }
 
 fn judge_slip(rt: &(impl Files + Print + Eprint)) -> io::Result<()> {
     if !files::is_there(rt, b"slip") {
         return Ok(());
     }
-    let mut slip = [0u32; 4];
-    if folder::list(rt, b"slip", &mut slip) {
-        lines::say(rt, b"slip accepted\n")?;
+    match folder::list::<4>(rt, b"slip") {
+        Some(_) => lines::say(rt, b"slip accepted\n"),
+        None => Ok(()),
     }
-    Ok(())
 }
 
 fn judge_old(rt: &(impl Files + Print)) -> io::Result<()> {
     if files::is_there(rt, b"old") {
-        let mut old = lent::old_record_bytes();
+        let mut old = [0; lent::OLD_RECORD];
         let n = files::read(rt, b"old", &mut old);
-        let mut record = lent::output_bytes();
-        let mut work = lent::work_words();
+        let mut record = [0; lent::OUTPUT];
+        let mut work = [0; lent::WORK];
         let reply = packed::sort_record(&old[..n], &mut record, &mut work);
         say(rt, b"old", reply)?;
     }
@@ -321,8 +311,8 @@ fn judge(rt: &(impl Files + Print + Eprint), question: &[u8], catalogue: &[u8]) 
 }
 
 fn main(rt: HostRuntime) -> io::Result<()> {
-    let mut question = lent::question_bytes();
-    let mut catalogue = lent::catalogue_bytes();
+    let mut question = [0; lent::QUESTION];
+    let mut catalogue = [0; lent::CATALOGUE];
     let n = files::read(&rt, b"question", &mut question);
     let m = files::read(&rt, b"catalogue", &mut catalogue);
     judge(&rt, &question[..n], &catalogue[..m])

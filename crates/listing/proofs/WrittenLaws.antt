@@ -1,9 +1,9 @@
 -- Laws of a line buffer: texts written one after the other, numbers from their last digit to their first, the end of a line, the whole line.
 use Prim.Native.Nat.{ℕ, suc, ◌+◌, ◌-◌, ◌/◌, ◌%◌, ◌^◌, ◌≤◌, ◌<◌}
 use mathlib.Core.Path.{◌≡◌, refl, ap, sym, ◌∙◌}
-use mathlib.Core.List.{List, [], ◌∷◌, ◌++◌, append_assoc, append-nil}
+use mathlib.Core.List.{List, [], ◌∷◌, ◌++◌, append_assoc}
 use lib.ListN.{length, get_or, take, drop, set, length-append}
-use lib.Seq.{sets, take-suc, take-length, take_at, set_comm, length-sets}
+use lib.Seq.{sets, take-suc, take_at, set_comm}
 use lib.Dec.{eqb}
 use native.Mathlib.Omega.{arith}
 use native.Mathlib.Nat.{add-zero, zero-add}
@@ -32,19 +32,10 @@ written_then {a} {b} {l} {m} {n} {at} {i} {j} v w =
       end = omega (arith, v.end, w.end, length-append a b);
     }
 
-pub written_long : {a l m : List ℕ} {at i : ℕ} → TextWritten a l at m i → length m ≡ length l
-written_long {a} {l} {m} {at} w = ap length w.is ∙ length-sets l at a
-
 -- byte by byte: the first i bytes of the text stand
 pub text_more : (text : List ℕ) (i : ℕ) {l m : List ℕ} {at : ℕ} → TextWritten (take i text) l at m (at + i) → i < length text
     → TextWritten (take (i + 1) text) l at (set m (at + i) (get_or text i 0)) (at + (i + 1))
 text_more text i w h = rw (add-one i, take-suc text i 0 h) (written_then w (record { is = refl; end = omega arith }))
-
-pub text_none : (text l : List ℕ) (at : ℕ) → TextWritten (take 0 text) l at l (at + 0)
-text_none text l at = rw (add-zero at) (written_none l at)
-
-pub text_end : (text : List ℕ) (i : ℕ) {l m : List ℕ} {at j : ℕ} → TextWritten (take i text) l at m j → length text ≡ i → TextWritten text l at m j
-text_end text i w e = rw (← e, take-length text) at w
 
 -- part by part: the first n parts stand
 pub concat_more : (f : ℕ → List ℕ) (n : ℕ) {l m o : List ℕ} {at i j : ℕ} → TextWritten (concat f n) l at m i → TextWritten (f n) m i o j → TextWritten (concat f (n + 1)) l at o j
@@ -88,9 +79,6 @@ pub record NumberWritten (n m : ℕ) (l : List ℕ) (at : ℕ) (now : List ℕ) 
   pub split : decimal n ≡ decimal m ++ done
   pub is : now ≡ sets l i done
   pub place : i ≡ at + length (decimal m)
-
-pub number_start : (n : ℕ) (l : List ℕ) (at i : ℕ) → n < 2 ^ 64 → i ≡ at + length (decimal n) → NumberWritten n n l at l i
-number_start n l at i h e = record { done = []; small = h; split = sym (append-nil (decimal n)); is = refl; place = e }
 
 number_put : {n m : ℕ} {l : List ℕ} {at : ℕ} {now : List ℕ} {i : ℕ} (j : ℕ) (c : NumberWritten n m l at now i) → i ≡ j + 1 → (v : ℕ) → set now j v ≡ sets l j (v ∷ c.done)
 number_put {n} {m} {l} {at} {now} {i} j c e v =

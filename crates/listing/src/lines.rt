@@ -1,4 +1,5 @@
-// The lines of a quote's listing, each written into a line buffer.
+// The lines of a quote's listing, each written into a line buffer. Digits and words are put by functions of this module and not by Display, since `line`
+// tells how long a line is that the buffer is too short for: what lies beyond its end is counted.
 ghost use Rattle.std.specs.Prelude.{◌≡◌, ◌+◌, ◌*◌, ◌%◌, ◌^◌, ◌<◌, ◌≤◌, length, get_or, set, eqb};
 ghost use Rattle.packed.specs.Calls.{FulfilsOne};
 ghost use Rattle.packed.specs.Format.{pick};
@@ -8,7 +9,6 @@ ghost use Rattle.containment.specs.Listing.{bytes, decimal, edge_text, edges_tex
 ghost use Rattle.listing.specs.Written.{TextWritten};
 
 use containment::quote_type::{Coverage, Quote};
-use packed::reply;
 use packed::reply::{Refusal, Reply};
 
 // The byte i is v, where there is a byte i.
@@ -25,12 +25,10 @@ fn put(out: &mut [u8], at: usize, text: &[u8]) -> usize
     requires { at ≤ 65536 }
     ensures { TextWritten text.now out.old at out.new result }
 {
-    let mut i = 0;
-    while i < text.len() {
+    for i in 0..text.len() {
         store(out, at + i, text[i]);
-        i += 1;
     }
-    at + i
+    at + text.len()
 }
 
 // The last digit of n.
@@ -40,7 +38,7 @@ fn last_digit(n: usize) -> u8
     b'0' + (n % 10) as u8
 }
 
-// How many digits n has.
+// How many digits n has. The loop, as that of `put_number`, goes by what is left of the number and counts to no index.
 fn width(n: usize) -> usize
     ensures { result ≡ length (decimal n) }
 {
@@ -99,10 +97,8 @@ fn put_edges(out: &mut [u8], at: usize, a: usize, mask: u32) -> usize
     ensures { TextWritten (edges_text a mask) out.old at out.new result }
 {
     let mut end = at;
-    let mut b = 0;
-    while b < 32 {
+    for b in 0..32 {
         end = put_edge(out, end, a, mask, b);
-        b += 1;
     }
     end
 }
@@ -120,10 +116,8 @@ fn put_views(out: &mut [u8], at: usize, mapping: &[u32], e: usize) -> usize
     ensures { TextWritten (views_text mapping.now e) out.old at out.new result }
 {
     let mut end = at;
-    let mut a = 0;
-    while a < 16 {
+    for a in 0..16 {
         end = put_edges(out, end, a, mask_at(mapping, 16 * e + a));
-        a += 1;
     }
     end
 }
@@ -146,10 +140,8 @@ fn put_chosen(out: &mut [u8], at: usize, set: u32) -> usize
     ensures { TextWritten (chosen_text set) out.old at out.new result }
 {
     let mut end = at;
-    let mut a = 0;
-    while a < 16 {
+    for a in 0..16 {
         end = put_view(out, end, set, a);
-        a += 1;
     }
     end
 }
@@ -196,20 +188,22 @@ fn put_refused(out: &mut [u8], x: Refusal) -> usize
     ensures { TextWritten (refused_line x) out.old 0 out.new result }
 {
     let number = put(out, 0, b"refused ");
-    let space = put_number(out, number, reply::number_of(x));
+    let space = put_number(out, number, x.number());
     let detail = put(out, space, b" ");
-    let end = put_number(out, detail, reply::detail_of(x));
+    let end = put_number(out, detail, x.detail());
     put(out, end, b"\n")
 }
 
 // The first line.
-fn put_first(out: &mut [u8], coverage: Coverage) -> usize
+fn put_first(out: &mut [u8], coverage: Result<Coverage, Refusal>) -> usize
     ensures { TextWritten (first_line coverage) out.old 0 out.new result }
 {
     match coverage {
-        Coverage::Covered => put(out, 0, b"quote covered\n"),
-        Coverage::Uncovered => put(out, 0, b"quote uncovered\n"),
-        Coverage::Refused(x) => put_refused(out, x),
+        Ok(c) => match c {
+            Coverage::Covered => put(out, 0, b"quote covered\n"),
+            Coverage::Uncovered => put(out, 0, b"quote uncovered\n"),
+        },
+        Err(x) => put_refused(out, x),
     }
 }
 
@@ -217,11 +211,9 @@ fn put_first(out: &mut [u8], coverage: Coverage) -> usize
 fn lines_after(q: Quote) -> usize
     ensures { (result ≡ lines_after q) × (result ≤ 2 ^ 32) }
 {
-    let coverage = q.coverage;
-    match coverage {
-        Coverage::Covered => q.edges as usize + 1,
-        Coverage::Uncovered => q.edges as usize + 1,
-        Coverage::Refused(_) => 0,
+    match q.coverage {
+        Ok(_) => q.edges as usize + 1,
+        Err(_) => 0,
     }
 }
 
@@ -249,8 +241,8 @@ pub fn line(q: Quote, k: usize, out: &mut [u8]) -> Reply
 {
     let n = put_line(&mut out[0..0], q, k);
     if out.len() < n {
-        return Reply::Refused(Refusal::NoRoom(n));
+        return Err(Refusal::NoRoom(n));
     }
     put_line(out, q, k);
-    Reply::Done(n)
+    Ok(n)
 }

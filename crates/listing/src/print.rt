@@ -4,7 +4,6 @@ ghost use Rattle.containment.specs.Listing.{line_of};
 
 use crate::lines;
 use containment::quote_type::Quote;
-use packed::reply::Reply;
 use std::io;
 
 // Line k at the front of the buffer, and its length. The buffer takes every line, so none is refused.
@@ -12,7 +11,7 @@ fn put_line(q: Quote, k: usize, buf: &mut [u8]) -> usize
     requires { length buf.old ≡ 4096 }
     ensures { (take result buf.new ≡ line_of q k) × (result ≤ 4096) }
 {
-    let Reply::Done(n) = lines::line(q, k, buf) else {
+    let Ok(n) = lines::line(q, k, buf) else {
         return 0;
     };
     n

@@ -4,7 +4,6 @@
 ghost use Rattle.std.specs.Prelude.{◌≡◌, length};
 
 use folder::{entries, files, lent, lines};
-use packed::reply::Reply;
 use std::io;
 use std::rt::Files;
 
@@ -12,12 +11,12 @@ use std::rt::Files;
 fn keep(rt: &(impl Files + Print + Eprint), index: &[u16], n: usize) -> io::Result<()>
     requires { length index.now ≡ 4098 }
 {
-    if 4098 < n {
+    if lent::INDEX < n {
         lines::failed(rt, b"index");
         return Ok(());
     }
     let size = 2 * n;
-    let mut bytes = lent::index_bytes();
+    let mut bytes = [0; lent::INDEX_BYTES];
     entries::pack(index, &mut bytes);
     if files::write(rt, b"index", b"index.new", &bytes[..size]) {
         println!(rt; "index {n} entries")?;
@@ -26,13 +25,13 @@ fn keep(rt: &(impl Files + Print + Eprint), index: &[u16], n: usize) -> io::Resu
 }
 
 fn main(rt: HostRuntime) -> io::Result<()> {
-    let mut record = lent::record_bytes();
-    let mut index = lent::index_entries();
-    let mut work = lent::work_words();
+    let mut record = [0; lent::RECORD];
+    let mut index = [0; lent::INDEX];
+    let mut work = [0; lent::WORK];
     let m = files::read(&rt, b"record", &mut record);
     let reply = matching::make_index(&record[..m], &mut index, &mut work);
     match reply {
-        Reply::Done(n) => keep(&rt, &index, n),
-        Reply::Refused(x) => lines::refused(&rt, x),
+        Ok(n) => keep(&rt, &index, n),
+        Err(x) => lines::refused(&rt, x),
     }
 }

@@ -2,6 +2,8 @@
 use Prim.Native.Nat.{ℕ, ◌+◌, ◌<◌, ◌≤◌}
 use mathlib.Core.Path.{◌≡◌, refl, sym, ap, subst, ◌∙◌}
 use mathlib.Core.List.{List, [], ◌∷◌}
+use Rattle.std.specs.Prelude.{Option, None, Some}
+use Rattle.std.specs.Borrow.{Bor}
 use lib.ListN.{length}
 use native.Mathlib.Omega.{arith}
 use borrow.Author.Tests.{lt-ltb, le-ltb}
@@ -9,17 +11,16 @@ use Rattle.packed.specs.Format.{ok, decode}
 use Rattle.packed.specs.Formats.{pattern, record'}
 use Rattle.packed.specs.Plain.{PlainPattern}
 use Rattle.packed.specs.ByValue.{HoldsPattern}
-use Rattle.packed.specs.Refusals.{Told, told, reply_told}
+use Rattle.packed.specs.Refusals.{Told, told, reply_told, number_of, detail_of}
 use Rattle.packed.specs.declared.reply.Refusal.{Refusal}
 use Rattle.packed.specs.declared.reply.Refusal.TheVariants.{NoRoom}
-use Rattle.packed.specs.declared.reply.Reply.{Reply}
-use Rattle.packed.specs.declared.reply.Reply.TheVariants as reply-is
-use Rattle.packed.specs.Calls.{Outcome, give, refuse, told_of, fronts, outputs_of, Fulfils, FulfilsOne, judged, read_pattern, read_record, fit, fit_file}
+use Rattle.packed.specs.Parts.{Reply}
+use Rattle.packed.specs.Calls.{Outcome, give, refuse, told_of, fronts, outputs_of, Fulfils, FulfilsOne, judged, rejected, read_pattern, read_record, fit, fit_file}
 use Rattle.packed.specs.Accepting.{Held}
 use Rattle.packed.specs.LoadedGraph.{Holds}
 use Rattle.packed.specs.declared.by_value.Pattern.{Pattern as Given}
 use Rattle.packed.proofs.Accepted.{pattern_accepted}
-use Rattle.packed.proofs.CallLaws.{read_finds, accepted_by, read_says, judged_accepted, refusal_answered, fit_fits, fitted_tight, fitted_given}
+use Rattle.packed.proofs.CallLaws.{body_refused, read_finds, accepted_by, read_says, judged_accepted, refusal_answered, fit_fits, fitted_tight, fitted_given}
 use Rattle.engine.specs.Simulation.{Pattern, pattern_of, graph_of, match_sets, view_sheet}
 use Rattle.engine.specs.Index.{index_for, index_of, own_index}
 use Rattle.engine.specs.Places.{FirstsMade, edges_at, IndexJudged}
@@ -27,13 +28,14 @@ use Rattle.engine.specs.Loaded.{pattern_in, graph_in, Fair}
 use Rattle.engine.specs.Matched.{Proper}
 use Rattle.matching.specs.Offered.{Offered, view_patterns}
 use Rattle.matching.specs.Search.{sheet_bytes, book_bytes, view_sheets, search_for, book_for}
-use Rattle.matching.specs.Index.{make_index_outcome, check_index_outcome, search_indexed_for}
+use Rattle.matching.specs.Index.{make_index_outcome, check_index_outcome, search_indexed_for, search_by}
 use Rattle.engine.proofs.ListLaws.{each_same}
 use Rattle.matching.proofs.MatchSetLaws.{view_same}
 use Rattle.matching.proofs.PatternLaws.{fair_by, proper_by, pattern_same}
 use Rattle.matching.specs.Books.{book_in}
 use Rattle.engine.proofs.OwnIndex.{own_accepted, index_long, firsts_front}
 use Rattle.matching.proofs.RecordLaws.{sets_same, index_same, ready_by, ready_ends}
+use Rattle.std.specs.Prelude.{Ok, Err}
 
 -- the answer of a search, once the record was accepted and its edges stand in the workspace
 pub search_found : {s : List ℕ} {n m : ℕ} {w : List ℕ} (P : Pattern) (room : ℕ) → length s ≤ 44036 → Holds s n m w
@@ -41,6 +43,12 @@ pub search_found : {s : List ℕ} {n m : ℕ} {w : List ℕ} (P : Pattern) (room
 search_found {s} P room l h =
     judged_accepted (λ rs. fit_file room (sheet_bytes (match_sets P (graph_of rs)))) (accepted_by (read_finds 44036 3 record' s l) h.is)
     ∙ ap (λ (ls : List (List ℕ)). fit_file room (sheet_bytes ls)) (sym (sets_same h P))
+
+-- and once it was refused, with an index or without
+pub search_unread : (s : List ℕ) (P : Pattern) (index : Option (Bor (List ℕ))) (out : List ℕ) (x : Refusal) → read_record s ≡ rejected (number_of x) (detail_of x)
+    → FulfilsOne (search_by P s index (length out)) (reply_told (Err x)) out out
+search_unread s P None out x e = body_refused (λ rs. fit_file (length out) (sheet_bytes (match_sets P (graph_of rs)))) out refl x e
+search_unread s P (Some index) out x e = body_refused (λ rs. own_index (index_of (graph_of rs)) index.now (fit_file (length out) (sheet_bytes (match_sets P (graph_of rs))))) out refl x e
 
 -- the same of the book that is made
 pub book_found : {s : List ℕ} {n m : ℕ} {w : List ℕ} (o : Offered) (room : ℕ) → length s ≤ 44036 → Holds s n m w → book_for o s room ≡ fit_file room (book_in o s n m w)
@@ -87,10 +95,10 @@ module _ {s : List ℕ} {n m : ℕ} {w : List ℕ} (l : length s ≤ 44036) (h :
     indexed_wrong P room = own_found index (λ rs. fit_file room (sheet_bytes (match_sets P (graph_of rs)))) ∙ e (fit_file room (sheet_bytes (match_sets P (graph_of h.fields))))
 
   -- the index is made, if there is room
-  pub made_tight : (out : List ℕ) → length out < n + 1 → FulfilsOne (make_index_outcome s (length out)) (reply_told (reply-is.Refused (NoRoom (n + 1)))) out out
+  pub made_tight : (out : List ℕ) → length out < n + 1 → FulfilsOne (make_index_outcome s (length out)) (reply_told (Err (NoRoom (n + 1)))) out out
   made_tight out q = fitted_tight fit_fits out (index_for n (edges_at m w)) refl (made_found (length out)) (sym (index_long n (edges_at m w))) (lt-ltb (length out) (n + 1) q)
 
-  pub made_given : (out : List ℕ) {out' : List ℕ} → n + 1 ≤ length out → FirstsMade m n w out out' → FulfilsOne (make_index_outcome s (length out)) (reply_told (reply-is.Done (n + 1))) out out'
+  pub made_given : (out : List ℕ) {out' : List ℕ} → n + 1 ≤ length out → FirstsMade m n w out out' → FulfilsOne (make_index_outcome s (length out)) (reply_told (Ok (n + 1))) out out'
   made_given out q F =
       fitted_given fit_fits out (index_for n (edges_at m w)) refl (made_found (length out)) (sym (index_long n (edges_at m w))) (le-ltb (length out) (n + 1) q)
       (firsts_front (ready_ends (ready_by h (omega arith))) F (omega arith))
@@ -98,13 +106,13 @@ module _ {s : List ℕ} {n m : ℕ} {w : List ℕ} (l : length s ≤ 44036) (h :
   -- a lent one is judged
   pub checked_by : (index : List ℕ) (r : Reply) → IndexJudged m n w index r → Fulfils [] (check_index_outcome s index) (reply_told r) [] []
   unfolding told_of outputs_of fronts
-  checked_by index (reply-is.Done k) j =
+  checked_by index (Ok k) j =
       let e = sym (checked_found j.3) in
       record { result = ap (λ (x : ℕ). told 0 (x ∷ [])) j.0 ∙ ap (told_of []) e; outputs = ap (λ (a : Outcome). outputs_of a []) e }
-  checked_by index (reply-is.Refused x) j = refusal_answered [] (checked_wrong index j) refl
+  checked_by index (Err x) j = refusal_answered [] (checked_wrong index j) refl
 
-  pub indexed_refused : (P : Pattern) (index out : List ℕ) (x : Refusal) → IndexJudged m n w index (reply-is.Refused x)
-      → FulfilsOne (search_indexed_for P s index (length out)) (reply_told (reply-is.Refused x)) out out
+  pub indexed_refused : (P : Pattern) (index out : List ℕ) (x : Refusal) → IndexJudged m n w index (Err x)
+      → FulfilsOne (search_indexed_for P s index (length out)) (reply_told (Err x)) out out
   indexed_refused P index out x j = refusal_answered (out ∷ []) (indexed_wrong index j P (length out)) refl
 
 -- ---- a pattern that was accepted, by value

@@ -37,7 +37,6 @@ use Rattle.matching.specs.Enter.{judge_link}
 use Rattle.matching.specs.Entering.{with_link, Enters}
 use Rattle.matching.specs.Ask.{alike, all_alike, changes, changed_views, ask_values, ask_for, ask_of, ask_told}
 use Rattle.matching.specs.Asking.{listed_by, listed_in, set_from, ListsBy, ChangedBy}
-use Rattle.matching.specs.declared.asking.Asked.TheVariants as Asked-is
 use Rattle.matching.specs.declared.state.State.{State}
 use Rattle.matching.specs.declared.state.Link.{Link}
 use Rattle.engine.proofs.ListLaws.{decide, same_test}
@@ -51,6 +50,7 @@ use Rattle.matching.proofs.BookLaws.{Walk, walk_bits, walk_end, ready_narrow, vi
 use Rattle.matching.proofs.MarkedLaws.{listed_test}
 use Rattle.matching.proofs.EnterLaws.{entered_without, unmatched_stays, matched_changes}
 use Rattle.matching.proofs.EnteredGraphs.{links_before, links_after, links_split, graph_entered, link_new}
+use Rattle.std.specs.Prelude.{Err}
 
 -- ---- the same lists
 both_true : (a b : Bool) → T (a && b) → T a × T b
@@ -191,10 +191,6 @@ lists_next {edges} {a} {b} {o} {j} {x} {named} {set} t z {own} i {full} n {y} e 
 
 pub lists_end : {edges : List ℕ} {a b o j x named set : ℕ} → Walk edges a b o j → b ≤ j → ListsBy edges a j x named set → ListsBy edges a b x named set
 lists_end {edges} {a} {x = x} {named} {set} t h z = subst (λ (i : ℕ). ListsBy edges a i x named set) (walk_end t h) z
-
--- and no more than sixteen of them
-pub lists_few : {edges : List ℕ} {a b x named set : ℕ} → ListsBy edges a b x named set → b ≤ 16 → set < 65536
-lists_few z h = omega (arith, z.small, pow_mono h)
 
 -- where the mask names nothing, none of them lists the pair
 nothing_listed : (o k d : ℕ) (w : List ℕ) (x : ℕ) → x ≡ 0 → listed_by o k d w x ≡ false
@@ -376,10 +372,10 @@ module _ {s : List ℕ} {n m : ℕ} {w : List ℕ} (h : Holds s n m w) {links : 
 
 -- ---- refusals
 pub asked_unread : (o : Offered) (s : List ℕ) (st : State) (l : Link) (x : Refusal) → read_record s ≡ rejected (number_of x) (detail_of x)
-    → Fulfils [] (ask_of o s st l) (ask_told (Asked-is.Refused x)) [] []
+    → Fulfils [] (ask_of o s st l) (ask_told (Err x)) [] []
 asked_unread o s st l x e = answers_refused (λ rs. ask_for o rs st l) [] e refl
 
 pub asked_refused : (o : Offered) {s : List ℕ} {n m : ℕ} {w : List ℕ} (st : State) (l : Link) (h : Holds s n m w) → length s ≤ 44036 → (x : Refusal)
-    → judge_link st.links h.fields l ≡ rejected (number_of x) (detail_of x) → Fulfils [] (ask_of o s st l) (ask_told (Asked-is.Refused x)) [] []
+    → judge_link st.links h.fields l ≡ rejected (number_of x) (detail_of x) → Fulfils [] (ask_of o s st l) (ask_told (Err x)) [] []
 asked_refused o {s} st l h size x e =
     answers_on (λ rs. ask_for o rs st l) (accepted_by (read_finds 44036 3 record' s size) h.is) (answers_refused (λ us. give (ask_values o h.fields st l us) []) [] e refl)

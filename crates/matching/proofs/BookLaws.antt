@@ -3,11 +3,13 @@ use Prim.Native.Nat.{ℕ, zero, suc, ◌+◌, ◌-◌, ◌*◌, ◌<◌, ◌≤�
 use mathlib.Core.Path.{◌≡◌, refl, sym, ap, ap₂, subst, ◌∙◌}
 use mathlib.Core.Logic.{inl, inr, ⊎_elim}
 use mathlib.Core.List.{List, [], ◌∷◌, ◌++◌, append-nil, append_assoc}
-use mathlib.Core.Bool.{Bool, true, false, ◌&&◌, ◌||◌}
+use mathlib.Core.Bool.{Bool, true, false, ◌||◌}
 use lib.ListN.{length, take, drop, get_or, set, replicate, length-append, length-drop, length-set, drop_of_length-le}
-use lib.Seq.{sets, length-sets, take_all, get_or-set_same, get_or-set_other}
-use lib.Dec.{T, eqb, ltb}
-use borrow.Author.Tests.{eqb-true, le-leb, lt-leb, le-ltb}
+use Rattle.std.specs.List.{sum}
+use Rattle.std.proofs.lemmas.List.Sums.{sum_by-append, sum_by-cons}
+use lib.Seq.{take-suc, sets, length-sets, take_all, get_or-set_same, get_or-set_other}
+use lib.Dec.{ltb}
+use borrow.Author.Tests.{le-leb, lt-leb, le-ltb}
 use native.Mathlib.Omega.{arith}
 use native.Mathlib.Nat.{add-zero}
 use borrow.Rule.Slice.PartMut.{put_mid, post_of}
@@ -26,7 +28,6 @@ use Rattle.packed.proofs.BookSheetLaws.{none_total}
 use Rattle.packed.proofs.MatchLaws.{fit_lists, matches_long, matches_encode, sum_next}
 use Rattle.packed.proofs.AcceptedBounds.{catalogue_views, plain_bounded}
 use Rattle.packed.proofs.CallLaws.{fit_file_fits, fitted_given}
-use Rattle.packed.specs.declared.reply.Reply.TheVariants as reply-is
 use Rattle.packed.specs.declared.by_value.Pattern.{Pattern as Given}
 use Rattle.engine.specs.Lists.{up_to}
 use Rattle.engine.specs.Simulation.{Edge, both_ways, Pattern, ruled, Graph, match_sets, view_sheet}
@@ -47,6 +48,7 @@ use Rattle.matching.proofs.SheetBytes.{sheet_is, sheet_by, fit_by, sets_sheet}
 use Rattle.matching.proofs.OfferedLaws.{sheets_are, view_plain, view_sound}
 use Rattle.matching.proofs.BatchLaws.{sum_grows, count_of, table_of, view_matched}
 use Rattle.matching.proofs.BookBytes.{book_append, book_one}
+use Rattle.std.specs.Prelude.{Ok}
 
 -- ---- one sheet
 total_most : {ls : List (List ℕ)} → Fit ls → pair_count ls ≤ 8192 * length ls
@@ -181,6 +183,19 @@ sheets_sum f sizes zero h = sym (ap length (sheets_below f 0 0 (omega arith)))
 sheets_sum f sizes (suc k) h =
     omega (arith, sheets_sum f sizes k (λ j l. h j (omega arith)), h k (omega arith), ap length (sheets_more f 0 k (omega arith)), length-append (sheets_from f 0 k) (sheet_bytes (f k)))
 
+-- the sizes of the front are those of the first k
+pub sum_taken : (k : ℕ) (sizes : List ℕ) → k ≤ length sizes → sum (take k sizes) ≡ sum_of k sizes
+unfolding sum_of
+sum_taken zero sizes h = refl
+sum_taken (suc k) sizes h =
+    ap sum (take-suc sizes k 0 h) ∙ sum_by-append (λ x. x) (take k sizes) (get_or sizes k 0 ∷ [])
+    ∙ (let e = sum_taken k sizes (omega arith) in let z = sum_by-cons (λ x. x) (get_or sizes k 0) [] in omega arith)
+
+pub sum_most : {m : ℕ} (k : ℕ) (sizes : List ℕ) → ((j : ℕ) → j < k → get_or sizes j 0 ≤ m) → sum_of k sizes ≤ m * k
+unfolding sum_of
+sum_most zero sizes h = omega arith
+sum_most {m} (suc k) sizes h = let e = sum_most k sizes (λ j l. h j (omega arith)) in let z = h k (omega arith) in omega arith
+
 -- ---- the views of a batch one by one, a up to b: o bits are behind at the view j
 pub record Walk (edges : List ℕ) (a b o j : ℕ) : Type 0 where
   pub range : Batched edges a b
@@ -210,9 +225,6 @@ module _ {edges : List ℕ} {a b o j : ℕ} (t : Walk edges a b o j) where
     walk_next = record { range = t.range; since = omega (arith, t.since); most = omega arith; bits = omega (arith, t.bits, sum_next j edges) }
 
 -- sizes
-pub kept_start : {edges : List ℕ} {a : ℕ} {q sizes : List ℕ} → SizesKept edges a a q sizes sizes
-kept_start = record { long = refl; each = λ d w n j h l. absurd (omega arith); rest = λ j h. refl }
-
 pub kept_next : {edges : List ℕ} {a b o j : ℕ} {q sizes₀ sizes : List ℕ} → Walk edges a b o j → j < b → length sizes₀ ≡ 16 → SizesKept edges a j q sizes₀ sizes → {r : ℕ}
     → ((d : ℕ) (w : List ℕ) → Counts d w q → r ≡ sheet_length (get_or edges j 0) (pair_count (matches_from o d (get_or edges j 0) w))) → SizesKept edges a (j + 1) q sizes₀ (set sizes j r)
 kept_next {edges} {a} {b} {o} {j} {q} {sizes₀} {sizes} t some long z {r} h =
@@ -233,24 +245,6 @@ kept_next {edges} {a} {b} {o} {j} {q} {sizes₀} {sizes} t some long z {r} h =
 
 pub kept_end : {edges : List ℕ} {a b o j : ℕ} {q sizes₀ sizes : List ℕ} → Walk edges a b o j → b ≤ j → SizesKept edges a j q sizes₀ sizes → SizesKept edges a b q sizes₀ sizes
 kept_end {edges} {a} {q = q} {sizes₀} {sizes} t h z = subst (λ (i : ℕ). SizesKept edges a i q sizes₀ sizes) (walk_end t h) z
-
--- sheets that list nothing
-pub nothing_start : {sizes : List ℕ} {a : ℕ} → ListNothing sizes a a true
-nothing_start = record { each = λ t j h l. absurd (omega arith) }
-
-pub nothing_next : {sizes : List ℕ} {a j : ℕ} {t : Bool} → ListNothing sizes a j t → ListNothing sizes a (j + 1) (t && eqb (get_or sizes j 0) 1)
-nothing_next {sizes} {a} {j} {t} z = record { each = λ e i h l. go t e z i h l }
-  where
-    go : (u : Bool) → (u && eqb (get_or sizes j 0) 1) ≡ true → ListNothing sizes a j u → (i : ℕ) → a ≤ i → i < j + 1 → get_or sizes i 0 ≡ 1
-    go true e z i h l =
-        ⊎_elim
-        (λ (p : i < j). z.each refl i h p)
-        (λ (p : j ≤ i). let q : i ≡ j = omega arith in ap (λ (x : ℕ). get_or sizes x 0) q ∙ eqb-true (get_or sizes j 0) 1 e)
-        (lt_or_ge i j)
-    go false e z i h l = absurd (subst T (sym e) tt)
-
-pub nothing_end : {sizes : List ℕ} {a b j : ℕ} {t : Bool} → b ≤ j → ListNothing sizes a j t → ListNothing sizes a b t
-nothing_end h z = record { each = λ t i p q. z.each t i p (omega arith) }
 
 -- bytes
 pub written_start : (f : ℕ → List (List ℕ)) (a at : ℕ) (out : List ℕ) → SheetsWritten f a a at out at out
@@ -546,7 +540,7 @@ module _ {c : List ℕ} {k : ℕ} {edges s : List ℕ} {n m : ℕ} {w₀ : List 
   none_book one h {cs} e =
       sym (book-sheets bk e one) ∙ ap (sheets_from (sheet_at (offers cs one) s n m w₀) 0) h ∙ sheets_below (sheet_at (offers cs one) s n m w₀) 0 0 (omega arith)
 
-  pub none_given : (one : ℕ) → k ≡ 0 → (out : List ℕ) → BookGiven c one s n m w₀ (reply_told (reply-is.Done 0)) out out
+  pub none_given : (one : ℕ) → k ≡ 0 → (out : List ℕ) → BookGiven c one s n m w₀ (reply_told (Ok 0)) out out
   none_given one h out cs e =
       fitted_given fit_file_fits out (book_in (offers cs one) s n m w₀) refl refl (ap length (sym (none_book one h e)))
       (ap (λ (b : Bool). b || ltb 65536 0) (le-ltb (length out) 0 (omega arith))) (ap (sets out 0) (sym (none_book one h e)))

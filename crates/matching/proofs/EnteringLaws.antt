@@ -17,10 +17,8 @@ use Rattle.packed.specs.Entering.{word_ranks, Placed, EntersAt}
 use Rattle.packed.specs.LoadedGraph.{Holds}
 use Rattle.packed.specs.Refusals.{Told, told, number_of, detail_of, both_told}
 use Rattle.packed.specs.Calls.{Outcome, give, refuse, told_of, Settled, Fulfils, with_workspace, accepted, rejected, record_bytes}
-use Rattle.packed.specs.declared.enter.Place.TheVariants as place_is
 use Rattle.packed.specs.declared.reply.Refusal.{Refusal}
-use Rattle.packed.specs.declared.reply.Both.{Both}
-use Rattle.packed.specs.declared.reply.Both.TheVariants as both_is
+use Rattle.packed.specs.Parts.{Both}
 use Rattle.packed.proofs.OrderCases.{lt_or_ge, or_cases, or_neither}
 use Rattle.packed.proofs.CallLaws.{answers_refused, answers_on}
 use Rattle.packed.proofs.RefusalNumbers.{refusal_numbered}
@@ -39,6 +37,7 @@ use Rattle.matching.specs.declared.state.Link.{Link}
 use Rattle.matching.specs.declared.state.Slip.{Slip}
 use Rattle.engine.proofs.OwnIndex.{index_long, firsts_front}
 use Rattle.matching.proofs.RecordLaws.{ready_by, ready_ends, index_same}
+use Rattle.std.specs.Prelude.{Ok, Err, Some, None}
 
 -- ---- a link is judged
 module _ (links : ℕ) (ws : List ℕ) (l : Link) where
@@ -119,10 +118,10 @@ module _ {s : List ℕ} {n m : ℕ} {w : List ℕ} (h : Holds s n m w) (links : 
         linked-is : linked l.from l.to l.kind (edges_in content) ≡ member (rank l.from l.to l.kind) (word_ranks (take m w))
         linked-is = holds_linked h l.from l.to l.kind (omega (arith, (right_ends n l t).1, (holds_bounds h).0)) k
 
-        pub judged_there : Placed (rank l.from l.to l.kind) (word_ranks (take m w)) place_is.Taken → judge_link links h.fields l ≡ rejected 6 3
+        pub judged_there : Placed (rank l.from l.to l.kind) (word_ranks (take m w)) None → judge_link links h.fields l ≡ rejected 6 3
         judged_there p = link_there links content l (c ∙ h.edges) from_is to_is k (linked-is ∙ p)
 
-        module _ (at : ℕ) (p : Placed (rank l.from l.to l.kind) (word_ranks (take m w)) (place_is.Behind at)) where
+        module _ (at : ℕ) (p : Placed (rank l.from l.to l.kind) (word_ranks (take m w)) (Some at)) where
           pub judged_full : 8192 ≤ m → judge_link links h.fields l ≡ rejected 3 3
           judged_full q = record_full links content l (c ∙ h.edges) from_is to_is k (linked-is ∙ p.0) (omega (arith, h.edges))
 
@@ -188,7 +187,7 @@ module _ (ws : List ℕ) (links change : ℕ) (p : Slip) (room room' : ℕ) (out
     current = rw (eq-eqb p.change change g, ne_eqb change 4294967295 h)
 
     pub link_refused : (x : Refusal) → judge_link links ws (link_on p) ≡ rejected (number_of x) (detail_of x)
-        → Fulfils [] (commit_for ws (state_of links change) p room room') (both_told (both_is.Refused x)) outs outs
+        → Fulfils [] (commit_for ws (state_of links change) p room room') (both_told (Err x)) outs outs
     link_refused x e = answers_on _ current (answers_refused (give_both room room') outs e refl)
 
     pub link_accepted : {r : Told} {outs' : List (List ℕ)} → judge_link links ws (link_on p) ≡ accepted (with_link ws (link_on p)) → Fulfils [] (give_both room room' (with_link ws (link_on p))) r outs outs'
@@ -196,21 +195,21 @@ module _ (ws : List ℕ) (links change : ℕ) (p : Slip) (room room' : ℕ) (out
     link_accepted e b = answers_on _ current (answers_on (give_both room room') e b)
 
 pub counted_by : (r : Both) {links change : ℕ} → links < 8192 → change < 4294967295 → Counted links change r
-counted_by (both_is.Done a b) x y = (x, y)
-counted_by (both_is.Refused x) g h = tt
+counted_by (Ok (a, b)) x y = (x, y)
+counted_by (Err x) g h = tt
 
 -- ---- the state
 -- the two numbers after an answer are those after its outcome
 pub state_after_lem : (a : Outcome) (r : Both) (s : State) → both_told r ≡ told_of [] a → state_of (answered_by r s).links (answered_by r s).change ≡ state_after a s
 unfolding told_of state_after
-state_after_lem (give vs outs) (both_is.Done x y) s e = refl
-state_after_lem (refuse n d) (both_is.Done x y) s e = absurd (let z : ◌≡◌ {A = List ℕ} (x ∷ y ∷ []) (d ∷ []) = cc in let q = ap length z in omega arith)
-state_after_lem (give vs outs) (both_is.Refused x) s e = absurd (let n = (refusal_numbered x).least in let z : number_of x ≡ 0 = cc in omega arith)
-state_after_lem (refuse n d) (both_is.Refused x) s e = refl
+state_after_lem (give vs outs) (Ok (x, y)) s e = refl
+state_after_lem (refuse n d) (Ok (x, y)) s e = absurd (let z : ◌≡◌ {A = List ℕ} (x ∷ y ∷ []) (d ∷ []) = cc in let q = ap length z in omega arith)
+state_after_lem (give vs outs) (Err x) s e = absurd (let n = (refusal_numbered x).least in let z : number_of x ≡ 0 = cc in omega arith)
+state_after_lem (refuse n d) (Err x) s e = refl
 
 answer_same : (b : Both) (s : State) → (answered_by b s).answer ≡ b
-answer_same (both_is.Done x y) s = refl
-answer_same (both_is.Refused x) s = refl
+answer_same (Ok (x, y)) s = refl
+answer_same (Err x) s = refl
 
 -- what is settled of the outputs and the workspace settles the state
 pub commits_by : (r : List ℕ) (links change : ℕ) (p : Slip) (b : Both) (z : Answered) {out out' index index' work work' : List ℕ} → z ≡ answered_by b (state_of links change)

@@ -5,6 +5,7 @@ use mathlib.Core.Bool.{Bool, true, false, not}
 use mathlib.Core.Logic.{◌↔◌}
 use mathlib.Core.List.{List, [], ◌∷◌}
 use lib.Dec.{T}
+use Rattle.std.specs.Cmp.{both_ways}
 use native.Mathlib.Omega.{arith}
 use Rattle.packed.specs.Formats.{rank}
 use Rattle.packed.specs.Contents.{member, distinct, ranks, from_ranks, sorted_edges}
@@ -157,12 +158,7 @@ module _ (e : Edge) (es fewer : List ℕ) (narrow : NarrowEdges (edges_in es)) (
 
   members : (z : ℕ) → member z (distinct (ranks fewer)) ≡ member z (keep u (distinct (ranks es)))
   members z =
-      implied_same (member z (distinct (ranks fewer))) (member z (keep u (distinct (ranks es)))) (λ h. in_member (to z (member_in _ h))) (λ h. in_member (by z (member_in _ h)))
-    where
-      implied_same : (a b : Bool) → (a ≡ true → b ≡ true) → (b ≡ true → a ≡ true) → a ≡ b
-      implied_same true b f g = sym (f refl)
-      implied_same false true f g = g refl
-      implied_same false false f g = refl
+      both_ways (member z (distinct (ranks fewer))) (member z (keep u (distinct (ranks es)))) (λ h. in_member (to z (member_in _ h))) (λ h. in_member (by z (member_in _ h)))
 
   ranks_but : distinct (ranks fewer) ≡ keep u (distinct (ranks es))
   ranks_but = increasing_unique _ _ (distinct_increasing (ranks fewer)) (keep_increasing u (distinct (ranks es)) (distinct_increasing (ranks es))) members

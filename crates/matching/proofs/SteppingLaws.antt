@@ -4,7 +4,6 @@ use mathlib.Core.Logic.{inl, inr, ⊎_elim}
 use mathlib.Core.Bool.{Bool, true, false}
 use mathlib.Core.List.{List, [], ◌++◌}
 use Prim.Native.Nat.{ℕ, suc, ◌+◌, ◌≤◌, ◌<◌, ◌/◌, ◌%◌, ◌^◌}
-use native.Mathlib.Nat.{zero-add}
 use native.Mathlib.Omega.{arith}
 use lib.ListN.{length, get_or, take}
 use lib.Seq.{length-take-le, take_at}
@@ -28,7 +27,7 @@ use Rattle.matching.specs.Stepping.{PairsTaken, LeavingLinks, Loose, LooseLinks,
 use Rattle.matching.specs.declared.steps.Place.{Place}
 use Rattle.engine.proofs.ListLaws.{decide, same_test}
 use Rattle.engine.proofs.MaskBits.{none_has, or_left, or_right, or_cases, and_say, and_by, minus_say, minus_by, mask_cast, union_more}
-use Rattle.engine.proofs.RoundLaws.{fixed_prepared, prepared_ends}
+use Rattle.engine.proofs.RoundLaws.{fixed_prepared}
 use Rattle.matching.proofs.JoiningLaws.{every_prepared, every_has, every_shape}
 use Rattle.matching.proofs.ComponentLaws.{leaving_one, leaving_in, in_leaving, join_in_candidate, state_say, state_candidate, state_old, state_new, step_shut}
 use Rattle.matching.proofs.ReachLaws.{in_edges, edges_in_lem, given_ended}
@@ -142,9 +141,6 @@ module _ (w : List ℕ) where
 -- ---- where the steps start
 pub fresh_prepared : {q : Given} {n d all : ℕ} {w leave arrive out leaving arriving : List ℕ} → Pool d w → Fresh q n d all w leave arrive out leaving arriving → Prepared n d w leave arrive out
 fresh_prepared pool f = every_prepared pool f.few f.ends f.leaves f.arrives f.outs
-
-pub prepared_looked : {n d : ℕ} {w leave arrive out : List ℕ} → Prepared n d w leave arrive out → Ends (length leave) d w × (length arrive ≡ length leave)
-prepared_looked {d = d} {w = w} P = (subst (λ (x : ℕ). Ends x d w) (sym P.leave_long) (prepared_ends P), P.arrive_long ∙ sym P.leave_long)
 
 -- ---- the links for which a pair is held that its ends don't allow
 module _ (w leave arrive : List ℕ) where
@@ -405,10 +401,9 @@ module _ {q : Given} {n d : ℕ} (c due : ℕ) {w leave arrive out : List ℕ} (
       record { settled = x; leave_long = F.leave_long; arrive_long = F.arrive_long; out_long = F.out_long; prepared = fixed_prepared F P; at = λ w₀ a. between_at (ends₀ a.between) (between-rest T₁ T₂ F L a.between s' x y v) }
 
 -- ---- steps one after the other
--- some steps from the place s₀ at no node, while so many are left
-pub record Gone (q : Given) (n d steps : ℕ) (s₀ : Place) (w₀ leave₀ arrive₀ out₀ : List ℕ) (s : Place) (w leave arrive out : List ℕ) (left : ℕ) : Type 0 where
-  pub number : ℕ
-  pub count : number + left ≡ steps
+-- so many of the steps from the place s₀ at no node
+pub record Gone (q : Given) (n d steps : ℕ) (s₀ : Place) (w₀ leave₀ arrive₀ out₀ : List ℕ) (s : Place) (w leave arrive out : List ℕ) (number : ℕ) : Type 0 where
+  pub few : number ≤ steps
   pub sequence : StepsTo (pattern_in q) number (bit s.settled)
   pub long : length w ≡ length w₀
   pub leave_long : length leave ≡ length leave₀
@@ -418,11 +413,10 @@ pub record Gone (q : Given) (n d steps : ℕ) (s₀ : Place) (w₀ leave₀ arri
   pub at : (x : List ℕ) → At q n d x s₀ w₀ leave₀ arrive₀ → At q n d x s w leave arrive
 
 module _ {q : Given} {n d steps : ℕ} (s₀ : Place) {w₀ leave₀ arrive₀ out₀ : List ℕ} where
-  pub gone_none : s₀.settled ≡ 0 → Prepared n d w₀ leave₀ arrive₀ out₀ → Gone q n d steps s₀ w₀ leave₀ arrive₀ out₀ s₀ w₀ leave₀ arrive₀ out₀ steps
+  pub gone_none : s₀.settled ≡ 0 → Prepared n d w₀ leave₀ arrive₀ out₀ → Gone q n d steps s₀ w₀ leave₀ arrive₀ out₀ s₀ w₀ leave₀ arrive₀ out₀ 0
   gone_none z P =
       record {
-        number = 0;
-        count = zero-add steps;
+        few = omega arith;
         sequence = start (λ v l. same_test _ _ (λ h. absurd (none_has v (subst (λ (x : ℕ). Has x v) z h))) (λ h. absurd h));
         long = refl;
         leave_long = refl;
@@ -432,14 +426,13 @@ module _ {q : Given} {n d steps : ℕ} (s₀ : Place) {w₀ leave₀ arrive₀ o
         at = λ x a. a;
       }
 
-  module _ (s : Place) {w leave arrive out : List ℕ} {left : ℕ} (g : Gone q n d steps s₀ w₀ leave₀ arrive₀ out₀ s w leave arrive out left) where
-    pub gone_more : (c : ℕ) (s' : Place) {w' leave' arrive' out' : List ℕ} (less : ℕ) → less + 1 ≡ left → OneStep (pattern_in q) (bit s.settled) (bit (bit_or s.settled c))
-        → Stepped q n d c s w leave arrive out s' w' leave' arrive' out' → Gone q n d steps s₀ w₀ leave₀ arrive₀ out₀ s' w' leave' arrive' out' less
-    gone_more c s' less e o t =
+  module _ (s : Place) {w leave arrive out : List ℕ} {number : ℕ} (g : Gone q n d steps s₀ w₀ leave₀ arrive₀ out₀ s w leave arrive out number) where
+    pub gone_more : (c : ℕ) (s' : Place) {w' leave' arrive' out' : List ℕ} → number < steps → OneStep (pattern_in q) (bit s.settled) (bit (bit_or s.settled c))
+        → Stepped q n d c s w leave arrive out s' w' leave' arrive' out' → Gone q n d steps s₀ w₀ leave₀ arrive₀ out₀ s' w' leave' arrive' out' (number + 1)
+    gone_more c s' l o t =
         record {
-          number = suc g.number;
-          count = (let z = g.count in omega arith);
-          sequence = step g.sequence (subst (λ (x : ℕ). OneStep (pattern_in q) (bit s.settled) (bit x)) (sym t.settled) o);
+          few = omega arith;
+          sequence = subst (λ (k : ℕ). StepsTo (pattern_in q) k (bit s'.settled)) {x = suc number} {y = number + 1} (omega arith) (step g.sequence (subst (λ (x : ℕ). OneStep (pattern_in q) (bit s.settled) (bit x)) (sym t.settled) o));
           long = t.prepared.ends.long ∙ sym g.prepared.ends.long ∙ g.long;
           leave_long = t.leave_long ∙ g.leave_long;
           arrive_long = t.arrive_long ∙ g.arrive_long;
@@ -452,13 +445,12 @@ module _ {q : Given} {n d steps : ℕ} (s₀ : Place) {w₀ leave₀ arrive₀ o
     pub gone_all : ((u : ℕ) → u < q.nodes → Has s.settled u) → Going q n d steps s₀ w₀ leave₀ arrive₀ s.settled w
     gone_all all x a =
         let b = g.at x a in
-        record { number = g.number; most = (let y = g.count in omega arith); last = λ l. all; sequence = g.sequence; state = b.state; long = b.edges.long; pairs = b.edges.same }
+        record { number = number; most = g.few; last = λ l. all; sequence = g.sequence; state = b.state; long = b.edges.long; pairs = b.edges.same }
 
-    pub gone_end : left ≡ 0 → Going q n d steps s₀ w₀ leave₀ arrive₀ s.settled w
+    pub gone_end : steps ≤ number → Going q n d steps s₀ w₀ leave₀ arrive₀ s.settled w
     gone_end z x a =
         let b = g.at x a in
-        let y = g.count in
-        record { number = g.number; most = omega arith; last = λ l. absurd (omega arith); sequence = g.sequence; state = b.state; long = b.edges.long; pairs = b.edges.same }
+        record { number = number; most = g.few; last = λ l. absurd (omega arith); sequence = g.sequence; state = b.state; long = b.edges.long; pairs = b.edges.same }
 
 -- ---- with the pruning or without
 true_false : true ≡ false → ⊥

@@ -1,16 +1,18 @@
 -- Taking the candidates of a join: finding a code among ascending ones, by steps that double and by halving, and the walk over an ascending list.
 use mathlib.Core.Path.{◌≡◌, refl, ap, ◌∙◌, sym, subst}
 use mathlib.Core.Logic.{◌⊎◌, inl, inr, ⊎_elim}
-use mathlib.Core.List.{List, ◌∷◌}
-use Prim.Native.Nat.{ℕ, ◌≤◌, ◌<◌, ◌+◌, ◌-◌, ◌*◌, zero-le}
+use mathlib.Core.List.{List, ◌∷◌, ◌++◌}
+use Prim.Native.Nat.{ℕ, ◌≤◌, ◌<◌, ◌+◌, ◌-◌}
 use native.Mathlib.Omega.{arith}
-use lib.ListN.{length, get_or, set, length-set}
+use lib.ListN.{length, get_or, set, take, drop, replicate, length-set, length-append, length-take, length-drop, length-replicate}
 use lib.Seq.{get_or-set_same, get_or-set_other}
 use lib.Bits.{bit_or}
+use borrow.Rule.Slice.PartMut.{put_mid, post_of}
+use Rattle.std.proofs.lemmas.List.{get_or_append_left as get_or-append_left, get_or-append_right, get_or-take, get_or-drop, get_or-replicate}
 use Rattle.packed.specs.Order.{Outside}
 use Rattle.engine.specs.Loaded.{Edges}
 use Rattle.packed.specs.Distinct.{Increasing}
-use Rattle.packed.specs.Limits.{pair_width}
+use Rattle.packed.specs.Limits.{pair_width, pairs_most, workspace}
 use Rattle.packed.specs.Walks.{field_or, pair_place, codes_on}
 use Rattle.packed.proofs.OrderCases.{lt_or_ge, eq_or_ne}
 use Rattle.packed.proofs.DistinctLaws.{increasing_tail}
@@ -18,18 +20,33 @@ use Rattle.packed.proofs.DistinctMerge.{increasing_at}
 use Rattle.packed.proofs.Walks.{codes_none, codes_more}
 use Rattle.engine.specs.Lists.{In, here, there}
 use Rattle.engine.specs.Masks.{Has, Mask, OneOf}
-use Rattle.matching.specs.Candidates.{Pool, Beyond, PlaceIn, Walkable, Taken, Listing}
+use Rattle.matching.specs.Candidates.{Pool, Beyond, PlaceIn, Walkable, Blank, Taken, Listing}
 use Rattle.engine.proofs.ListLaws.{not_in_none, in_cases, in_cast}
 use Rattle.engine.proofs.MaskBits.{mask_cast, mask_self, or_left, or_right, or_cases}
 
 -- ---- the pool
-pub pool_less : {d n : ℕ} {w : List ℕ} → n ≤ d → Pool d w → Pool n w
-pool_less l p =
+-- zeros in the place of the d words from 8192 on
+pub blank_by : {d : ℕ} {w ys : List ℕ} → d ≤ pairs_most → length w ≡ workspace → ys ≡ replicate d 0 → Blank d w (put_mid 8192 (8192 + d - 8192) w ys)
+blank_by {d} {w} {ys} m l e =
+    let front : length (take 8192 w) ≡ 8192 = omega (arith, length-take 8192 w) in
+    let mid : length ys ≡ d = ap length e ∙ length-replicate d 0 in
+    let rest : List ℕ = post_of 8192 (8192 + d - 8192) w in
     record {
-      most = (let m = p.most in omega arith);
-      long = p.long;
-      small = λ i h. p.small i (omega arith);
-      rises = λ i j h k. p.rises i j h (omega arith);
+      around =
+          record {
+            long = omega (arith, length-append (take 8192 w) (ys ++ rest), length-append ys rest, length-drop (8192 + d - 8192) (drop 8192 w), length-drop 8192 w);
+            low = λ k h. get_or-append_left (take 8192 w) (ys ++ rest) 0 k (omega arith) ∙ get_or-take 8192 w k 0 h;
+            high = λ k h. get_or-append_right (take 8192 w) (ys ++ rest) 8192 k 0 front (omega arith)
+                ∙ get_or-append_right ys rest d (k - 8192) 0 mid (omega arith)
+                ∙ get_or-drop (8192 + d - 8192) (drop 8192 w) (k - 8192 - d) 0
+                ∙ get_or-drop 8192 w (8192 + d - 8192 + (k - 8192 - d)) 0
+                ∙ ap (λ (i : ℕ). get_or w i 0) (omega arith);
+          };
+      each = λ i h. get_or-append_right (take 8192 w) (ys ++ rest) 8192 (8192 + i) 0 front (omega arith)
+          ∙ ap (λ (j : ℕ). get_or (ys ++ rest) j 0) (let q : 8192 + i - 8192 ≡ i = omega arith in q)
+          ∙ get_or-append_left ys rest 0 i (omega arith)
+          ∙ ap (λ (l : List ℕ). get_or l i 0) e
+          ∙ get_or-replicate d i 0 0 h;
     }
 
 -- the words below 8192 stay where only those behind are written
@@ -140,24 +157,6 @@ pub record Taking (s : List ℕ) (first n x d : ℕ) (w₀ w : List ℕ) (i past
   pub rest : Walkable s (pair_place first past) (n - past) d w
   pub next : (c : ℕ) (l : List ℕ) → codes_on s first n past ≡ c ∷ l → (j : ℕ) → j < d → get_or w j 0 ≡ c → i ≤ j
   pub onward : (w' : List ℕ) → Taken d (ListingOn s first n past x) w w' → Taken d (Listing s first n x) w₀ w'
-
--- the pairs from the first one on are all
-all_on : (P : ℕ → ℕ → Type 0) {first n : ℕ} → P first n → P (pair_place first 0) (n - 0)
-all_on P {first} {n} p =
-    subst (λ (at : ℕ). P at (n - 0)) (let z : first ≡ first + pair_width * 0 = omega arith in z) (subst (P first) (let z : n ≡ n - 0 = omega arith in z) p)
-
-on_all : (P : ℕ → ℕ → Type 0) {first n : ℕ} → P (pair_place first 0) (n - 0) → P first n
-on_all P {first} {n} p =
-    subst (λ (at : ℕ). P at n) (let z : first + pair_width * 0 ≡ first = omega arith in z) (subst (P (pair_place first 0)) (let z : n - 0 ≡ n = omega arith in z) p)
-
-pub taking_start : {s : List ℕ} {first n x d : ℕ} {w : List ℕ} → Walkable s first n d w → Taking s first n x d w w 0 0
-taking_start {s} {first} {n} {x} {d} {w} t =
-    record {
-      upto = zero-le;
-      rest = all_on (λ at left. Walkable s at left d w) t;
-      next = λ c l e j h q. zero-le;
-      onward = λ w' k. on_all (λ at left. Taken d (Listing s at left x) w w') k;
-    }
 
 module _ {s : List ℕ} {first n x d : ℕ} {w₀ w : List ℕ} {i past : ℕ} (t : Taking s first n x d w₀ w i past) where
   pub taking_end : n ≤ past → Taken d (Listing s first n x) w₀ w

@@ -161,10 +161,6 @@ book_start s counts k t set m d w = record { upto = zero-le; begins = refl; take
 
 module _ {s counts : List ℕ} {k : ℕ} {t : List ℕ} {set m d : ℕ} {w₀ w : List ℕ} {at a : ℕ} (g : TakingBook s counts k t set m d w₀ w at a) where
   module _ (p : Booked s counts k d w₀) (l : a < k) where
-    -- the sheet a can be walked
-    pub book_sheet : SheetedAt s at (get_or counts a 0) d w
-    book_sheet = sheeted_keep (subst (λ (x : ℕ). SheetedAt s x (get_or counts a 0) d w₀) (sym g.begins) (p.each a l)) (edges_around g.taken.around)
-
     pub book_more : {r next : ℕ} {w' : List ℕ} → k ≤ length counts → ((e : ℕ) → e < r → (e < m) × Has set a) → ((e : ℕ) → e < m → Has set a → e < r)
         → next ≡ sheet_end s at (get_or counts a 0) → Taken d (SheetListingAt s at (get_or counts a 0) t a r) w w'
         → TakingBook s counts k t set m d w₀ w' next (a + 1)

@@ -1,7 +1,8 @@
 -- Asking "before a link enters the record", "which extracts' sheets it would change": what it answers.
-use Rattle.std.specs.Prelude.{ℕ, zero, suc, ◌+◌, ◌^◌, List, [], ◌∷◌, Bool, true, false, not, ◌&&◌, length, eqb}
+use Rattle.std.specs.Prelude.{ℕ, zero, suc, ◌+◌, ◌^◌, List, [], ◌∷◌, Bool, true, false, not, ◌&&◌, length, eqb, Result, Ok, Err}
 use Rattle.packed.specs.Format.{pick}
 use Rattle.packed.specs.Contents.{views_of}
+use Rattle.packed.specs.declared.reply.Refusal.{Refusal}
 use Rattle.packed.specs.Refusals.{Told, told, number_of, detail_of}
 use Rattle.packed.specs.Calls.{Outcome, give, judged, read_record}
 use Rattle.engine.specs.Simulation.{Pattern, Graph, graph_of, view_sheet}
@@ -9,8 +10,7 @@ use Rattle.matching.specs.Offered.{Brought, Offered, view_at, offered}
 use Rattle.matching.specs.Enter.{judge_link}
 use Rattle.matching.specs.declared.state.State.{State}
 use Rattle.matching.specs.declared.state.Link.{Link}
-use Rattle.matching.specs.declared.asking.Asked.{Asked}
-use Rattle.matching.specs.declared.asking.Asked.TheVariants as Asked-is
+use Rattle.matching.specs.declared.state.Slip.{Slip}
 
 -- whether two lists are the same
 unfoldable pub alike : List ℕ → List ℕ → Bool
@@ -50,7 +50,11 @@ ask_of o r s l = judged (read_record r) (λ rs. ask_for o rs s l)
 unfoldable pub ask_outcome : Brought → List ℕ → State → Link → Outcome
 ask_outcome c r s l = offered c (λ o. ask_of o r s l)
 
+-- the views as a set, and the slip; or the refusal
+abbrev pub Asked : Type 0
+Asked = Result (ℕ × Slip) Refusal
+
 -- what its result tells
 abbrev pub ask_told : Asked → Told
-ask_told (Asked-is.Done set p) = told 0 (set ∷ p.from ∷ p.to ∷ p.kind ∷ p.change ∷ [])
-ask_told (Asked-is.Refused x) = told (number_of x) (detail_of x ∷ [])
+ask_told (Ok (set, p)) = told 0 (set ∷ p.from ∷ p.to ∷ p.kind ∷ p.change ∷ [])
+ask_told (Err x) = told (number_of x) (detail_of x ∷ [])

@@ -11,7 +11,7 @@ use Rattle.matching.specs.Books.{bits_before}
 use Rattle.matching.specs.Ask.{changed_views, ask_of, ask_told}
 use Rattle.matching.specs.declared.state.State.{State}
 use Rattle.matching.specs.declared.state.Link.{Link}
-use Rattle.matching.specs.declared.asking.Asked.{Asked}
+use Rattle.matching.specs.Ask.{Asked}
 
 -- the mask x names one of so many edges whose bits begin at o, and none of their lists is empty, by the first d pairs of the workspace
 unfoldable pub listed_by : ℕ → ℕ → ℕ → List ℕ → ℕ → Bool

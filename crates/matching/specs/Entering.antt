@@ -1,15 +1,12 @@
 -- inner: what the parts of commit settle.
-use Rattle.std.specs.Prelude.{ℕ, ◌+◌, ◌<◌, ◌≡◌, List, [], ◌∷◌, length}
+use Rattle.std.specs.Prelude.{ℕ, ◌+◌, ◌<◌, ◌≡◌, List, [], ◌∷◌, length, Ok, Err}
 use Rattle.packed.specs.Format.{ok, decode}
 use Rattle.packed.specs.Formats.{record', rank}
 use Rattle.packed.specs.Contents.{edges_of, ranks}
 use Rattle.packed.specs.Entered.{edges_in, entered, MayEnter, lower}
 use Rattle.packed.specs.Refusals.{Told, number_of, detail_of}
 use Rattle.packed.specs.Calls.{Fulfils, accepted, rejected}
-use Rattle.packed.specs.declared.reply.Reply.{Reply}
-use Rattle.packed.specs.declared.reply.Reply.TheVariants as reply-is
-use Rattle.packed.specs.declared.reply.Both.{Both}
-use Rattle.packed.specs.declared.reply.Both.TheVariants as both_is
+use Rattle.packed.specs.Parts.{Reply, Both}
 use Rattle.matching.specs.Enter.{judge_link, give_both, commit_for}
 use Rattle.matching.specs.declared.entering.Answered.{Answered}
 use Rattle.matching.specs.declared.state.State.{State}
@@ -28,8 +25,8 @@ pub record Enters (links : ℕ) (ws : List ℕ) (l : Link) (at : ℕ) : Type 0 w
   pub behind : at ≡ lower (rank l.from l.to l.kind) (ranks (edges_in ws))
 
 abbrev pub LinkJudged : ℕ → List ℕ → Link → Reply → Type 0
-LinkJudged links ws l (reply-is.Done at) = Enters links ws l at
-LinkJudged links ws l (reply-is.Refused x) = judge_link links ws l ≡ rejected (number_of x) (detail_of x)
+LinkJudged links ws l (Ok at) = Enters links ws l at
+LinkJudged links ws l (Err x) = judge_link links ws l ≡ rejected (number_of x) (detail_of x)
 
 -- the record that the link enters and its index were written, or do not fit
 abbrev pub Written : List ℕ → Link → Told → List ℕ → List ℕ → List ℕ → List ℕ → Type 0
@@ -43,10 +40,10 @@ Entered s st p t out out' index index' =
 
 -- where both were written, both numbers can grow
 abbrev pub Counted : ℕ → ℕ → Both → Type 0
-Counted links change (both_is.Done a b) = (links < 8192) × (change < 4294967295)
-Counted links change (both_is.Refused x) = Unit {0}
+Counted links change (Ok (a, b)) = (links < 8192) × (change < 4294967295)
+Counted links change (Err x) = Unit {0}
 
 -- an answer, and the two numbers of the state after it
 abbrev pub answered_by : Both → State → Answered
-answered_by (both_is.Done a b) s = record { answer = both_is.Done a b; links = s.links + 1; change = s.change + 1 }
-answered_by (both_is.Refused x) s = record { answer = both_is.Refused x; links = s.links; change = s.change }
+answered_by (Ok (a, b)) s = record { answer = Ok (a, b); links = s.links + 1; change = s.change + 1 }
+answered_by (Err x) s = record { answer = Err x; links = s.links; change = s.change }

@@ -1,12 +1,13 @@
 -- What a client brings beside a question: a catalogue, and the set of those of its views that are matched one-way.
-use Rattle.std.specs.Prelude.{ℕ, zero, suc, ◌<◌, ◌≤◌, ◌≡◌, cond, ◌&&◌, List, [], length, get_or, leb, ltb}
+use Rattle.std.specs.Prelude.{ℕ, zero, suc, ◌<◌, ◌≤◌, ◌≡◌, cond, ◌&&◌, List, [], length, get_or, leb, ltb, Result, Ok, Err}
 use Rattle.packed.specs.Format.{pick}
 use Rattle.packed.specs.Contents.{views_of}
+use Rattle.packed.specs.declared.reply.Refusal.{Refusal}
+use Rattle.packed.specs.declared.accept.CatalogueFile.{CatalogueFile}
 use Rattle.packed.specs.Refusals.{number_of, detail_of}
-use Rattle.packed.specs.Accepting.{HoldsViews, NoViews}
+use Rattle.packed.specs.Accepting.{HoldsViews}
 use Rattle.packed.specs.Calls.{Outcome, refuse, Verdict, accepted, rejected, judged, read_catalogue}
-use Rattle.packed.specs.declared.reply.Reply.{Reply}
-use Rattle.packed.specs.declared.reply.Reply.TheVariants as reply-is
+use Rattle.packed.specs.Parts.{Reply}
 use Rattle.engine.specs.Lists.{up_to}
 use Rattle.engine.specs.Simulation.{bit, Rule, one_way, both_ways, Pattern, ruled, pattern_of}
 use Rattle.engine.specs.Masks.{Has}
@@ -78,8 +79,8 @@ offered c k = judged (read_catalogue c.file) (λ cs. with_set c.one_way cs k)
 
 -- what a set is told, beside k views
 abbrev pub SetJudged : ℕ → ℕ → Reply → Type 0
-SetJudged set k (reply-is.Done n) = judge_set set k ≡ accepted []
-SetJudged set k (reply-is.Refused x) = judge_set set k ≡ rejected (number_of x) (detail_of x)
+SetJudged set k (Ok n) = judge_set set k ≡ accepted []
+SetJudged set k (Err x) = judge_set set k ≡ rejected (number_of x) (detail_of x)
 
 -- a catalogue and its set were accepted: its k views, and the numbers of their edges
 pub record OfferTaken (c : Brought) (k : ℕ) (counts : List ℕ) : Type 0 where
@@ -88,7 +89,7 @@ pub record OfferTaken (c : Brought) (k : ℕ) (counts : List ℕ) : Type 0 where
   pub holds : HoldsViews fields k counts
   pub named : judge_set c.one_way (length (views_of fields)) ≡ accepted []
 
--- or what every call refuses, and then there are no views
-abbrev pub OfferTo : Brought → ℕ → List ℕ → Reply → Type 0
-OfferTo c k counts (reply-is.Done n) = OfferTaken c k counts
-OfferTo c k counts (reply-is.Refused x) = ((f : Offered → Outcome) → offered c f ≡ refuse (number_of x) (detail_of x)) × NoViews k counts
+-- or what every call refuses
+abbrev pub OfferTo : Brought → Result CatalogueFile Refusal → Type 0
+OfferTo c (Ok f) = OfferTaken c f.views f.edges
+OfferTo c (Err x) = (f : Offered → Outcome) → offered c f ≡ refuse (number_of x) (detail_of x)

@@ -7,18 +7,13 @@ ghost use Rattle.matching.specs.Ask.{ask_outcome, ask_told};
 ghost use Rattle.matching.specs.Asking.{listed_in, set_from, ListsBy, ChangedBy, AskAnswered};
 
 use crate::state::{Link, Slip, State};
-use crate::{batches, calls, entering, offered, sets};
+use crate::{batches, entering, offered, sets};
 use engine::matched;
-use packed::graph::Graph;
-use packed::reply::{Refusal, Reply};
+use packed::reply::Refusal;
 use packed::{enter, graph, limits, matches};
 
 // The views whose lists the link would change, as a set, and the slip; or why there is no answer.
-#[derive(Clone, Copy)]
-pub enum Asked {
-    Done(u16, Slip),
-    Refused(Refusal),
-}
+pub type Asked = Result<(u16, Slip), Refusal>;
 
 // Those of a batch of views, a up to b, that list a pair with the mask x, where `named` has the edges that some mask names: one of the view's edges has
 // the pair, and none of its lists is empty.
@@ -28,14 +23,12 @@ fn views_with(x: u32, named: u32, edges: [u32; 16], a: usize, b: usize) -> u32
 {
     let mut set: u32 = 0;
     let mut o: u32 = 0;
-    let mut j: usize = a;
-    while j < b {
+    for j in a..b {
         let own = edges[j];
         let has = matches::bits_from(x, o, own);
         let full = matches::lists_all(named, o, own);
         set += sets::only_if((has != 0) & full, j);
         o += own;
-        j += 1;
     }
     set
 }
@@ -69,12 +62,13 @@ fn changed_views(
     requires { Bookable catalogue.now k edges «record».now n m work.old × (at < m) }
     ensures { ChangedBy catalogue.now one_way «record».now n m work.old at result × (result < 65536) }
 {
-    let mut leave = calls::no_words();
-    let mut arrive = calls::no_words();
-    let mut held = calls::no_words();
+    let mut leave = [0u32; 4096];
+    let mut arrive = [0u32; 4096];
+    let mut held = [0u32; 4096];
     let mut set: u32 = 0;
     let mut byte: usize = 1;
     let mut a: usize = 0;
+    // No for loop: a turn goes on by as many views as its batch has.
     while a < k {
         let f = batches::fill(catalogue, one_way, k, edges, a, byte);
         matched::match_batch(
@@ -82,6 +76,7 @@ fn changed_views(
             n,
             m,
             f.batch,
+            None,
             work,
             &mut leave,
             &mut arrive,
@@ -109,37 +104,17 @@ fn ask_of(
     requires { (length work.old ≡ 16384) × Catalogued catalogue.now k × EdgesCounted catalogue.now k edges }
     ensures { AskAnswered catalogue.now one_way «record».now state link result }
 {
-    let g = graph::load_record(record, work);
-    match g {
-        Graph::Of(n, m) => {
-            let verdict = entering::judge(state.links, link, n, m, work);
-            match verdict {
-                Reply::Done(at) => {
-                    enter::put_edge(work, m, at, link.from, link.to, link.kind);
-                    let set = changed_views(
-                        catalogue,
-                        one_way,
-                        k,
-                        edges,
-                        record,
-                        n,
-                        m + 1,
-                        at,
-                        work,
-                    );
-                    let slip = Slip {
-                        from: link.from,
-                        to: link.to,
-                        kind: link.kind,
-                        change: state.change,
-                    };
-                    Asked::Done(set as u16, slip)
-                }
-                Reply::Refused(x) => Asked::Refused(x),
-            }
-        }
-        Graph::Refused(x) => Asked::Refused(x),
-    }
+    let (n, m) = graph::load_record(record, work)?;
+    let at = entering::judge(state.links, link, n, m, work)?;
+    enter::put_edge(work, m, at, link.from, link.to, link.kind);
+    let set = changed_views(catalogue, one_way, k, edges, record, n, m + 1, at, work);
+    let slip = Slip {
+        from: link.from,
+        to: link.to,
+        kind: link.kind,
+        change: state.change,
+    };
+    Ok((set as u16, slip))
 }
 
 pub fn ask(
@@ -153,11 +128,7 @@ pub fn ask(
     requires { length work.old ≡ 16384 }
     ensures { Fulfils [] (ask_outcome (brings catalogue.now one_way) «record».now state link) (ask_told result) [] [] }
 {
-    let f = offered::accept_offer(catalogue, one_way, work);
-    let verdict = f.verdict;
-    if let Reply::Refused(x) = verdict {
-        return Asked::Refused(x);
-    }
+    let f = offered::accept_offer(catalogue, one_way, work)?;
     let edges = f.edges;
     ask_of(
         catalogue, one_way, f.views, edges, record, state, link, work,

@@ -36,8 +36,7 @@ pub fn fill(
 {
     let mut b = batch::none();
     let mut at = byte;
-    let mut next = a;
-    while next < k {
+    for next in a..k {
         if EDGES < b.edges + edges[next] as usize {
             return Filled {
                 batch: b,
@@ -57,11 +56,10 @@ pub fn fill(
         let both = offered::is_both(one_way, next);
         b = batch::add(b, p, both);
         at = v.next;
-        next += 1;
     }
     Filled {
         batch: b,
-        next,
+        next: k,
         byte: at,
     }
 }

@@ -1,76 +1,72 @@
 // The client calls with room to work in: 16,384 words, which are left in any state.
-ghost use Rattle.std.specs.Prelude.{◌≡◌, ℕ, ◌+◌, ◌<◌, ◌≤◌, length, get_or, replicate};
+// The numbers of edges are sixteen with the number k of views beside them, as they come with an accepted catalogue: nothing is allocated.
+ghost use Rattle.std.specs.Prelude.{◌≡◌, ℕ, ◌+◌, ◌^◌, ◌<◌, ◌≤◌, length, get_or, sum};
 ghost use Rattle.packed.specs.Refusals.{reply_told};
 ghost use Rattle.packed.specs.Calls.{FulfilsOne};
-ghost use Rattle.packed.specs.Matches.{sum_of, Marked, Counts};
+ghost use Rattle.packed.specs.Matches.{Marked, Counts};
 ghost use Rattle.engine.specs.Loaded.{pattern_in, Fair, Ready};
 ghost use Rattle.engine.specs.Starting.{NodeRoom};
 ghost use Rattle.engine.specs.Matched.{Proper, Rises};
 ghost use Rattle.engine.specs.Batches.{FairBatch, BatchMatched};
 ghost use Rattle.matching.specs.Batches.{BeginsAt};
-ghost use Rattle.matching.specs.Search.{search_for, search_outcome, make_book_outcome};
+ghost use Rattle.matching.specs.Search.{make_book_outcome};
+ghost use Rattle.matching.specs.Index.{search_by, search_by_outcome};
 ghost use Rattle.matching.specs.Offered.{brings};
 ghost use Rattle.matching.specs.Books.{Catalogued, EdgesCounted, Bookable, Batched, lists_at, sheets_from, SizesKept, SizesFrom, Sized, ListNothing, Paired, SheetsWritten, Room, BookFits, BookWritten, BookGiven, BookAnswered};
 
 use crate::{batches, offered};
 use engine::batch::Batch;
-use engine::matched;
+use engine::{index, matched};
 use packed::by_value::Pattern;
-use packed::graph::Graph;
 use packed::reply::{Refusal, Reply};
 use packed::{accept, graph, limits, matches};
 
-// A word for each node that a record can have.
-pub fn no_words() -> [u32; 4096]
-    ensures { result ≡ replicate 4096 0 }
-{
-    [0u32; 4096]
-}
-
-// Searches a record for a pattern by value.
-fn search_for(p: Pattern, record: &[u8], out: &mut [u8], work: &mut [u32]) -> Reply
+// Searches a record for a pattern by value, by the record's index if there is one.
+fn search_for(
+    p: Pattern,
+    record: &[u8],
+    index: Option<&[u16]>,
+    out: &mut [u8],
+    work: &mut [u32],
+) -> Reply
     requires { (length work.old ≡ 16384) × Fair p × Proper p }
-    ensures { FulfilsOne (search_for (pattern_in p) «record».now (length out.old)) (reply_told result) out.old out.new }
+    ensures { FulfilsOne (search_by (pattern_in p) «record».now index.entry (length out.old)) (reply_told result) out.old out.new }
 {
-    let g = graph::load_record(record, work);
-    match g {
-        Graph::Of(n, m) => {
-            let mut leave = no_words();
-            let mut arrive = no_words();
-            let mut held = no_words();
-            matched::match_edges(
-                record,
-                n,
-                m,
-                p,
-                true,
-                work,
-                &mut leave,
-                &mut arrive,
-                &mut held,
-            );
-            matches::give_sheet(work, m, p.edges as u32, out)
-        }
-        Graph::Refused(x) => Reply::Refused(x),
+    let (n, m) = graph::load_record(record, work)?;
+    if let Some(first) = index {
+        index::judge(work, m, n, first)?;
     }
+    let mut leave = [0u32; 4096];
+    let mut arrive = [0u32; 4096];
+    let mut held = [0u32; 4096];
+    matched::match_edges(
+        record,
+        n,
+        m,
+        p,
+        true,
+        index,
+        work,
+        &mut leave,
+        &mut arrive,
+        &mut held,
+    );
+    matches::give_sheet(work, m, p.edges as u32, out)
 }
 
-pub fn search(pattern: &[u8], record: &[u8], out: &mut [u8], work: &mut [u32]) -> Reply
+// Searches a record for a pattern, by the record's index if there is one.
+pub fn search(
+    pattern: &[u8],
+    record: &[u8],
+    index: Option<&[u16]>,
+    out: &mut [u8],
+    work: &mut [u32],
+) -> Reply
     requires { length work.old ≡ 16384 }
-    ensures { FulfilsOne (search_outcome pattern.now «record».now (length out.old)) (reply_told result) out.old out.new }
+    ensures { FulfilsOne (search_by_outcome pattern.now «record».now index.entry (length out.old)) (reply_told result) out.old out.new }
 {
-    let f = accept::accept_pattern(pattern, work);
-    let verdict = f.verdict;
-    let Reply::Done(_) = verdict else {
-        return verdict;
-    };
-    search_for(f.pattern, record, out, work)
-}
-
-fn no_sizes() -> [usize; 16]
-    ensures { result ≡ replicate 16 0 }
-{
-    [0usize; 16]
+    let f = accept::accept_pattern(pattern, work)?;
+    search_for(f.pattern, record, index, out, work)
 }
 
 // The sizes of the sheets of a batch, of the views a up to b, by the counts of its pairs.
@@ -79,12 +75,10 @@ fn keep_sizes(c: [u32; 32], edges: [u32; 16], a: usize, b: usize, sizes: &mut [u
     ensures { SizesKept edges a b c sizes.old sizes.new }
 {
     let mut o: u32 = 0;
-    let mut j: usize = a;
-    while j < b {
+    for j in a..b {
         let own = edges[j];
         sizes[j] = matches::size_from(c, o, own);
         o += own;
-        j += 1;
     }
 }
 
@@ -106,7 +100,7 @@ fn match_sizes(
     requires { FairBatch batch × Ready «record».now n m work.old × Rises m work.old × NodeRoom n leave.old arrive.old held.old × Batched edges a b × (length sizes.old ≡ 16) }
     ensures { BatchMatched batch «record».now n m work.old work.new × NodeRoom n leave.new arrive.new held.new × Counts m work.new result × SizesKept edges a b result sizes.old sizes.new }
 {
-    matched::match_batch(record, n, m, batch, work, leave, arrive, held);
+    matched::match_batch(record, n, m, batch, None, work, leave, arrive, held);
     let c = matches::counts(work, m);
     keep_sizes(c, edges, a, b, sizes);
     c
@@ -134,6 +128,7 @@ fn book_sizes(
 {
     let mut byte: usize = begin;
     let mut a: usize = first;
+    // No for loop: a turn goes on by as many views as its batch has.
     while a < k {
         let f = batches::fill(catalogue, one_way, k, edges, a, byte);
         match_sizes(
@@ -144,18 +139,12 @@ fn book_sizes(
     }
 }
 
-// The first k sizes together.
-fn total(sizes: [usize; 16], k: usize) -> usize
-    requires { (k ≤ 16) × ((j : ℕ) → j < k → get_or sizes j 0 ≤ 786489) }
-    ensures { result ≡ sum_of k sizes }
+// The sizes together.
+fn total(sizes: &[usize]) -> usize
+    requires { sum sizes.now < 2 ^ 64 }
+    ensures { result ≡ sum sizes.now }
 {
-    let mut size: usize = 0;
-    let mut a: usize = 0;
-    while a < k {
-        size += sizes[a];
-        a += 1;
-    }
-    size
+    sizes.iter().sum()
 }
 
 // Whether the sheets of the views a up to b list nothing, by their sizes.
@@ -163,13 +152,7 @@ fn list_nothing(sizes: [usize; 16], a: usize, b: usize) -> bool
     requires { b ≤ 16 }
     ensures { ListNothing sizes a b result }
 {
-    let mut nothing = true;
-    let mut j: usize = a;
-    while j < b {
-        nothing = nothing & (sizes[j] == 1);
-        j += 1;
-    }
-    nothing
+    (a..b).all(|j| sizes[j] == 1)
 }
 
 // The batch is matched again, and the result is how many pairs its sheets are written from. Sheets that list nothing are written from none, and need no
@@ -191,7 +174,7 @@ fn match_again(
     if nothing {
         return 0;
     }
-    matched::match_batch(record, n, m, batch, work, leave, arrive, held);
+    matched::match_batch(record, n, m, batch, None, work, leave, arrive, held);
     m
 }
 
@@ -212,12 +195,10 @@ fn write_sheets(
 {
     let mut at: usize = begin;
     let mut o: u32 = 0;
-    let mut j: usize = a;
-    while j < b {
+    for j in a..b {
         let own = edges[j];
         at += matches::write_from(work, d, c, o, own, &mut out[at..]);
         o += own;
-        j += 1;
     }
     at
 }
@@ -248,6 +229,7 @@ fn write_book(
     let mut at: usize = start;
     let mut byte: usize = begin;
     let mut a: usize = first;
+    // No for loop: a turn goes on by as many views as its batch has.
     while a < k {
         let f = batches::fill(catalogue, one_way, k, edges, a, byte);
         let nothing = list_nothing(sizes, a, f.next);
@@ -277,12 +259,12 @@ fn book_of(
     ensures { BookGiven catalogue.now one_way «record».now n m work.old (reply_told result) out.old out.new }
 {
     if k == 0 {
-        return Reply::Done(0);
+        return Ok(0);
     }
-    let mut leave = no_words();
-    let mut arrive = no_words();
-    let mut held = no_words();
-    let mut sizes = no_sizes();
+    let mut leave = [0u32; 4096];
+    let mut arrive = [0u32; 4096];
+    let mut held = [0u32; 4096];
+    let mut sizes = [0usize; 16];
     let f = batches::fill(catalogue, one_way, k, edges, 0, 1);
     book_sizes(
         catalogue,
@@ -314,9 +296,9 @@ fn book_of(
         &mut arrive,
         &mut held,
     );
-    let size = total(sizes, k);
+    let size = total(&sizes[..k]);
     if (out.len() < size) | (limits::BOOK_MOST < size) {
-        return Reply::Refused(Refusal::NoRoom(size));
+        return Err(Refusal::NoRoom(size));
     }
     let at = write_sheets(work, m, c, edges, 0, f.next, 0, out);
     write_book(
@@ -337,7 +319,7 @@ fn book_of(
         &mut arrive,
         &mut held,
     );
-    Reply::Done(size)
+    Ok(size)
 }
 
 // Makes the book of the k views of an accepted catalogue, which have so many edges.
@@ -353,11 +335,8 @@ fn make_book_of(
     requires { (length work.old ≡ 16384) × Catalogued catalogue.now k × EdgesCounted catalogue.now k edges }
     ensures { BookAnswered catalogue.now one_way «record».now (reply_told result) out.old out.new }
 {
-    let g = graph::load_record(record, work);
-    match g {
-        Graph::Of(n, m) => book_of(catalogue, one_way, k, edges, record, n, m, out, work),
-        Graph::Refused(x) => Reply::Refused(x),
-    }
+    let (n, m) = graph::load_record(record, work)?;
+    book_of(catalogue, one_way, k, edges, record, n, m, out, work)
 }
 
 pub fn make_book(
@@ -370,11 +349,7 @@ pub fn make_book(
     requires { length work.old ≡ 16384 }
     ensures { FulfilsOne (make_book_outcome (brings catalogue.now one_way) «record».now (length out.old)) (reply_told result) out.old out.new }
 {
-    let f = offered::accept_offer(catalogue, one_way, work);
-    let verdict = f.verdict;
-    let Reply::Done(_) = verdict else {
-        return verdict;
-    };
+    let f = offered::accept_offer(catalogue, one_way, work)?;
     let edges = f.edges;
     make_book_of(catalogue, one_way, f.views, edges, record, out, work)
 }

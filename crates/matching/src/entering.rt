@@ -10,9 +10,7 @@ ghost use Rattle.matching.specs.Entering.{LinkJudged, Written, Entered, Counted,
 
 use crate::state::{Link, Slip};
 use engine::index;
-use packed::enter::Place;
-use packed::graph::Graph;
-use packed::reply::{Both, Refusal, Reply};
+use packed::reply::{Both, File, Refusal, Reply};
 use packed::{enter, graph, limits, workspace};
 
 // The change number that no other follows.
@@ -33,23 +31,23 @@ pub fn judge(links: u32, link: Link, n: usize, m: usize, work: &[u32]) -> Reply
     ensures { (s : List ℕ) (h : Holds s n m work.now) → LinkJudged links h.fields link result }
 {
     if links as usize != m {
-        return Reply::Refused(Refusal::OutOfRange(3));
+        return Err(Refusal::OutOfRange(File::Record));
     }
     let nodes = n as u32;
     if (nodes <= link.from) | (nodes <= link.to) {
-        return Reply::Refused(Refusal::NoSuchNode(3));
+        return Err(Refusal::NoSuchNode(File::Record));
     }
     if limits::KINDS <= link.kind {
-        return Reply::Refused(Refusal::OutOfRange(3));
+        return Err(Refusal::OutOfRange(File::Record));
     }
     let p = enter::find_place(work, m, link.from, link.to, link.kind);
-    let Place::Behind(at) = p else {
-        return Reply::Refused(Refusal::NotAscending(3));
+    let Some(at) = p else {
+        return Err(Refusal::NotAscending(File::Record));
     };
     if limits::EDGES_MOST <= m {
-        return Reply::Refused(Refusal::OutOfRange(3));
+        return Err(Refusal::OutOfRange(File::Record));
     }
-    Reply::Done(at)
+    Ok(at)
 }
 
 // The record that a link enters behind so many edges, and its index, if both fit.
@@ -69,15 +67,15 @@ fn write_both(
     let more = m + 1;
     let size = enter::record_size(n, more);
     if out.len() < size {
-        return Both::Refused(Refusal::NoRoom(size));
+        return Err(Refusal::NoRoom(size));
     }
     let entries = n + 1;
     if index_out.len() < entries {
-        return Both::Refused(Refusal::NoRoom(entries));
+        return Err(Refusal::NoRoom(entries));
     }
     enter::write_entered(record, n, m, at, link.from, link.to, link.kind, out, work);
     index::firsts(work, more, n, index_out);
-    Both::Done(size, entries)
+    Ok((size, entries))
 }
 
 // The slip's link enters the record, whose words stand in the workspace.
@@ -96,21 +94,18 @@ fn enter_slip(
     ensures { Entered «record».now (state_of links change) slip (both_told result) out.old out.new index_out.old index_out.new × Counted links change result }
 {
     if slip.change != change {
-        return Both::Refused(Refusal::OldSlip(change as usize));
+        return Err(Refusal::OldSlip(change as usize));
     }
     if change == CHANGE_MOST {
-        return Both::Refused(Refusal::LastChange(change as usize));
+        return Err(Refusal::LastChange(change as usize));
     }
     let link = Link {
         from: slip.from,
         to: slip.to,
         kind: slip.kind,
     };
-    let verdict = judge(links, link, n, m, work);
-    match verdict {
-        Reply::Done(at) => write_both(record, n, m, at, link, out, index_out, work),
-        Reply::Refused(x) => Both::Refused(x),
-    }
+    let at = judge(links, link, n, m, work)?;
+    write_both(record, n, m, at, link, out, index_out, work)
 }
 
 fn enter_record(
@@ -125,11 +120,8 @@ fn enter_record(
     requires { length work.old ≡ 16384 }
     ensures { Fulfils [] (commit_outcome «record».now (state_of links change) slip (length out.old) (length index_out.old)) (both_told result) (out.old ∷ index_out.old ∷ []) (out.new ∷ index_out.new ∷ []) × Counted links change result }
 {
-    let g = graph::load_record(record, work);
-    match g {
-        Graph::Of(n, m) => { enter_slip(record, n, m, links, change, slip, out, index_out, work) }
-        Graph::Refused(x) => Both::Refused(x),
-    }
+    let (n, m) = graph::load_record(record, work)?;
+    enter_slip(record, n, m, links, change, slip, out, index_out, work)
 }
 
 // The two numbers after an answer.
@@ -138,12 +130,12 @@ fn after(answer: Both, links: u32, change: u32) -> Answered
     ensures { result ≡ answered_by answer (state_of links change) }
 {
     match answer {
-        Both::Done(_, _) => Answered {
+        Ok(_) => Answered {
             answer,
             links: links + 1,
             change: change + 1,
         },
-        Both::Refused(_) => Answered {
+        Err(_) => Answered {
             answer,
             links,
             change,
@@ -164,7 +156,7 @@ pub fn commit(
     ensures { Commits «record».now (state_of links change) slip (both_told result.answer) (state_of result.links result.change) out.old out.new index_out.old index_out.new work.old work.new }
 {
     if work.len() < limits::WORKSPACE {
-        return after(Both::Refused(Refusal::SmallWorkspace), links, change);
+        return after(Err(Refusal::SmallWorkspace), links, change);
     }
     let r = enter_record(
         record,

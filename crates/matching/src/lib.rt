@@ -31,16 +31,27 @@ use state::{Link, Slip, State};
 // How many words of the workspace a call leaves zero.
 const CLEARED: usize = limits::WORKSPACE;
 
+// The call is lent the words to work in, and these are cleared behind it; without enough of them it is refused.
+macro_rules! lent {
+    ($work:ident, $small:expr, $call:expr) => {{
+        if $work.len() < limits::WORKSPACE {
+            return $small;
+        }
+        let r = $call;
+        workspace::clear($work, CLEARED);
+        r
+    }};
+}
+
 // Searches a record for a pattern: writes the pattern's sheet.
 pub fn search(pattern: &[u8], record: &[u8], out: &mut [u8], work: &mut [u32]) -> Reply
     ensures { OneOutput (search_outcome pattern.now «record».now) (reply_told result) out.old out.new work.old work.new }
 {
-    if work.len() < limits::WORKSPACE {
-        return Reply::Refused(Refusal::SmallWorkspace);
-    }
-    let r = calls::search(pattern, record, out, &mut work[0..limits::WORKSPACE]);
-    workspace::clear(work, CLEARED);
-    r
+    lent!(
+        work,
+        Err(Refusal::SmallWorkspace),
+        calls::search(pattern, record, None, out, &mut work[0..limits::WORKSPACE])
+    )
 }
 
 // Makes the book of a catalogue from a record: writes a sheet for each view, one-way for those in the set, the bit worth 2^j for view j.
@@ -53,42 +64,39 @@ pub fn make_book(
 ) -> Reply
     ensures { OneOutput (make_book_outcome (brings catalogue.now one_way) «record».now) (reply_told result) out.old out.new work.old work.new }
 {
-    if work.len() < limits::WORKSPACE {
-        return Reply::Refused(Refusal::SmallWorkspace);
-    }
-    let r = calls::make_book(
-        catalogue,
-        one_way as u32,
-        record,
-        out,
-        &mut work[0..limits::WORKSPACE],
-    );
-    workspace::clear(work, CLEARED);
-    r
+    lent!(
+        work,
+        Err(Refusal::SmallWorkspace),
+        calls::make_book(
+            catalogue,
+            one_way as u32,
+            record,
+            out,
+            &mut work[0..limits::WORKSPACE],
+        )
+    )
 }
 
 // Makes the index of a record: for each node how many edges begin at lower ones, and then how many there are.
 pub fn make_index(record: &[u8], out: &mut [u16], work: &mut [u32]) -> Reply
     ensures { OneOutput (make_index_outcome «record».now) (reply_told result) out.old out.new work.old work.new }
 {
-    if work.len() < limits::WORKSPACE {
-        return Reply::Refused(Refusal::SmallWorkspace);
-    }
-    let r = indexed::make(record, out, &mut work[0..limits::WORKSPACE]);
-    workspace::clear(work, CLEARED);
-    r
+    lent!(
+        work,
+        Err(Refusal::SmallWorkspace),
+        indexed::make(record, out, &mut work[0..limits::WORKSPACE])
+    )
 }
 
 // Checks that an index is the record's own: how many entries it has.
 pub fn check_index(record: &[u8], index: &[u16], work: &mut [u32]) -> Reply
     ensures { Settled [] (with_workspace (length work.old) (check_index_outcome «record».now index.now)) (reply_told result) [] [] work.old work.new }
 {
-    if work.len() < limits::WORKSPACE {
-        return Reply::Refused(Refusal::SmallWorkspace);
-    }
-    let r = indexed::check(record, index, &mut work[0..limits::WORKSPACE]);
-    workspace::clear(work, CLEARED);
-    r
+    lent!(
+        work,
+        Err(Refusal::SmallWorkspace),
+        indexed::check(record, index, &mut work[0..limits::WORKSPACE])
+    )
 }
 
 // Searches a record for a pattern by the record's own index: writes the pattern's sheet.
@@ -101,12 +109,17 @@ pub fn search_indexed(
 ) -> Reply
     ensures { OneOutput (search_indexed_outcome pattern.now «record».now index.now) (reply_told result) out.old out.new work.old work.new }
 {
-    if work.len() < limits::WORKSPACE {
-        return Reply::Refused(Refusal::SmallWorkspace);
-    }
-    let r = indexed::search(pattern, record, index, out, &mut work[0..limits::WORKSPACE]);
-    workspace::clear(work, CLEARED);
-    r
+    lent!(
+        work,
+        Err(Refusal::SmallWorkspace),
+        calls::search(
+            pattern,
+            record,
+            Some(index),
+            out,
+            &mut work[0..limits::WORKSPACE]
+        )
+    )
 }
 
 // Asks which views' lists a link would change, before it enters a record, each view by its own rule: answers the set of those views, the bit worth 2^j for
@@ -121,19 +134,18 @@ pub fn ask(
 ) -> Asked
     ensures { Settled [] (with_workspace (length work.old) (ask_outcome (brings catalogue.now one_way) «record».now state link)) (ask_told result) [] [] work.old work.new }
 {
-    if work.len() < limits::WORKSPACE {
-        return Asked::Refused(Refusal::SmallWorkspace);
-    }
-    let r = asking::ask(
-        catalogue,
-        one_way as u32,
-        record,
-        state,
-        link,
-        &mut work[0..limits::WORKSPACE],
-    );
-    workspace::clear(work, CLEARED);
-    r
+    lent!(
+        work,
+        Err(Refusal::SmallWorkspace),
+        asking::ask(
+            catalogue,
+            one_way as u32,
+            record,
+            state,
+            link,
+            &mut work[0..limits::WORKSPACE],
+        )
+    )
 }
 
 // Enters the link of a slip into a record: writes the record with it and the index of that, and counts on both numbers of the state, which it alone is lent.

@@ -24,12 +24,10 @@ fn first_stray(set: u32, k: usize) -> usize
     requires { k ≤ 16 }
     ensures { result ≡ first_stray set k 16 }
 {
-    let mut a: usize = k;
-    while a < MOST {
+    for a in k..MOST {
         if sets::is_in(set, a) {
             return a;
         }
-        a += 1;
     }
     MOST
 }
@@ -41,24 +39,21 @@ pub fn judge_set(set: u32, k: usize) -> Reply
 {
     let stray = first_stray(set, k);
     if stray < MOST {
-        return Reply::Refused(Refusal::WrongSet(stray));
+        return Err(Refusal::WrongSet(stray));
     }
-    Reply::Done(0)
+    Ok(0)
 }
 
 // The catalogue is judged, then the set.
-pub fn accept_offer(catalogue: &[u8], one_way: u32, work: &mut [u32]) -> CatalogueFile
+pub fn accept_offer(
+    catalogue: &[u8],
+    one_way: u32,
+    work: &mut [u32],
+) -> Result<CatalogueFile, Refusal>
     requires { length work.old ≡ 16384 }
-    ensures { OfferTo (brings catalogue.now one_way) result.views result.edges result.verdict }
+    ensures { OfferTo (brings catalogue.now one_way) result }
 {
-    let f = accept::accept_catalogue(catalogue, work);
-    let verdict = f.verdict;
-    let Reply::Done(_) = verdict else {
-        return f;
-    };
-    let named = judge_set(one_way, f.views);
-    let Reply::Done(_) = named else {
-        return accept::without_views(named);
-    };
-    f
+    let f = accept::accept_catalogue(catalogue, work)?;
+    judge_set(one_way, f.views)?;
+    Ok(f)
 }

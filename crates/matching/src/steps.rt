@@ -1,6 +1,6 @@
 // The join by steps, from the ends inward: a step settles the links that leave one component of the query, after those of all that it leads to. What the steps
 // leave is then pruned both ways. Workspace: the d pairs from word 0 on, and from 8192 on for each the links that it is held for.
-ghost use Rattle.std.specs.Prelude.{◌≡◌, ℕ, ◌<◌, ◌≤◌, length, replicate};
+ghost use Rattle.std.specs.Prelude.{◌≡◌, ℕ, ◌<◌, ◌≤◌, length};
 ghost use Rattle.std.specs.Int.Bits.{bit_and, bit_or};
 ghost use Rattle.engine.specs.Simulation.{bit};
 ghost use Rattle.engine.specs.Loaded.{Fair, pattern_in};
@@ -11,9 +11,9 @@ ghost use Rattle.matching.specs.Components.{OneStep, Ran, Pruned};
 ghost use Rattle.matching.specs.Stepping.{PairsTaken, LooseLinks, Fresh, Started, Stepped, AllReached, AllComponents, Going, RanPruned, Tried};
 
 use crate::components;
+use engine::sweeps::{Rule, Tables};
 use engine::{link_tables, sweeps};
 use packed::by_value::Pattern;
-use packed::reply::Reply;
 use packed::{accept, limits};
 
 // What is settled: the nodes, the links that aren't, and those of them for which a pair may be held that its ends don't allow.
@@ -24,23 +24,14 @@ pub struct Place {
     pub loose: u32,
 }
 
-// a, or b if that is greater.
-fn greater(a: u32, b: u32) -> u32
-    ensures { (a ≤ result) × (b ≤ result) × ((n : ℕ) → a < n → b < n → result < n) }
-{
-    if a < b { b } else { a }
-}
-
 // The greatest node where one of d pairs ends; 0 if there is none.
 fn last_end(work: &[u32], d: usize) -> u32
     requires { d ≤ length work.now }
     ensures { (result < 4096) × ((i : ℕ) → i < d → to_of work.now i ≤ result) × ((k : ℕ) → ((i : ℕ) → i < d → to_of work.now i ≤ k) → result ≤ k) }
 {
     let mut r: u32 = 0;
-    let mut i: usize = 0;
-    while i < d {
-        r = greater(r, work[i] % limits::NODES);
-        i += 1;
+    for i in 0..d {
+        r = r.max(work[i] % limits::NODES);
     }
     r
 }
@@ -56,7 +47,7 @@ fn nodes(work: &[u32], d: usize) -> usize
     let last = d - 1;
     let f = work[last] / limits::NODES;
     let t = last_end(work, d);
-    greater(f, t) as usize + 1
+    f.max(t) as usize + 1
 }
 
 // The links for which a pair is held that its ends don't allow.
@@ -65,16 +56,13 @@ fn loose(work: &[u32], d: usize, leave: &[u32], arrive: &[u32]) -> u32
     ensures { LooseLinks d work.now leave.now arrive.now result }
 {
     let mut r: u32 = 0;
-    let mut i: usize = 0;
-    while i < d {
+    for i in 0..d {
         let x = work[i];
         let f = (x / limits::NODES % limits::NODES) as usize;
         let t = (x % limits::NODES) as usize;
-        let at = limits::HELD + i;
-        let held = work[at];
+        let held = work[limits::HELD + i];
         let both = leave[f] & arrive[t];
-        r = r | held ^ (held & both);
-        i += 1;
+        r |= held ^ (held & both);
     }
     r
 }
@@ -132,9 +120,14 @@ pub fn step(
             loose: place.loose,
         };
     }
-    engine::engine::rest(
-        work, d, n, leave, arrive, held, free, due, 0, leaving, arriving, leaving, arriving,
-    );
+    let rule = Rule { free, due, back: 0 };
+    let tables = Tables {
+        leaving,
+        arriving,
+        ending: leaving,
+        starting: arriving,
+    };
+    engine::engine::rest(work, d, n, None, leave, arrive, held, rule, &tables);
     let more = place.loose | sweeps::look_up(arriving, due);
     Place {
         settled,
@@ -163,8 +156,7 @@ fn go(
     ensures { Going q n d steps first work.old leave.old arrive.old result work.new }
 {
     let mut place = first;
-    let mut left = steps;
-    while left > 0 {
+    for _turn in 0..steps {
         let c = components::next(t, components, q.nodes, place.settled);
         if c == 0 {
             return place.settled;
@@ -172,7 +164,6 @@ fn go(
         place = step(
             q, c, place, work, d, n, leave, arrive, held, leaving, arriving,
         );
-        left -= 1;
     }
     place.settled
 }
@@ -241,20 +232,27 @@ pub fn prune(q: Pattern, work: &mut [u32], d: usize)
     let mut leave = [all; 4096];
     let mut arrive = [all; 4096];
     let mut held = [0u32; 4096];
+    let rule = Rule {
+        free: 0,
+        due: all,
+        back: all,
+    };
+    let tables = Tables {
+        leaving: &leaving,
+        arriving: &arriving,
+        ending: &ending,
+        starting: &starting,
+    };
     engine::engine::rest(
         work,
         d,
         n,
+        None,
         &mut leave,
         &mut arrive,
         &mut held,
-        0,
-        all,
-        all,
-        &leaving,
-        &arriving,
-        &ending,
-        &starting,
+        rule,
+        &tables,
     );
 }
 
@@ -276,8 +274,7 @@ fn pairs_at_front(work: &[u32], d: usize) -> usize
     ensures { PairsTaken d work.now result }
 {
     let mut least: u32 = 0;
-    let mut i: usize = 0;
-    while i < limits::PAIRS_MOST {
+    for i in 0..limits::PAIRS_MOST {
         let x = work[i];
         if i >= d {
             return i;
@@ -289,15 +286,8 @@ fn pairs_at_front(work: &[u32], d: usize) -> usize
             return i;
         }
         least = x + 1;
-        i += 1;
     }
-    i
-}
-
-fn no_words() -> [u32; 16384]
-    ensures { result ≡ replicate 16384 0 }
-{
-    [0u32; 16384]
+    limits::PAIRS_MOST
 }
 
 // At most so many steps for a question, and then the pruning if it is asked for, from words that may be anything: as many of the first d as ascend are taken for
@@ -308,10 +298,8 @@ pub fn trial(question: &[u8], d: usize, steps: usize, pruned: bool, work: &mut [
     if work.len() < limits::WORKSPACE {
         return 0;
     }
-    let mut room = no_words();
-    let f = accept::accept_pattern(question, &mut room);
-    let verdict = f.verdict;
-    let Reply::Done(_) = verdict else {
+    let mut room = [0u32; 16384];
+    let Ok(f) = accept::accept_pattern(question, &mut room) else {
         return 0;
     };
     let number = pairs_at_front(&work[0..limits::WORKSPACE], d);

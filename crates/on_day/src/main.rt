@@ -10,182 +10,118 @@ use containment::terms::Terms;
 use folder::days::Days;
 use folder::{both, days, files, lent, lines, numbers};
 use listing::print;
-use packed::reply::{Both, Refusal};
 use std::env::Env;
 use std::io;
 use std::rt::Files;
 
-// Of too many charges no more are lent than show it: all are counted here.
-fn say_refused(rt: &impl Print, x: Refusal, charges: usize) -> io::Result<()> {
-    match x {
-        Refusal::WrongCharges(_) => lines::refused(rt, Refusal::WrongCharges(charges)),
-        _ => lines::refused(rt, x),
-    }
+// What a call is asked about.
+#[derive(Clone, Copy)]
+struct Asked<'a> {
+    question: &'a [u8],
+    catalogue: &'a [u8],
+    one_way: u16,
+    terms: Terms,
+    day: u16,
 }
 
 fn say_cheapest(rt: &impl Print, c: Cheapest, charges: usize) -> io::Result<()> {
     match c {
-        Cheapest::Of(set, sum, _) => lines::cheapest(rt, set, sum),
-        Cheapest::Refused(x) => say_refused(rt, x, charges),
+        Ok((set, sum, _)) => lines::cheapest(rt, set, sum),
+        Err(x) => lines::refused(rt, lines::with_charges(x, charges)),
     }
 }
 
-fn cheapest(
-    rt: &(impl Files + Print + Eprint),
-    question: &[u8],
-    catalogue: &[u8],
-    one_way: u16,
-    t: Terms,
-    day: u16,
-) -> io::Result<()> {
-    let mut charges = lent::charge_words();
-    let mut work = lent::work_words();
-    let text = numbers::read_list(rt, b"charges", &mut charges);
-    if !text.good {
-        lines::failed_at(rt, b"charges", text.count);
-        return Ok(());
-    }
-    let n = lent::least(text.count, charges.len());
+fn cheapest(rt: &(impl Files + Print + Eprint), a: Asked) -> io::Result<()> {
+    let mut charges = [0; lent::CHARGES];
+    let mut work = [0; lent::WORK];
+    let count = match numbers::read_list(rt, b"charges", &mut charges) {
+        Ok(count) => count,
+        Err(wrong) => {
+            lines::failed_at(rt, b"charges", wrong.line);
+            return Ok(());
+        }
+    };
+    let n = count.min(charges.len());
     let c = containment::cheapest_on(
-        question,
-        catalogue,
-        one_way,
-        t,
-        day,
+        a.question,
+        a.catalogue,
+        a.one_way,
+        a.terms,
+        a.day,
         &charges[..n],
         &mut work,
     );
-    say_cheapest(rt, c, text.count)
+    say_cheapest(rt, c, count)
 }
 
-fn quote(
-    rt: &impl Print,
-    question: &[u8],
-    catalogue: &[u8],
-    one_way: u16,
-    t: Terms,
-    day: u16,
-) -> io::Result<()> {
-    let mut work = lent::work_words();
-    let q = containment::quote_on(question, catalogue, one_way, t, day, &mut work);
+fn quote(rt: &impl Print, a: Asked) -> io::Result<()> {
+    let mut work = [0; lent::WORK];
+    let q = containment::quote_on(
+        a.question,
+        a.catalogue,
+        a.one_way,
+        a.terms,
+        a.day,
+        &mut work,
+    );
     print::quote(rt, q)
 }
 
-fn finish_part(
-    rt: &(impl Files + Print + Eprint),
-    found: Both,
-    part: &[u8],
-    answer: &[u8],
-) -> io::Result<()> {
-    match found {
-        Both::Done(n, m) => both::keep(
-            rt,
-            part,
-            n,
-            b"part",
-            b"part.new",
-            answer,
-            m,
-            b"part_answer",
-            b"part_answer.new",
-            b"part_answer/",
-        ),
-        Both::Refused(x) => lines::refused(rt, x),
-    }
-}
-
-fn part(
-    rt: &(impl Files + Print + Eprint),
-    question: &[u8],
-    catalogue: &[u8],
-    one_way: u16,
-    t: Terms,
-    day: u16,
-) -> io::Result<()> {
-    let mut book = lent::sheet_bytes();
-    let mut part = lent::part_bytes();
-    let mut answer = lent::output_bytes();
-    let mut work = lent::work_words();
+fn part(rt: &(impl Files + Print + Eprint), a: Asked) -> io::Result<()> {
+    let mut book = [0; lent::SHEET];
+    let mut part = [0; lent::PART];
+    let mut answer = [0; lent::OUTPUT];
+    let mut work = [0; lent::WORK];
     let k = files::read(rt, b"book", &mut book);
     let found = answering::part_on(
-        question,
-        catalogue,
-        one_way,
-        t,
-        day,
+        a.question,
+        a.catalogue,
+        a.one_way,
+        a.terms,
+        a.day,
         &book[..k],
         &mut part,
         &mut answer,
         &mut work,
     );
-    finish_part(rt, found, &part, &answer)
+    both::finish_part(rt, found, &part, &answer)
 }
 
-fn finish_show(
-    rt: &(impl Files + Print + Eprint),
-    shown: Both,
-    first: &[u8],
-    second: &[u8],
-) -> io::Result<()> {
-    match shown {
-        Both::Done(n, m) => both::keep(
-            rt,
-            first,
-            n,
-            b"first",
-            b"first.new",
-            second,
-            m,
-            b"second",
-            b"second.new",
-            b"second/",
-        ),
-        Both::Refused(x) => lines::refused(rt, x),
-    }
-}
-
-fn show(
-    rt: &(impl Files + Print + Eprint),
-    question: &[u8],
-    catalogue: &[u8],
-    one_way: u16,
-    t: Terms,
-    day: u16,
-) -> io::Result<()> {
-    let mut first = lent::shown_bytes();
-    let mut second = lent::shown_bytes();
-    let mut work = lent::work_words();
+fn show(rt: &(impl Files + Print + Eprint), a: Asked) -> io::Result<()> {
+    let mut first = [0; lent::SHOWN];
+    let mut second = [0; lent::SHOWN];
+    let mut work = [0; lent::WORK];
     let shown = answering::show_on(
-        question,
-        catalogue,
-        one_way,
-        t,
-        day,
+        a.question,
+        a.catalogue,
+        a.one_way,
+        a.terms,
+        a.day,
         &mut first,
         &mut second,
         &mut work,
     );
-    finish_show(rt, shown, &first, &second)
+    both::finish_show(rt, shown, &first, &second)
 }
 
 fn say_first_day(rt: &impl Print, f: FirstDay) -> io::Result<()> {
     match f {
-        FirstDay::On(day) => println!(rt; "first day {day}"),
-        FirstDay::Never => lines::say(rt, b"first day none\n"),
-        FirstDay::Refused(x) => lines::refused(rt, x),
+        Ok(Some(day)) => println!(rt; "first day {day}"),
+        Ok(None) => lines::say(rt, b"first day none\n"),
+        Err(x) => lines::refused(rt, x),
     }
 }
 
-fn first_day(
-    rt: &impl Print,
-    question: &[u8],
-    catalogue: &[u8],
-    one_way: u16,
-    t: Terms,
-    day: u16,
-) -> io::Result<()> {
-    let mut work = lent::work_words();
-    let f = containment::first_day(question, catalogue, one_way, t, day, &mut work);
+fn first_day(rt: &impl Print, a: Asked) -> io::Result<()> {
+    let mut work = [0; lent::WORK];
+    let f = containment::first_day(
+        a.question,
+        a.catalogue,
+        a.one_way,
+        a.terms,
+        a.day,
+        &mut work,
+    );
     say_first_day(rt, f)
 }
 
@@ -199,21 +135,14 @@ fn terms_of(d: Days) -> Terms {
     }
 }
 
-fn make(
-    rt: &(impl Files + Print + Eprint),
-    letter: u8,
-    question: &[u8],
-    catalogue: &[u8],
-    one_way: u16,
-    t: Terms,
-    day: u16,
-) -> io::Result<()> {
+// By the letter itself: it is looked at once, and an enum of the calls would only stand between this match and another.
+fn make(rt: &(impl Files + Print + Eprint), letter: u8, a: Asked) -> io::Result<()> {
     match letter {
-        b'q' => quote(rt, question, catalogue, one_way, t, day),
-        b'c' => cheapest(rt, question, catalogue, one_way, t, day),
-        b'p' => part(rt, question, catalogue, one_way, t, day),
-        b's' => show(rt, question, catalogue, one_way, t, day),
-        b'f' => first_day(rt, question, catalogue, one_way, t, day),
+        b'q' => quote(rt, a),
+        b'c' => cheapest(rt, a),
+        b'p' => part(rt, a),
+        b's' => show(rt, a),
+        b'f' => first_day(rt, a),
         _ => {
             lines::failed(rt, b"argument");
             Ok(())
@@ -226,14 +155,21 @@ fn run(
     rt: &(impl Files + Print + Eprint),
     letter: u8,
     one_way: u16,
-    t: Terms,
+    terms: Terms,
     day: u16,
 ) -> io::Result<()> {
-    let mut question = lent::question_bytes();
-    let mut catalogue = lent::catalogue_bytes();
+    let mut question = [0; lent::QUESTION];
+    let mut catalogue = [0; lent::CATALOGUE];
     let n = files::read(rt, b"question", &mut question);
     let m = files::read(rt, b"catalogue", &mut catalogue);
-    make(rt, letter, &question[..n], &catalogue[..m], one_way, t, day)
+    let asked = Asked {
+        question: &question[..n],
+        catalogue: &catalogue[..m],
+        one_way,
+        terms,
+        day,
+    };
+    make(rt, letter, asked)
 }
 
 // The first letter of the argument, 0 where there is none. Of a longer one than there is room for the first letters are there all the same.
@@ -243,26 +179,25 @@ fn letter(env: &impl Env) -> u8 {
     word[0]
 }
 
+// The day of the file `day`, 0 to 65,535.
+fn read_day(rt: &impl Files) -> Option<u16> {
+    u16::try_from(numbers::read_number(rt, b"day")?).ok()
+}
+
 fn main(rt: HostRuntime) -> io::Result<()> {
-    let one_way = folder::extracts(&rt, b"one_way");
-    if !one_way.good {
+    let Some(one_way) = folder::extracts(&rt, b"one_way") else {
         return Ok(());
-    }
-    let d = days::read_days(&rt, b"terms");
-    if !d.good {
-        lines::failed_at(&rt, b"terms", d.count);
-        return Ok(());
-    }
-    let day = numbers::read_number(&rt, b"day");
-    if !day.good | (65535 < day.value) {
+    };
+    let days = match days::read_days(&rt, b"terms") {
+        Ok(days) => days,
+        Err(wrong) => {
+            lines::failed_at(&rt, b"terms", wrong.line);
+            return Ok(());
+        }
+    };
+    let Some(day) = read_day(&rt) else {
         lines::failed(&rt, b"day");
         return Ok(());
-    }
-    run(
-        &rt,
-        letter(&rt),
-        one_way.set,
-        terms_of(d),
-        (day.value % 0x1_0000) as u16,
-    )
+    };
+    run(&rt, letter(&rt), one_way, terms_of(days), day)
 }

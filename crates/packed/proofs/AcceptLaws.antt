@@ -2,7 +2,7 @@
 use Prim.Native.Nat.{ℕ, ◌+◌, ◌-◌, ◌*◌, ◌<◌, ◌≤◌}
 use mathlib.Core.Path.{◌≡◌, refl, sym, ap, subst, ◌∙◌}
 use mathlib.Core.List.{List, [], ◌∷◌}
-use lib.ListN.{length, take, drop, get_or, set}
+use lib.ListN.{length, take, drop, get_or, set, replicate}
 use native.Mathlib.Omega.{arith}
 use native.Mathlib.Nat.{sub-zero}
 use Rattle.packed.specs.Format.{Result, decode}
@@ -11,7 +11,7 @@ use Rattle.packed.specs.Contents.{nodes_of, edges_of, pattern_size, patterns_in,
 use Rattle.packed.specs.ByValue.{HoldsPattern, CountTable}
 use Rattle.packed.specs.Reading.{Content}
 use Rattle.packed.specs.Calls.{Verdict, accepted, read_pattern, read_catalogue}
-use Rattle.packed.specs.Accepting.{Held, HoldsViews, NoViews}
+use Rattle.packed.specs.Accepting.{Held, HoldsViews}
 use Rattle.packed.specs.declared.by_value.Pattern.{Pattern}
 use Rattle.packed.proofs.AcceptedBounds.{pattern_bounds, catalogue_bounds}
 use Rattle.packed.proofs.ByValueLaws.{nothing_at}
@@ -67,11 +67,11 @@ pub catalogue_finds : (s : List ℕ) → 0 < length s → length s ≤ 897 → F
 catalogue_finds s h l = record { is = catalogue_by_fields s h ∙ (read_finds 897 2 catalogue s l).is }
 
 -- the empty one has the content 0
-pub no_views_held : (s w : List ℕ) {k : ℕ} {counts : List ℕ} → length s ≡ 0 → 0 < length w → NoViews k counts → Held (λ cs. HoldsViews cs k counts) (read_catalogue s) 1 (set w 0 0)
+pub no_views_held : (s w : List ℕ) {counts : List ℕ} → length s ≡ 0 → 0 < length w → counts ≡ replicate 16 0 → Held (λ cs. HoldsViews cs 0 counts) (read_catalogue s) 1 (set w 0 0)
 unfolding edge_counts views_of patterns_in
 no_views_held s [] h some v = absurd (omega arith)
 no_views_held s (x ∷ w) h some v =
-    rw (v.0, v.1) (record {
+    rw v (record {
       fields = 0 ∷ [];
       is = catalogue_empty s h;
       fits = omega arith;

@@ -199,11 +199,6 @@ module _ (v m : ℕ) (within : m ≤ 8) (fits : v < 2 ^ 24) where
   pub moved : v * 2 ^ m % 2 ^ 32 ≡ v * 2 ^ m
   moved = shl_exact {a = v} 24 m 32 fits (omega arith)
 
-  pub moved_top : v * 2 ^ m % 2 ^ 32 / 2 ^ 24 < 2 ^ m
-  moved_top =
-      let e : m + 24 ≡ 24 + m = omega arith in
-      rw moved (shr_lt m 24 (rw e (shl_lt 24 m fits)))
-
   pub moved_clear : v * 2 ^ m % 2 ^ 32 % 256 % 2 ^ m ≡ 0
   moved_clear =
       let w : 8 ≡ 8 - m + m = omega arith in

@@ -22,12 +22,10 @@ use Rattle.packed.specs.Calls.{Outcome, give, refuse, told_of, fronts, outputs_o
 use Rattle.packed.specs.Accepting.{reply_of, AcceptsFile}
 use Rattle.packed.specs.declared.reply.Refusal.{Refusal}
 use Rattle.packed.specs.declared.reply.Refusal.TheVariants.{NoRoom, SmallWorkspace}
-use Rattle.packed.specs.declared.reply.Reply.{Reply}
-use Rattle.packed.specs.declared.reply.Reply.TheVariants as reply-is
-use Rattle.packed.specs.declared.reply.Part.{Part}
-use Rattle.packed.specs.declared.reply.Part.TheVariants as part_is
+use Rattle.packed.specs.Parts.{Reply, Part}
 use Rattle.packed.proofs.ByValueLaws.{nothing_at}
 use Rattle.packed.proofs.Sets.{sets_front}
+use Rattle.std.specs.Prelude.{Ok, Err}
 
 -- ---- verdicts
 
@@ -78,8 +76,8 @@ read_says most file F s ws e = go (ltb most (length s)) (decode F s) refl refl e
 
 -- a pass over a file of a fair length accepts it
 pub accepts_by : {v : Verdict} {r : Result ℕ} {file : ℕ} → Finds v file r → (p : Part) (w w' : List ℕ) → Judges r file p w w' → AcceptsFile v (reply_of p) w w'
-accepts_by f (part_is.Upto at n) w w' c = record { fields = c.fields; is = accepted_by f c.is; number = c.number; front = c.front }
-accepts_by f (part_is.Refused x) w w' q = refused_by f x q
+accepts_by f (Ok (at, n)) w w' c = record { fields = c.fields; is = accepted_by f c.is; number = c.number; front = c.front }
+accepts_by f (Err x) w w' q = refused_by f x q
 
 pub judged_accepted : {v : Verdict} {ws : List ℕ} (k : List ℕ → Outcome) → v ≡ accepted ws → judged v k ≡ k ws
 unfolding judged
@@ -136,11 +134,11 @@ unfolding told_of outputs_of
 refusal_answered outs e q = record { result = rw e q; outputs = rw e }
 
 module _ {a : Outcome} (out : List ℕ) {out' : List ℕ} where
-  answers_refusal : (x : Refusal) → a ≡ refuse (number_of x) (detail_of x) → out' ≡ out → FulfilsOne a (reply_told (reply-is.Refused x)) out out'
+  answers_refusal : (x : Refusal) → a ≡ refuse (number_of x) (detail_of x) → out' ≡ out → FulfilsOne a (reply_told (Err x)) out out'
   answers_refusal x e q = rw q (refusal_answered (out ∷ []) e refl)
 
   -- an output stands at the front of what was lent
-  answers_given : {o : List ℕ} {n : ℕ} → a ≡ give [] (o ∷ []) → n ≡ length o → out' ≡ o ++ drop (length o) out → FulfilsOne a (reply_told (reply-is.Done n)) out out'
+  answers_given : {o : List ℕ} {n : ℕ} → a ≡ give [] (o ∷ []) → n ≡ length o → out' ≡ o ++ drop (length o) out → FulfilsOne a (reply_told (Ok n)) out out'
   unfolding told_of outputs_of fronts
   answers_given e m q = record { result = rw (e, m); outputs = rw (e, q) }
 
@@ -155,20 +153,20 @@ module _ {g : ℕ → List ℕ → Outcome} {t : ℕ → ℕ → Bool} (z : Fits
       ∙ ap (λ (l : List ℕ). pick (t (length l) n) (refuse 12 n) (give [] (o ∷ []))) (sym same)
       ∙ ap (λ (s : Bool). pick s (refuse 12 n) (give [] (o ∷ []))) h
 
-  pub fitted_tight : t (length lent) n ≡ true → FulfilsOne a (reply_told (reply-is.Refused (NoRoom n))) out lent
+  pub fitted_tight : t (length lent) n ≡ true → FulfilsOne a (reply_told (Err (NoRoom n))) out lent
   fitted_tight h = answers_refusal out (NoRoom n) (fitted true h) same
 
-  pub fitted_given : {out' : List ℕ} → t (length lent) n ≡ false → out' ≡ sets lent 0 o → FulfilsOne a (reply_told (reply-is.Done n)) out out'
+  pub fitted_given : {out' : List ℕ} → t (length lent) n ≡ false → out' ≡ sets lent 0 o → FulfilsOne a (reply_told (Ok n)) out out'
   fitted_given h q =
       let l : n ≤ length out = rw same at (z.within (length lent) n h) in
       answers_given out (fitted false h) number (q ∙ ap (λ (l : List ℕ). sets l 0 o) same ∙ sets_front out o (omega (arith, number)))
 
   -- a file that was accepted is read once more, with the output lent
   pub fitted_again : {v : Verdict} (r : Reply) (out' : List ℕ) → t (length lent) n ≡ false → v ≡ accepted o → AcceptsFile v r lent out' → FulfilsOne a (reply_told r) out out'
-  fitted_again (reply-is.Done m) out' h is c =
+  fitted_again (Ok m) out' h is c =
       let f : c.fields ≡ o = cc c.is in
       rw (c.number ∙ ap length f ∙ sym number) (fitted_given h (c.front ∙ ap (sets lent 0) f))
-  fitted_again (reply-is.Refused x) out' h is c = absurd (let z : ◌≡◌ {A = ℕ} 0 1 = cc in omega arith)
+  fitted_again (Err x) out' h is c = absurd (let z : ◌≡◌ {A = ℕ} 0 1 = cc in omega arith)
 
 -- a file was refused, and the refusal is handed up; or it was accepted, and the call goes on with its content
 module _ {none : List ℕ} {r : Told} (k : List ℕ → Outcome) {v : Verdict} where
@@ -181,7 +179,7 @@ module _ {none : List ℕ} {r : Told} (k : List ℕ → Outcome) {v : Verdict} w
 
 -- the same with one output
 module _ {v : Verdict} (k : List ℕ → Outcome) where
-  pub body_refused : (out : List ℕ) {lent : List ℕ} → lent ≡ out → (x : Refusal) → v ≡ rejected (number_of x) (detail_of x) → FulfilsOne (judged v k) (reply_told (reply-is.Refused x)) out lent
+  pub body_refused : (out : List ℕ) {lent : List ℕ} → lent ≡ out → (x : Refusal) → v ≡ rejected (number_of x) (detail_of x) → FulfilsOne (judged v k) (reply_told (Err x)) out lent
   body_refused out same x e = rw same (answers_refused k (out ∷ []) e refl)
 
   module _ {ws : List ℕ} (e : v ≡ accepted ws) where
@@ -189,7 +187,7 @@ module _ {v : Verdict} (k : List ℕ → Outcome) where
     body_goes_on b = answers_on k e b
 
     -- to a refusal
-    pub body_declined : (out : List ℕ) {lent : List ℕ} → lent ≡ out → (x : Refusal) → k ws ≡ refuse (number_of x) (detail_of x) → FulfilsOne (judged v k) (reply_told (reply-is.Refused x)) out lent
+    pub body_declined : (out : List ℕ) {lent : List ℕ} → lent ≡ out → (x : Refusal) → k ws ≡ refuse (number_of x) (detail_of x) → FulfilsOne (judged v k) (reply_told (Err x)) out lent
     body_declined out same x q = body_goes_on (answers_refusal out x q same)
 
 -- ---- how the output came about
@@ -218,8 +216,8 @@ none_lent out ys e = ap (λ (l : List ℕ). l ++ out) (nothing_in ys (omega (ari
 
 -- fields that were accepted are judged once more, with the output lent
 pub judges_fields_front : (r : Result ℕ) (file : ℕ) (p : Part) (ws w w' : List ℕ) → JudgesFields r file p w w' → r ≡ ok ws → w' ≡ sets w 0 ws
-judges_fields_front r file (part_is.Upto n i) ws w w' c e = let q : c.fields ≡ ws = cc c.is in c.front ∙ ap (sets w 0) q
-judges_fields_front r file (part_is.Refused x) ws w w' c e = absurd (let q = c.0 in let z : ◌≡◌ {A = ℕ} 0 1 = cc in omega arith)
+judges_fields_front r file (Ok (n, i)) ws w w' c e = let q : c.fields ≡ ws = cc c.is in c.front ∙ ap (sets w 0) q
+judges_fields_front r file (Err x) ws w w' c e = absurd (let q = c.0 in let z : ◌≡◌ {A = ℕ} 0 1 = cc in omega arith)
 
 -- ---- the numbers of edges of a catalogue's views, in a table of 16
 
@@ -274,7 +272,7 @@ module _ (none : List ℕ) (a : Outcome) (work : List ℕ) {r : Told} where
 
 -- the same of a call with one output
 module _ (a : Outcome) (out work : List ℕ) where
-  pub settles_small : length work < 16384 → Settled [] (with_workspace (length work) a) (reply_told (reply-is.Refused SmallWorkspace)) (out ∷ []) (out ∷ []) work work
+  pub settles_small : length work < 16384 → Settled [] (with_workspace (length work) a) (reply_told (Err SmallWorkspace)) (out ∷ []) (out ∷ []) work work
   settles_small h = small_settled [] a work (out ∷ []) h refl
 
   pub settles : {r : Told} {out' work' : List ℕ} → 16384 ≤ length work → FulfilsOne a r out out' → work' ≡ replicate 16384 0 ++ drop 16384 work

@@ -9,6 +9,8 @@ use lib.Seq.{sets}
 use Rattle.packed.specs.Bits.{bits, bits_of, zeros, gap}
 use Rattle.packed.specs.Format.{Format, done, pad, whole, decode, bad}
 use Rattle.packed.specs.Reading.{Reading, Content}
+use Rattle.packed.specs.Refusals.{file_number}
+use Rattle.packed.specs.declared.reply.File.{File}
 use Rattle.packed.specs.declared.reply.Refusal.TheVariants.{Trailing}
 use Rattle.packed.proofs.RoundTrip.{whole_is}
 use Rattle.packed.proofs.ReadingLaws.{starts, left_is, same_at, calls, pads, ends_dirty}
@@ -29,10 +31,10 @@ module _ (F : Format) {s w : List ℕ} {at : ℕ} {w' : List ℕ} {i : ℕ} (r :
   pub closes_ok : zeros (take (gap at) (drop at (bits s))) ≡ true → length s ≤ (at + 7) / 8 → Content (decode F s) i w w'
   closes_ok h g = judged_whole_ok F ((at + 7) / 8) (after_padding h) g
 
-  pub closes_tail : (file : ℕ) → zeros (take (gap at) (drop at (bits s))) ≡ true → (at + 7) / 8 < length s → (decode F s ≡ bad 9) × (file ≡ file)
+  pub closes_tail : (file : File) → zeros (take (gap at) (drop at (bits s))) ≡ true → (at + 7) / 8 < length s → (decode F s ≡ bad 9) × (file_number file ≡ file_number file)
   closes_tail file h g = (judged_whole_tail F ((at + 7) / 8) (after_padding h) g, refl)
 
-  pub closes_dirty : (file : ℕ) → zeros (take (gap at) (drop at (bits s))) ≡ false → (decode F s ≡ bad 9) × (file ≡ file)
+  pub closes_dirty : (file : File) → zeros (take (gap at) (drop at (bits s))) ≡ false → (decode F s ≡ bad 9) × (file_number file ≡ file_number file)
   closes_dirty file h = judged_whole_bad F (ends_dirty (Trailing file) h refl before_padding)
 
 -- the padding that a writer puts

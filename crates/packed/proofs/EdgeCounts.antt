@@ -1,14 +1,11 @@
 -- The numbers of edges of the views of a catalogue, as they are counted one view at a time.
-use Prim.Native.Nat.{ℕ, suc, ◌+◌, ◌-◌, ◌*◌, ◌<◌, ◌≤◌}
+use Prim.Native.Nat.{ℕ, min, suc, ◌+◌, ◌-◌, ◌*◌, ◌<◌, ◌≤◌}
 use mathlib.Core.Path.{◌≡◌, refl, ap, sym, ◌∙◌}
 use mathlib.Core.List.{List, [], ◌∷◌, ◌++◌, append_assoc, append-nil, map}
-use mathlib.Core.Bool.{Bool, true, false, ◌&&◌}
-use lib.Dec.{ltb}
-use borrow.Author.Tests.{ltb-true, ltb-false, lt-ltb}
 use lib.ListN.{length, drop, get_or, set, replicate, length-append}
 use lib.Seq.{set_at, get_or-take, get_or-drop, drop-drop}
 use native.Mathlib.Omega.{arith}
-use native.Mathlib.Nat.{add-zero, sub-zero}
+use native.Mathlib.Nat.{add-zero}
 use Rattle.packed.specs.Contents.{edges_of, pattern_size, patterns_in, views_of, edge_counts}
 use Rattle.packed.specs.ByValue.{CountTable}
 
@@ -22,9 +19,6 @@ pub record Counting (ws : List ℕ) (number : ℕ) (table : List ℕ) (i j : ℕ
   pub counted : length counts ≡ j
   pub is : table ≡ counts ++ replicate (16 - j) 0
   pub rest : counts_in number (drop 1 ws) ≡ counts ++ counts_in (number - j) (drop i ws)
-
-pub counting_starts : (ws : List ℕ) (number : ℕ) (table : List ℕ) → table ≡ replicate 16 0 → Counting ws number table 1 0
-counting_starts ws number table e = record { counts = []; counted = refl; is = e; rest = ap (λ (n : ℕ). counts_in n (drop 1 ws)) (sym (sub-zero number)) }
 
 -- the words of the pattern that starts at the word i
 size_at : (ws : List ℕ) (i nodes edges : ℕ) → nodes ≡ get_or ws i 0 → edges ≡ get_or ws (i + 1) 0 → pattern_size (drop i ws) ≡ 2 + nodes + 3 * edges
@@ -70,25 +64,14 @@ counting_goes_on ws number table i j nodes edges h g p q k =
           ∙ sym (append_assoc c (edges ∷ []) (counts_in (number - (j + 1)) (drop (i + (2 + nodes + 3 * edges)) ws)));
     }
 
--- where the loop stops, all are counted, if the table holds them all
-stopped : (j number : ℕ) → j ≤ number → ltb j 16 && ltb j number ≡ false → number ≤ 16 → j ≡ number
-stopped j number h e q = go (ltb j number) refl
-  where
-    go : (t : Bool) → ltb j number ≡ t → j ≡ number
-    go true r =
-        let g : j < number = ltb-true j number r in
-        let z : true ≡ false = sym (rw (lt-ltb j 16 (omega arith)) r) ∙ e in
-        absurd (let y : ◌≡◌ {A = ℕ} 0 1 = cc in omega arith)
-    go false r = let g : number ≤ j = ltb-false j number r in omega arith
-
-pub counting_ends : (ws : List ℕ) (number : ℕ) (table : List ℕ) (i j : ℕ) → number ≡ get_or ws 0 0 → j ≤ number → ltb j 16 && ltb j number ≡ false
+pub counting_ends : (ws : List ℕ) (number : ℕ) (table : List ℕ) (i j : ℕ) → number ≡ get_or ws 0 0 → j ≤ number → min number 16 ≤ j
     → Counting ws number table i j → CountTable ws table
 unfolding edge_counts views_of counts_in
 counting_ends ws number table i j e h s k =
     record {
       is = λ l.
           let c : List ℕ = k.counts in
-          let g : j ≡ get_or ws 0 0 = stopped j number h s (omega arith) ∙ e in
+          let g : j ≡ get_or ws 0 0 = omega (arith, s, h, e, l) in
           let z : number - j ≡ 0 = omega arith in
           let d : counts_in number (drop 1 ws) ≡ c =
           k.rest ∙ ap (λ (n : ℕ). c ++ counts_in n (drop i ws)) z ∙ ap (λ (t : List ℕ). c ++ t) (no_counts (drop i ws)) ∙ append-nil c in

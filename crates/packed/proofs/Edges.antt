@@ -13,6 +13,8 @@ use Rattle.packed.specs.Formats.{linked, is_end, all_ends, edges}
 use Rattle.packed.specs.Reading.{Reading, Refuses, TwoValues, EdgeValues}
 use Rattle.packed.specs.Writing.{Writing, Rejects, TwoPut, EdgePut}
 use Rattle.packed.specs.declared.reply.Refusal.{Refusal}
+use Rattle.packed.specs.Refusals.{file_number}
+use Rattle.packed.specs.declared.reply.File.{File}
 use Rattle.packed.specs.declared.reply.Refusal.TheVariants.{DuplicateEdge}
 use Rattle.packed.proofs.ReadingLaws.{starts, left_is, same_at, reads, reads_none, refused, passes, fails}
 use Rattle.packed.proofs.WritingLaws.{begins, left_to, same_to, writes, rejected, accepts, denies}
@@ -140,8 +142,8 @@ module _ (w nodes : ℕ) (last : List ℕ → Format) (left : ℕ) (es : List �
         → Reading F s at₀ w₀ i₀ (edges w 3 nodes last (left - 1) (es ++ (a ∷ b ∷ k ∷ []))) (at + (2 * w + 3)) ws' (i + 3)
     reads_edge p e = passes (ap not e) (reads-fields p)
 
-    pub reads_twice : {a b k : ℕ} {ws' : List ℕ} (file : ℕ) → EdgeValues w nodes s at ws i a b k ws' → linked a b k es ≡ true
-        → Refuses F s at₀ file (DuplicateEdge file)
+    pub reads_twice : {a b k : ℕ} {ws' : List ℕ} (file : File) → EdgeValues w nodes s at ws i a b k ws' → linked a b k es ≡ true
+        → Refuses F s at₀ (file_number file) (DuplicateEdge file)
     reads_twice file p e = fails (DuplicateEdge file) (ap not e) refl (reads-fields p)
 
     pub edge_refused : {file : ℕ} {x : Refusal}
@@ -161,8 +163,8 @@ module _ (w nodes : ℕ) (last : List ℕ → Format) (left : ℕ) (es : List �
         → Writing F ws i₀ b₀ at₀ (edges w 3 nodes last (left - 1) (es ++ (a ∷ b ∷ k ∷ []))) (i + 3) o' (at + (2 * w + 3))
     writes_edge p e = accepts (ap not e) (writes-fields p)
 
-    pub writes_twice : {a b k : ℕ} {o' : List ℕ} (file : ℕ) → EdgePut w nodes ws i o at a b k o' → linked a b k es ≡ true
-        → Rejects F ws i₀ at₀ file (DuplicateEdge file)
+    pub writes_twice : {a b k : ℕ} {o' : List ℕ} (file : File) → EdgePut w nodes ws i o at a b k o' → linked a b k es ≡ true
+        → Rejects F ws i₀ at₀ (file_number file) (DuplicateEdge file)
     writes_twice file p e = denies (DuplicateEdge file) (ap not e) refl (writes-fields p)
 
     pub edge_rejected : {file : ℕ} {x : Refusal}

@@ -14,13 +14,13 @@ use Rattle.packed.specs.Writing.{JudgesFields}
 use Rattle.packed.specs.LoadedGraph.{Holds}
 use Rattle.packed.specs.Entered.{edges_in, entered_edges, entered, MayEnter, lower}
 use Rattle.packed.specs.Entering.{PutAt, EntersAt, EnteredIn}
-use Rattle.packed.specs.declared.reply.Part.{Part}
 use Rattle.packed.proofs.Sets.{sets_front}
 use Rattle.packed.proofs.Accepted.{record_accepted}
 use Rattle.packed.proofs.CallLaws.{judges_fields_front}
 use Rattle.packed.proofs.GraphLaws.{record_among, record_bounds, words_back, holds_bounds}
 use Rattle.packed.proofs.EnteredLaws.{Entered, record_enters, parts_entered, parts_edges}
 use Rattle.packed.proofs.EnteredWords.{holds_entered}
+use Rattle.packed.specs.Parts.{Part}
 
 module _ (nodes number : ℕ) (labels es fs out : List ℕ) (each : length labels ≡ nodes) (three : length es ≡ 3 * number) (long : length fs ≡ 3 * suc number)
     (room : 2 + nodes + 3 * suc number ≤ length out) where

@@ -3,18 +3,17 @@ use Prim.Native.Nat.{ℕ, zero, suc, ◌+◌, ◌-◌, ◌≤◌, ◌<◌}
 use mathlib.Core.Path.{◌≡◌, refl, sym, ap, ap₂, ◌∙◌}
 use mathlib.Core.List.{List, [], ◌∷◌, ◌++◌}
 use mathlib.Core.Bool.{Bool, true, false, ◌||◌}
-use mathlib.Core.Logic.{⊎_elim}
 use lib.ListN.{length, take, get_or, set, length-set}
 use lib.Seq.{get_or-set_same, get_or-set_other, take-suc, get_or-take, length-take-le}
 use lib.Dec.{ltb}
 use native.Mathlib.Omega.{arith}
 use native.Mathlib.Numerals.{add-one}
 use borrow.Author.Tests.{ne_eqb}
+use Rattle.std.specs.List.{CopiedTo, SameBelow, SameFrom}
 use Rattle.packed.specs.Bits.{one}
 use Rattle.packed.specs.Contents.{member, word_rank}
 use Rattle.packed.specs.Entered.{lower}
 use Rattle.packed.specs.Entering.{word_ranks, PutAt}
-use Rattle.packed.proofs.OrderCases.{lt_or_ge}
 use Rattle.packed.proofs.DistinctLaws.{member_append, member_at}
 
 -- ---- the place
@@ -103,46 +102,13 @@ looked_found x w m i r h g e d =
     ap (λ (v : ℕ). member v l) (sym a) ∙ member_at l i (omega (arith, ranks_long (take m w)))
 
 -- ---- the word at its place
-pub record Shifted (at m : ℕ) (w₀ w : List ℕ) (to : ℕ) : Type 0 where
-  pub from : at ≤ to
-  pub upto : to ≤ m
-  pub long : length w ≡ length w₀
-  pub below : (k : ℕ) → k < to → get_or w k 0 ≡ get_or w₀ k 0
-  pub moved : (k : ℕ) → to ≤ k → k < m → get_or w (k + 1) 0 ≡ get_or w₀ k 0
-  pub high : (k : ℕ) → m < k → get_or w k 0 ≡ get_or w₀ k 0
-
-pub shifted_none : (at m : ℕ) (w : List ℕ) → at ≤ m → Shifted at m w w m
-shifted_none at m w h =
-    record { from = h; upto = omega arith; long = refl; below = λ k l. refl; moved = λ k l q. absurd (omega arith); high = λ k l. refl }
-
-pub shifted_more : (at m : ℕ) (w₀ w : List ℕ) (to : ℕ) → Shifted at m w₀ w to → at < to → m < length w₀ → Shifted at m w₀ (set w to (get_or w (to - 1) 0)) (to - 1)
-shifted_more at m w₀ w to t l fits =
-    let v = get_or w (to - 1) 0 in
-    let e : v ≡ get_or w₀ (to - 1) 0 = t.below (to - 1) (omega arith) in
-    let room : to < length w = let z = t.long in let u = t.upto in omega arith in
+pub put_within : (at m x : ℕ) (w w' : List ℕ) → at ≤ m → m < length w → length w' ≡ length w
+    → CopiedTo w w' at (at + 1) (m - at) × SameBelow w w' (at + 1) × SameFrom w w' (at + 1 + (m - at)) → PutAt at m x w (set w' at x)
+put_within at m x w w' h fits l p =
     record {
-      from = omega arith;
-      upto = let u = t.upto in omega arith;
-      long = length-set w to v ∙ t.long;
-      below = λ k p. get_or-set_other w to k v 0 (λ q. omega arith) ∙ t.below k (omega arith);
-      moved = λ k p q. ⊎_elim
-          (λ (h : k < to). (
-          let z : k ≡ to - 1 = omega arith in
-          let y : k + 1 ≡ to = omega arith in
-          ap (λ (i : ℕ). get_or (set w to v) i 0) y ∙ get_or-set_same w to v 0 room ∙ e ∙ ap (λ (i : ℕ). get_or w₀ i 0) (sym z)))
-          (λ (h : to ≤ k). get_or-set_other w to (k + 1) v 0 (λ y. omega arith) ∙ t.moved k h q)
-          (lt_or_ge k to);
-      high = λ k p. get_or-set_other w to k v 0 (λ y. (let u = t.upto in omega arith)) ∙ t.high k p;
-    }
-
-pub shifted_all : (at m x : ℕ) (w₀ w : List ℕ) (to : ℕ) → Shifted at m w₀ w to → to ≤ at → m < length w₀ → PutAt at m x w₀ (set w at x)
-shifted_all at m x w₀ w to t l fits =
-    let e : to ≡ at = let u = t.from in omega arith in
-    let room : at < length w = let z = t.long in let u = t.upto in omega arith in
-    record {
-      long = length-set w at x ∙ t.long;
-      below = λ k h. get_or-set_other w at k x 0 (λ y. omega arith) ∙ t.below k (omega arith);
-      here = get_or-set_same w at x 0 room;
-      moved = λ k p q. get_or-set_other w at (k + 1) x 0 (λ y. omega arith) ∙ t.moved k (omega arith) q;
-      high = λ k p. get_or-set_other w at k x 0 (λ y. (let u = t.upto in omega arith)) ∙ t.high k p;
+      long = length-set w' at x ∙ l;
+      below = λ k q. get_or-set_other w' at k x 0 (λ y. omega arith) ∙ p.1 k 0 (omega arith);
+      here = get_or-set_same w' at x 0 (omega (arith, l));
+      moved = λ k q r. get_or-set_other w' at (k + 1) x 0 (λ y. omega arith) ∙ (p.0 (k + 1) 0 (omega arith) (omega arith) ∙ ap (λ (n : ℕ). get_or w n 0) (omega arith));
+      high = λ k q. get_or-set_other w' at k x 0 (λ y. omega arith) ∙ p.2 k 0 (omega arith);
     }

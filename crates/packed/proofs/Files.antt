@@ -1,6 +1,7 @@
 -- Whole files: from a reading, or a writing, to its end to the verdict.
 use Prim.Native.Nat.{ℕ, zero, suc, ◌+◌, ◌-◌, ◌*◌, ◌/◌, ◌<◌, ◌≤◌}
 use mathlib.Core.Path.{◌≡◌, refl, ap, sym, ◌∙◌}
+use Rattle.std.specs.Prelude.{Ok, Err, IfOk}
 use mathlib.Core.List.{List, [], ◌∷◌, append-nil}
 use mathlib.Core.Bool.{Bool, true}
 use lib.ListN.{length, take, drop, set, length-drop}
@@ -8,9 +9,10 @@ use lib.Seq.{sets}
 use lib.Dec.{lit<}
 use native.Mathlib.Omega.{arith}
 use Rattle.packed.specs.Bits.{bits, bits_of, zeros, gap}
-use Rattle.packed.specs.Format.{Format, done, pad, whole, Got, got, push, ok, bad, ended, bytes_of, in_bytes, decode, encode}
+use Rattle.packed.specs.Format.{Format, Result, done, pad, whole, Got, got, push, ok, bad, ended, bytes_of, in_bytes, decode, encode}
 use Rattle.packed.specs.Refusals.{number_of, detail_of}
-use Rattle.packed.specs.Reading.{from, Reading, Refuses, Content}
+use Rattle.packed.specs.Reading.{from, Reading, Refuses, Content, Judges, JudgesUpTo}
+use Rattle.packed.specs.Parts.{Part}
 use Rattle.packed.specs.Writing.{Writing, Rejects}
 use Rattle.packed.specs.declared.reply.Refusal.{Refusal}
 use Rattle.packed.proofs.BitsLaws.{length_bits_of, length-bits, num-take_lt, bits_injective, zeros_replicate, bits_of_zero}
@@ -69,12 +71,6 @@ module _ {F : Format} {s w₀ : List ℕ} (byte : ℕ) {w : List ℕ} {i : ℕ} 
       same_at (omega (arith, gap_whole byte)) refl
       (pads z (calls F (pad done) (left_is (whole_is F) (starts {F = whole F} {s = s} {at₀ = 0} {w₀ = w₀} {i₀ = 0} (omega arith))) r))
 
-  pub judged_tail : Reading F s 0 w₀ 0 done (8 * byte) w i → byte < length s → decode F s ≡ bad 9
-  judged_tail r h = judged_whole_tail F byte (to_whole r) h
-
-  pub judged_ok : Reading F s 0 w₀ 0 done (8 * byte) w i → length s ≤ byte → Content (decode F s) i w₀ w
-  judged_ok r h = judged_whole_ok F byte (to_whole r) h
-
 pub judged_whole_bad : (F : Format) {s : List ℕ} {file : ℕ} {x : Refusal} → Refuses (whole F) s 0 file x → (decode F s ≡ bad (number_of x)) × (detail_of x ≡ file)
 unfolding decode from
 judged_whole_bad F q = (ap ended q.number, q.detail)
@@ -82,6 +78,11 @@ judged_whole_bad F q = (ap ended q.number, q.detail)
 pub judged_bad : {F : Format} {s : List ℕ} {file : ℕ} {x : Refusal} → Refuses F s 0 file x → (decode F s ≡ bad (number_of x)) × (detail_of x ≡ file)
 judged_bad {F} {s} q =
     judged_whole_bad F (calls_refused F (pad done) (left_is (whole_is F) (starts {F = whole F} {s = s} {at₀ = 0} {w₀ = []} {i₀ = 0} (omega arith))) q)
+
+-- how many fields were judged, where the reader says how many at most
+pub up_to : (r : Result ℕ) (file : ℕ) (p : Part) (w w' : List ℕ) {i k : ℕ} → Judges r file p w w' → IfOk p (λ q. q.1 ≡ i) → i ≤ k → JudgesUpTo k r file p w w'
+up_to r file (Ok (at, n)) w w' j e h = (j, omega (arith, e))
+up_to r file (Err x) w w' j e h = j
 
 -- ---- bytes
 

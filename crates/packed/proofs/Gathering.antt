@@ -197,9 +197,6 @@ walked_start whole g w = record { past = []; splits = refl; adds = λ codes t. r
 pub walked_gathering : {whole w₀ left w : List ℕ} {g₀ g : Gather} → Walked whole g₀ w₀ left g w → Gathering g₀ w₀ → Gathering g w
 walked_gathering t b = (b.0 ++ t.past, t.adds b.0 b.1)
 
-pub walked_long : {whole w₀ left w : List ℕ} {g₀ g : Gather} → Walked whole g₀ w₀ left g w → Gathering g₀ w₀ → length w ≡ length w₀
-walked_long t b = (walked_gathering t b).1.long ∙ sym b.1.long
-
 pub walked_more : {whole w₀ left w : List ℕ} {g₀ g : Gather} (more rest : List ℕ) (g' : Gather) (w' : List ℕ)
     → Walked whole g₀ w₀ left g w → left ≡ more ++ rest → Adds more g w g' w' → Walked whole g₀ w₀ rest g' w'
 walked_more more rest g' w' t e a =

@@ -295,9 +295,6 @@ holds_bounds {s} h =
     (omega (arith, b.0), omega (arith, b.1), omega (arith, b.3), omega (arith, b.2))
 
 -- ---- its content, from the labels in its bytes and the words in the workspace
-pub labels_stored : (s w : List ℕ) → LabelsStored s 0 w w
-labels_stored s w = record { around = record { long = refl; low = λ k h. refl; high = λ k h. refl }; each = λ v h. absurd (omega arith) }
-
 pub labels_more : {s : List ℕ} {v x : ℕ} {w w' : List ℕ} → LabelsStored s v w w' → 2 + v < length w' → x ≡ field s (27 + 32 * v) 32 → LabelsStored s (v + 1) w (set w' (2 + v) x)
 labels_more {s} {v} {x} {w} {w'} a h e =
     record {

@@ -3,7 +3,7 @@ pub mod Sets
 pub mod BitsLaws
 pub mod BitFields
 pub mod SetBits
-pub mod Copies
+pub mod Counted
 pub mod ByValueLaws
 pub mod OrderCases
 -- formats: what is read is what is written, and how long it gets
@@ -22,6 +22,7 @@ pub mod Accepted
 pub mod AcceptedBounds
 pub mod Questions
 -- the moves of a reader and of a writer
+pub mod Passing
 pub mod ReadingLaws
 pub mod WritingLaws
 pub mod Times

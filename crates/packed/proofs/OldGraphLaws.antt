@@ -16,14 +16,14 @@ use Rattle.packed.specs.Order.{Sorted}
 use Rattle.packed.specs.Accepting.{reply_of, ContentTaken}
 use Rattle.packed.specs.OldLoading.{RanksAt, RanksLoaded, Ordered, Orders}
 use Rattle.packed.specs.Reading.{TwoValues, Judges}
-use Rattle.packed.specs.declared.reply.Part.{Part}
-use Rattle.packed.specs.declared.reply.Part.TheVariants as part_is
 use Rattle.packed.proofs.Accepted.{old_accepted}
 use Rattle.packed.proofs.CallLaws.{read_says}
 use Rattle.packed.proofs.Sets.{sets_front}
 use Rattle.packed.proofs.DistinctAbsorb.{sorted_front}
 use Rattle.packed.proofs.SortedEdges.{ranks_differ, ranks_length}
 use Rattle.packed.proofs.GraphLaws.{Sited, sited_by, nodes_is, number_is, sited_number, sited_length, numbers_more, edges_few, loaded_at, loaded_front}
+use Rattle.packed.specs.Parts.{Part}
+use Rattle.std.specs.Prelude.{Ok, Err}
 
 -- ---- as they are read
 pub ranks_start : (s : List ℕ) (start : ℕ) (w : List ℕ) → RanksAt s start 0 w w
@@ -90,8 +90,8 @@ module _ (s ws : List ℕ) (is : decode old_record s ≡ ok ws) where
 
 pub orders_by : (r : Part) (s words words' : List ℕ) (file : ℕ) {k : ℕ} {w w₁ w₂ : List ℕ} → Judges (decode old_record s) file r words words' → 8192 ≤ length w
     → (k ≡ field s 13 14) × RanksAt s (27 + 32 * field s 0 13) (field s 13 14) w w₁ → Sorted k w₁ w₂ → Orders (decode old_record s) (reply_of r) w w₂
-orders_by (part_is.Upto at i) s words words' file j fits c o = edges_ordered s j.fields j.is fits c.1 (rw c.0 at o)
-orders_by (part_is.Refused x) s words words' file j fits c o = tt
+orders_by (Ok (at, i)) s words words' file j fits c o = edges_ordered s j.fields j.is fits c.1 (rw c.0 at o)
+orders_by (Err x) s words words' file j fits c o = tt
 
 -- ---- its content with the edges ascending, in the words that it was read into
 old_bounds : (s ws : List ℕ) → decode old_record s ≡ ok ws → (nodes_of ws ≤ 4096) × (edges_of ws ≤ 8192) × (length ws ≡ 2 + (nodes_of ws + 3 * edges_of ws))

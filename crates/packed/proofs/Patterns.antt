@@ -8,11 +8,11 @@ use Rattle.packed.specs.Format.{Format, done, ask, test, pad, then, times, whole
 use Rattle.packed.specs.Formats.{count_field, all_ends, label, edges, joined, pattern, catalogue}
 use Rattle.packed.specs.Reading.{Reading, Value, ReadsUpTo, ReadsBytesUpTo}
 use Rattle.packed.specs.Writing.{Writing, Put}
-use Rattle.packed.specs.declared.reply.Part.{Part}
-use Rattle.packed.specs.declared.reply.Part.TheVariants as part_is
 use Rattle.packed.proofs.RoundTrip.{whole_is}
 use Rattle.packed.proofs.ReadingLaws.{starts, left_is, same_at, reads, refused, goes_on}
 use Rattle.packed.proofs.WritingLaws.{begins, left_to, same_to, writes}
+use Rattle.packed.specs.Parts.{Part}
+use Rattle.std.specs.Prelude.{Ok, Err}
 
 pub label_is : label ≡ ask 5 0 32 3 (λ v. done)
 unfolding label
@@ -51,14 +51,14 @@ module _ (s : List ℕ) (at : ℕ) (w : List ℕ) (i : ℕ) (h : at ≤ 8 * leng
 module _ {F : Format} {s : List ℕ} {at₀ : ℕ} {w₀ : List ℕ} {i₀ : ℕ} where
   pub tails_up_to : {f : Format} {at : ℕ} {w : List ℕ} {i : ℕ} (j k file : ℕ) (p : Part) (w' : List ℕ)
       → Reading F s at₀ w₀ i₀ f at w i → ReadsUpTo j f s at w i file p w' → i + j ≤ i₀ + k → ReadsUpTo k F s at₀ w₀ i₀ file p w'
-  tails_up_to j k file (part_is.Upto at i) w' r q h = (goes_on r q.0, omega arith)
-  tails_up_to j k file (part_is.Refused x) w' r q h = refused r q
+  tails_up_to j k file (Ok (at, i)) w' r q h = (goes_on r q.0, omega arith)
+  tails_up_to j k file (Err x) w' r q h = refused r q
 
   pub tails_bytes_up_to : {f : Format} (byte₀ byte : ℕ) {w : List ℕ} {i : ℕ} (j k file : ℕ) (p : Part) (w' : List ℕ) → at₀ ≡ 8 * byte₀
       → Reading F s at₀ w₀ i₀ f (8 * byte) w i → ReadsBytesUpTo j f s byte w i file p w' → i + j ≤ i₀ + k
       → ReadsBytesUpTo k F s byte₀ w₀ i₀ file p w'
-  tails_bytes_up_to byte₀ byte j k file (part_is.Upto at i) w' e r q h = rw (← e) (goes_on r q.0, omega arith)
-  tails_bytes_up_to byte₀ byte j k file (part_is.Refused x) w' e r q h = rw (← e) (refused r q)
+  tails_bytes_up_to byte₀ byte j k file (Ok (at, i)) w' e r q h = rw (← e) (goes_on r q.0, omega arith)
+  tails_bytes_up_to byte₀ byte j k file (Err x) w' e r q h = rw (← e) (refused r q)
 
 -- ---- writing
 

@@ -17,11 +17,12 @@ use Rattle.packed.specs.Formats.{count_field, rank, rising, labels, record'}
 use Rattle.packed.specs.Reading.{from, Reading, Refuses, Value, EdgeValues, Content}
 use Rattle.packed.specs.Writing.{Writing, Rejects, Put, EdgePut}
 use Rattle.packed.specs.Accepting.{reply_of}
-use Rattle.packed.specs.LoadedGraph.{Cut, WordsAt, EdgesJudged, MoreJudged, JudgesMore, LoadsWords, WordsLoaded}
+use Rattle.packed.specs.LoadedGraph.{Cut, WordsAt, EdgesJudged, MoreJudged, MoreRefused, LoadsWords, WordsLoaded}
 use Rattle.packed.specs.declared.reply.Refusal.{Refusal}
+use Rattle.packed.specs.Refusals.{file_number}
+use Rattle.packed.specs.declared.reply.File.{File}
+use Rattle.packed.specs.declared.reply.File.TheVariants.{Record}
 use Rattle.packed.specs.declared.reply.Refusal.TheVariants.{Truncated, NoSuchNode, NotAscending}
-use Rattle.packed.specs.declared.reply.Part.{Part}
-use Rattle.packed.specs.declared.reply.Part.TheVariants as part_is
 use Rattle.packed.proofs.BitsLaws.{length-bits, field_lt, field_add}
 use Rattle.packed.specs.Order.{Outside}
 use Rattle.packed.proofs.OrderCases.{lt_or_ge, or_cases, or_neither}
@@ -31,6 +32,8 @@ use Rattle.packed.proofs.ReadingLaws.{starts, same_at, left_is, goes_on, calls, 
 use Rattle.packed.proofs.WritingLaws.{begins, same_to, left_to, parts, writes, accepts, denies, rejected, fills}
 use Rattle.packed.proofs.Files.{written_whole_tail, written_whole_ok}
 use Rattle.packed.proofs.GraphLaws.{words_start, words_more}
+use Rattle.packed.specs.Parts.{Part}
+use Rattle.std.specs.Prelude.{Ok, Err}
 
 -- ---- what comes next
 pub labels_next : (left : ℕ) → 0 < left → times left labels ≡ ask 32 0 (2 ^ 32) 3 (λ v. times (left - 1) labels)
@@ -79,7 +82,7 @@ module _ {F : Format} {s : List ℕ} {at₀ : ℕ} {w₀ : List ℕ} {i₀ : ℕ
   edge_passes {a} {b} {k} p g = left_is (ap (rising nodes (left - 1)) (sym (add-one (rank a b k)))) (passes (le-leb least (rank a b k) g) (edge_read p))
 
   -- it doesn't exceed the one before
-  edge_falls : {file a b k : ℕ} {w' : List ℕ} → EdgeValues 12 nodes s at w i a b k w' → rank a b k < least → Refuses F s at₀ file (NotAscending file)
+  edge_falls : {file : File} {a b k : ℕ} {w' : List ℕ} → EdgeValues 12 nodes s at w i a b k w' → rank a b k < least → Refuses F s at₀ (file_number file) (NotAscending file)
   edge_falls {file} {a} {b} {k} p g = fails (NotAscending file) (lt-leb least (rank a b k) g) refl (edge_read p)
 
   edge_refused : {file : ℕ} {x : Refusal} → ((f : ℕ → ℕ → ℕ → Format) → Refuses (next_edge nodes f) s at file x) → Refuses F s at₀ file x
@@ -98,7 +101,7 @@ labels_there (suc n) {s = s} {at = at} {i} r h =
     (labels_there n (reads (left_is (labels_suc n) r) (labels_value s at i (omega arith))) (omega arith))
 
 -- and refused where they are not
-pub labels_short : (n : ℕ) {s : List ℕ} {at : ℕ} → at ≤ 8 * length s → 8 * length s < at + 32 * n → Refuses (times n labels) s at 3 (Truncated 3)
+pub labels_short : (n : ℕ) {s : List ℕ} {at : ℕ} → at ≤ 8 * length s → 8 * length s < at + 32 * n → Refuses (times n labels) s at 3 (Truncated Record)
 labels_short zero l h = absurd (omega arith)
 labels_short (suc n) {s} {at} l h =
     ⊎_elim
@@ -134,7 +137,7 @@ module _ {s : List ℕ} {nodes : ℕ} (p : Value 13 0 4097 s 0 [] 0 nodes []) wh
     record-number : Reading record' s 0 [] 0 (then (times nodes labels) (rising nodes number 0)) 27 [] 2
     record-number = reads record_nodes q
 
-    pub record_short : 8 * length s < 27 + 32 * nodes → Refuses record' s 0 3 (Truncated 3)
+    pub record_short : 8 * length s < 27 + 32 * nodes → Refuses record' s 0 3 (Truncated Record)
     record_short h = calls_refused (times nodes labels) (rising nodes number 0) record-number (labels_short nodes record-number.inside h)
 
     record-labels : 27 + 32 * nodes ≤ 8 * length s → Reading record' s 0 [] 0 (rising nodes number 0) (27 + 32 * nodes) [] (2 + nodes)
@@ -185,13 +188,13 @@ module _ (s : List ℕ) (at r : ℕ) (there : at + 27 ≤ 8 * length s) (is : r 
         }
 
     -- an end that is no node
-    from-stray : (f : ℕ → Format) → nodes ≤ r / 8 / 4096 → Refuses (ask 12 0 nodes 4 f) s at 3 (NoSuchNode 3)
+    from-stray : (f : ℕ → Format) → nodes ≤ r / 8 / 4096 → Refuses (ask 12 0 nodes 4 f) s at 3 (NoSuchNode Record)
     from-stray f h = record { number = field_wrong s at 12 0 nodes 4 f (r / 8 / 4096) (omega arith) from_is (too_high 0 nodes (r / 8 / 4096) h); detail = refl }
 
-    to-stray : (f : ℕ → Format) → nodes ≤ r / 8 % 4096 → Refuses (ask 12 0 nodes 4 f) s (at + 12) 3 (NoSuchNode 3)
+    to-stray : (f : ℕ → Format) → nodes ≤ r / 8 % 4096 → Refuses (ask 12 0 nodes 4 f) s (at + 12) 3 (NoSuchNode Record)
     to-stray f h = record { number = field_wrong s (at + 12) 12 0 nodes 4 f (r / 8 % 4096) (omega arith) to_is (too_high 0 nodes (r / 8 % 4096) h); detail = refl }
 
-    edge-stray : (nodes ≤ r / 8 / 4096) ⊎ (nodes ≤ r / 8 % 4096) → (f : ℕ → ℕ → ℕ → Format) → Refuses (next_edge nodes f) s at 3 (NoSuchNode 3)
+    edge-stray : (nodes ≤ r / 8 / 4096) ⊎ (nodes ≤ r / 8 % 4096) → (f : ℕ → ℕ → ℕ → Format) → Refuses (next_edge nodes f) s at 3 (NoSuchNode Record)
     edge-stray t f =
         ⊎_elim
         (λ (h : r / 8 / 4096 < nodes).
@@ -224,7 +227,7 @@ judged_start s start nodes number w h =
     }
 
 module _ {s : List ℕ} {start nodes number : ℕ} {w₀ w : List ℕ} {least k : ℕ} (j : EdgesJudged s start nodes number w₀ w least k) where
-  pub judged_end : (at : ℕ) → at ≡ start + 27 * k → k ≡ number → LoadsWords s start nodes number w₀ (part_is.Upto at (3 * number)) w
+  pub judged_end : (at : ℕ) → at ≡ start + 27 * k → k ≡ number → LoadsWords s start nodes number w₀ (Ok (at, (3 * number))) w
   judged_end at place e =
       (same_at (sym place) (ap (λ (i : ℕ). 3 * i) e) (left_is (rising_end nodes (number - k) least (omega arith)) j.reading), rw e at j.words)
 
@@ -236,7 +239,7 @@ module _ {s : List ℕ} {start nodes number : ℕ} {w₀ w : List ℕ} {least k 
     is : r ≡ field s (start + 27 * k) 27
     is = read ∙ ap (λ (i : ℕ). field s i 27) place
 
-    pub judged_stray : strays nodes (r / 8) ≡ true → Refuses (rising nodes number 0) s start 3 (NoSuchNode 3)
+    pub judged_stray : strays nodes (r / 8) ≡ true → Refuses (rising nodes number 0) s start 3 (NoSuchNode Record)
     judged_stray t =
         edge_refused nodes (number - k) least (omega arith) j.reading
         (edge-stray s (start + 27 * k) r there is nodes
@@ -249,7 +252,7 @@ module _ {s : List ℕ} {start nodes number : ℕ} {w₀ w : List ℕ} {least k 
       again : rank (r / 8 / 4096) (r / 8 % 4096) (r % 8) ≡ r
       again = omega arith
 
-      pub judged_falls : r < least → Refuses (rising nodes number 0) s start 3 (NotAscending 3)
+      pub judged_falls : r < least → Refuses (rising nodes number 0) s start 3 (NotAscending Record)
       judged_falls l = edge_falls nodes (number - k) least (omega arith) j.reading values (omega (arith, again))
 
       pub judged_more : {c : ℕ} → least ≤ r → k < length w → c ≡ r % 8 * 2 ^ 24 + r / 8 → EdgesJudged s start nodes number w₀ (set w k c) (r + 1) (k + 1)
@@ -263,27 +266,22 @@ module _ {s : List ℕ} {start nodes number : ℕ} {w₀ w : List ℕ} {least k 
           }
 
 -- ---- several edges more
-pub more_all : {s : List ℕ} {at nodes n least : ℕ} {w : List ℕ} {k r : ℕ} {w' : List ℕ} → 0 < r → MoreJudged s at nodes n least w k r w'
-    → JudgesMore s at nodes n least w k r w'
-more_all h p = record { around = p.around; read = λ l. p; refused = λ e. absurd (omega arith) }
-
 module _ (s : List ℕ) (at nodes least : ℕ) (w : List ℕ) (k : ℕ) where
-  pub more_refused : (r : ℕ) → at + 27 ≤ 8 * length s → r ≡ field s at 27 → (strays nodes (r / 8) || ltb r least) ≡ true → JudgesMore s at nodes 1 least w k 0 w
+  pub more_refused : (r : ℕ) → at + 27 ≤ 8 * length s → r ≡ field s at 27 → (strays nodes (r / 8) || ltb r least) ≡ true → MoreRefused s at nodes 1 least w k w
   more_refused r there read wrong =
       record {
         around = record { long = refl; low = λ j h. refl; high = λ j h. refl };
-        read = λ h. absurd (omega arith);
-        refused = λ h start number w₀ place n j. why start number w₀ place n j (strays nodes (r / 8)) refl wrong;
+        refused = λ start number w₀ place n j. why start number w₀ place n j (strays nodes (r / 8)) refl wrong;
       }
     where
       why : (start number : ℕ) (w₀ : List ℕ) → at ≡ start + 27 * k → k + 1 ≤ number → EdgesJudged s start nodes number w₀ w least k
           → (b : Bool) → strays nodes (r / 8) ≡ b → (b || ltb r least) ≡ true → (x : Refusal) × Refuses (rising nodes number 0) s start 3 x
-      why start number w₀ place n j true e t = (NoSuchNode 3, judged_stray j at r (omega arith) place (omega arith) read e)
-      why start number w₀ place n j false e t = (NotAscending 3, judged_falls j at r (omega arith) place (omega arith) read e (ltb-true r least t))
+      why start number w₀ place n j true e t = (NoSuchNode Record, judged_stray j at r (omega arith) place (omega arith) read e)
+      why start number w₀ place n j false e t = (NotAscending Record, judged_falls j at r (omega arith) place (omega arith) read e (ltb-true r least t))
 
   pub more_one : (c r : ℕ) → at + 27 ≤ 8 * length s → k < length w → r ≡ field s at 27 → c ≡ r % 8 * 2 ^ 24 + r / 8 → (strays nodes (r / 8) || ltb r least) ≡ false
-      → JudgesMore s at nodes 1 least w k (r + 1) (set w k c)
-  more_one c r there m read e fine = more_all (omega arith) (record {
+      → MoreJudged s at nodes 1 least w k (r + 1) (set w k c)
+  more_one c r there m read e fine = record {
     around = record {
       long = length-set w k c;
       low = λ j h. get_or-set_other w k j c 0 (λ e. omega arith);
@@ -293,44 +291,34 @@ module _ (s : List ℕ) (at nodes least : ℕ) (w : List ℕ) (k : ℕ) where
         λ start number w₀ place n j.
         let q = or_neither (strays nodes (r / 8)) (ltb r least) fine in
         judged_more j at r (omega arith) place (omega arith) read q.0 (ltb-false r least q.1) m e;
-  })
+  }
 
-  pub more_none : MoreJudged s at nodes 0 least w k least w
-  more_none =
+module _ {s : List ℕ} {at nodes n least : ℕ} {w : List ℕ} {k a : ℕ} {w' : List ℕ} (p : MoreJudged s at nodes n least w k a w') {w'' : List ℕ} where
+  both : Outside (k + n) 1 w' w'' → Outside k (n + 1) w w''
+  both q =
       record {
-        around = record { long = refl; low = λ j h. refl; high = λ j h. refl };
-        judged = λ start number w₀ place n j. same_count (omega arith) j;
+        long = q.long ∙ p.around.long;
+        low = λ j h. q.low j (omega arith) ∙ p.around.low j h;
+        high = λ j h. q.high j (omega arith) ∙ p.around.high j (omega arith);
       }
 
-module _ {s : List ℕ} {at nodes n least : ℕ} {w : List ℕ} {k a : ℕ} {w' : List ℕ} (p : MoreJudged s at nodes n least w k a w') {r : ℕ} {w'' : List ℕ}
-    (q : JudgesMore s (at + 27 * n) nodes 1 a w' (k + n) r w'') where
-  both : Outside k (n + 1) w w''
-  both =
+  pub more_next : {r : ℕ} → MoreJudged s (at + 27 * n) nodes 1 a w' (k + n) r w'' → MoreJudged s at nodes (n + 1) least w k r w''
+  more_next q =
       record {
-        long = q.around.long ∙ p.around.long;
-        low = λ j h. q.around.low j (omega arith) ∙ p.around.low j h;
-        high = λ j h. q.around.high j (omega arith) ∙ p.around.high j (omega arith);
+        around = both q.around;
+        judged = λ start number w₀ place m j. same_count (omega arith) (q.judged start number w₀ (omega arith) (omega arith) (p.judged start number w₀ place (omega arith) j));
       }
 
-  pub more_next : 0 < r → MoreJudged s at nodes (n + 1) least w k r w''
-  more_next h =
+  pub more_stopped : MoreRefused s (at + 27 * n) nodes 1 a w' (k + n) w'' → (m : ℕ) → n < m → MoreRefused s at nodes m least w k w''
+  more_stopped q m l =
+      let o = both q.around in
       record {
-        around = both;
-        judged =
-            λ start number w₀ place m j.
-            same_count (omega arith) ((q.read h).judged start number w₀ (omega arith) (omega arith) (p.judged start number w₀ place (omega arith) j));
-      }
-
-  pub more_stopped : r ≡ 0 → (m : ℕ) → n < m → JudgesMore s at nodes m least w k 0 w''
-  more_stopped z m l =
-      record {
-        around = record { long = both.long; low = both.low; high = λ j h. both.high j (omega arith) };
-        read = λ h. absurd (omega arith);
-        refused = λ h start number w₀ place d j. q.refused z start number w₀ (omega arith) (omega arith) (p.judged start number w₀ place (omega arith) j);
+        around = record { long = o.long; low = o.low; high = λ j h. o.high j (omega arith) };
+        refused = λ start number w₀ place d j. q.refused start number w₀ (omega arith) (omega arith) (p.judged start number w₀ place (omega arith) j);
       }
 
 -- the edges before them stay
-pub judged_kept : {s : List ℕ} {at nodes n least : ℕ} {w : List ℕ} {k r : ℕ} {w' : List ℕ} → JudgesMore s at nodes n least w k r w'
+pub judged_kept : {s : List ℕ} {at nodes n least : ℕ} {w : List ℕ} {k : ℕ} {w' : List ℕ} → MoreRefused s at nodes n least w k w'
     → {start number : ℕ} {w₀ : List ℕ} {l : ℕ} → k + n ≤ number → EdgesJudged s start nodes number w₀ w l k → EdgesJudged s start nodes number w₀ w' l k
 judged_kept p m j =
     record {
@@ -345,8 +333,8 @@ judged_kept p m j =
 -- of a record that is not refused
 pub words_loaded : {s w w' : List ℕ} {nodes number : ℕ} (r : Part) → nodes ≡ field s 0 13 → number ≡ field s 13 14 → WordsAt s (27 + 32 * nodes) number number w w'
     → WordsLoaded s w (reply_of r) w'
-words_loaded (part_is.Upto at i) e d c = rw (e, d) at c
-words_loaded (part_is.Refused x) e d c = tt
+words_loaded (Ok (at, i)) e d c = rw (e, d) at c
+words_loaded (Err x) e d c = tt
 
 -- ---- writing
 -- one edge more
@@ -362,7 +350,7 @@ module _ {F : Format} {ws : List ℕ} {i₀ : ℕ} {b₀ : List ℕ} {at₀ : �
   edge_accepted {x} {y} {z} p g = left_to (ap (rising nodes (left - 1)) (sym (add-one (rank x y z)))) (accepts (le-leb least (rank x y z) g) (edge_put p))
 
   -- it doesn't exceed the one before
-  pub edge_denied : {file x y z : ℕ} {b' : List ℕ} → EdgePut 12 nodes ws i b at x y z b' → rank x y z < least → Rejects F ws i₀ at₀ file (NotAscending file)
+  pub edge_denied : {file : File} {x y z : ℕ} {b' : List ℕ} → EdgePut 12 nodes ws i b at x y z b' → rank x y z < least → Rejects F ws i₀ at₀ (file_number file) (NotAscending file)
   edge_denied {file} {x} {y} {z} p g = denies (NotAscending file) (lt-leb least (rank x y z) g) refl (edge_put p)
 
   pub edge_rejected : {file : ℕ} {x : Refusal} → ((f : ℕ → ℕ → ℕ → Format) → Rejects (next_edge nodes f) ws i at file x) → Rejects F ws i₀ at₀ file x

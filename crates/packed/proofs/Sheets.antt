@@ -1,25 +1,33 @@
 -- The moves of a reader and of a writer through pairs, lists, sheets and books.
-use Prim.Native.Nat.{ℕ, zero, suc, ◌+◌, ◌-◌, ◌*◌, ◌<◌, ◌≤◌}
+use Prim.Native.Nat.{ℕ, zero, suc, ◌+◌, ◌-◌, ◌*◌, ◌/◌, ◌%◌, ◌^◌, ◌<◌, ◌≤◌}
 use mathlib.Core.Path.{◌≡◌, refl, ap, sym, ◌∙◌}
 use mathlib.Core.List.{List, [], ◌∷◌}
-use mathlib.Core.Bool.{not}
-use lib.ListN.{length, take, drop, get_or, length-take, drop_of_length-le}
-use lib.Seq.{drop-cons, get_or-take}
+use mathlib.Core.Bool.{Bool, not}
+use mathlib.Core.Logic.{⊎_elim}
+use lib.ListN.{length, drop, get_or, set, drop_of_length-le}
+use lib.Seq.{sets, length-sets, drop-cons}
 use lib.Dec.{eqb, leb}
 use native.Mathlib.Omega.{arith}
 use native.Mathlib.Numerals.{add-one}
 use borrow.Author.Tests.{le-leb, lt-leb, eq-eqb, ne_eqb}
-use Rattle.packed.specs.Format.{Format, done, ask, test, pad, then, whole}
+use Rattle.packed.specs.Bits.{bits, bits_of, field}
+use Rattle.packed.specs.Format.{Format, bytes_of, done, ask, test, pad, then, whole}
 use Rattle.packed.specs.Formats.{code, pairs, lists, standing, sheet, book}
 use Rattle.packed.specs.Reading.{Reading, Refuses, ReadsPart, Value, TwoValues}
 use Rattle.packed.specs.Writing.{Writing, Rejects, WritesPart, Put, TwoPut}
-use Rattle.packed.specs.declared.reply.Part.{Part}
-use Rattle.packed.specs.declared.reply.Part.TheVariants as part_is
 use Rattle.packed.specs.declared.reply.Refusal.{Refusal}
-use Rattle.packed.specs.declared.reply.Refusal.TheVariants.{NotAscending, ZeroCount}
-use Rattle.packed.proofs.RoundTrip.{whole_is}
-use Rattle.packed.proofs.ReadingLaws.{starts, same_at, left_is, goes_on, reads, passes, fails, refused, calls, calls_refused}
+use Rattle.packed.specs.Refusals.{file_number}
+use Rattle.packed.specs.declared.reply.File.{File}
+use Rattle.packed.specs.declared.reply.File.TheVariants.{Sheet}
+use Rattle.packed.specs.declared.reply.Refusal.TheVariants.{Truncated, NotAscending, ZeroCount}
+use Rattle.packed.proofs.OrderCases.{lt_or_ge}
+use Rattle.packed.proofs.BitsLaws.{field_lt, field_add, bits_of_mod, length-bits}
+use Rattle.packed.proofs.BitFields.{put_next}
+use Rattle.packed.proofs.RoundTrip.{whole_is, bits_bytes_of}
+use Rattle.packed.proofs.ReadingLaws.{field_short, starts, same_at, left_is, goes_on, reads, passes, fails, refused, calls, calls_refused}
 use Rattle.packed.proofs.WritingLaws.{begins, same_to, left_to, writes, accepts, denies, rejected, closes, parts, parts_rejected}
+use Rattle.packed.specs.Parts.{Part}
+use Rattle.std.specs.Prelude.{Ok, Err}
 
 -- ---- what is left of a format, one step on
 
@@ -57,23 +65,43 @@ unfolding sheet
 sheet_is m = refl
 
 -- a book from its sheet j on
-abbrev pub book_from : List ℕ → ℕ → ℕ → Format
-book_from counts k j = book (drop j (take k counts))
+abbrev pub book_from : List ℕ → ℕ → Format
+book_from counts j = book (drop j counts)
 
-book_more : (counts : List ℕ) (k j : ℕ) → k ≤ length counts → j < k → book_from counts k j ≡ then (whole (sheet (get_or counts j 0))) (book_from counts k (j + 1))
+book_more : (counts : List ℕ) (j : ℕ) → j < length counts → book_from counts j ≡ then (whole (sheet (get_or counts j 0))) (book_from counts (j + 1))
 unfolding book
-book_more counts k j l h =
-    ap book (
-    drop-cons (take k counts) j 0 (omega (arith, length-take k counts))
-    ∙ ap (λ (n : ℕ). get_or (take k counts) j 0 ∷ drop n (take k counts)) (sym (add-one j))
-    ∙ ap (λ (m : ℕ). m ∷ drop (j + 1) (take k counts)) (get_or-take k counts j 0 h)
-    )
+book_more counts j h = ap book (drop-cons counts j 0 h ∙ ap (λ (n : ℕ). get_or counts j 0 ∷ drop n counts) (sym (add-one j)))
 
-pub book_end : (counts : List ℕ) (k j : ℕ) → k ≤ j → book_from counts k j ≡ done
+pub book_end : (counts : List ℕ) (j : ℕ) → length counts ≤ j → book_from counts j ≡ done
 unfolding book
-book_end counts k j h = ap book (drop_of_length-le (take k counts) {i = j} (omega (arith, length-take k counts)))
+book_end counts j h = ap book (drop_of_length-le counts {i = j} h)
 
 -- ---- reading
+-- a pair whose bits are not all there
+pub pair_short : (s : List ℕ) (at : ℕ) → at ≤ 8 * length s → 8 * length s < at + 24 → (f : ℕ → ℕ → Format)
+    → Refuses (ask 12 0 4096 3 (λ a. ask 12 0 4096 3 (λ b. f a b))) s at 4 (Truncated Sheet)
+pair_short s at l h f =
+    ⊎_elim
+    (λ (g : 8 * length s < at + 12). (record { number = field_short s at 12 0 4096 3 (λ a. ask 12 0 4096 3 (λ b. f a b)) l g; detail = refl }))
+    (λ (g : at + 12 ≤ 8 * length s). (
+    let v : Value 12 0 4096 s at [] 0 (field s at 12) [] = record { some = omega arith; fits = g; is = refl; least = omega arith; most = omega (arith, field_lt s at 12 12 (omega arith)); stored = refl } in
+    let second : Refuses (ask 12 0 4096 3 (λ b. f (field s at 12) b)) s (at + 12) 4 (Truncated Sheet) = record { number = field_short s (at + 12) 12 0 4096 3 (λ b. f (field s at 12) b) g (omega arith); detail = refl } in
+    refused (reads (starts {w₀ = []} {i₀ = 0} l) v) second))
+    (lt_or_ge (8 * length s) (at + 12))
+
+-- the fields of a pair whose bits are all there, from its code
+pub pair_values : {s w : List ℕ} {at i c : ℕ} {w₁ w₂ : List ℕ} → at + 24 ≤ 8 * length s → c ≡ field s at 24 → w₁ ≡ set w i (c / 4096) → w₂ ≡ set w₁ (i + 1) (c % 4096)
+    → TwoValues 12 4096 s at w i (c / 4096) (c % 4096) w₂
+pair_values {s} {at = at} {c = c} {w₁} there is p q =
+    let e : c ≡ field s at 12 * 4096 + field s (at + 12) 12 = is ∙ field_add s at 12 12 (omega arith) in
+    let m = field_lt s at 12 12 (omega arith) in
+    let n = field_lt s (at + 12) 12 12 (omega arith) in
+    record {
+      between = w₁;
+      first = record { some = omega arith; fits = omega arith; is = omega (arith, e, n); least = omega arith; most = omega (arith, e, m, n); stored = p };
+      second = record { some = omega arith; fits = omega arith; is = omega (arith, e, n); least = omega arith; most = omega arith; stored = q };
+    }
+
 module _ {F : Format} {s : List ℕ} {at₀ : ℕ} {w₀ : List ℕ} {i₀ : ℕ} where
   -- one pair more
   module _ (left least : ℕ) {at : ℕ} {w : List ℕ} {i : ℕ} (h : 0 < left) (r : Reading F s at₀ w₀ i₀ (pairs left least) at w i) where
@@ -86,7 +114,7 @@ module _ {F : Format} {s : List ℕ} {at₀ : ℕ} {w₀ : List ℕ} {i₀ : ℕ
     pair_passes {a} {b} p g = left_is (ap (pairs (left - 1)) (sym (add-one (code a b)))) (passes (le-leb least (code a b) g) (pair_read p))
 
     -- it doesn't exceed the one before
-    pub pair_falls : {file a b : ℕ} {w' : List ℕ} → TwoValues 12 4096 s at w i a b w' → code a b < least → Refuses F s at₀ file (NotAscending file)
+    pub pair_falls : {file : File} {a b : ℕ} {w' : List ℕ} → TwoValues 12 4096 s at w i a b w' → code a b < least → Refuses F s at₀ (file_number file) (NotAscending file)
     pair_falls {file} {a} {b} p g = fails (NotAscending file) (lt-leb least (code a b) g) refl (pair_read p)
 
     pub pair_refused : {file : ℕ} {x : Refusal} → ((f : ℕ → ℕ → Format) → Refuses (ask 12 0 4096 3 (λ a. ask 12 0 4096 3 (λ b. f a b))) s at file x)
@@ -102,8 +130,8 @@ module _ {F : Format} {s : List ℕ} {at₀ : ℕ} {w₀ : List ℕ} {i₀ : ℕ
     count_refused p = refused (left_is (lists_more left h) r) (p (after_count left))
 
     -- it is zero
-    pub count_falls : {n : ℕ} {w' : List ℕ} → Value 14 0 8193 s at w i n w' → n ≡ 0 → Refuses F s at₀ 4 (ZeroCount 4)
-    count_falls {n} p z = fails (ZeroCount 4) (ap not (eq-eqb n 0 z)) refl (count-read p)
+    pub count_falls : {n : ℕ} {w' : List ℕ} → Value 14 0 8193 s at w i n w' → n ≡ 0 → Refuses F s at₀ 4 (ZeroCount Sheet)
+    count_falls {n} p z = fails (ZeroCount Sheet) (ap not (eq-eqb n 0 z)) refl (count-read p)
 
     module _ {n : ℕ} {w' : List ℕ} (p : Value 14 0 8193 s at w i n w') (z : n ≡ 0 → ⊥) where
       count-passes : Reading F s at₀ w₀ i₀ (then (pairs n 0) (lists (left - 1))) (at + 14) w' (i + 1)
@@ -116,13 +144,13 @@ module _ {F : Format} {s : List ℕ} {at₀ : ℕ} {w₀ : List ℕ} {i₀ : ℕ
       list_refused q = calls_refused (pairs n 0) (lists (left - 1)) count-passes q
 
   -- one sheet more
-  module _ (counts : List ℕ) (k j : ℕ) {at : ℕ} {w : List ℕ} {i : ℕ} (l : k ≤ length counts) (h : j < k) (r : Reading F s at₀ w₀ i₀ (book_from counts k j) at w i) where
+  module _ (counts : List ℕ) (j : ℕ) {at : ℕ} {w : List ℕ} {i : ℕ} (h : j < length counts) (r : Reading F s at₀ w₀ i₀ (book_from counts j) at w i) where
     pub sheet_passes : {at' : ℕ} {w' : List ℕ} {i' : ℕ} → Reading (whole (sheet (get_or counts j 0))) s at w i done at' w' i'
-        → Reading F s at₀ w₀ i₀ (book_from counts k (j + 1)) at' w' i'
-    sheet_passes p = calls (whole (sheet (get_or counts j 0))) (book_from counts k (j + 1)) (left_is (book_more counts k j l h) r) p
+        → Reading F s at₀ w₀ i₀ (book_from counts (j + 1)) at' w' i'
+    sheet_passes p = calls (whole (sheet (get_or counts j 0))) (book_from counts (j + 1)) (left_is (book_more counts j h) r) p
 
     pub sheet_refused : {file : ℕ} {x : Refusal} → Refuses (whole (sheet (get_or counts j 0))) s at file x → Refuses F s at₀ file x
-    sheet_refused p = calls_refused (whole (sheet (get_or counts j 0))) (book_from counts k (j + 1)) (left_is (book_more counts k j l h) r) p
+    sheet_refused p = calls_refused (whole (sheet (get_or counts j 0))) (book_from counts (j + 1)) (left_is (book_more counts j h) r) p
 
 -- the lead of a sheet, and then the lists that stand
 module _ (m : ℕ) {s : List ℕ} {at : ℕ} where
@@ -134,8 +162,8 @@ module _ (m : ℕ) {s : List ℕ} {at : ℕ} where
     lead-read = left_is (ap lists (sym e)) (reads (left_is (sheet_is m) (starts h)) p)
 
     pub lists_read : (r : Part) (w'' : List ℕ) → ReadsPart (lists k) s (at + 1) w' (i + 1) 4 r w'' → ReadsPart (sheet m) s at w i 4 r w''
-    lists_read (part_is.Upto at' i') w'' q = goes_on lead-read q
-    lists_read (part_is.Refused x) w'' q = refused lead-read q
+    lists_read (Ok (at', i')) w'' q = goes_on lead-read q
+    lists_read (Err x) w'' q = refused lead-read q
 
 -- a file up to its padding
 module _ (f : Format) {s : List ℕ} {at₀ : ℕ} {w₀ : List ℕ} {i₀ : ℕ} (h : at₀ ≤ 8 * length s) where
@@ -146,6 +174,41 @@ pub whole_refused : (f : Format) {s : List ℕ} {at₀ file : ℕ} {x : Refusal}
 whole_refused f h p = calls_refused f (pad done) (left_is (whole_is f) (starts {F = whole f} {w₀ = []} {i₀ = 0} h)) p
 
 -- ---- writing
+-- the fields of a pair whose bits were put at once: as if the first had been put alone before
+abbrev from_bits : List ℕ → ℕ → ℕ → List Bool
+from_bits b at x = sets (bits b) at (bits_of 12 x)
+
+from_bytes : (b : List ℕ) (at x : ℕ) → bits (bytes_of (length b) (from_bits b at x)) ≡ from_bits b at x
+from_bytes b at x = bits_bytes_of (length b) (from_bits b at x) (length-sets (bits b) at (bits_of 12 x) ∙ length-bits b)
+
+module _ {ws : List ℕ} (b : List ℕ) {i : ℕ} (at : ℕ) {x : ℕ} (there : i < length ws) (is : x ≡ get_or ws i 0) (most : x < 4096) where
+  pub from_put : Put 12 0 4096 ws i b at x (bytes_of (length b) (from_bits b at x))
+  from_put = record { there = there; is = is; least = omega arith; most = most; narrow = omega arith; stored = (from_bytes b at x) }
+
+  pub pair_at_once : {y : ℕ} {b' : List ℕ} → i + 1 < length ws → y ≡ get_or ws (i + 1) 0 → y < 4096 → bits b' ≡ sets (bits b) at (bits_of 24 (x * 4096 + y))
+      → TwoPut 12 4096 ws i b at x y b'
+  pair_at_once {y} there' is' most' p =
+      let c : ℕ = x * 4096 + y in
+      let d : c / 2 ^ 12 ≡ x = omega arith in
+      let e : c % 2 ^ 12 ≡ y = omega arith in
+      let q : sets (from_bits b at x) (at + 12) (bits_of 12 y) ≡ sets (bits b) at (bits_of 24 c) =
+      ap (λ (k : ℕ). sets (from_bits b at x) (at + 12) (bits_of 12 k)) (sym e)
+      ∙ ap (λ (t : List Bool). sets (from_bits b at x) (at + 12) t) (bits_of_mod 12 c)
+      ∙ ap (λ (k : ℕ). sets (sets (bits b) at (bits_of 12 k)) (at + 12) (bits_of 12 c)) (sym d)
+      ∙ put_next (bits b) at 12 12 c in
+      record {
+        between = bytes_of (length b) (from_bits b at x);
+        first = from_put;
+        second = record {
+          there = there';
+          is = is';
+          least = omega arith;
+          most = most';
+          narrow = omega arith;
+          stored = p ∙ sym q ∙ ap (λ (t : List Bool). sets t (at + 12) (bits_of 12 y)) (sym (from_bytes b at x));
+        };
+      }
+
 module _ {F : Format} {ws : List ℕ} {i₀ : ℕ} {b₀ : List ℕ} {at₀ : ℕ} where
   -- one pair more
   module _ (left least : ℕ) {i : ℕ} {b : List ℕ} {at : ℕ} (h : 0 < left) (r : Writing F ws i₀ b₀ at₀ (pairs left least) i b at) where
@@ -158,7 +221,7 @@ module _ {F : Format} {ws : List ℕ} {i₀ : ℕ} {b₀ : List ℕ} {at₀ : �
     pair_accepted {x} {y} p g = left_to (ap (pairs (left - 1)) (sym (add-one (code x y)))) (accepts (le-leb least (code x y) g) (pair_put p))
 
     -- it doesn't exceed the one before
-    pub pair_denied : {file x y : ℕ} {b' : List ℕ} → TwoPut 12 4096 ws i b at x y b' → code x y < least → Rejects F ws i₀ at₀ file (NotAscending file)
+    pub pair_denied : {file : File} {x y : ℕ} {b' : List ℕ} → TwoPut 12 4096 ws i b at x y b' → code x y < least → Rejects F ws i₀ at₀ (file_number file) (NotAscending file)
     pair_denied {file} {x} {y} p g = denies (NotAscending file) (lt-leb least (code x y) g) refl (pair_put p)
 
     pub pair_rejected : {file : ℕ} {x : Refusal} → ((f : ℕ → ℕ → Format) → Rejects (ask 12 0 4096 3 (λ a. ask 12 0 4096 3 (λ b. f a b))) ws i at file x)
@@ -174,8 +237,8 @@ module _ {F : Format} {ws : List ℕ} {i₀ : ℕ} {b₀ : List ℕ} {at₀ : �
     count_rejected p = rejected (left_to (lists_more left h) r) (p (after_count left))
 
     -- it is zero
-    pub count_denied : {n : ℕ} {b' : List ℕ} → Put 14 0 8193 ws i b at n b' → n ≡ 0 → Rejects F ws i₀ at₀ 4 (ZeroCount 4)
-    count_denied {n} p z = denies (ZeroCount 4) (ap not (eq-eqb n 0 z)) refl (count-put p)
+    pub count_denied : {n : ℕ} {b' : List ℕ} → Put 14 0 8193 ws i b at n b' → n ≡ 0 → Rejects F ws i₀ at₀ 4 (ZeroCount Sheet)
+    count_denied {n} p z = denies (ZeroCount Sheet) (ap not (eq-eqb n 0 z)) refl (count-put p)
 
     module _ {n : ℕ} {b' : List ℕ} (p : Put 14 0 8193 ws i b at n b') (z : n ≡ 0 → ⊥) where
       count-accepted : Writing F ws i₀ b₀ at₀ (then (pairs n 0) (lists (left - 1))) (i + 1) b' (at + 14)
@@ -188,13 +251,13 @@ module _ {F : Format} {ws : List ℕ} {i₀ : ℕ} {b₀ : List ℕ} {at₀ : �
       list_rejected q = parts_rejected (pairs n 0) (lists (left - 1)) count-accepted q
 
   -- one sheet more
-  module _ (counts : List ℕ) (k j : ℕ) {i : ℕ} {b : List ℕ} {at : ℕ} (l : k ≤ length counts) (h : j < k) (r : Writing F ws i₀ b₀ at₀ (book_from counts k j) i b at) where
+  module _ (counts : List ℕ) (j : ℕ) {i : ℕ} {b : List ℕ} {at : ℕ} (h : j < length counts) (r : Writing F ws i₀ b₀ at₀ (book_from counts j) i b at) where
     pub sheet_accepted : {i' : ℕ} {b' : List ℕ} {at' : ℕ} → Writing (whole (sheet (get_or counts j 0))) ws i b at done i' b' at'
-        → Writing F ws i₀ b₀ at₀ (book_from counts k (j + 1)) i' b' at'
-    sheet_accepted p = parts (whole (sheet (get_or counts j 0))) (book_from counts k (j + 1)) (left_to (book_more counts k j l h) r) p
+        → Writing F ws i₀ b₀ at₀ (book_from counts (j + 1)) i' b' at'
+    sheet_accepted p = parts (whole (sheet (get_or counts j 0))) (book_from counts (j + 1)) (left_to (book_more counts j h) r) p
 
     pub sheet_rejected : {file : ℕ} {x : Refusal} → Rejects (whole (sheet (get_or counts j 0))) ws i at file x → Rejects F ws i₀ at₀ file x
-    sheet_rejected p = parts_rejected (whole (sheet (get_or counts j 0))) (book_from counts k (j + 1)) (left_to (book_more counts k j l h) r) p
+    sheet_rejected p = parts_rejected (whole (sheet (get_or counts j 0))) (book_from counts (j + 1)) (left_to (book_more counts j h) r) p
 
 -- the lead of a sheet, and then the lists that stand
 module _ (m : ℕ) {ws : List ℕ} {i : ℕ} where

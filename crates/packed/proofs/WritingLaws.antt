@@ -13,12 +13,12 @@ use Rattle.packed.specs.Format.{Format, done, ask, test, pad, then, Got, got, fa
 use Rattle.packed.specs.Refusals.{number_of, detail_of}
 use Rattle.packed.specs.Writing.{Writing, Rejects, WritesPart, WritesBytes, Put}
 use Rattle.packed.specs.declared.reply.Refusal.{Refusal}
-use Rattle.packed.specs.declared.reply.Part.{Part}
-use Rattle.packed.specs.declared.reply.Part.TheVariants as part_is
 use Rattle.packed.proofs.BitsLaws.{length_bits_of, bits_of_zero}
 use Rattle.packed.proofs.Sets.{sets_append}
 use Rattle.packed.proofs.RoundTrip.{lay_done, lay_ask, lay_none, lay_wrong, lay_test, lay_pad, lay_then, push_push, push_nil, pick_yes, pick_no, onward}
 use Rattle.packed.proofs.ReadingLaws.{in_range}
+use Rattle.packed.specs.Parts.{Part}
+use Rattle.std.specs.Prelude.{Ok, Err}
 
 -- ---- one field
 module _ (ws : List ℕ) (i at : ℕ) where
@@ -109,14 +109,14 @@ module _ {F : Format} {ws : List ℕ} {i₀ : ℕ} {b₀ : List ℕ} {at₀ : �
   -- the last part of F was written, or refused, by its own writer
   pub closes : {f : Format} {i : ℕ} {b : List ℕ} {at : ℕ} (j k file : ℕ) (p : Part) (b' : List ℕ)
       → Writing F ws i₀ b₀ at₀ f i b at → WritesPart f ws i b at j file p b' → at + j ≤ at₀ + k → WritesPart F ws i₀ b₀ at₀ k file p b'
-  closes j k file (part_is.Upto at i) b' r q h = (follows r q.0, omega arith)
-  closes j k file (part_is.Refused x) b' r q h = rejected r q
+  closes j k file (Ok (at, i)) b' r q h = (follows r q.0, omega arith)
+  closes j k file (Err x) b' r q h = rejected r q
 
   pub closes_bytes : {f : Format} (byte₀ byte : ℕ) {i : ℕ} {b : List ℕ} (j k file : ℕ) (p : Part) (b' : List ℕ) → at₀ ≡ 8 * byte₀
       → Writing F ws i₀ b₀ at₀ f i b (8 * byte) → WritesBytes f ws i b byte j file p b' → byte + j ≤ byte₀ + k
       → WritesBytes F ws i₀ b₀ byte₀ k file p b'
-  closes_bytes byte₀ byte j k file (part_is.Upto at i) b' e r q h = rw (← e) (follows r q.0, omega arith)
-  closes_bytes byte₀ byte j k file (part_is.Refused x) b' e r q h = rw (← e) (rejected r q)
+  closes_bytes byte₀ byte j k file (Ok (at, i)) b' e r q h = rw (← e) (follows r q.0, omega arith)
+  closes_bytes byte₀ byte j k file (Err x) b' e r q h = rw (← e) (rejected r q)
 
   -- a field was written
   pub writes : {wide low bound e : ℕ} {f : ℕ → Format} {i : ℕ} {b : List ℕ} {at v : ℕ} {b' : List ℕ}

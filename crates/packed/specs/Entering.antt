@@ -1,5 +1,5 @@
 -- inner: an edge enters among the words of a record's edges in the workspace.
-use Rattle.std.specs.Prelude.{ℕ, ◌+◌, ◌≤◌, ◌<◌, ◌≡◌, true, false, List, [], ◌∷◌, length, get_or}
+use Rattle.std.specs.Prelude.{ℕ, ◌+◌, ◌≤◌, ◌<◌, ◌≡◌, true, false, List, [], ◌∷◌, length, get_or, Some, None}
 use Rattle.std.proofs.lemmas.List.Edits.{sets}
 use Rattle.packed.specs.Format.{ok, decode}
 use Rattle.packed.specs.Formats.{record', rank}
@@ -7,8 +7,7 @@ use Rattle.packed.specs.Contents.{member, word_rank, ranks}
 use Rattle.packed.specs.Calls.{record_bytes}
 use Rattle.packed.specs.LoadedGraph.{Holds}
 use Rattle.packed.specs.Entered.{edges_in, entered, MayEnter, lower}
-use Rattle.packed.specs.declared.enter.Place.{Place}
-use Rattle.packed.specs.declared.enter.Place.TheVariants as place_is
+use Rattle.packed.specs.Parts.{Place}
 
 -- the ranks of the edges in these words
 unfoldable pub word_ranks : List ℕ → List ℕ
@@ -17,8 +16,8 @@ word_ranks (c ∷ cs) = word_rank c ∷ word_ranks cs
 
 -- x is among the numbers of l, or stands behind so many lower ones
 abbrev pub Placed : ℕ → List ℕ → Place → Type 0
-Placed x l (place_is.Behind n) = (member x l ≡ false) × (n ≡ lower x l)
-Placed x l place_is.Taken = member x l ≡ true
+Placed x l (Some n) = (member x l ≡ false) × (n ≡ lower x l)
+Placed x l None = member x l ≡ true
 
 -- the word x was put at the place at among the first m words: those from there on moved up by one
 pub record PutAt (at m x : ℕ) (w w' : List ℕ) : Type 0 where

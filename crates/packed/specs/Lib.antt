@@ -11,6 +11,7 @@ pub mod Entered
 -- inner
 pub mod Order
 pub mod Distinct
+pub mod Parts
 pub mod Reading
 pub mod Writing
 pub mod Walks

@@ -1,5 +1,5 @@
 -- inner: a record's edges in the workspace, as they are judged.
-use Rattle.std.specs.Prelude.{ℕ, ◌+◌, ◌-◌, ◌*◌, ◌<◌, ◌≤◌, ◌≡◌, List, [], length, take, drop, get_or}
+use Rattle.std.specs.Prelude.{Option, Some, None, ℕ, ◌+◌, ◌-◌, ◌*◌, ◌<◌, ◌≤◌, ◌≡◌, List, [], length, take, drop, get_or, Ok, Err}
 use Rattle.packed.specs.Bits.{field}
 use Rattle.packed.specs.Format.{Format, done, ask, ok, decode}
 use Rattle.packed.specs.Formats.{kind, rising, record'}
@@ -10,19 +10,12 @@ use Rattle.packed.specs.Order.{Outside}
 use Rattle.packed.specs.Reading.{Reading, Refuses, Value}
 use Rattle.packed.specs.Calls.{rejected, read_record}
 use Rattle.packed.specs.declared.reply.Refusal.{Refusal}
-use Rattle.packed.specs.declared.reply.Two.{Two}
-use Rattle.packed.specs.declared.reply.Two.TheVariants as two_is
-use Rattle.packed.specs.declared.reply.Reply.{Reply}
-use Rattle.packed.specs.declared.reply.Reply.TheVariants as reply-is
-use Rattle.packed.specs.declared.reply.Part.{Part}
-use Rattle.packed.specs.declared.reply.Part.TheVariants as part_is
-use Rattle.packed.specs.declared.graph.Graph.{Graph}
-use Rattle.packed.specs.declared.graph.Graph.TheVariants as graph_is
+use Rattle.packed.specs.Parts.{Reply, Part, ReadTwo, GraphSizes}
 
 -- the numbers of nodes and edges of a record
-abbrev pub ReadsCounts : List ℕ → Two → Type 0
-ReadsCounts s (two_is.Values n m) = Value 13 0 4097 s 0 [] 0 n [] × Value 14 0 8193 s 13 [] 1 m []
-ReadsCounts s (two_is.Refused x) = Refuses record' s 0 3 x
+abbrev pub ReadsCounts : List ℕ → ReadTwo → Type 0
+ReadsCounts s (Ok (n, m)) = Value 13 0 4097 s 0 [] 0 n [] × Value 14 0 8193 s 13 [] 1 m []
+ReadsCounts s (Err x) = Refuses record' s 0 3 x
 
 -- an edge whose bits are not all there is refused by x
 abbrev pub Cut : List ℕ → ℕ → ℕ → Refusal → Type 0
@@ -45,22 +38,26 @@ pub record MoreJudged (s : List ℕ) (at nodes n least : ℕ) (w : List ℕ) (k 
   pub judged : (start number : ℕ) (w₀ : List ℕ) → at ≡ start + 27 * k → k + n ≤ number
       → EdgesJudged s start nodes number w₀ w least k → EdgesJudged s start nodes number w₀ w' r (k + n)
 
--- n edges more were read, or r is 0, and one of them is refused
-pub record JudgesMore (s : List ℕ) (at nodes n least : ℕ) (w : List ℕ) (k r : ℕ) (w' : List ℕ) : Type 0 where
+-- one of n edges more is refused; the workspace is as it was outside their places
+pub record MoreRefused (s : List ℕ) (at nodes n least : ℕ) (w : List ℕ) (k : ℕ) (w' : List ℕ) : Type 0 where
   pub around : Outside k n w w'
-  pub read : 0 < r → MoreJudged s at nodes n least w k r w'
-  pub refused : r ≡ 0 → (start number : ℕ) (w₀ : List ℕ) → at ≡ start + 27 * k → k + n ≤ number
+  pub refused : (start number : ℕ) (w₀ : List ℕ) → at ≡ start + 27 * k → k + n ≤ number
       → EdgesJudged s start nodes number w₀ w least k → (x : Refusal) × Refuses (rising nodes number 0) s start 3 x
+
+-- n edges more were read, or one of them is refused
+abbrev pub JudgesMore : List ℕ → ℕ → ℕ → ℕ → ℕ → List ℕ → ℕ → Option ℕ → List ℕ → Type 0
+JudgesMore s at nodes n least w k (Some r) w' = MoreJudged s at nodes n least w k r w'
+JudgesMore s at nodes n least w k None w' = MoreRefused s at nodes n least w k w'
 
 -- m edges were read into the workspace, or refused
 abbrev pub LoadsWords : List ℕ → ℕ → ℕ → ℕ → List ℕ → Part → List ℕ → Type 0
-LoadsWords s start nodes m w (part_is.Upto at i) w' = Reading (rising nodes m 0) s start [] 0 done at [] i × WordsAt s start m m w w'
-LoadsWords s start nodes m w (part_is.Refused x) w' = Refuses (rising nodes m 0) s start 3 x
+LoadsWords s start nodes m w (Ok (at, i)) w' = Reading (rising nodes m 0) s start [] 0 done at [] i × WordsAt s start m m w w'
+LoadsWords s start nodes m w (Err x) w' = Refuses (rising nodes m 0) s start 3 x
 
 -- unless the record is refused, the words of its edges stand there
 abbrev pub WordsLoaded : List ℕ → List ℕ → Reply → List ℕ → Type 0
-WordsLoaded s w (reply-is.Done n) w' = WordsAt s (27 + 32 * field s 0 13) (field s 13 14) (field s 13 14) w w'
-WordsLoaded s w (reply-is.Refused x) w' = Unit {0}
+WordsLoaded s w (Ok n) w' = WordsAt s (27 + 32 * field s 0 13) (field s 13 14) (field s 13 14) w w'
+WordsLoaded s w (Err x) w' = Unit {0}
 
 -- a record was accepted, with so many nodes and edges; the words of its edges stand at the front of the workspace, in order
 pub record Holds (s : List ℕ) (n m : ℕ) (w : List ℕ) : Type 0 where
@@ -71,9 +68,9 @@ pub record Holds (s : List ℕ) (n m : ℕ) (w : List ℕ) : Type 0 where
   pub long : length w ≡ 16384
   pub front : take m w ≡ edge_words (drop (2 + nodes_of fields) fields)
 
-abbrev pub LoadsGraph : List ℕ → Graph → List ℕ → Type 0
-LoadsGraph s (graph_is.Of n m) w = Holds s n m w × (length s ≤ record_most)
-LoadsGraph s (graph_is.Refused x) w = read_record s ≡ rejected (number_of x) (detail_of x)
+abbrev pub LoadsGraph : List ℕ → GraphSizes → List ℕ → Type 0
+LoadsGraph s (Ok (n, m)) w = Holds s n m w × (length s ≤ record_most)
+LoadsGraph s (Err x) w = read_record s ≡ rejected (number_of x) (detail_of x)
 
 -- the labels of n nodes stand from the third word on
 pub record LabelsStored (s : List ℕ) (n : ℕ) (w w' : List ℕ) : Type 0 where

@@ -1,11 +1,24 @@
 -- The number and the detail of each refusal, and of every answer that is an enum: 0 for success, and then its values.
-use Rattle.std.specs.Prelude.{ℕ, List, [], ◌∷◌}
+use Rattle.std.specs.Prelude.{ℕ, List, [], ◌∷◌, Ok, Err}
+use Rattle.packed.specs.declared.reply.File.{File}
+use Rattle.packed.specs.declared.reply.File.TheVariants.{Pattern, Catalogue, Record, Sheet}
 use Rattle.packed.specs.declared.reply.Refusal.{Refusal}
 use Rattle.packed.specs.declared.reply.Refusal.TheVariants.{TooLong, Truncated, OutOfRange, NoSuchNode, DuplicateEdge, NotAscending, IsolatedNode, ZeroCount, Trailing, TooManyPairs, NotContained, NoRoom, Contained, SmallWorkspace, WrongCharges, WrongIndex, WrongQuestions, WrongTerms, WrongSet, OldSlip, LastChange}
-use Rattle.packed.specs.declared.reply.Reply.{Reply}
-use Rattle.packed.specs.declared.reply.Reply.TheVariants as reply-is
-use Rattle.packed.specs.declared.reply.Both.{Both}
-use Rattle.packed.specs.declared.reply.Both.TheVariants as both_is
+use Rattle.packed.specs.declared.reply.Wrong.{Wrong}
+use Rattle.packed.specs.declared.reply.Wrong.TheVariants.{Range, Node}
+use Rattle.packed.specs.Parts.{Reply, Both}
+
+-- the number of a kind of file
+abbrev pub file_number : File → ℕ
+file_number Pattern = 1
+file_number Catalogue = 2
+file_number Record = 3
+file_number Sheet = 4
+
+-- the number of the refusal of a field whose value lies outside its range
+abbrev pub wrong_number : Wrong → ℕ
+wrong_number Range = 3
+wrong_number Node = 4
 
 abbrev pub number_of : Refusal → ℕ
 number_of (TooLong d) = 1
@@ -34,16 +47,16 @@ number_of (LastChange d) = 21
 -- entries were lent, or the first that differs; 17: how many questions were sent; 18: how many terms were lent, or the first that ends before it begins;
 -- 19: the lowest number in the set that is no view; 20 and 21: the state's change number
 abbrev pub detail_of : Refusal → ℕ
-detail_of (TooLong d) = d
-detail_of (Truncated d) = d
-detail_of (OutOfRange d) = d
-detail_of (NoSuchNode d) = d
-detail_of (DuplicateEdge d) = d
-detail_of (NotAscending d) = d
-detail_of (IsolatedNode d) = d
-detail_of (ZeroCount d) = d
-detail_of (Trailing d) = d
-detail_of (TooManyPairs d) = d
+detail_of (TooLong f) = file_number f
+detail_of (Truncated f) = file_number f
+detail_of (OutOfRange f) = file_number f
+detail_of (NoSuchNode f) = file_number f
+detail_of (DuplicateEdge f) = file_number f
+detail_of (NotAscending f) = file_number f
+detail_of (IsolatedNode f) = file_number f
+detail_of (ZeroCount f) = file_number f
+detail_of (Trailing f) = file_number f
+detail_of (TooManyPairs f) = file_number f
 detail_of (NotContained d) = d
 detail_of (NoRoom d) = d
 detail_of Contained = 0
@@ -62,10 +75,10 @@ pub data Told : Type 0 where
 
 -- the answer of a call with one output: how much of it was written, or the refusal with its detail
 abbrev pub reply_told : Reply → Told
-reply_told (reply-is.Done n) = told 0 (n ∷ [])
-reply_told (reply-is.Refused x) = told (number_of x) (detail_of x ∷ [])
+reply_told (Ok n) = told 0 (n ∷ [])
+reply_told (Err x) = told (number_of x) (detail_of x ∷ [])
 
 -- the same with two outputs
 abbrev pub both_told : Both → Told
-both_told (both_is.Done a b) = told 0 (a ∷ b ∷ [])
-both_told (both_is.Refused x) = told (number_of x) (detail_of x ∷ [])
+both_told (Ok (a, b)) = told 0 (a ∷ b ∷ [])
+both_told (Err x) = told (number_of x) (detail_of x ∷ [])

@@ -4,103 +4,75 @@ ghost use Rattle.packed.specs.Limits.{questions_most};
 ghost use Rattle.packed.specs.Format.{decode};
 ghost use Rattle.packed.specs.Formats.{sheet, book};
 ghost use Rattle.packed.specs.OldRecord.{old_record, read_old_record};
-ghost use Rattle.packed.specs.ByValue.{HoldsPattern, NoPattern};
 ghost use Rattle.packed.specs.Calls.{read_file, read_pattern, read_questions, read_catalogue, read_record};
-ghost use Rattle.packed.specs.Accepting.{reply_of, AcceptsFile, AcceptsWith, HoldsViews, NoViews};
+ghost use Rattle.packed.specs.Accepting.{reply_of, AcceptsFile, AcceptsPattern, AcceptsCatalogue};
 ghost use Rattle.packed.specs.LoadedGraph.{WordsLoaded};
 ghost use Rattle.packed.specs.OldLoading.{Orders};
 
 use crate::by_value::Pattern;
-use crate::reply::{Part, Refusal, Reply};
+use crate::reply::{File, Refusal, Reply};
 use crate::{by_value, catalogue, limits, old_record, pattern, record, sheet};
 
-// A pattern's verdict, how many fields it has or why it is refused; and the pattern by value, the empty one where it is refused.
+// An accepted pattern: how many fields it has, and the pattern by value.
 #[derive(Clone, Copy)]
 pub struct PatternFile {
-    pub verdict: Reply,
+    pub fields: usize,
     pub pattern: Pattern,
 }
 
-// A catalogue's verdict, and how many views it has and how many edges each: none where it is refused.
+// An accepted catalogue: how many fields it has, and how many views and how many edges each. There is no heap, so the table is as long as a catalogue can
+// want it.
 #[derive(Clone, Copy)]
 pub struct CatalogueFile {
-    pub verdict: Reply,
+    pub fields: usize,
     pub views: usize,
     pub edges: [u32; 16],
 }
 
-fn refused_pattern(x: Refusal) -> PatternFile
-    ensures { (result.verdict ≡ Reply.Refused x) × NoPattern result.pattern }
-{
-    PatternFile {
-        verdict: Reply::Refused(x),
-        pattern: by_value::no_pattern(),
-    }
-}
-
 // A pattern: its content stands at the front of the workspace.
-pub fn accept_pattern(s: &[u8], work: &mut [u32]) -> PatternFile
+pub fn accept_pattern(s: &[u8], work: &mut [u32]) -> Result<PatternFile, Refusal>
     requires { length work.old ≡ 16384 }
-    ensures { AcceptsWith (λ ws. HoldsPattern ws result.pattern) (NoPattern result.pattern) (read_pattern s.now) result.verdict work.new }
+    ensures { AcceptsPattern (read_pattern s.now) result work.new }
 {
     if limits::PATTERN_MOST < s.len() {
-        return refused_pattern(Refusal::TooLong(1));
+        return Err(Refusal::TooLong(File::Pattern));
     }
-    let p = pattern::judge_pattern(s, work);
-    match p {
-        Part::Upto(_, n) => PatternFile {
-            verdict: Reply::Done(n),
-            pattern: by_value::pattern_of(&work[0..n]),
-        },
-        Part::Refused(x) => refused_pattern(x),
-    }
-}
-
-// A verdict with no views beside it.
-pub fn without_views(verdict: Reply) -> CatalogueFile
-    ensures { (result.verdict ≡ verdict) × NoViews result.views result.edges }
-{
-    CatalogueFile {
-        verdict,
-        views: 0,
-        edges: catalogue::no_counts(),
-    }
+    let (_, fields) = pattern::judge_pattern(s, work)?;
+    let pattern = by_value::pattern_of(&work[0..fields]);
+    Ok(PatternFile { fields, pattern })
 }
 
 // A catalogue: its content stands at the front of the workspace. A file of zero bytes is one without views, as the byte 00 is.
-pub fn accept_catalogue(s: &[u8], work: &mut [u32]) -> CatalogueFile
+pub fn accept_catalogue(s: &[u8], work: &mut [u32]) -> Result<CatalogueFile, Refusal>
     requires { length work.old ≡ 16384 }
-    ensures { AcceptsWith (λ ws. HoldsViews ws result.views result.edges) (NoViews result.views result.edges) (read_catalogue s.now) result.verdict work.new }
+    ensures { AcceptsCatalogue (read_catalogue s.now) result work.new }
 {
     if s.len() == 0 {
         work[0] = 0;
-        return without_views(Reply::Done(1));
+        return Ok(CatalogueFile {
+            fields: 1,
+            views: 0,
+            edges: [0u32; 16],
+        });
     }
     if limits::CATALOGUE_MOST < s.len() {
-        return without_views(Reply::Refused(Refusal::TooLong(2)));
+        return Err(Refusal::TooLong(File::Catalogue));
     }
-    let p = catalogue::judge_catalogue(s, work);
-    match p {
-        Part::Upto(_, n) => {
-            let content = &work[0..n];
-            CatalogueFile {
-                verdict: Reply::Done(n),
-                views: catalogue::word_at(content, 0) as usize,
-                edges: catalogue::edge_counts(content),
-            }
-        }
-        Part::Refused(x) => without_views(Reply::Refused(x)),
-    }
+    let (_, fields) = catalogue::judge_catalogue(s, work)?;
+    let content = &work[0..fields];
+    Ok(CatalogueFile {
+        fields,
+        views: catalogue::word_at(content, 0) as usize,
+        edges: catalogue::edge_counts(content),
+    })
 }
 
-// A part that is a whole file, as a reply: how many fields it has.
-fn reply_of(p: Part) -> Reply
+// A part that is a whole file, as a reply: how many fields it has. As a `map` at each of its five calls it took a proof at each.
+fn reply_of(p: Result<(usize, usize), Refusal>) -> Reply
     ensures { result ≡ reply_of p }
 {
-    match p {
-        Part::Upto(_, n) => Reply::Done(n),
-        Part::Refused(x) => Reply::Refused(x),
-    }
+    let (_, n) = p?;
+    Ok(n)
 }
 
 // The questions of one call, so many: their content goes to the front of the words.
@@ -110,7 +82,7 @@ pub fn accept_questions(s: &[u8], number: u32, work: &mut [u32]) -> Reply
 {
     let most = limits::PATTERN_MOST * number as usize;
     if most < s.len() {
-        return Reply::Refused(Refusal::TooLong(1));
+        return Err(Refusal::TooLong(File::Pattern));
     }
     reply_of(catalogue::judge_questions(s, number, work))
 }
@@ -121,7 +93,7 @@ pub(crate) fn accept_record(s: &[u8], work: &mut [u32]) -> Reply
     ensures { AcceptsFile (read_record s.now) result [] [] × WordsLoaded s.now work.old result work.new }
 {
     if limits::RECORD_MOST < s.len() {
-        return Reply::Refused(Refusal::TooLong(3));
+        return Err(Refusal::TooLong(File::Record));
     }
     reply_of(record::judge_record(s, work))
 }
@@ -134,7 +106,7 @@ pub(crate) fn accept_old_record(s: &[u8], words: &mut [u32], work: &mut [u32]) -
         × Orders (decode old_record s.now) result work.old work.new }
 {
     if limits::OLD_RECORD_MOST < s.len() {
-        return Reply::Refused(Refusal::TooLong(3));
+        return Err(Refusal::TooLong(File::Record));
     }
     reply_of(old_record::judge_old_record(s, words, work))
 }
@@ -144,7 +116,7 @@ pub(crate) fn accept_sheet(s: &[u8], m: u32, words: &mut [u32]) -> Reply
     ensures { AcceptsFile (read_file 65536 4 (sheet m) s.now) result words.old words.new }
 {
     if limits::BOOK_MOST < s.len() {
-        return Reply::Refused(Refusal::TooLong(4));
+        return Err(Refusal::TooLong(File::Sheet));
     }
     reply_of(sheet::judge_sheet(s, m, words))
 }
@@ -155,7 +127,7 @@ pub fn accept_book(s: &[u8], edges: [u32; 16], k: usize, words: &mut [u32]) -> R
     ensures { AcceptsFile (read_file 65536 4 (book (take k edges)) s.now) result words.old words.new }
 {
     if limits::BOOK_MOST < s.len() {
-        return Reply::Refused(Refusal::TooLong(4));
+        return Err(Refusal::TooLong(File::Sheet));
     }
-    reply_of(sheet::judge_book(s, edges, k, words))
+    reply_of(sheet::judge_book(s, &edges[0..k], words))
 }

@@ -16,10 +16,8 @@ fn get_bytes(s: &[u8], q: usize, k: usize) -> u64
     ensures { result ≡ field s.now (8 * q) (8 * k) }
 {
     let mut v: u64 = 0;
-    let mut i = 0;
-    while i < k {
+    for i in 0..k {
         v = v * 256 + wide(s[q + i]);
-        i += 1;
     }
     v
 }
@@ -92,6 +90,7 @@ fn put_low(out: &mut [u8], q: usize, n: u32, v: u32)
 {
     let mut left = n;
     let mut p = q;
+    // What is left after the whole bytes is used behind the loop, so a `for` over the bytes would reckon it twice.
     while 8 <= left {
         left -= 8;
         put_byte(out, p, (v >> left) % 256);

@@ -1,5 +1,5 @@
 // A pattern's fields by value, and the labels of a record's nodes.
-ghost use Rattle.std.specs.Prelude.{◌≡◌, ◌+◌, ◌*◌, ◌≤◌, length, replicate};
+ghost use Rattle.std.specs.Prelude.{◌≡◌, ℕ, ◌+◌, ◌*◌, ◌≤◌, ◌<◌, length};
 ghost use Rattle.packed.specs.Bits.{field};
 ghost use Rattle.packed.specs.Contents.{nodes_of, edges_of};
 ghost use Rattle.packed.specs.ByValue.{Spread, HoldsPattern, NoPattern};
@@ -18,57 +18,27 @@ pub struct Pattern {
     pub edges: usize,
 }
 
-fn no_labels() -> [u32; 16]
-    ensures { result ≡ replicate 16 0 }
-{
-    [0u32; 16]
-}
-
-fn no_ends() -> [u32; 32]
-    ensures { result ≡ replicate 32 0 }
-{
-    [0u32; 32]
-}
-
 pub fn no_pattern() -> Pattern
     ensures { NoPattern result }
 {
     Pattern {
-        labels: no_labels(),
-        from: no_ends(),
-        to: no_ends(),
-        kind: no_ends(),
+        labels: [0u32; 16],
+        from: [0u32; 32],
+        to: [0u32; 32],
+        kind: [0u32; 32],
         nodes: 0,
         edges: 0,
     }
 }
 
-// The n words from first on.
-fn labels_of(words: &[u32], first: usize, n: usize) -> [u32; 16]
-    requires { (n ≤ 16) × (first + n ≤ length words.now) }
-    ensures { Spread words.now first 1 n 16 result }
+// The first n of the N words of a table: those from first on, each so many after the one before.
+fn spread<const N: usize>(words: &[u32], first: usize, step: usize, n: usize) -> [u32; N]
+    requires { (n ≤ N) × ((j : ℕ) → j < n → first + step * j < length words.now) }
+    ensures { Spread words.now first step n N result }
 {
-    let mut l = no_labels();
-    let mut u: usize = 0;
-    while u < n {
-        let at = first + u;
-        l[u] = words[at];
-        u += 1;
-    }
-    l
-}
-
-// Every third word of the 3 * m from first on.
-fn ends_of(words: &[u32], first: usize, m: usize) -> [u32; 32]
-    requires { (m ≤ 32) × (first + 3 * m ≤ length words.now + 2) }
-    ensures { Spread words.now first 3 m 32 result }
-{
-    let mut l = no_ends();
-    let mut e: usize = 0;
-    while e < m {
-        let at = first + 3 * e;
-        l[e] = words[at];
-        e += 1;
+    let mut l = [0u32; N];
+    for j in 0..n {
+        l[j] = words[first + step * j];
     }
     l
 }
@@ -80,10 +50,10 @@ pub fn pattern_of(words: &[u32]) -> Pattern
 {
     let nodes = words[0] as usize;
     let edges = words[1] as usize;
-    let labels = labels_of(words, 2, nodes);
-    let from = ends_of(words, 2 + nodes, edges);
-    let to = ends_of(words, 3 + nodes, edges);
-    let kind = ends_of(words, 4 + nodes, edges);
+    let labels = spread(words, 2, 1, nodes);
+    let from = spread(words, 2 + nodes, 3, edges);
+    let to = spread(words, 3 + nodes, 3, edges);
+    let kind = spread(words, 4 + nodes, 3, edges);
     Pattern {
         labels,
         from,

@@ -9,13 +9,6 @@ ghost use Rattle.packed.specs.Entering.{word_ranks, Placed, PutAt, EntersAt, Ent
 
 use crate::{limits, record};
 
-// Where an edge enters: behind so many others; or it is there already.
-#[derive(Clone, Copy)]
-pub enum Place {
-    Behind(usize),
-    Taken,
-}
-
 // The rank of the edge in this word.
 fn rank_of(word: u32) -> u32
     ensures { result ≡ word_rank word }
@@ -32,26 +25,25 @@ fn is_lower(a: u32, b: u32) -> usize
     0
 }
 
-// Where the edge of this rank enters among the first m words.
-fn find_rank(work: &[u32], m: usize, rank: u32) -> Place
+// Behind how many of the first m words the edge of this rank enters; none where one has that rank. Each is looked at, since that is said of words in any
+// order.
+fn find_rank(work: &[u32], m: usize, rank: u32) -> Option<usize>
     requires { m ≤ length work.now }
     ensures { Placed rank (word_ranks (take m work.now)) result }
 {
     let mut n: usize = 0;
-    let mut i: usize = 0;
-    while i < m {
+    for i in 0..m {
         let other = rank_of(work[i]);
         if other == rank {
-            return Place::Taken;
+            return None;
         }
         n += is_lower(other, rank);
-        i += 1;
     }
-    Place::Behind(n)
+    Some(n)
 }
 
-// Where an edge enters among the first m words.
-pub fn find_place(work: &[u32], m: usize, from: u32, to: u32, kind: u32) -> Place
+// Behind how many of the first m words an edge enters; none where it stands there already.
+pub fn find_place(work: &[u32], m: usize, from: u32, to: u32, kind: u32) -> Option<usize>
     requires { (m ≤ length work.now) × (from < 4096) × (to < 4096) × (kind < 8) }
     ensures { Placed (rank from to kind) (word_ranks (take m work.now)) result }
 {
@@ -63,13 +55,7 @@ pub fn put_edge(work: &mut [u32], m: usize, at: usize, from: u32, to: u32, kind:
     requires { (at ≤ m) × (m < length work.old) × (from < 4096) × (to < 4096) × (kind < 8) }
     ensures { PutAt at m (edge_word from to kind) work.old work.new }
 {
-    let mut end = m;
-    while at < end {
-        let below = end - 1;
-        let y = work[below];
-        work[end] = y;
-        end = below;
-    }
+    work.copy_within(at..m, at + 1);
     work[at] = kind * limits::PAIRS + (from * limits::NODES + to);
 }
 
@@ -97,11 +83,11 @@ pub fn write_entered(
     requires { Holds s.now nodes edges work.old × (length s.now ≤ 65536) × EntersAt s.now from to kind at }
     ensures { EnteredIn s.now nodes edges from to kind out.old out.new work.new }
 {
-    let mut fields = record::no_fields();
+    let mut fields = [0u32; limits::RECORD_FIELDS];
     record::store_record(s, nodes, edges, work, &mut fields);
     put_edge(work, edges, at, from, to, kind);
     let more = edges + 1;
     fields[1] = more as u32;
     record::store_edges(work, more, &mut fields, 2 + nodes);
-    record::judge_record_fields(&fields[0..2 + nodes + 3 * more], out);
+    let _ = record::judge_record_fields(&fields[0..2 + nodes + 3 * more], out);
 }

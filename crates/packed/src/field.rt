@@ -1,12 +1,15 @@
 // One field of a file, two of a kind, an edge, and the end of a file.
-ghost use Rattle.std.specs.Prelude.{◌≡◌, ◌+◌, ◌*◌, ◌^◌, ◌<◌, ◌≤◌, min, length};
+//
+// The bytes and the words are lent beside the two places. A struct of the four would hold a `&mut`, and each clause would have to say that the loans in it stay
+// and where the places went, which now the result says.
+ghost use Rattle.std.specs.Prelude.{◌≡◌, ◌+◌, ◌*◌, ◌^◌, ◌<◌, ◌≤◌, min, length, IfOk};
 ghost use Rattle.std.proofs.lemmas.List.Edits.{sets};
 ghost use Rattle.packed.specs.Bits.{bits, bits_of, gap};
-ghost use Rattle.packed.specs.Refusals.{number_of, detail_of};
+ghost use Rattle.packed.specs.Refusals.{file_number, wrong_number};
 ghost use Rattle.packed.specs.Reading.{Stands, ReadsField, ReadsTwo, ReadsEdge, Closes};
 ghost use Rattle.packed.specs.Writing.{WritesField, WritesTwo, WritesEdge};
 
-use crate::reply::{Field, Part, Refusal, Three, Two};
+use crate::reply::{File, Refusal, Wrong};
 use crate::{bits, limits, workspace};
 
 // The field of so many bits at the bit offset at, at least low and below bound, into the word i.
@@ -16,26 +19,26 @@ pub fn read_field(
     width: u32,
     low: u32,
     bound: u64,
-    wrong: Refusal,
-    file: u32,
+    wrong: Wrong,
+    file: File,
     words: &mut [u32],
     i: usize,
-) -> Field
-    requires { Stands s.now at i × (1 ≤ width) × (width ≤ 32) × (detail_of wrong ≡ file) }
-    ensures { ReadsField width low bound (number_of wrong) s.now at words.old i file result words.new }
+) -> Result<u32, Refusal>
+    requires { Stands s.now at i × (1 ≤ width) × (width ≤ 32) }
+    ensures { ReadsField width low bound (wrong_number wrong) s.now at words.old i (file_number file) result words.new }
 {
     if 8 * s.len() - at < width as usize {
-        return Field::Refused(Refusal::Truncated(file));
+        return Err(Refusal::Truncated(file));
     }
     let v = bits::get_bits(s, at, width);
     if v < low {
-        return Field::Refused(wrong);
+        return Err(wrong.of(file));
     }
     if bound <= v as u64 {
-        return Field::Refused(wrong);
+        return Err(wrong.of(file));
     }
     workspace::store(words, i, v);
-    Field::Value(v)
+    Ok(v)
 }
 
 // Two fields of so many bits, each below bound, into the words i and i + 1.
@@ -44,22 +47,16 @@ pub fn read_two(
     at: usize,
     width: u32,
     bound: u64,
-    wrong: Refusal,
-    file: u32,
+    wrong: Wrong,
+    file: File,
     words: &mut [u32],
     i: usize,
-) -> Two
-    requires { Stands s.now at i × (1 ≤ width) × (width ≤ 32) × (detail_of wrong ≡ file) }
-    ensures { ReadsTwo width bound (number_of wrong) s.now at words.old i file result words.new }
+) -> Result<(u32, u32), Refusal>
+    requires { Stands s.now at i × (1 ≤ width) × (width ≤ 32) }
+    ensures { ReadsTwo width bound (wrong_number wrong) s.now at words.old i (file_number file) result words.new }
 {
-    let f = read_field(s, at, width, 0, bound, wrong, file, words, i);
-    let a = match f {
-        Field::Value(v) => v,
-        Field::Refused(x) => {
-            return Two::Refused(x);
-        }
-    };
-    let g = read_field(
+    let a = read_field(s, at, width, 0, bound, wrong, file, words, i)?;
+    let b = read_field(
         s,
         at + width as usize,
         width,
@@ -69,11 +66,8 @@ pub fn read_two(
         file,
         words,
         i + 1,
-    );
-    match g {
-        Field::Value(b) => Two::Values(a, b),
-        Field::Refused(x) => Two::Refused(x),
-    }
+    )?;
+    Ok((a, b))
 }
 
 // An edge between so many nodes, whose ends have so many bits, into the words from i on.
@@ -82,58 +76,41 @@ pub fn read_edge(
     at: usize,
     width: u32,
     nodes: u32,
-    file: u32,
+    file: File,
     words: &mut [u32],
     i: usize,
-) -> Three
+) -> Result<(u32, u32, u32), Refusal>
     requires { Stands s.now at i × (1 ≤ width) × (width ≤ 32) }
-    ensures { ReadsEdge width nodes s.now at words.old i file result words.new }
+    ensures { ReadsEdge width nodes s.now at words.old i (file_number file) result words.new }
 {
-    let f = read_two(
+    let (a, b) = read_two(s, at, width, nodes as u64, Wrong::Node, file, words, i)?;
+    let k = read_field(
         s,
-        at,
-        width,
-        nodes as u64,
-        Refusal::NoSuchNode(file),
+        at + 2 * width as usize,
+        limits::KIND_WIDTH,
+        0,
+        limits::KIND_BOUND,
+        Wrong::Range,
         file,
         words,
-        i,
-    );
-    match f {
-        Two::Values(a, b) => {
-            let g = read_field(
-                s,
-                at + 2 * width as usize,
-                limits::KIND_WIDTH,
-                0,
-                limits::KIND_BOUND,
-                Refusal::OutOfRange(file),
-                file,
-                words,
-                i + 2,
-            );
-            match g {
-                Field::Value(k) => Three::Values(a, b, k),
-                Field::Refused(x) => Three::Refused(x),
-            }
-        }
-        Two::Refused(x) => Three::Refused(x),
-    }
+        i + 2,
+    )?;
+    Ok((a, b, k))
 }
 
 // The end of a file that was read up to the bit offset at, with i fields: zero bits up to a whole byte, and nothing after.
-pub fn close_file(s: &[u8], at: usize, i: usize, file: u32) -> Part
+pub fn close_file(s: &[u8], at: usize, i: usize, file: File) -> Result<(usize, usize), Refusal>
     requires { Stands s.now at i }
-    ensures { Closes s.now at i file result }
+    ensures { Closes s.now at i (file_number file) result × IfOk result (λ p. p.1 ≡ i) }
 {
     if bits::is_clear(s, at) {
         let byte = (at + 7) / 8;
         if byte < s.len() {
-            return Part::Refused(Refusal::Trailing(file));
+            return Err(Refusal::Trailing(file));
         }
-        return Part::Upto(byte, i);
+        return Ok((byte, i));
     }
-    Part::Refused(Refusal::Trailing(file))
+    Err(Refusal::Trailing(file))
 }
 
 // The word i, at least low and below bound, as a field of so many bits at the bit offset at.
@@ -143,26 +120,26 @@ pub fn write_field(
     width: u32,
     low: u32,
     bound: u64,
-    wrong: Refusal,
-    file: u32,
+    wrong: Wrong,
+    file: File,
     out: &mut [u8],
     at: usize,
-) -> Field
-    requires { (at + width < 2 ^ 60) × (width ≤ 32) × (bound ≤ 2 ^ width) × (detail_of wrong ≡ file) }
-    ensures { WritesField width low bound (number_of wrong) words.now i out.old at file result out.new }
+) -> Result<u32, Refusal>
+    requires { (at + width < 2 ^ 60) × (width ≤ 32) × (bound ≤ 2 ^ width) }
+    ensures { WritesField width low bound (wrong_number wrong) words.now i out.old at (file_number file) result out.new }
 {
     if words.len() <= i {
-        return Field::Refused(Refusal::Truncated(file));
+        return Err(Refusal::Truncated(file));
     }
     let v = words[i];
     if v < low {
-        return Field::Refused(wrong);
+        return Err(wrong.of(file));
     }
     if bound <= v as u64 {
-        return Field::Refused(wrong);
+        return Err(wrong.of(file));
     }
     bits::put_bits(out, at, width, v);
-    Field::Value(v)
+    Ok(v)
 }
 
 // The words i and i + 1, each below bound, as two fields of so many bits.
@@ -171,22 +148,16 @@ pub fn write_two(
     i: usize,
     width: u32,
     bound: u64,
-    wrong: Refusal,
-    file: u32,
+    wrong: Wrong,
+    file: File,
     out: &mut [u8],
     at: usize,
-) -> Two
-    requires { (i ≤ length words.now) × (at + 2 * width < 2 ^ 60) × (width ≤ 32) × (bound ≤ 2 ^ width) × (detail_of wrong ≡ file) }
-    ensures { WritesTwo width bound (number_of wrong) words.now i out.old at file result out.new }
+) -> Result<(u32, u32), Refusal>
+    requires { (i ≤ length words.now) × (at + 2 * width < 2 ^ 60) × (width ≤ 32) × (bound ≤ 2 ^ width) }
+    ensures { WritesTwo width bound (wrong_number wrong) words.now i out.old at (file_number file) result out.new }
 {
-    let f = write_field(words, i, width, 0, bound, wrong, file, out, at);
-    let a = match f {
-        Field::Value(v) => v,
-        Field::Refused(x) => {
-            return Two::Refused(x);
-        }
-    };
-    let g = write_field(
+    let a = write_field(words, i, width, 0, bound, wrong, file, out, at)?;
+    let b = write_field(
         words,
         i + 1,
         width,
@@ -196,11 +167,8 @@ pub fn write_two(
         file,
         out,
         at + width as usize,
-    );
-    match g {
-        Field::Value(b) => Two::Values(a, b),
-        Field::Refused(x) => Two::Refused(x),
-    }
+    )?;
+    Ok((a, b))
 }
 
 // The words from i on as an edge between so many nodes, whose ends have so many bits.
@@ -209,43 +177,26 @@ pub fn write_edge(
     i: usize,
     width: u32,
     nodes: u32,
-    file: u32,
+    file: File,
     out: &mut [u8],
     at: usize,
-) -> Three
+) -> Result<(u32, u32, u32), Refusal>
     requires { (i ≤ length words.now) × (at + 2 * width + 3 < 2 ^ 60) × (width ≤ 32) × (nodes ≤ 2 ^ width) }
-    ensures { WritesEdge width nodes words.now i out.old at file result out.new }
+    ensures { WritesEdge width nodes words.now i out.old at (file_number file) result out.new }
 {
-    let f = write_two(
+    let (a, b) = write_two(words, i, width, nodes as u64, Wrong::Node, file, out, at)?;
+    let k = write_field(
         words,
-        i,
-        width,
-        nodes as u64,
-        Refusal::NoSuchNode(file),
+        i + 2,
+        limits::KIND_WIDTH,
+        0,
+        limits::KIND_BOUND,
+        Wrong::Range,
         file,
         out,
-        at,
-    );
-    match f {
-        Two::Values(a, b) => {
-            let g = write_field(
-                words,
-                i + 2,
-                limits::KIND_WIDTH,
-                0,
-                limits::KIND_BOUND,
-                Refusal::OutOfRange(file),
-                file,
-                out,
-                at + 2 * width as usize,
-            );
-            match g {
-                Field::Value(k) => Three::Values(a, b, k),
-                Field::Refused(x) => Three::Refused(x),
-            }
-        }
-        Two::Refused(x) => Three::Refused(x),
-    }
+        at + 2 * width as usize,
+    )?;
+    Ok((a, b, k))
 }
 
 // Zero bits from the bit offset at up to a whole byte, which is the result.

@@ -67,11 +67,9 @@ fn gather_pairs(s: &[u8], first: usize, n: usize, work: &mut [u32], g: Gather) -
     ensures { Adds (codes_at s.now first n) g work.old result work.new }
 {
     let mut sofar = g;
-    let mut i: usize = 0;
-    while i < n {
+    for i in 0..n {
         let code = cursor::pair_at(s, first, i);
         sofar = push(work, sofar, code);
-        i += 1;
     }
     sofar
 }
@@ -83,12 +81,10 @@ fn gather_lists(s: &[u8], start: usize, m: u32, work: &mut [u32], g: Gather) -> 
 {
     let mut at = start;
     let mut sofar = g;
-    let mut left = m;
-    while 0 < left {
+    for _ in 0..m {
         let l = cursor::list_at(s, at);
         sofar = gather_pairs(s, l.first, l.count, work, sofar);
         at = l.next;
-        left -= 1;
     }
     Walk { at, gather: sofar }
 }
@@ -114,12 +110,10 @@ pub fn gather_book(s: &[u8], counts: [u32; 16], k: usize, work: &mut [u32]) -> u
 {
     let mut at: usize = 0;
     let mut sofar = no_pairs();
-    let mut j: usize = 0;
-    while j < k {
+    for j in 0..k {
         let w = gather_sheet(s, at, counts[j], work, sofar);
         at = w.at;
         sofar = w.gather;
-        j += 1;
     }
     finish(work, sofar)
 }
@@ -139,13 +133,11 @@ fn gather_pair_fields(words: &[u32], first: usize, n: u32, work: &mut [u32], g: 
 {
     let mut i = first;
     let mut sofar = g;
-    let mut left = n;
-    while 0 < left {
+    for _ in 0..n {
         let a = low_at(words, i, limits::NODES);
         let b = low_at(words, i + 1, limits::NODES);
         sofar = push(work, sofar, a * limits::NODES + b);
         i += 2;
-        left -= 1;
     }
     sofar
 }
@@ -157,12 +149,10 @@ fn gather_list_fields(words: &[u32], first: usize, m: u32, work: &mut [u32], g: 
 {
     let mut at = first;
     let mut sofar = g;
-    let mut left = m;
-    while 0 < left {
+    for _ in 0..m {
         let n = low_at(words, at, limits::COUNT_RANGE);
         sofar = gather_pair_fields(words, at + 1, n, work, sofar);
         at += 1 + 2 * n as usize;
-        left -= 1;
     }
     Walk { at, gather: sofar }
 }
@@ -174,14 +164,12 @@ pub(crate) fn gather_fields(words: &[u32], counts: [u32; 16], k: usize, work: &m
 {
     let mut at: usize = 0;
     let mut sofar = no_pairs();
-    let mut j: usize = 0;
-    while j < k {
+    for j in 0..k {
         let lead = low_at(words, at, limits::LEAD_RANGE);
         let lists = cursor::standing(lead, counts[j]);
         let w = gather_list_fields(words, at + 1, lists, work, sofar);
         at = w.at;
         sofar = w.gather;
-        j += 1;
     }
     finish(work, sofar)
 }

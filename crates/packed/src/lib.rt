@@ -31,134 +31,115 @@ ghost use Rattle.packed.specs.Calls.{OneOutput, pattern_read, catalogue_read, re
 
 use reply::{Refusal, Reply};
 
+// The call has the words to work in, and these are cleared behind it; without enough of them it is refused.
+macro_rules! lent {
+    ($work:ident, $call:expr) => {{
+        if $work.len() < limits::WORKSPACE {
+            return Err(Refusal::SmallWorkspace);
+        }
+        let r = $call;
+        workspace::clear($work, limits::WORKSPACE);
+        r
+    }};
+}
+
 // Reads a pattern.
 pub fn read_pattern(bytes: &[u8], out: &mut [u32], work: &mut [u32]) -> Reply
     ensures { OneOutput (pattern_read bytes.now) (reply_told result) out.old out.new work.old work.new }
 {
-    if work.len() < limits::WORKSPACE {
-        return Reply::Refused(Refusal::SmallWorkspace);
-    }
-    let r = calls::read_pattern(bytes, out, &mut work[0..limits::WORKSPACE]);
-    workspace::clear(work, limits::WORKSPACE);
-    r
+    lent!(
+        work,
+        calls::read_pattern(bytes, out, &mut work[0..limits::WORKSPACE])
+    )
 }
 
 // Reads a catalogue.
 pub fn read_catalogue(bytes: &[u8], out: &mut [u32], work: &mut [u32]) -> Reply
     ensures { OneOutput (catalogue_read bytes.now) (reply_told result) out.old out.new work.old work.new }
 {
-    if work.len() < limits::WORKSPACE {
-        return Reply::Refused(Refusal::SmallWorkspace);
-    }
-    let r = calls::read_catalogue(bytes, out, &mut work[0..limits::WORKSPACE]);
-    workspace::clear(work, limits::WORKSPACE);
-    r
+    lent!(
+        work,
+        calls::read_catalogue(bytes, out, &mut work[0..limits::WORKSPACE])
+    )
 }
 
 // Reads a record.
 pub fn read_record(bytes: &[u8], out: &mut [u32], work: &mut [u32]) -> Reply
     ensures { OneOutput (record_read bytes.now) (reply_told result) out.old out.new work.old work.new }
 {
-    if work.len() < limits::WORKSPACE {
-        return Reply::Refused(Refusal::SmallWorkspace);
-    }
-    let r = calls::read_record(bytes, out, &mut work[0..limits::WORKSPACE]);
-    workspace::clear(work, limits::WORKSPACE);
-    r
+    lent!(
+        work,
+        calls::read_record(bytes, out, &mut work[0..limits::WORKSPACE])
+    )
 }
 
 // Reads a sheet beside its pattern.
 pub fn read_sheet(pattern: &[u8], bytes: &[u8], out: &mut [u32], work: &mut [u32]) -> Reply
     ensures { OneOutput (sheet_read pattern.now bytes.now) (reply_told result) out.old out.new work.old work.new }
 {
-    if work.len() < limits::WORKSPACE {
-        return Reply::Refused(Refusal::SmallWorkspace);
-    }
-    let r = calls::read_sheet(pattern, bytes, out, &mut work[0..limits::WORKSPACE]);
-    workspace::clear(work, limits::WORKSPACE);
-    r
+    lent!(
+        work,
+        calls::read_sheet(pattern, bytes, out, &mut work[0..limits::WORKSPACE])
+    )
 }
 
 // Reads a book beside its catalogue.
 pub fn read_book(catalogue: &[u8], bytes: &[u8], out: &mut [u32], work: &mut [u32]) -> Reply
     ensures { OneOutput (book_read catalogue.now bytes.now) (reply_told result) out.old out.new work.old work.new }
 {
-    if work.len() < limits::WORKSPACE {
-        return Reply::Refused(Refusal::SmallWorkspace);
-    }
-    let r = calls::read_book(catalogue, bytes, out, &mut work[0..limits::WORKSPACE]);
-    workspace::clear(work, limits::WORKSPACE);
-    r
+    lent!(
+        work,
+        calls::read_book(catalogue, bytes, out, &mut work[0..limits::WORKSPACE])
+    )
 }
 
 // Writes a pattern.
 pub fn write_pattern(fields: &[u32], out: &mut [u8], work: &mut [u32]) -> Reply
     ensures { OneOutput (pattern_written fields.now) (reply_told result) out.old out.new work.old work.new }
 {
-    if work.len() < limits::WORKSPACE {
-        return Reply::Refused(Refusal::SmallWorkspace);
-    }
-    let r = calls::write_pattern(fields, out);
-    workspace::clear(work, limits::WORKSPACE);
-    r
+    lent!(work, calls::write_pattern(fields, out))
 }
 
 // Writes a catalogue.
 pub fn write_catalogue(fields: &[u32], out: &mut [u8], work: &mut [u32]) -> Reply
     ensures { OneOutput (catalogue_written fields.now) (reply_told result) out.old out.new work.old work.new }
 {
-    if work.len() < limits::WORKSPACE {
-        return Reply::Refused(Refusal::SmallWorkspace);
-    }
-    let r = calls::write_catalogue(fields, out);
-    workspace::clear(work, limits::WORKSPACE);
-    r
+    lent!(work, calls::write_catalogue(fields, out))
 }
 
 // Writes a record.
 pub fn write_record(fields: &[u32], out: &mut [u8], work: &mut [u32]) -> Reply
     ensures { OneOutput (record_written fields.now) (reply_told result) out.old out.new work.old work.new }
 {
-    if work.len() < limits::WORKSPACE {
-        return Reply::Refused(Refusal::SmallWorkspace);
-    }
-    let r = calls::write_record(fields, out);
-    workspace::clear(work, limits::WORKSPACE);
-    r
+    lent!(work, calls::write_record(fields, out))
 }
 
 // Writes a sheet beside its pattern.
 pub fn write_sheet(pattern: &[u8], fields: &[u32], out: &mut [u8], work: &mut [u32]) -> Reply
     ensures { OneOutput (sheet_written pattern.now fields.now) (reply_told result) out.old out.new work.old work.new }
 {
-    if work.len() < limits::WORKSPACE {
-        return Reply::Refused(Refusal::SmallWorkspace);
-    }
-    let r = calls::write_sheet(pattern, fields, out, &mut work[0..limits::WORKSPACE]);
-    workspace::clear(work, limits::WORKSPACE);
-    r
+    lent!(
+        work,
+        calls::write_sheet(pattern, fields, out, &mut work[0..limits::WORKSPACE])
+    )
 }
 
 // Writes a book beside its catalogue.
 pub fn write_book(catalogue: &[u8], fields: &[u32], out: &mut [u8], work: &mut [u32]) -> Reply
     ensures { OneOutput (book_written catalogue.now fields.now) (reply_told result) out.old out.new work.old work.new }
 {
-    if work.len() < limits::WORKSPACE {
-        return Reply::Refused(Refusal::SmallWorkspace);
-    }
-    let r = calls::write_book(catalogue, fields, out, &mut work[0..limits::WORKSPACE]);
-    workspace::clear(work, limits::WORKSPACE);
-    r
+    lent!(
+        work,
+        calls::write_book(catalogue, fields, out, &mut work[0..limits::WORKSPACE])
+    )
 }
 
 // Sorts the edges of a record that was stored before they had kinds, or even an order: writes the record.
 pub fn sort_record(old: &[u8], out: &mut [u8], work: &mut [u32]) -> Reply
     ensures { OneOutput (record_sorted old.now) (reply_told result) out.old out.new work.old work.new }
 {
-    if work.len() < limits::WORKSPACE {
-        return Reply::Refused(Refusal::SmallWorkspace);
-    }
-    let r = calls::sort_record(old, out, &mut work[0..limits::WORKSPACE]);
-    workspace::clear(work, limits::WORKSPACE);
-    r
+    lent!(
+        work,
+        calls::sort_record(old, out, &mut work[0..limits::WORKSPACE])
+    )
 }

@@ -1,5 +1,6 @@
 // A sheet made from pairs: n words at the front of the workspace, in whose low 24 bits stand their codes, and from word 8192 on for each a mask of
 // the edges that list it. Where several patterns are matched at once, each has the bits of its own from some bit on, and a sheet of its own.
+// There is no heap, so a table of counts is as long as a mask has bits.
 ghost use Rattle.std.specs.Prelude.{◌≡◌, ℕ, ◌+◌, ◌*◌, ◌/◌, ◌%◌, ◌^◌, ◌<◌, ◌≤◌, length, get_or, replicate, List, not};
 ghost use Rattle.packed.specs.Format.{encode, ok};
 ghost use Rattle.packed.specs.Formats.{sheet};
@@ -11,12 +12,6 @@ ghost use Rattle.packed.specs.Calls.{FulfilsOne, fit_file};
 use crate::reply::{Refusal, Reply};
 use crate::{bits, cursor, field, limits};
 
-fn no_counts() -> [u32; 32]
-    ensures { result ≡ replicate 32 0 }
-{
-    [0u32; 32]
-}
-
 // Each bit of x is added to its count.
 fn add_bits(c: &mut [u32; 32], x: u32)
     requires { (length c.old ≡ 32) × ((e : ℕ) → e < 32 → get_or c.old e 0 < 8192) }
@@ -24,6 +19,7 @@ fn add_bits(c: &mut [u32; 32], x: u32)
 {
     let mut left = x;
     let mut k: u32 = 0;
+    // A turn for each bit that is set, so no range has its turns.
     while 0 < left {
         let z = u32::trailing_zeros(left);
         let e = (k + z) as usize;
@@ -38,12 +34,10 @@ pub fn counts(work: &[u32], n: usize) -> [u32; 32]
     requires { (n ≤ 8192) × (16384 ≤ length work.now) }
     ensures { Counts n work.now result × ((e : ℕ) → get_or result e 0 ≤ 8192) }
 {
-    let mut c = no_counts();
-    let mut i: usize = 0;
-    while i < n {
+    let mut c = [0u32; 32];
+    for i in 0..n {
         let at = limits::HELD + i;
         add_bits(&mut c, work[at]);
-        i += 1;
     }
     c
 }
@@ -54,10 +48,8 @@ fn is_none(c: [u32; 32], m: u32) -> bool
     ensures { result ≡ any_zero m c }
 {
     let mut none = false;
-    let mut e: usize = 0;
-    while e < m as usize {
+    for e in 0..m as usize {
         none = none | (c[e] == 0);
-        e += 1;
     }
     none
 }
@@ -68,10 +60,8 @@ fn sum(c: [u32; 32], m: u32) -> u32
     ensures { (result ≡ sum_of m c) × (result ≤ 8192 * m) }
 {
     let mut s: u32 = 0;
-    let mut e: usize = 0;
-    while e < m as usize {
+    for e in 0..m as usize {
         s += c[e];
-        e += 1;
     }
     s
 }
@@ -82,11 +72,9 @@ pub fn named(work: &[u32], n: usize) -> u32
     ensures { Named n work.now result }
 {
     let mut x: u32 = 0;
-    let mut i: usize = 0;
-    while i < n {
+    for i in 0..n {
         let at = limits::HELD + i;
         x = x | work[at];
-        i += 1;
     }
     x
 }
@@ -124,12 +112,10 @@ fn counts_from(c: [u32; 32], o: u32, m: u32) -> [u32; 32]
     requires { o + m ≤ 32 }
     ensures { PartOfCounts o m c result }
 {
-    let mut d = no_counts();
-    let mut e: usize = 0;
-    while e < m as usize {
+    let mut d = [0u32; 32];
+    for e in 0..m as usize {
         let at = o as usize + e;
         d[e] = c[at];
-        e += 1;
     }
     d
 }
@@ -141,7 +127,7 @@ fn lengths(c: [u32; 32], o: u32, m: u32) -> [u32; 32]
 {
     let d = counts_from(c, o, m);
     if is_none(d, m) {
-        return no_counts();
+        return [0u32; 32];
     }
     d
 }
@@ -176,12 +162,6 @@ pub fn sheet_size(work: &[u32], n: usize, m: u32) -> usize
     size_from(c, 0, m)
 }
 
-fn no_places() -> [usize; 32]
-    ensures { result ≡ replicate 32 0 }
-{
-    [0usize; 32]
-}
-
 // The counts of the first m lists, each where its list begins; a list's place is then behind its count, and the other places
 // stay zero. The result is the bit offset after the lists.
 fn write_counts(c: [u32; 32], m: u32, places: &mut [usize; 32], out: &mut [u8]) -> usize
@@ -189,13 +169,11 @@ fn write_counts(c: [u32; 32], m: u32, places: &mut [usize; 32], out: &mut [u8]) 
     ensures { CountsWritten m c out.old places.new result out.new }
 {
     let mut at: usize = limits::LEAD_BITS;
-    let mut e: usize = 0;
-    while e < m as usize {
+    for e in 0..m as usize {
         let count = c[e];
         bits::put_bits(out, at, limits::COUNT_WIDTH, count);
         places[e] = at + limits::COUNT_BITS;
         at = at + (limits::COUNT_BITS + limits::PAIR_BITS * count as usize);
-        e += 1;
     }
     at
 }
@@ -207,6 +185,7 @@ fn put_pair(x: u32, v: u32, places: &mut [usize; 32], out: &mut [u8])
 {
     let mut left = x;
     let mut k: u32 = 0;
+    // A turn for each bit that is set, so no range has its turns.
     while 0 < left {
         let z = u32::trailing_zeros(left);
         let e = (k + z) as usize;
@@ -222,12 +201,10 @@ fn write_pairs(work: &[u32], n: usize, o: u32, m: u32, places: &mut [usize; 32],
     requires { Marked n work.now × (o + m ≤ 32) × (length places.old ≡ 32) × ((e : ℕ) → e < 32 → get_or places.old e 0 ≤ 2 ^ 39) }
     ensures { PairsWritten o n m work.now places.old out.old places.new out.new }
 {
-    let mut i: usize = 0;
-    while i < n {
+    for i in 0..n {
         let mask = limits::HELD + i;
         let x = bits_from(work[mask], o, m);
         put_pair(x, work[i] % limits::PAIRS, places, out);
-        i += 1;
     }
 }
 
@@ -236,7 +213,7 @@ fn write_lists(work: &[u32], n: usize, c: [u32; 32], o: u32, m: u32, out: &mut [
     requires { Marked n work.now × CountsFrom o n m work.now c × ((e : ℕ) → get_or c e 0 ≤ 8192) × (o + m ≤ 32) }
     ensures { ListsWritten o n m work.now out.old result out.new }
 {
-    let mut places = no_places();
+    let mut places = [0usize; 32];
     let at = write_counts(c, m, &mut places, out);
     write_pairs(work, n, o, m, &mut places, out);
     at
@@ -282,8 +259,8 @@ pub fn give_sheet(work: &[u32], n: usize, m: u32, out: &mut [u8]) -> Reply
     let c = counts(work, n);
     let size = size_from(c, 0, m);
     if (out.len() < size) | (limits::BOOK_MOST < size) {
-        return Reply::Refused(Refusal::NoRoom(size));
+        return Err(Refusal::NoRoom(size));
     }
     write_from(work, n, c, 0, m, out);
-    Reply::Done(size)
+    Ok(size)
 }

@@ -7,43 +7,41 @@ ghost use Rattle.packed.specs.Formats.{labels, edges};
 ghost use Rattle.packed.specs.OldRecord.{nothing, old_record};
 ghost use Rattle.packed.specs.Reading.{Stands, ReadsPart, Judges};
 ghost use Rattle.packed.specs.OldLoading.{Loads, RanksLoaded, EndsAt, Orders};
+ghost use Rattle.packed.specs.declared.reply.File.TheVariants.{Record};
 ghost use Rattle.packed.specs.Accepting.{reply_of};
 
-use crate::reply::{Field, Loaded, Part, Refusal, Two};
+use crate::reply::{File, Loaded, Refusal, Wrong};
 use crate::{field, limits, sort, workspace};
 
 // The labels of so many nodes.
-fn read_labels(s: &[u8], start: usize, n: u32, words: &mut [u32], first: usize) -> Part
+fn read_labels(
+    s: &[u8],
+    start: usize,
+    n: u32,
+    words: &mut [u32],
+    first: usize,
+) -> Result<(usize, usize), Refusal>
     requires { Stands s.now start first }
     ensures { ReadsPart (times n labels) s.now start words.old first 3 result words.new × EndsAt (start + 32 * n) result }
 {
     let mut at = start;
     let mut i = first;
-    let mut left = n;
-    while 0 < left {
-        let f = field::read_field(
+    for _ in 0..n {
+        field::read_field(
             s,
             at,
             limits::LABELS_WIDTH,
             0,
             limits::LABELS_BOUND,
-            Refusal::OutOfRange(3),
-            3,
+            Wrong::Range,
+            File::Record,
             words,
             i,
-        );
-        match f {
-            Field::Value(_) => {
-                at += limits::LABELS_BITS;
-                i += 1;
-                left -= 1;
-            }
-            Field::Refused(x) => {
-                return Part::Refused(x);
-            }
-        }
+        )?;
+        at += limits::LABELS_BITS;
+        i += 1;
     }
-    Part::Upto(at, i)
+    Ok((at, i))
 }
 
 // So many edges between so many nodes, of kind 0, whose ranks go to the front of the workspace; repeats are not looked for.
@@ -57,53 +55,49 @@ fn read_edges(
     work: &mut [u32],
 ) -> Loaded
     requires { Stands s.now start first × (nodes ≤ 4096) × (number ≤ 8192) × (8192 ≤ length work.old) }
-    ensures { Loads (edges 12 0 nodes nothing number []) s.now start words.old first 3 work.old result words.new work.new
+    ensures { Loads (edges 12 0 nodes nothing number []) s.now start words.old first Record work.old result words.new work.new
         × RanksLoaded s.now start number work.old result.part result.edges work.new }
 {
     let mut at = start;
     let mut i = first;
-    let mut k: usize = 0;
-    let mut left = number;
-    while 0 < left {
+    for k in 0..number as usize {
         let f = field::read_two(
             s,
             at,
             limits::NODE_WIDTH,
             nodes as u64,
-            Refusal::NoSuchNode(3),
-            3,
+            Wrong::Node,
+            File::Record,
             words,
             i,
         );
         match f {
-            Two::Values(a, b) => {
+            Ok((a, b)) => {
                 work[k] = (a * limits::NODES + b) * limits::KINDS;
                 workspace::store(words, i + 2, 0);
                 at += limits::OLD_EDGE_BITS;
                 i += 3;
-                k += 1;
-                left -= 1;
             }
-            Two::Refused(x) => {
+            Err(x) => {
                 return Loaded {
-                    part: Part::Refused(x),
+                    part: Err(x),
                     edges: k,
                 };
             }
         }
     }
     Loaded {
-        part: Part::Upto(at, i),
-        edges: k,
+        part: Ok((at, i)),
+        edges: number as usize,
     }
 }
 
 // A refusal before the edges.
 fn stopped(x: Refusal) -> Loaded
-    ensures { (result.part ≡ Part.Refused x) × (result.edges ≡ 0) }
+    ensures { (result.part ≡ Err x) × (result.edges ≡ 0) }
 {
     Loaded {
-        part: Part::Refused(x),
+        part: Err(x),
         edges: 0,
     }
 }
@@ -111,7 +105,7 @@ fn stopped(x: Refusal) -> Loaded
 // The fields of a record, repeats aside.
 fn read_fields(s: &[u8], words: &mut [u32], work: &mut [u32]) -> Loaded
     requires { (length s.now ≤ 65536) × (8192 ≤ length work.old) }
-    ensures { Loads old_record s.now 0 words.old 0 3 work.old result words.new work.new
+    ensures { Loads old_record s.now 0 words.old 0 Record work.old result words.new work.new
         × RanksLoaded s.now (27 + 32 * field s.now 0 13) (field s.now 13 14) work.old result.part result.edges work.new }
 {
     let f = field::read_field(
@@ -120,14 +114,14 @@ fn read_fields(s: &[u8], words: &mut [u32], work: &mut [u32]) -> Loaded
         limits::NODES_WIDTH,
         0,
         limits::NODES_BOUND,
-        Refusal::OutOfRange(3),
-        3,
+        Wrong::Range,
+        File::Record,
         words,
         0,
     );
     let nodes = match f {
-        Field::Value(v) => v,
-        Field::Refused(x) => {
+        Ok(v) => v,
+        Err(x) => {
             return stopped(x);
         }
     };
@@ -137,27 +131,31 @@ fn read_fields(s: &[u8], words: &mut [u32], work: &mut [u32]) -> Loaded
         limits::EDGES_WIDTH,
         0,
         limits::EDGES_BOUND,
-        Refusal::OutOfRange(3),
-        3,
+        Wrong::Range,
+        File::Record,
         words,
         1,
     );
     let number = match g {
-        Field::Value(v) => v,
-        Field::Refused(x) => {
+        Ok(v) => v,
+        Err(x) => {
             return stopped(x);
         }
     };
     let p = read_labels(s, limits::LABELS, nodes, words, 2);
     match p {
-        Part::Upto(at, i) => read_edges(s, at, nodes, number, words, i, work),
-        Part::Refused(x) => stopped(x),
+        Ok((at, i)) => read_edges(s, at, nodes, number, words, i, work),
+        Err(x) => stopped(x),
     }
 }
 
 // A whole record: its content goes to the front of the words as far as they go. On acceptance the ranks of its edges stand at the
 // front of the workspace, ascending.
-pub(crate) fn judge_old_record(s: &[u8], words: &mut [u32], work: &mut [u32]) -> Part
+pub(crate) fn judge_old_record(
+    s: &[u8],
+    words: &mut [u32],
+    work: &mut [u32],
+) -> Result<(usize, usize), Refusal>
     requires { (length s.now ≤ 65536) × (length work.old ≡ 16384) }
     ensures { Judges (decode old_record s.now) 3 result words.old words.new
         × Orders (decode old_record s.now) (reply_of result) work.old work.new }
@@ -166,10 +164,8 @@ pub(crate) fn judge_old_record(s: &[u8], words: &mut [u32], work: &mut [u32]) ->
     let k = l.edges;
     let p = l.part;
     if sort::repeats(work, k) {
-        return Part::Refused(Refusal::DuplicateEdge(3));
+        return Err(Refusal::DuplicateEdge(File::Record));
     }
-    let Part::Upto(at, i) = p else {
-        return p;
-    };
-    field::close_file(s, at, i, 3)
+    let (at, i) = p?;
+    field::close_file(s, at, i, File::Record)
 }

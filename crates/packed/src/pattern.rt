@@ -7,54 +7,52 @@ ghost use Rattle.packed.specs.Formats.{is_end, all_ends, label, edges, joined, p
 ghost use Rattle.packed.specs.Reading.{Stands, Room, ReadsUpTo, ReadsBytesUpTo, JudgesUpTo};
 ghost use Rattle.packed.specs.Matches.{marks};
 ghost use Rattle.packed.specs.Writing.{WritesPart, WritesBytes, JudgesFields};
+ghost use Rattle.packed.specs.Refusals.{file_number};
 
-use crate::reply::{Field, Part, Refusal, Three};
+use crate::reply::{File, Refusal, Wrong};
 use crate::{bits, field, limits};
 
 // So many labels.
-fn read_labels(s: &[u8], start: usize, n: u32, file: u32, words: &mut [u32], first: usize) -> Part
+fn read_labels(
+    s: &[u8],
+    start: usize,
+    n: u32,
+    file: File,
+    words: &mut [u32],
+    first: usize,
+) -> Result<(usize, usize), Refusal>
     requires { Stands s.now start first }
-    ensures { ReadsUpTo n (times n label) s.now start words.old first file result words.new }
+    ensures { ReadsUpTo n (times n label) s.now start words.old first (file_number file) result words.new }
 {
     let mut at = start;
     let mut i = first;
-    let mut left = n;
-    while 0 < left {
-        let f = field::read_field(
+    for _ in 0..n {
+        field::read_field(
             s,
             at,
             limits::LABEL_WIDTH,
             0,
             limits::LABEL_BOUND,
-            Refusal::OutOfRange(file),
+            Wrong::Range,
             file,
             words,
             i,
-        );
-        match f {
-            Field::Value(_) => {
-                at += limits::LABEL_BITS;
-                i += 1;
-                left -= 1;
-            }
-            Field::Refused(x) => {
-                return Part::Refused(x);
-            }
-        }
+        )?;
+        at += limits::LABEL_BITS;
+        i += 1;
     }
-    Part::Upto(at, i)
+    Ok((at, i))
 }
 
 // Whether x is an end of an edge with these fields.
 fn is_end(edges: &[u32], x: u32) -> bool
     ensures { result ≡ is_end x edges.now }
 {
-    let mut i = 0;
-    while 2 < edges.len() - i {
+    for e in 0..edges.len() / 3 {
+        let i = 3 * e;
         if (edges[i] == x) | (edges[i + 1] == x) {
             return true;
         }
-        i += 3;
     }
     false
 }
@@ -64,22 +62,14 @@ fn are_ends(edges: &[u32], n: u32) -> bool
     ensures { result ≡ all_ends n edges.now }
 {
     let mut all = true;
-    let mut x: u32 = 0;
-    while x < n {
+    for x in 0..n {
         all = all & is_end(edges, x);
-        x += 1;
     }
     all
 }
 
-// No edge is noted. For each two nodes a table has a byte, with a bit for each kind of the edges from the one to the other.
-fn no_kinds() -> [u8; 256]
-    ensures { result ≡ replicate 256 0 }
-{
-    [0u8; 256]
-}
-
-// Where the byte for the nodes a and b stands.
+// Edges are noted in a table that has a byte for each two nodes, with a bit for each kind of the edges from the one to the other: where the byte for a and
+// b stands.
 fn place(a: u32, b: u32) -> usize
     requires { (a < 16) × (b < 16) }
     ensures { (result ≡ 16 * a + b) × (result < 256) }
@@ -111,123 +101,102 @@ fn read_edges(
     start: usize,
     nodes: u32,
     number: u32,
-    file: u32,
+    file: File,
     words: &mut [u32],
     first: usize,
-) -> Part
+) -> Result<(usize, usize), Refusal>
     requires { Stands s.now start first × Room words.old first (3 * number) × (nodes ≤ 16) }
-    ensures { ReadsUpTo (3 * number) (edges 4 3 nodes (joined nodes) number []) s.now start words.old first file result words.new }
+    ensures { ReadsUpTo (3 * number) (edges 4 3 nodes (joined nodes) number []) s.now start words.old first (file_number file) result words.new }
 {
     let mut at = start;
     let mut i = first;
-    let mut left = number;
-    let mut kinds = no_kinds();
-    while 0 < left {
-        let f = field::read_edge(s, at, limits::END_WIDTH, nodes, file, words, i);
-        match f {
-            Three::Values(a, b, k) => {
-                if is_noted(&kinds, a, b, k) {
-                    return Part::Refused(Refusal::DuplicateEdge(file));
-                }
-                note(&mut kinds, a, b, k);
-                at += limits::PATTERN_EDGE_BITS;
-                i += 3;
-                left -= 1;
-            }
-            Three::Refused(x) => {
-                return Part::Refused(x);
-            }
+    let mut kinds = [0u8; 256];
+    for _ in 0..number {
+        let (a, b, k) = field::read_edge(s, at, limits::END_WIDTH, nodes, file, words, i)?;
+        if is_noted(&kinds, a, b, k) {
+            return Err(Refusal::DuplicateEdge(file));
         }
+        note(&mut kinds, a, b, k);
+        at += limits::PATTERN_EDGE_BITS;
+        i += 3;
     }
     if are_ends(&words[first..i], nodes) {
-        Part::Upto(at, i)
+        Ok((at, i))
     } else {
-        Part::Refused(Refusal::IsolatedNode(file))
+        Err(Refusal::IsolatedNode(file))
     }
 }
 
 // The fields of a pattern.
-fn read_fields(s: &[u8], start: usize, file: u32, words: &mut [u32], first: usize) -> Part
+fn read_fields(
+    s: &[u8],
+    start: usize,
+    file: File,
+    words: &mut [u32],
+    first: usize,
+) -> Result<(usize, usize), Refusal>
     requires { Stands s.now start first × Room words.old first 114 }
-    ensures { ReadsUpTo 114 pattern s.now start words.old first file result words.new }
+    ensures { ReadsUpTo 114 pattern s.now start words.old first (file_number file) result words.new }
 {
-    let f = field::read_field(
+    let nodes = field::read_field(
         s,
         start,
         limits::PATTERN_NODES_WIDTH,
         1,
         limits::PATTERN_NODES_BOUND,
-        Refusal::OutOfRange(file),
+        Wrong::Range,
         file,
         words,
         first,
-    );
-    let nodes = match f {
-        Field::Value(v) => v,
-        Field::Refused(x) => {
-            return Part::Refused(x);
-        }
-    };
-    let g = field::read_field(
+    )?;
+    let number = field::read_field(
         s,
         start + limits::PATTERN_NODES_BITS,
         limits::PATTERN_EDGES_WIDTH,
         1,
         limits::PATTERN_EDGES_BOUND,
-        Refusal::OutOfRange(file),
+        Wrong::Range,
         file,
         words,
         first + 1,
-    );
-    let number = match g {
-        Field::Value(v) => v,
-        Field::Refused(x) => {
-            return Part::Refused(x);
-        }
-    };
-    let p = read_labels(
+    )?;
+    let (at, i) = read_labels(
         s,
         start + limits::PATTERN_LABELS,
         nodes,
         file,
         words,
         first + 2,
-    );
-    let Part::Upto(at, i) = p else {
-        return p;
-    };
+    )?;
     read_edges(s, at, nodes, number, file, words, i)
 }
 
 // A pattern from a byte on: the next byte and the next word.
-pub fn read_pattern(s: &[u8], byte: usize, file: u32, words: &mut [u32], first: usize) -> Part
+pub fn read_pattern(
+    s: &[u8],
+    byte: usize,
+    file: File,
+    words: &mut [u32],
+    first: usize,
+) -> Result<(usize, usize), Refusal>
     requires { Stands s.now (8 * byte) first × Room words.old first 114 }
-    ensures { ReadsBytesUpTo 114 (whole pattern) s.now byte words.old first file result words.new }
+    ensures { ReadsBytesUpTo 114 (whole pattern) s.now byte words.old first (file_number file) result words.new }
 {
-    let p = read_fields(s, 8 * byte, file, words, first);
-    let Part::Upto(at, i) = p else {
-        return p;
-    };
+    let (at, i) = read_fields(s, 8 * byte, file, words, first)?;
     if bits::is_clear(s, at) {
-        Part::Upto((at + 7) / 8, i)
+        Ok(((at + 7) / 8, i))
     } else {
-        Part::Refused(Refusal::Trailing(file))
+        Err(Refusal::Trailing(file))
     }
 }
 
 // A whole pattern, a file of its own: its content stands at the front of the words.
-pub(crate) fn judge_pattern(s: &[u8], words: &mut [u32]) -> Part
+pub(crate) fn judge_pattern(s: &[u8], words: &mut [u32]) -> Result<(usize, usize), Refusal>
     requires { (length s.now ≤ 65536) × Room words.old 0 114 }
     ensures { JudgesUpTo 114 (decode pattern s.now) 1 result words.old words.new }
 {
-    let p = read_pattern(s, 0, 1, words, 0);
-    let Part::Upto(byte, _) = p else {
-        return p;
-    };
-    if byte < s.len() {
-        return Part::Refused(Refusal::Trailing(1));
-    }
-    p
+    let (at, n) = read_fields(s, 0, File::Pattern, words, 0)?;
+    field::close_file(s, at, n, File::Pattern)
 }
 
 // So many labels.
@@ -235,40 +204,31 @@ fn write_labels(
     words: &[u32],
     first: usize,
     n: u32,
-    file: u32,
+    file: File,
     out: &mut [u8],
     start: usize,
-) -> Part
+) -> Result<(usize, usize), Refusal>
     requires { (first ≤ length words.now) × (start + 5 * n ≤ 2 ^ 20) }
-    ensures { WritesPart (times n label) words.now first out.old start (5 * n) file result out.new }
+    ensures { WritesPart (times n label) words.now first out.old start (5 * n) (file_number file) result out.new }
 {
     let mut i = first;
     let mut at = start;
-    let mut left = n;
-    while 0 < left {
-        let f = field::write_field(
+    for _ in 0..n {
+        field::write_field(
             words,
             i,
             limits::LABEL_WIDTH,
             0,
             limits::LABEL_BOUND,
-            Refusal::OutOfRange(file),
+            Wrong::Range,
             file,
             out,
             at,
-        );
-        match f {
-            Field::Value(_) => {
-                i += 1;
-                at += limits::LABEL_BITS;
-                left -= 1;
-            }
-            Field::Refused(x) => {
-                return Part::Refused(x);
-            }
-        }
+        )?;
+        i += 1;
+        at += limits::LABEL_BITS;
     }
-    Part::Upto(at, i)
+    Ok((at, i))
 }
 
 // So many edges between so many nodes.
@@ -277,117 +237,98 @@ fn write_edges(
     first: usize,
     nodes: u32,
     number: u32,
-    file: u32,
+    file: File,
     out: &mut [u8],
     start: usize,
-) -> Part
+) -> Result<(usize, usize), Refusal>
     requires { (first ≤ length words.now) × (nodes ≤ 16) × (start + 11 * number ≤ 2 ^ 20) }
-    ensures { WritesPart (edges 4 3 nodes (joined nodes) number []) words.now first out.old start (11 * number) file result out.new }
+    ensures { WritesPart (edges 4 3 nodes (joined nodes) number []) words.now first out.old start (11 * number) (file_number file) result out.new }
 {
     let mut i = first;
     let mut at = start;
-    let mut left = number;
-    let mut kinds = no_kinds();
-    while 0 < left {
-        let f = field::write_edge(words, i, limits::END_WIDTH, nodes, file, out, at);
-        match f {
-            Three::Values(a, b, k) => {
-                if is_noted(&kinds, a, b, k) {
-                    return Part::Refused(Refusal::DuplicateEdge(file));
-                }
-                note(&mut kinds, a, b, k);
-                i += 3;
-                at += limits::PATTERN_EDGE_BITS;
-                left -= 1;
-            }
-            Three::Refused(x) => {
-                return Part::Refused(x);
-            }
+    let mut kinds = [0u8; 256];
+    for _ in 0..number {
+        let (a, b, k) = field::write_edge(words, i, limits::END_WIDTH, nodes, file, out, at)?;
+        if is_noted(&kinds, a, b, k) {
+            return Err(Refusal::DuplicateEdge(file));
         }
+        note(&mut kinds, a, b, k);
+        i += 3;
+        at += limits::PATTERN_EDGE_BITS;
     }
     if are_ends(&words[first..i], nodes) {
-        Part::Upto(at, i)
+        Ok((at, i))
     } else {
-        Part::Refused(Refusal::IsolatedNode(file))
+        Err(Refusal::IsolatedNode(file))
     }
 }
 
 // The fields of a pattern.
-fn write_fields(words: &[u32], first: usize, file: u32, out: &mut [u8], start: usize) -> Part
+fn write_fields(
+    words: &[u32],
+    first: usize,
+    file: File,
+    out: &mut [u8],
+    start: usize,
+) -> Result<(usize, usize), Refusal>
     requires { (first ≤ length words.now) × (start ≤ 2 ^ 19) }
-    ensures { WritesPart pattern words.now first out.old start 443 file result out.new }
+    ensures { WritesPart pattern words.now first out.old start 443 (file_number file) result out.new }
 {
-    let f = field::write_field(
+    let nodes = field::write_field(
         words,
         first,
         limits::PATTERN_NODES_WIDTH,
         1,
         limits::PATTERN_NODES_BOUND,
-        Refusal::OutOfRange(file),
+        Wrong::Range,
         file,
         out,
         start,
-    );
-    let nodes = match f {
-        Field::Value(v) => v,
-        Field::Refused(x) => {
-            return Part::Refused(x);
-        }
-    };
-    let g = field::write_field(
+    )?;
+    let number = field::write_field(
         words,
         first + 1,
         limits::PATTERN_EDGES_WIDTH,
         1,
         limits::PATTERN_EDGES_BOUND,
-        Refusal::OutOfRange(file),
+        Wrong::Range,
         file,
         out,
         start + limits::PATTERN_NODES_BITS,
-    );
-    let number = match g {
-        Field::Value(v) => v,
-        Field::Refused(x) => {
-            return Part::Refused(x);
-        }
-    };
-    let p = write_labels(
+    )?;
+    let (at, i) = write_labels(
         words,
         first + 2,
         nodes,
         file,
         out,
         start + limits::PATTERN_LABELS,
-    );
-    let Part::Upto(at, i) = p else {
-        return p;
-    };
+    )?;
     write_edges(words, i, nodes, number, file, out, at)
 }
 
 // A pattern at the front of out: the next byte and the next word.
-pub(crate) fn write_pattern(words: &[u32], first: usize, file: u32, out: &mut [u8]) -> Part
+pub(crate) fn write_pattern(
+    words: &[u32],
+    first: usize,
+    file: File,
+    out: &mut [u8],
+) -> Result<(usize, usize), Refusal>
     requires { first ≤ length words.now }
-    ensures { WritesBytes (whole pattern) words.now first out.old 0 56 file result out.new }
+    ensures { WritesBytes (whole pattern) words.now first out.old 0 56 (file_number file) result out.new }
 {
-    let p = write_fields(words, first, file, out, 0);
-    let Part::Upto(at, i) = p else {
-        return p;
-    };
+    let (at, i) = write_fields(words, first, file, out, 0)?;
     let byte = field::write_padding(out, at);
-    Part::Upto(byte, i)
+    Ok((byte, i))
 }
 
 // A whole pattern, a file of its own: its bytes stand at the front of out as far as it goes.
-pub fn judge_pattern_fields(words: &[u32], out: &mut [u8]) -> Part
+pub fn judge_pattern_fields(words: &[u32], out: &mut [u8]) -> Result<(usize, usize), Refusal>
     ensures { JudgesFields (encode pattern words.now) 1 result out.old out.new }
 {
-    let p = write_pattern(words, 0, 1, out);
-    let Part::Upto(_, i) = p else {
-        return p;
-    };
+    let (n, i) = write_pattern(words, 0, File::Pattern, out)?;
     if i < words.len() {
-        return Part::Refused(Refusal::Trailing(1));
+        return Err(Refusal::Trailing(File::Pattern));
     }
-    p
+    Ok((n, i))
 }

@@ -1,30 +1,53 @@
 // What calls and their parts answer.
 ghost use Rattle.std.specs.Prelude.{◌≡◌};
-ghost use Rattle.packed.specs.Refusals.{number_of, detail_of};
+ghost use Rattle.packed.specs.Refusals.{file_number, wrong_number, number_of, detail_of};
+
+// The kinds of files. A lone sheet is a book's, and an old record a record.
+#[derive(Clone, Copy, PartialEq, Eq)]
+pub enum File {
+    Pattern,
+    Catalogue,
+    Record,
+    Sheet,
+}
+
+impl File {
+    // The number of a kind of file, which a refusal of it has as its detail.
+    pub(crate) fn number(self) -> usize
+        ensures { result ≡ file_number self }
+    {
+        match self {
+            File::Pattern => 1,
+            File::Catalogue => 2,
+            File::Record => 3,
+            File::Sheet => 4,
+        }
+    }
+}
 
 // Why a call refuses. The word and the number of each are those of the requirements; specs/Refusals.antt has the numbers and details.
 #[derive(Clone, Copy)]
 pub enum Refusal {
     // 1, long: a file is over its most bytes
-    TooLong(u32),
+    TooLong(File),
     // 2, short: the bits or the fields end before a field does
-    Truncated(u32),
+    Truncated(File),
     // 3, count: a count, or another value of a field, lies outside its range
-    OutOfRange(u32),
+    OutOfRange(File),
     // 4, stray: an edge's end is not a node
-    NoSuchNode(u32),
+    NoSuchNode(File),
     // 5, twice: an edge of a pattern repeats an earlier one; so does one of a record that was stored before its edges had kinds, or even an order
-    DuplicateEdge(u32),
+    DuplicateEdge(File),
     // 6, order: a pair of a sheet or an edge of a record doesn't exceed the one before
-    NotAscending(u32),
+    NotAscending(File),
     // 7, loose: a pattern's node is at no edge
-    IsolatedNode(u32),
+    IsolatedNode(File),
     // 8, uneven: a zero count after a 1, found at that count
-    ZeroCount(u32),
+    ZeroCount(File),
     // 9, tail: a padding bit isn't zero, or something follows the last field
-    Trailing(u32),
+    Trailing(File),
     // 10, crowded: over 8,192 different pairs stand in a book
-    TooManyPairs(u32),
+    TooManyPairs(File),
     // 11, uncovered: the lowest unmatched edge
     NotContained(u32),
     // 12, no fit: how much the output takes
@@ -50,108 +73,94 @@ pub enum Refusal {
 }
 
 // What a call with one output answers: how much of it was written, or the refusal.
-#[derive(Clone, Copy)]
-pub enum Reply {
-    Done(usize),
-    Refused(Refusal),
-}
+pub type Reply = Result<usize, Refusal>;
 
 // What a call with two outputs answers: how much of each was written, or the refusal.
-#[derive(Clone, Copy)]
-pub enum Both {
-    Done(usize, usize),
-    Refused(Refusal),
-}
+pub type Both = Result<(usize, usize), Refusal>;
 
-// One field of a file.
-#[derive(Clone, Copy)]
-pub(crate) enum Field {
-    Value(u32),
-    Refused(Refusal),
-}
-
-// A part of a file: where it ends and which field comes next, or the refusal.
-#[derive(Clone, Copy)]
-pub enum Part {
-    Upto(usize, usize),
-    Refused(Refusal),
-}
-
-// Two fields of one kind, one after the other.
-#[derive(Clone, Copy)]
-pub(crate) enum Two {
-    Values(u32, u32),
-    Refused(Refusal),
-}
-
-// An edge: two ends and a kind.
-#[derive(Clone, Copy)]
-pub(crate) enum Three {
-    Values(u32, u32, u32),
-    Refused(Refusal),
-}
-
-// A part of an old record that was read up to its edges, and how many edges were loaded.
+// A part of an old record that was read up to its edges, and how many edges were loaded: also where the part is refused, since a repeat among those is
+// looked for first.
 #[derive(Clone, Copy)]
 pub(crate) struct Loaded {
-    pub part: Part,
+    pub part: Result<(usize, usize), Refusal>,
     pub edges: usize,
 }
 
-// The number of a refusal.
-pub fn number_of(x: Refusal) -> usize
-    ensures { result ≡ number_of x }
-{
-    match x {
-        Refusal::TooLong(_) => 1,
-        Refusal::Truncated(_) => 2,
-        Refusal::OutOfRange(_) => 3,
-        Refusal::NoSuchNode(_) => 4,
-        Refusal::DuplicateEdge(_) => 5,
-        Refusal::NotAscending(_) => 6,
-        Refusal::IsolatedNode(_) => 7,
-        Refusal::ZeroCount(_) => 8,
-        Refusal::Trailing(_) => 9,
-        Refusal::TooManyPairs(_) => 10,
-        Refusal::NotContained(_) => 11,
-        Refusal::NoRoom(_) => 12,
-        Refusal::Contained => 13,
-        Refusal::SmallWorkspace => 14,
-        Refusal::WrongCharges(_) => 15,
-        Refusal::WrongIndex(_) => 16,
-        Refusal::WrongQuestions(_) => 17,
-        Refusal::WrongTerms(_) => 18,
-        Refusal::WrongSet(_) => 19,
-        Refusal::OldSlip(_) => 20,
-        Refusal::LastChange(_) => 21,
+// How a field is refused whose value lies outside its range: as such, or as an edge's end that is not a node.
+#[derive(Clone, Copy)]
+pub(crate) enum Wrong {
+    Range,
+    Node,
+}
+
+impl Wrong {
+    // The refusal of a file of this kind.
+    pub(crate) fn of(self, file: File) -> Refusal
+        ensures { (number_of result ≡ wrong_number self) × (detail_of result ≡ file_number file) }
+    {
+        match self {
+            Wrong::Range => Refusal::OutOfRange(file),
+            Wrong::Node => Refusal::NoSuchNode(file),
+        }
     }
 }
 
-// The detail of a refusal.
-pub fn detail_of(x: Refusal) -> usize
-    ensures { result ≡ detail_of x }
-{
-    match x {
-        Refusal::TooLong(d) => d as usize,
-        Refusal::Truncated(d) => d as usize,
-        Refusal::OutOfRange(d) => d as usize,
-        Refusal::NoSuchNode(d) => d as usize,
-        Refusal::DuplicateEdge(d) => d as usize,
-        Refusal::NotAscending(d) => d as usize,
-        Refusal::IsolatedNode(d) => d as usize,
-        Refusal::ZeroCount(d) => d as usize,
-        Refusal::Trailing(d) => d as usize,
-        Refusal::TooManyPairs(d) => d as usize,
-        Refusal::NotContained(d) => d as usize,
-        Refusal::NoRoom(d) => d,
-        Refusal::Contained => 0,
-        Refusal::SmallWorkspace => 0,
-        Refusal::WrongCharges(d) => d,
-        Refusal::WrongIndex(d) => d,
-        Refusal::WrongQuestions(d) => d,
-        Refusal::WrongTerms(d) => d,
-        Refusal::WrongSet(d) => d,
-        Refusal::OldSlip(d) => d,
-        Refusal::LastChange(d) => d,
+impl Refusal {
+    // The number of a refusal.
+    pub fn number(self) -> usize
+        ensures { result ≡ number_of self }
+    {
+        match self {
+            Refusal::TooLong(_) => 1,
+            Refusal::Truncated(_) => 2,
+            Refusal::OutOfRange(_) => 3,
+            Refusal::NoSuchNode(_) => 4,
+            Refusal::DuplicateEdge(_) => 5,
+            Refusal::NotAscending(_) => 6,
+            Refusal::IsolatedNode(_) => 7,
+            Refusal::ZeroCount(_) => 8,
+            Refusal::Trailing(_) => 9,
+            Refusal::TooManyPairs(_) => 10,
+            Refusal::NotContained(_) => 11,
+            Refusal::NoRoom(_) => 12,
+            Refusal::Contained => 13,
+            Refusal::SmallWorkspace => 14,
+            Refusal::WrongCharges(_) => 15,
+            Refusal::WrongIndex(_) => 16,
+            Refusal::WrongQuestions(_) => 17,
+            Refusal::WrongTerms(_) => 18,
+            Refusal::WrongSet(_) => 19,
+            Refusal::OldSlip(_) => 20,
+            Refusal::LastChange(_) => 21,
+        }
+    }
+
+    // The detail of a refusal.
+    pub fn detail(self) -> usize
+        ensures { result ≡ detail_of self }
+    {
+        match self {
+            Refusal::TooLong(file) => file.number(),
+            Refusal::Truncated(file) => file.number(),
+            Refusal::OutOfRange(file) => file.number(),
+            Refusal::NoSuchNode(file) => file.number(),
+            Refusal::DuplicateEdge(file) => file.number(),
+            Refusal::NotAscending(file) => file.number(),
+            Refusal::IsolatedNode(file) => file.number(),
+            Refusal::ZeroCount(file) => file.number(),
+            Refusal::Trailing(file) => file.number(),
+            Refusal::TooManyPairs(file) => file.number(),
+            Refusal::NotContained(d) => d as usize,
+            Refusal::NoRoom(d) => d,
+            Refusal::Contained => 0,
+            Refusal::SmallWorkspace => 0,
+            Refusal::WrongCharges(d) => d,
+            Refusal::WrongIndex(d) => d,
+            Refusal::WrongQuestions(d) => d,
+            Refusal::WrongTerms(d) => d,
+            Refusal::WrongSet(d) => d,
+            Refusal::OldSlip(d) => d,
+            Refusal::LastChange(d) => d,
+        }
     }
 }

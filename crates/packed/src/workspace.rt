@@ -7,11 +7,7 @@ pub fn clear(work: &mut [u32], n: usize)
     requires { n ≤ length work.old }
     ensures { work.new ≡ replicate n 0 ++ drop n work.old }
 {
-    let mut i: usize = 0;
-    while i < n {
-        work[i] = 0;
-        i += 1;
-    }
+    work[0..n].fill(0);
 }
 
 // The words stand at the front of out, whose others are unchanged.
@@ -19,11 +15,7 @@ pub(crate) fn copy_words(words: &[u32], out: &mut [u32])
     requires { length words.now ≤ length out.old }
     ensures { out.new ≡ words.now ++ drop (length words.now) out.old }
 {
-    let mut i = 0;
-    while i < words.len() {
-        out[i] = words[i];
-        i += 1;
-    }
+    out[0..words.len()].copy_from_slice(words);
 }
 
 // The word i is v, where there is a word i.

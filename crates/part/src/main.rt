@@ -3,56 +3,30 @@
 // `part` and `part_answer` there. Neither takes its name before both are written.
 #![tactic(auto)]
 
-use folder::{both, files, lent, lines};
-use packed::reply::Both;
+use folder::{both, files, lent};
 use std::io;
-use std::rt::Files;
-
-fn finish(
-    rt: &(impl Files + Print + Eprint),
-    found: Both,
-    part: &[u8],
-    answer: &[u8],
-) -> io::Result<()> {
-    match found {
-        Both::Done(n, m) => both::keep(
-            rt,
-            part,
-            n,
-            b"part",
-            b"part.new",
-            answer,
-            m,
-            b"part_answer",
-            b"part_answer.new",
-            b"part_answer/",
-        ),
-        Both::Refused(x) => lines::refused(rt, x),
-    }
-}
 
 fn main(rt: HostRuntime) -> io::Result<()> {
-    let mut question = lent::question_bytes();
-    let mut catalogue = lent::catalogue_bytes();
-    let mut book = lent::sheet_bytes();
-    let mut part = lent::part_bytes();
-    let mut answer = lent::output_bytes();
-    let mut work = lent::work_words();
-    let one_way = folder::extracts(&rt, b"one_way");
-    if !one_way.good {
+    let mut question = [0; lent::QUESTION];
+    let mut catalogue = [0; lent::CATALOGUE];
+    let mut book = [0; lent::SHEET];
+    let mut part = [0; lent::PART];
+    let mut answer = [0; lent::OUTPUT];
+    let mut work = [0; lent::WORK];
+    let Some(one_way) = folder::extracts(&rt, b"one_way") else {
         return Ok(());
-    }
+    };
     let n = files::read(&rt, b"question", &mut question);
     let m = files::read(&rt, b"catalogue", &mut catalogue);
     let k = files::read(&rt, b"book", &mut book);
     let found = answering::part(
         &question[..n],
         &catalogue[..m],
-        one_way.set,
+        one_way,
         &book[..k],
         &mut part,
         &mut answer,
         &mut work,
     );
-    finish(&rt, found, &part, &answer)
+    both::finish_part(&rt, found, &part, &answer)
 }

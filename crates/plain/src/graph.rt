@@ -1,86 +1,90 @@
-// The content of patterns and records: two counts, the labels, and for each edge its from, to and kind.
+// The content of patterns and records as graphs: two counts, the labels, and for each edge its from, to and kind. A word that isn't there is 0.
 ghost use Rattle.std.specs.Prelude.{◌<◌, ◌≤◌};
 
-pub fn word(s: &[u32], i: usize) -> u32 {
-    if i < s.len() { s[i] } else { 0 }
+// An edge, by its two nodes and its kind.
+#[derive(Clone, Copy)]
+pub struct Edge {
+    pub from: usize,
+    pub to: usize,
+    pub kind: u32,
+    ghost leaves_node: { from < 4096 },
+    ghost enters_node: { to < 4096 },
+    ghost has_kind: { kind < 8 },
 }
 
-pub fn put(s: &mut [u32], i: usize, x: u32) {
-    if i < s.len() {
-        s[i] = x;
+impl Edge {
+    // The edge turned round.
+    pub fn turned(self) -> Edge {
+        Edge {
+            from: self.to,
+            to: self.from,
+            kind: self.kind,
+        }
     }
 }
 
-pub fn byte(s: &[u8], i: usize) -> u8 {
-    if i < s.len() { s[i] } else { 0 }
+// Content words, and how many nodes and edges of them count.
+#[derive(Clone, Copy)]
+pub struct Graph<'a> {
+    words: &'a [u32],
+    pub nodes: usize,
+    pub edges: usize,
+    ghost few_nodes: { nodes ≤ 4096 },
+    ghost few_edges: { edges ≤ 8192 },
 }
 
-pub fn put_byte(s: &mut [u8], i: usize, x: u8) {
-    if i < s.len() {
-        s[i] = x;
+impl<'a> Graph<'a> {
+    // At most so many nodes and edges count.
+    fn of(words: &'a [u32], most_nodes: usize, most_edges: usize) -> Graph<'a>
+        requires nodes { most_nodes ≤ 4096 }
+        requires edges { most_edges ≤ 8192 }
+        ensures { (result.nodes ≤ most_nodes) × (result.edges ≤ most_edges) }
+    {
+        let nodes = word(words, 0) as usize;
+        let edges = word(words, 1) as usize;
+        Graph {
+            words,
+            nodes: nodes.min(most_nodes),
+            edges: edges.min(most_edges),
+        }
+    }
+
+    pub fn pattern(words: &'a [u32]) -> Graph<'a>
+        ensures { (result.nodes ≤ 16) × (result.edges ≤ 32) }
+    {
+        Graph::of(words, 16, 32)
+    }
+
+    pub fn record(words: &'a [u32]) -> Graph<'a>
+        ensures { (result.nodes ≤ 4096) × (result.edges ≤ 8192) }
+    {
+        Graph::of(words, 4096, 8192)
+    }
+
+    pub fn label(self, node: usize) -> u32
+        requires { node ≤ 4096 }
+    {
+        word(self.words, 2 + node)
+    }
+
+    pub fn edge(self, i: usize) -> Edge
+        requires { i ≤ 8192 }
+    {
+        let at = 2 + self.nodes + 3 * i;
+        Edge {
+            from: node(word(self.words, at)),
+            to: node(word(self.words, at + 1)),
+            kind: word(self.words, at + 2) % 8,
+        }
     }
 }
 
-// A count, no larger than its most.
-fn count(x: u32, most: u32) -> usize
-    ensures { result ≤ most }
-{
-    if x < most { x as usize } else { most as usize }
-}
-
-pub fn pattern_nodes(pattern: &[u32]) -> usize
-    ensures { result ≤ 16 }
-{
-    count(word(pattern, 0), 16)
-}
-
-pub fn pattern_edges(pattern: &[u32]) -> usize
-    ensures { result ≤ 32 }
-{
-    count(word(pattern, 1), 32)
-}
-
-pub fn record_nodes(record: &[u32]) -> usize
-    ensures { result ≤ 4096 }
-{
-    count(word(record, 0), 4096)
-}
-
-pub fn record_edges(record: &[u32]) -> usize
-    ensures { result ≤ 8192 }
-{
-    count(word(record, 1), 8192)
-}
-
-pub fn label(s: &[u32], node: usize) -> u32
-    requires { node ≤ 4096 }
-{
-    word(s, 2 + node)
+fn word(words: &[u32], i: usize) -> u32 {
+    words.get(i).copied().unwrap_or(0)
 }
 
 fn node(x: u32) -> usize
     ensures { result < 4096 }
 {
     (x % 4096) as usize
-}
-
-pub fn from(s: &[u32], nodes: usize, edge: usize) -> usize
-    requires { (nodes ≤ 4096) × (edge ≤ 8192) }
-    ensures { result < 4096 }
-{
-    node(word(s, 2 + nodes + 3 * edge))
-}
-
-pub fn to(s: &[u32], nodes: usize, edge: usize) -> usize
-    requires { (nodes ≤ 4096) × (edge ≤ 8192) }
-    ensures { result < 4096 }
-{
-    node(word(s, 3 + nodes + 3 * edge))
-}
-
-pub fn kind(s: &[u32], nodes: usize, edge: usize) -> usize
-    requires { (nodes ≤ 4096) × (edge ≤ 8192) }
-    ensures { result < 8 }
-{
-    (word(s, 4 + nodes + 3 * edge) % 8) as usize
 }

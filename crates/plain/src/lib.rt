@@ -1,19 +1,19 @@
-// Plain simulation on content words, both ways, made apart from the crate `matching` to be compared with it: whole passes over one byte for
+// Plain simulation on content words, both ways, made apart from the crate `matching` to be compared with it: whole passes over one flag for
 // each pair of a pattern's node and a record's, until nothing changes.
 //
 // Any words will do. Of a pattern at most 16 nodes and 32 edges count, of a record at most 4,096 and 8,192; a word that isn't there is 0.
 #![tactic(auto)]
 
-mod edges;
 mod graph;
 mod listing;
 mod simulation;
 
+use graph::Graph;
+
 // The content of a pattern's sheet from a record goes to the front of out as far as it goes. How many words it has.
 pub fn sheet(pattern: &[u32], record: &[u32], out: &mut [u32]) -> usize {
-    let mut related = simulation::no_pairs();
-    simulation::simulate(pattern, record, &mut related);
-    let mut codes = edges::no_codes();
-    let m = edges::edges(record, &mut codes);
-    listing::list(pattern, record, &related, &codes, m, out)
+    let pattern = Graph::pattern(pattern);
+    let record = Graph::record(record);
+    let related = simulation::simulate(pattern, record);
+    listing::list(pattern, record, &related, out)
 }

@@ -1,139 +1,79 @@
 // The content of a sheet: 0 where there are no pairs, else 1 and for each edge of the pattern the number of its pairs and the pairs.
-ghost use Rattle.std.specs.Prelude.{◌+◌, ◌*◌, ◌≤◌};
+ghost use Rattle.std.specs.Prelude.{◌≤◌};
 
-use crate::{graph, simulation};
+use crate::graph::{Edge, Graph};
+use crate::simulation;
+use crate::simulation::Pairs;
 
-fn has_partner(related: &[u8], u: usize, n: usize) -> bool
-    requires { (u ≤ 4096) × (n ≤ 4096) }
-{
-    let mut found = false;
-    let mut v: usize = 0;
-    while v < n {
-        found = found | simulation::is_related(related, u, v);
-        v += 1;
-    }
-    found
-}
-
-// Whether every node of the pattern has a partner among n nodes.
-fn is_total(pattern: &[u32], related: &[u8], n: usize) -> bool
-    requires { n ≤ 4096 }
-{
-    let nodes = graph::pattern_nodes(pattern);
-    let mut total = true;
-    let mut u: usize = 0;
-    while u < nodes {
-        total = total & has_partner(related, u, n);
-        u += 1;
-    }
-    total
-}
-
-// Puts a pair at a place where its edge is of this kind and both its nodes are partners: the place after it.
-fn list_pair(
-    code: u32,
-    u: usize,
-    next: usize,
-    kind: usize,
-    related: &[u8],
-    out: &mut [u32],
+// Words that are written one after the other; those that find no room are counted all the same.
+#[derive(Drop)]
+struct Writer<'a> {
+    out: &'a mut [u32],
     at: usize,
-) -> usize
-    requires { (u ≤ 4096) × (next ≤ 4096) × (at ≤ 1000000) }
-    ensures { (at ≤ result) × (result ≤ at + 2) }
-{
-    let v = code / 32768 % 4096;
-    let w = code / 8 % 4096;
-    if ((code % 8) as usize == kind)
-        & simulation::is_related(related, u, v as usize)
-        & simulation::is_related(related, next, w as usize)
-    {
-        graph::put(out, at, v);
-        graph::put(out, at + 1, w);
-        return at + 2;
-    }
-    at
 }
 
-// The pairs of the pattern's edge from u to next of this kind among m edges, ascending: the place after them.
-fn list_pairs(
-    u: usize,
-    next: usize,
-    kind: usize,
-    codes: &[u32],
-    m: usize,
-    related: &[u8],
-    out: &mut [u32],
-    start: usize,
-) -> usize
-    requires { (u ≤ 4096) × (next ≤ 4096) × (m ≤ 8192) × (start ≤ 600000) }
-    ensures { (start ≤ result) × (result ≤ start + 2 * m) }
-{
-    let mut at = start;
-    let mut i: usize = 0;
-    while i < m {
-        at = list_pair(graph::word(codes, i), u, next, kind, related, out, at);
-        i += 1;
+impl<'a> Writer<'a> {
+    fn set(&mut self, at: usize, x: u32) {
+        if let Some(word) = self.out.get_mut(at) {
+            *word = x;
+        }
     }
-    at
+
+    fn push(&mut self, x: u32) {
+        self.set(self.at, x);
+        self.at = self.at.saturating_add(1);
+    }
 }
 
-// A list with its count: the place after it.
-fn list_edge(
-    u: usize,
-    next: usize,
-    kind: usize,
-    codes: &[u32],
-    m: usize,
-    related: &[u8],
-    out: &mut [u32],
-    start: usize,
-) -> usize
-    requires { (u ≤ 4096) × (next ≤ 4096) × (m ≤ 8192) × (start ≤ 590000) }
-    ensures { result ≤ start + 16385 }
+// Whether every node of the pattern has a partner.
+fn is_total(pattern: Graph, related: &Pairs) -> bool
+    requires { pattern.nodes ≤ 16 }
 {
-    let first = start + 1;
-    let end = list_pairs(u, next, kind, codes, m, related, out, first);
-    let count = (end - first) / 2;
-    graph::put(out, start, count as u32);
-    end
+    related[..pattern.nodes]
+        .iter()
+        .all(|row| row.contains(&true))
 }
 
-// The lists from place 1 on: the place after them.
-fn list_edges(pattern: &[u32], codes: &[u32], m: usize, related: &[u8], out: &mut [u32]) -> usize
-    requires { m ≤ 8192 }
-{
-    let nodes = graph::pattern_nodes(pattern);
-    let edges = graph::pattern_edges(pattern);
-    let mut at: usize = 1;
-    let mut e: usize = 0;
-    while e < edges {
-        let u = graph::from(pattern, nodes, e);
-        let next = graph::to(pattern, nodes, e);
-        let kind = graph::kind(pattern, nodes, e);
-        at = list_edge(u, next, kind, codes, m, related, out, at);
-        e += 1;
-    }
-    at
+// Whether the record's edge is of this kind and its nodes are partners of those of the pattern's.
+fn is_partner(edge: Edge, next: Edge, related: &Pairs) -> bool {
+    edge.kind == next.kind
+        && simulation::is_related(related, edge.from, next.from)
+        && simulation::is_related(related, edge.to, next.to)
 }
 
-// There are no pairs where a node of the pattern has no partner.
-pub fn list(
-    pattern: &[u32],
-    record: &[u32],
-    related: &[u8],
-    codes: &[u32],
-    m: usize,
-    out: &mut [u32],
-) -> usize
-    requires { m ≤ 8192 }
-{
-    let n = graph::record_nodes(record);
-    if is_total(pattern, related, n) {
-        graph::put(out, 0, 1);
-        list_edges(pattern, codes, m, related, out)
-    } else {
-        graph::put(out, 0, 0);
-        1
+// The pairs of the pattern's edge, ascending as the record's edges do: how many there are.
+fn list_pairs(edge: Edge, record: Graph, related: &Pairs, out: &mut Writer) -> u32 {
+    let mut count: u32 = 0;
+    for i in 0..record.edges {
+        let next = record.edge(i);
+        if is_partner(edge, next, related) {
+            out.push(next.from as u32);
+            out.push(next.to as u32);
+            count = count.saturating_add(1);
+        }
     }
+    count
+}
+
+// A list with its count before it.
+fn list_edge(edge: Edge, record: Graph, related: &Pairs, out: &mut Writer) {
+    let start = out.at;
+    out.push(0);
+    let count = list_pairs(edge, record, related, out);
+    out.set(start, count);
+}
+
+// There are no pairs where a node of the pattern has no partner. How many words there are.
+pub fn list(pattern: Graph, record: Graph, related: &Pairs, out: &mut [u32]) -> usize
+    requires { pattern.nodes ≤ 16 }
+{
+    let mut out = Writer { out, at: 0 };
+    let total = is_total(pattern, related);
+    out.push(u32::from(total));
+    if total {
+        for i in 0..pattern.edges {
+            list_edge(pattern.edge(i), record, related, &mut out);
+        }
+    }
+    out.at
 }

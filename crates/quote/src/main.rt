@@ -7,9 +7,9 @@ use listing::print;
 use std::io;
 
 fn main(rt: HostRuntime) -> io::Result<()> {
-    let mut question = lent::question_bytes();
-    let mut catalogue = lent::catalogue_bytes();
-    let mut work = lent::work_words();
+    let mut question = [0; lent::QUESTION];
+    let mut catalogue = [0; lent::CATALOGUE];
+    let mut work = [0; lent::WORK];
     let n = files::read(&rt, b"question", &mut question);
     let m = files::read(&rt, b"catalogue", &mut catalogue);
     let q = containment::quote(&question[..n], &catalogue[..m], 0, &mut work);

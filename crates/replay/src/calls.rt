@@ -1,388 +1,325 @@
 // The calls by their numbers, on parts of the memory and with as much lent as the registers say. Its name and whether a call has two outputs
 // the cases say.
-ghost use Rattle.std.specs.Prelude.{◌≡◌, ◌≤◌};
+use crate::both::Pair;
+use crate::outcome::{Form, Outcome};
+use crate::registers::Registers;
+use crate::terms::Day;
+use crate::{beside, both, digest, entering, indexed, registers, states, terms};
+use yuthaqim::numbered::{NumberedCheapest, NumberedQuote};
 
-use crate::outcome::Outcome;
-use crate::{beside, both, cells, digest, entering, indexed, outcome, slices, states, terms};
-use containment::terms::Terms;
+// What a reader reads and a writer writes.
+#[derive(Clone, Copy, PartialEq, Eq)]
+pub enum Kind {
+    Pattern,
+    Catalogue,
+    Record,
+    Sheet,
+    Book,
+}
 
-// The readers, then a writer for each.
-const READ_PATTERN: usize = 0;
+#[derive(Clone, Copy, PartialEq, Eq)]
+pub enum Call {
+    Read(Kind),
+    Write(Kind),
+    Search,
+    MakeBook,
+    Quote,
+    Answer,
+    ShowUncovered,
+    Cheapest,
+    AnswerFrom,
+    SortRecord,
+    MakeIndex,
+    CheckIndex,
+    SearchIndexed,
+    Part,
+    AnswerSeveral,
+    // The calls for a day.
+    QuoteOn,
+    CheapestOn,
+    PartOn,
+    ShowOn,
+    FirstDay,
+    // A link that enters.
+    Ask,
+    Commit,
+    // The states of a join after each of its steps, which no client sees.
+    Steps,
+    // The search that is made apart.
+    Plain,
+}
 
-const READ_CATALOGUE: usize = 1;
+// The numbers that the cases have; one that has no call of its own sorts a record.
+impl From<usize> for Call {
+    fn from(k: usize) -> Call {
+        match k {
+            0 => Call::Read(Kind::Pattern),
+            1 => Call::Read(Kind::Catalogue),
+            2 => Call::Read(Kind::Record),
+            3 => Call::Read(Kind::Sheet),
+            4 => Call::Read(Kind::Book),
+            5 => Call::Write(Kind::Pattern),
+            6 => Call::Write(Kind::Catalogue),
+            7 => Call::Write(Kind::Record),
+            8 => Call::Write(Kind::Sheet),
+            9 => Call::Write(Kind::Book),
+            10 => Call::Search,
+            11 => Call::MakeBook,
+            12 => Call::Quote,
+            13 => Call::Answer,
+            14 => Call::ShowUncovered,
+            15 => Call::Cheapest,
+            16 => Call::AnswerFrom,
+            18 => Call::MakeIndex,
+            19 => Call::CheckIndex,
+            20 => Call::SearchIndexed,
+            21 => Call::Part,
+            22 => Call::AnswerSeveral,
+            23 => Call::QuoteOn,
+            24 => Call::CheapestOn,
+            25 => Call::PartOn,
+            26 => Call::ShowOn,
+            27 => Call::FirstDay,
+            28 => Call::Ask,
+            29 => Call::Commit,
+            62 => Call::Steps,
+            63 => Call::Plain,
+            _ => Call::SortRecord,
+        }
+    }
+}
 
-const READ_RECORD: usize = 2;
+impl Call {
+    pub fn is_reader(self) -> bool {
+        matches!(self, Call::Read(_))
+    }
+}
 
-const READ_SHEET: usize = 3;
+// The files of a case, and the set of the catalogue's extracts that are matched one-way.
+#[derive(Clone, Copy)]
+pub struct Parts<'a> {
+    // A pattern, a question or several of them.
+    pub question: &'a [u8],
+    pub catalogue: &'a [u8],
+    pub record: &'a [u8],
+    // A sheet, a book or an index.
+    pub sheets: &'a [u8],
+    pub one_way: u16,
+}
 
-pub const WRITE_PATTERN: usize = 5;
-
-const WRITE_CATALOGUE: usize = 6;
-
-const WRITE_RECORD: usize = 7;
-
-const WRITE_SHEET: usize = 8;
-
-const SEARCH: usize = 10;
-
-const MAKE_BOOK: usize = 11;
-
-const QUOTE: usize = 12;
-
-const ANSWER: usize = 13;
-
-const SHOW_UNCOVERED: usize = 14;
-
-const CHEAPEST: usize = 15;
-
-const ANSWER_FROM: usize = 16;
-
-const MAKE_INDEX: usize = 18;
-
-pub const CHECK_INDEX: usize = 19;
-
-const SEARCH_INDEXED: usize = 20;
-
-pub const PART: usize = 21;
-
-const ANSWER_SEVERAL: usize = 22;
-
-// The calls for a day.
-const QUOTE_ON: usize = 23;
-
-const CHEAPEST_ON: usize = 24;
-
-pub const PART_ON: usize = 25;
-
-pub const SHOW_ON: usize = 26;
-
-const FIRST_DAY: usize = 27;
-
-// A link that enters.
-const ASK: usize = 28;
-
-const COMMIT: usize = 29;
-
-// The states of a join after each of its steps, which no client sees.
-const STEPS: usize = 62;
-
-// The search that is made apart.
-pub const PLAIN: usize = 63;
+impl<'a> Parts<'a> {
+    fn of(registers: &Registers, memory: &'a [u8]) -> Parts<'a> {
+        Parts {
+            question: registers.part(0, memory),
+            catalogue: registers.part(1, memory),
+            record: registers.part(2, memory),
+            sheets: registers.part(3, memory),
+            one_way: registers.sixteen(registers::ONE_WAY),
+        }
+    }
+}
 
 // A reader, lent words.
-fn read(
-    k: usize,
-    pattern: &[u8],
-    catalogue: &[u8],
-    record: &[u8],
-    sheets: &[u8],
-    out: &mut [u32],
-    work: &mut [u32],
-) -> Outcome {
-    if k == READ_PATTERN {
-        let r = yuthaqim::yuthaqim_read_pattern(pattern, out, work);
-        return outcome::words(r.number, r.value, out);
-    }
-    if k == READ_CATALOGUE {
-        let r = yuthaqim::yuthaqim_read_catalogue(catalogue, out, work);
-        return outcome::words(r.number, r.value, out);
-    }
-    if k == READ_RECORD {
-        let r = yuthaqim::yuthaqim_read_record(record, out, work);
-        return outcome::words(r.number, r.value, out);
-    }
-    if k == READ_SHEET {
-        let r = yuthaqim::yuthaqim_read_sheet(pattern, sheets, out, work);
-        return outcome::words(r.number, r.value, out);
-    }
-    let r = yuthaqim::yuthaqim_read_book(catalogue, sheets, out, work);
-    outcome::words(r.number, r.value, out)
-}
-
-fn write(
-    k: usize,
-    pattern: &[u8],
-    catalogue: &[u8],
-    content: &[u32],
-    out: &mut [u8],
-    work: &mut [u32],
-) -> Outcome {
-    if k == WRITE_PATTERN {
-        let r = yuthaqim::yuthaqim_write_pattern(content, out, work);
-        return outcome::bytes(r.number, r.value, out);
-    }
-    if k == WRITE_CATALOGUE {
-        let r = yuthaqim::yuthaqim_write_catalogue(content, out, work);
-        return outcome::bytes(r.number, r.value, out);
-    }
-    if k == WRITE_RECORD {
-        let r = yuthaqim::yuthaqim_write_record(content, out, work);
-        return outcome::bytes(r.number, r.value, out);
-    }
-    if k == WRITE_SHEET {
-        let r = yuthaqim::yuthaqim_write_sheet(pattern, content, out, work);
-        return outcome::bytes(r.number, r.value, out);
-    }
-    let r = yuthaqim::yuthaqim_write_book(catalogue, content, out, work);
-    outcome::bytes(r.number, r.value, out)
-}
-
-fn quoted(
-    number: usize,
-    detail: usize,
-    edges: u32,
-    covered: u32,
-    chosen: u32,
-    lowest: u32,
-    mapping: u64,
-) -> Outcome {
-    let other = if covered == 1 { chosen } else { lowest };
-    let value = if number == 0 {
-        covered as usize
-    } else {
-        detail
+fn read(kind: Kind, f: Parts, out: &mut [u32], work: &mut [u32]) -> Outcome {
+    let r = match kind {
+        Kind::Pattern => yuthaqim::yuthaqim_read_pattern(f.question, out, work),
+        Kind::Catalogue => yuthaqim::yuthaqim_read_catalogue(f.catalogue, out, work),
+        Kind::Record => yuthaqim::yuthaqim_read_record(f.record, out, work),
+        Kind::Sheet => yuthaqim::yuthaqim_read_sheet(f.question, f.sheets, out, work),
+        Kind::Book => yuthaqim::yuthaqim_read_book(f.catalogue, f.sheets, out, work),
     };
-    let d = digest::step(digest::step(mapping, edges as u64), covered as u64);
-    let e = digest::step(digest::step(d, chosen as u64), lowest as u64);
-    outcome::values(outcome::QUOTE, number, value, other as usize, e)
+    Outcome::words(r, out)
 }
 
-fn quote(question: &[u8], catalogue: &[u8], one_way: u16, work: &mut [u32]) -> Outcome {
-    let q = yuthaqim::yuthaqim_quote(question, catalogue, one_way, work);
-    let mapping = q.mapping;
-    let d = digest::over_words(digest::START, &mapping, 512);
-    quoted(
-        q.number, q.detail, q.edges, q.covered, q.chosen, q.lowest, d,
-    )
+fn write(kind: Kind, f: Parts, content: &[u32], out: &mut [u8], work: &mut [u32]) -> Outcome {
+    let r = match kind {
+        Kind::Pattern => yuthaqim::yuthaqim_write_pattern(content, out, work),
+        Kind::Catalogue => yuthaqim::yuthaqim_write_catalogue(content, out, work),
+        Kind::Record => yuthaqim::yuthaqim_write_record(content, out, work),
+        Kind::Sheet => yuthaqim::yuthaqim_write_sheet(f.question, content, out, work),
+        Kind::Book => yuthaqim::yuthaqim_write_book(f.catalogue, content, out, work),
+    };
+    Outcome::bytes(r, out)
 }
 
-fn quote_on(
-    question: &[u8],
-    catalogue: &[u8],
-    one_way: u16,
-    t: Terms,
-    day: u16,
-    work: &mut [u32],
-) -> Outcome {
-    let q = yuthaqim::yuthaqim_quote_on(question, catalogue, one_way, t, day, work);
-    let mapping = q.mapping;
-    let d = digest::over_words(digest::START, &mapping, 512);
-    quoted(
-        q.number, q.detail, q.edges, q.covered, q.chosen, q.lowest, d,
-    )
+fn quoted(q: NumberedQuote) -> Outcome {
+    let other = if q.covered == 1 { q.chosen } else { q.lowest };
+    let value = if q.number == 0 {
+        q.covered as usize
+    } else {
+        q.detail
+    };
+    let mapping = digest::over(digest::START, &q.mapping, 512);
+    let d = digest::step(digest::step(mapping, q.edges as u64), q.covered as u64);
+    let e = digest::step(digest::step(d, q.chosen as u64), q.lowest as u64);
+    Outcome::values(Form::Quote, q.number, value, other as usize, e)
 }
 
-fn priced(number: usize, detail: usize, sum: u64, set: u16, chosen: u16) -> Outcome {
-    let value = if number == 0 { sum as usize } else { detail };
-    let d = digest::step(digest::step(digest::START, set as u64), sum);
-    let e = digest::step(d, chosen as u64);
-    outcome::values(outcome::PRICE, number, value, set as usize, e)
+fn quote(f: Parts, day: Option<Day>, work: &mut [u32]) -> Outcome {
+    quoted(match day {
+        None => yuthaqim::yuthaqim_quote(f.question, f.catalogue, f.one_way, work),
+        Some(d) => yuthaqim::yuthaqim_quote_on(
+            f.question,
+            f.catalogue,
+            f.one_way,
+            d.terms,
+            d.day,
+            work,
+        ),
+    })
+}
+
+fn priced(c: NumberedCheapest) -> Outcome {
+    let value = if c.number == 0 {
+        c.sum as usize
+    } else {
+        c.detail
+    };
+    let d = digest::step(digest::step(digest::START, c.set as u64), c.sum);
+    let e = digest::step(d, c.chosen as u64);
+    Outcome::values(Form::Price, c.number, value, c.set as usize, e)
 }
 
 // The content is the charges.
-fn cheapest(
-    question: &[u8],
-    catalogue: &[u8],
-    one_way: u16,
-    charges: &[u32],
-    work: &mut [u32],
-) -> Outcome {
-    let c = yuthaqim::yuthaqim_cheapest(question, catalogue, one_way, charges, work);
-    priced(c.number, c.detail, c.sum, c.set, c.chosen)
+fn cheapest(f: Parts, day: Option<Day>, charges: &[u32], work: &mut [u32]) -> Outcome {
+    priced(match day {
+        None => yuthaqim::yuthaqim_cheapest(f.question, f.catalogue, f.one_way, charges, work),
+        Some(d) => yuthaqim::yuthaqim_cheapest_on(
+            f.question,
+            f.catalogue,
+            f.one_way,
+            d.terms,
+            d.day,
+            charges,
+            work,
+        ),
+    })
 }
 
-fn cheapest_on(
-    question: &[u8],
-    catalogue: &[u8],
-    one_way: u16,
-    t: Terms,
-    day: u16,
-    charges: &[u32],
-    work: &mut [u32],
-) -> Outcome {
-    let c = yuthaqim::yuthaqim_cheapest_on(question, catalogue, one_way, t, day, charges, work);
-    priced(c.number, c.detail, c.sum, c.set, c.chosen)
+fn search(f: Parts, out: &mut [u8], work: &mut [u32]) -> Outcome {
+    let r = yuthaqim::yuthaqim_search(f.question, f.record, out, work);
+    Outcome::sheet(r, out)
 }
 
-// Several questions stand in the place of one.
-fn several(
-    questions: &[u8],
-    number: u32,
-    catalogue: &[u8],
-    one_way: u16,
-    book: &[u8],
-    out: &mut [u8],
-    work: &mut [u32],
-) -> Outcome {
+fn make_book(f: Parts, out: &mut [u8], work: &mut [u32]) -> Outcome {
+    let r = yuthaqim::yuthaqim_make_book(f.catalogue, f.one_way, f.record, out, work);
+    Outcome::bytes(r, out)
+}
+
+fn sort_record(f: Parts, out: &mut [u8], work: &mut [u32]) -> Outcome {
+    let r = yuthaqim::yuthaqim_sort_record(f.record, out, work);
+    Outcome::bytes(r, out)
+}
+
+// From the extracts of a set, or from those that the library chooses.
+fn answer(f: Parts, set: Option<u16>, out: &mut [u8], work: &mut [u32]) -> Outcome {
+    let r = match set {
+        None => {
+            yuthaqim::yuthaqim_answer(f.question, f.catalogue, f.one_way, f.sheets, out, work)
+        }
+        Some(set) => yuthaqim::yuthaqim_answer_from(
+            f.question,
+            f.catalogue,
+            f.one_way,
+            set,
+            f.sheets,
+            out,
+            work,
+        ),
+    };
+    Outcome::sheet(r, out)
+}
+
+// Several questions stand in the place of one. The bytes of the answers, none where they were refused, and how many sheets they needed.
+fn answer_several(f: Parts, number: u32, out: &mut [u8], work: &mut [u32]) -> Outcome {
     let s = yuthaqim::yuthaqim_answer_several(
-        questions, number, catalogue, one_way, book, out, work,
+        f.question,
+        number,
+        f.catalogue,
+        f.one_way,
+        f.sheets,
+        out,
+        work,
     );
-    outcome::several(s.number, s.detail, s.bytes, s.sheets as usize, out)
+    let value = if s.number == 0 { s.bytes } else { s.detail };
+    let d = digest::over(digest::START, out, s.bytes);
+    Outcome {
+        written: s.bytes,
+        ..Outcome::values(Form::Several, s.number, value, s.sheets as usize, d)
+    }
 }
 
-// A call that writes bytes.
-fn make(
-    k: usize,
-    question: &[u8],
-    catalogue: &[u8],
-    one_way: u16,
-    record: &[u8],
-    book: &[u8],
-    set: u16,
-    out: &mut [u8],
-    work: &mut [u32],
-) -> Outcome {
-    if k == SEARCH {
-        let r = yuthaqim::yuthaqim_search(question, record, out, work);
-        return outcome::sheet(r.number, r.value, out);
-    }
-    if k == MAKE_BOOK {
-        let r = yuthaqim::yuthaqim_make_book(catalogue, one_way, record, out, work);
-        return outcome::bytes(r.number, r.value, out);
-    }
-    if k == ANSWER {
-        let r = yuthaqim::yuthaqim_answer(question, catalogue, one_way, book, out, work);
-        return outcome::sheet(r.number, r.value, out);
-    }
-    if k == ANSWER_FROM {
-        let r = yuthaqim::yuthaqim_answer_from(question, catalogue, one_way, set, book, out, work);
-        return outcome::sheet(r.number, r.value, out);
-    }
-    let r = yuthaqim::yuthaqim_sort_record(record, out, work);
-    outcome::bytes(r.number, r.value, out)
-}
-
-// A call for a day.
-fn on_day(
-    k: usize,
-    registers: &[u64],
-    question: &[u8],
-    catalogue: &[u8],
-    book: &[u8],
-    t: Terms,
-    charges: &[u32],
-    out: &mut [u8],
-    work: &mut [u32],
-) -> Outcome {
-    let one_way = cells::sixteen(registers, cells::ONE_WAY);
-    let day = cells::sixteen(registers, cells::DAY);
-    if k == QUOTE_ON {
-        return quote_on(question, catalogue, one_way, t, day, work);
-    }
-    if k == CHEAPEST_ON {
-        return cheapest_on(question, catalogue, one_way, t, day, charges, work);
-    }
-    if k == FIRST_DAY {
-        return terms::first_day(question, catalogue, one_way, t, day, work);
-    }
-    both::call(k, question, catalogue, t, day, book, registers, out, work)
-}
-
-// A call on the parts.
+// A call on the parts. So many words are its content, and so many bytes are lent.
 fn on_parts(
-    k: usize,
-    registers: &[u64],
-    a: &[u8],
-    b: &[u8],
-    c: &[u8],
-    d: &[u8],
-    t: Terms,
+    call: Call,
+    f: Parts,
+    day: Day,
+    registers: &Registers,
     out: &mut [u8],
     words: &mut [u32],
     work: &mut [u32],
 ) -> Outcome {
-    let room = cells::number(registers, cells::ROOM);
-    let n = slices::least(room, out.len());
-    if k < WRITE_PATTERN {
-        let m = slices::least(room, words.len());
-        return read(k, a, b, c, d, &mut words[0..m], work);
+    let room = registers.at(registers::ROOM);
+    let n = room.min(out.len());
+    let m = registers.at(registers::CONTENT).min(words.len());
+    match call {
+        Call::Read(kind) => {
+            let n = room.min(words.len());
+            read(kind, f, &mut words[..n], work)
+        }
+        Call::Write(kind) => write(kind, f, &words[..m], &mut out[..n], work),
+        Call::Search => search(f, &mut out[..n], work),
+        Call::MakeBook => make_book(f, &mut out[..n], work),
+        Call::SortRecord => sort_record(f, &mut out[..n], work),
+        Call::Quote => quote(f, None, work),
+        Call::QuoteOn => quote(f, Some(day), work),
+        Call::Cheapest => cheapest(f, None, &words[..m], work),
+        Call::CheapestOn => cheapest(f, Some(day), &words[..m], work),
+        Call::FirstDay => terms::first_day(f, day, work),
+        Call::Answer => answer(f, None, &mut out[..n], work),
+        Call::AnswerFrom => {
+            let set = registers.sixteen(registers::SET);
+            answer(f, Some(set), &mut out[..n], work)
+        }
+        Call::AnswerSeveral => {
+            let number = registers.thirty_two(registers::QUESTIONS);
+            answer_several(f, number, &mut out[..n], work)
+        }
+        Call::Part => both::make(Pair::Part, f, None, registers, out, work),
+        Call::PartOn => both::make(Pair::Part, f, Some(day), registers, out, work),
+        Call::ShowUncovered => both::make(Pair::Show, f, None, registers, out, work),
+        Call::ShowOn => both::make(Pair::Show, f, Some(day), registers, out, work),
+        Call::MakeIndex => indexed::make(f.record, room, out, work),
+        Call::CheckIndex => indexed::check(f, work),
+        Call::SearchIndexed => indexed::search(f, &mut out[..n], work),
+        Call::Ask => entering::ask(f, registers, work),
+        Call::Commit => entering::commit(f.record, registers, out, work),
+        Call::Steps => {
+            let links = registers.at(registers::LINKS);
+            states::each(f.question, links, &words[..m], work)
+        }
+        Call::Plain => beside::search(f.question, f.record, &mut out[..n], words, work),
     }
-    let m = slices::least(cells::number(registers, cells::CONTENT), words.len());
-    if k < SEARCH {
-        return write(k, a, b, &words[0..m], &mut out[0..n], work);
-    }
-    let one_way = cells::sixteen(registers, cells::ONE_WAY);
-    if k == QUOTE {
-        return quote(a, b, one_way, work);
-    }
-    if k == CHEAPEST {
-        return cheapest(a, b, one_way, &words[0..m], work);
-    }
-    if (QUOTE_ON <= k) & (k <= FIRST_DAY) {
-        return on_day(k, registers, a, b, d, t, &words[0..m], out, work);
-    }
-    if (k == SHOW_UNCOVERED) | (k == PART) {
-        return both::call(k, a, b, t, 0, d, registers, out, work);
-    }
-    if k == MAKE_INDEX {
-        return indexed::make(c, room, out, work);
-    }
-    if (k == CHECK_INDEX) | (k == SEARCH_INDEXED) {
-        return indexed::call(k, a, c, d, &mut out[0..n], work);
-    }
-    if k == ANSWER_SEVERAL {
-        let number = cells::thirty_two(registers, cells::QUESTIONS);
-        return several(a, number, b, one_way, d, &mut out[0..n], work);
-    }
-    if k == ASK {
-        return entering::ask(b, one_way, c, registers, work);
-    }
-    if k == COMMIT {
-        return entering::commit(c, registers, out, work);
-    }
-    if k == STEPS {
-        let links = cells::number(registers, cells::LINKS);
-        return states::each(a, links, &words[0..m], work);
-    }
-    if k == PLAIN {
-        return beside::search(a, c, &mut out[0..n], words, work);
-    }
-    let set = cells::sixteen(registers, cells::SET);
-    make(k, a, b, one_way, c, d, set, &mut out[0..n], work)
 }
 
-// The end of a part and its start, both within the memory.
-pub fn end_of(registers: &[u64], part: usize, most: usize) -> usize
-    ensures { result ≤ most }
-{
-    slices::least(cells::number(registers, cells::end(part)), most)
-}
-
-pub fn start_of(registers: &[u64], part: usize, end: usize) -> usize
-    ensures { result ≤ end }
-{
-    slices::least(cells::number(registers, cells::start(part)), end)
-}
-
-pub fn call(
+pub fn make(
     k: usize,
-    registers: &[u64],
+    registers: &Registers,
     memory: &[u8],
     out: &mut [u8],
     words: &mut [u32],
     work: &mut [u32],
 ) -> Outcome {
-    let ae = end_of(registers, 0, memory.len());
-    let be = end_of(registers, 1, memory.len());
-    let ce = end_of(registers, 2, memory.len());
-    let de = end_of(registers, 3, memory.len());
-    let te = end_of(registers, 4, memory.len());
-    let a = start_of(registers, 0, ae);
-    let b = start_of(registers, 1, be);
-    let c = start_of(registers, 2, ce);
-    let d = start_of(registers, 3, de);
-    let t = start_of(registers, 4, te);
-    let w = slices::least(cells::number(registers, cells::WORK), work.len());
+    let w = registers.at(registers::WORK).min(work.len());
+    let parts = Parts::of(registers, memory);
+    let day = Day::of(registers, memory);
     on_parts(
-        k,
+        Call::from(k),
+        parts,
+        day,
         registers,
-        &memory[a..ae],
-        &memory[b..be],
-        &memory[c..ce],
-        &memory[d..de],
-        terms::of(&memory[t..te]),
         out,
         words,
-        &mut work[0..w],
+        &mut work[..w],
     )
 }

@@ -4,7 +4,7 @@ ghost use Rattle.std.specs.Prelude.{◌<◌};
 use crate::slices;
 
 pub fn next(state: u32) -> u32 {
-    ((state as u64 * 1664525 + 1013904223) % 0x1_0000_0000) as u32
+    state.wrapping_mul(1664525).wrapping_add(1013904223)
 }
 
 // A state stands for its upper 16 bits.

@@ -1,33 +1,34 @@
 // The calls by which a link enters a record. Asking has no output. What a commit writes is marked and looked at here; it goes to the output
 // one after the other: the record, its index, two bytes for each entry, and the state after it, four bytes for each number.
-use crate::outcome::Outcome;
-use crate::{both, cells, digest, indexed, marks, outcome, slices};
+use crate::calls::Parts;
+use crate::outcome::{Form, Outcome};
+use crate::registers::Registers;
+use crate::{both, digest, indexed, marks, registers, slices};
 use matching::entering::Answered;
 use matching::state::{Link, Slip, State};
-use packed::reply;
-use packed::reply::{Both, Refusal};
+use packed::reply::Refusal;
 
-fn state(registers: &[u64]) -> State {
+fn state(registers: &Registers) -> State {
     State {
-        links: cells::thirty_two(registers, cells::STATE_LINKS),
-        change: cells::thirty_two(registers, cells::STATE_CHANGE),
+        links: registers.thirty_two(registers::STATE_LINKS),
+        change: registers.thirty_two(registers::STATE_CHANGE),
     }
 }
 
-fn link(registers: &[u64]) -> Link {
+fn link(registers: &Registers) -> Link {
     Link {
-        from: cells::thirty_two(registers, cells::LINK_FROM),
-        to: cells::thirty_two(registers, cells::LINK_TO),
-        kind: cells::thirty_two(registers, cells::LINK_OF),
+        from: registers.thirty_two(registers::LINK_FROM),
+        to: registers.thirty_two(registers::LINK_TO),
+        kind: registers.thirty_two(registers::LINK_OF),
     }
 }
 
-fn slip(registers: &[u64]) -> Slip {
+fn slip(registers: &Registers) -> Slip {
     Slip {
-        from: cells::thirty_two(registers, cells::LINK_FROM),
-        to: cells::thirty_two(registers, cells::LINK_TO),
-        kind: cells::thirty_two(registers, cells::LINK_OF),
-        change: cells::thirty_two(registers, cells::SLIP_CHANGE),
+        from: registers.thirty_two(registers::LINK_FROM),
+        to: registers.thirty_two(registers::LINK_TO),
+        kind: registers.thirty_two(registers::LINK_OF),
+        change: registers.thirty_two(registers::SLIP_CHANGE),
     }
 }
 
@@ -36,44 +37,31 @@ fn over_slip(h: u64, s: Slip) -> u64 {
     digest::step(digest::step(ends, s.kind as u64), s.change as u64)
 }
 
-pub fn ask(
-    catalogue: &[u8],
-    one_way: u16,
-    record: &[u8],
-    registers: &[u64],
-    work: &mut [u32],
-) -> Outcome {
+pub fn ask(f: Parts, registers: &Registers, work: &mut [u32]) -> Outcome {
     let a = yuthaqim::yuthaqim_ask(
-        catalogue,
-        one_way,
-        record,
+        f.catalogue,
+        f.one_way,
+        f.record,
         state(registers),
         link(registers),
         work,
     );
-    let s = a.slip;
     let value = if a.number == 0 {
         a.set as usize
     } else {
         a.detail
     };
-    let d = over_slip(digest::step(digest::START, a.set as u64), s);
-    outcome::values(outcome::ASKED, a.number, value, s.change as usize, d)
+    let d = over_slip(digest::step(digest::START, a.set as u64), a.slip);
+    Outcome::values(Form::Asked, a.number, value, a.slip.change as usize, d)
 }
 
 // A number goes to four bytes from a place on, the most significant first.
 fn put_number(x: u32, out: &mut [u8], place: usize) {
-    slices::put_byte(out, place, (x / 0x100_0000 % 256) as u8);
-    slices::put_byte(out, slices::plus(place, 1), (x / 0x1_0000 % 256) as u8);
-    slices::put_byte(out, slices::plus(place, 2), (x / 256 % 256) as u8);
-    slices::put_byte(out, slices::plus(place, 3), (x % 256) as u8);
+    slices::copy(&x.to_be_bytes(), 4, out, place);
 }
 
 fn unmarked(first: &[u8], n: usize, entries: &[u16], m: usize) -> usize {
-    slices::plus(
-        marks::unmarked_bytes(first, n, first.len()),
-        indexed::unmarked(entries, m, entries.len()),
-    )
+    slices::plus(marks::unmarked(first, n), marks::unmarked(entries, m))
 }
 
 fn entered(
@@ -85,21 +73,17 @@ fn entered(
     out: &mut [u8],
 ) -> Outcome {
     slices::copy(first, n, out, 0);
-    let most = out.len();
-    let start = slices::least(n, most);
-    indexed::give(entries, m, &mut out[start..most]);
+    let start = n.min(out.len());
+    indexed::give(entries, m, &mut out[start..]);
     let end = slices::plus(n, slices::plus(m, m));
     put_number(after.links, out, end);
     put_number(after.change, out, slices::plus(end, 4));
     let written = slices::plus(end, 8);
+    let d = digest::over(digest::START, out, written);
     Outcome {
-        form: outcome::ENTERED,
-        number: 0,
-        value: n,
-        other: m,
         written,
-        digest: digest::over_bytes(digest::START, out, written),
         faults: unmarked(first, n, entries, m),
+        ..Outcome::values(Form::Entered, 0, n, m, d)
     }
 }
 
@@ -107,13 +91,9 @@ fn entered(
 fn refused(x: Refusal, before: State, after: State, first: &[u8], entries: &[u16]) -> Outcome {
     let changed = (before.links != after.links) | (before.change != after.change);
     Outcome {
-        form: outcome::ENTERED,
-        number: reply::number_of(x),
-        value: reply::detail_of(x),
-        other: 0,
-        written: 0,
-        digest: digest::START,
-        faults: slices::plus(unmarked(first, 0, entries, 0), slices::one_if(changed)),
+        form: Form::Entered,
+        faults: slices::plus(unmarked(first, 0, entries, 0), usize::from(changed)),
+        ..Outcome::refused(x.number(), x.detail())
     }
 }
 
@@ -124,14 +104,9 @@ fn told(w: Answered, before: State, first: &[u8], entries: &[u16], out: &mut [u8
     };
     let answer = w.answer;
     match answer {
-        Both::Done(n, m) => entered(n, m, after, first, entries, out),
-        Both::Refused(x) => refused(x, before, after, first, entries),
+        Ok((n, m)) => entered(n, m, after, first, entries, out),
+        Err(x) => refused(x, before, after, first, entries),
     }
-}
-
-fn mark(first: &mut [u8], entries: &mut [u16]) {
-    marks::mark_bytes(first, first.len());
-    indexed::mark(entries, entries.len());
 }
 
 // A client's call is lent the state itself; what it does is proved to be this, on the two numbers.
@@ -143,13 +118,14 @@ fn make(
     entries: &mut [u16],
     work: &mut [u32],
 ) -> Answered {
-    mark(first, entries);
+    marks::mark_all(first);
+    marks::mark_all(entries);
     matching::entering::commit(record, before.links, before.change, s, first, entries, work)
 }
 
 fn commit_in(
     record: &[u8],
-    registers: &[u64],
+    registers: &Registers,
     first: &mut [u8],
     entries: &mut [u16],
     out: &mut [u8],
@@ -160,16 +136,16 @@ fn commit_in(
     told(w, before, first, entries, out)
 }
 
-pub fn commit(record: &[u8], registers: &[u64], out: &mut [u8], work: &mut [u32]) -> Outcome {
-    let mut first = both::first_bytes();
-    let mut entries = indexed::no_entries();
-    let n = slices::least(cells::number(registers, cells::ROOM), first.len());
-    let m = slices::least(cells::number(registers, cells::SECOND), entries.len());
+pub fn commit(record: &[u8], registers: &Registers, out: &mut [u8], work: &mut [u32]) -> Outcome {
+    let mut first = [0; both::FIRST];
+    let mut entries = [0; indexed::ENTRIES];
+    let n = registers.at(registers::ROOM).min(both::FIRST);
+    let m = registers.at(registers::SECOND).min(indexed::ENTRIES);
     commit_in(
         record,
         registers,
-        &mut first[0..n],
-        &mut entries[0..m],
+        &mut first[..n],
+        &mut entries[..m],
         out,
         work,
     )

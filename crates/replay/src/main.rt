@@ -4,12 +4,9 @@
 // to case, say how much is lent, make calls, and print. Any file will do: what isn't there is passed over.
 #![tactic(auto)]
 
-ghost use Rattle.std.specs.Prelude.{◌<◌};
-
 mod beside;
 mod both;
 mod calls;
-mod cells;
 mod content;
 mod counts;
 mod digest;
@@ -17,6 +14,7 @@ mod draw;
 mod entering;
 mod indexed;
 mod instructions;
+mod machine;
 mod marks;
 mod memory;
 mod outcome;
@@ -24,38 +22,27 @@ mod pack;
 mod print;
 mod reader;
 mod records;
+mod registers;
 mod rounds;
 mod slices;
 mod states;
 mod terms;
 
+use counts::{Block, CALLS, Compared};
+use machine::{Machine, Needed};
+use outcome::Outcome;
+use registers::Registers;
 use std::io::{Read, Write};
 use std::{fs, io};
 
 // So many instructions at most.
 const MOST: u32 = 1000000;
 
-// One less, or none where there was no instruction.
-fn less(left: u32, there_was: bool) -> u32
-    requires { 0 < left }
-    ensures { result < left }
-{
-    if there_was { left - 1 } else { 0 }
-}
-
-fn run<R: Read, W: Write>(
-    cases: &mut R,
-    printer: &mut W,
-    memory: &mut [u8],
-    out: &mut [u8],
-    words: &mut [u32],
-    work: &mut [u32],
-    cells: &mut [u64],
-) -> io::Result<()> {
-    let mut left = MOST;
-    while 0 < left {
-        let there_was = instructions::next(cases, printer, memory, out, words, work, cells)?;
-        left = less(left, there_was);
+fn run<R: Read, W: Write>(cases: &mut R, printer: &mut W, m: &mut Machine) -> io::Result<()> {
+    for _ in 0..MOST {
+        if !instructions::next(cases, printer, m)? {
+            break;
+        }
     }
     Ok(())
 }
@@ -64,18 +51,23 @@ fn run<R: Read, W: Write>(
 fn main(rt: HostRuntime) -> io::Result<()> {
     let mut cases = fs::open(&rt, "cases")?;
     let mut printer = io::writer(&rt);
-    let mut memory = memory::bytes();
-    let mut out = memory::output();
-    let mut words = memory::words();
-    let mut work = memory::work();
-    let mut cells = cells::none();
-    run(
-        &mut cases,
-        &mut printer,
-        &mut memory,
-        &mut out,
-        &mut words,
-        &mut work,
-        &mut cells,
-    )
+    let mut m = Machine {
+        memory: [0; 393216],
+        out: [0; 132000],
+        words: [0; 524321],
+        work: [0; 16400],
+        registers: Registers::new(),
+        last: Outcome::none(),
+        needed: Needed {
+            first: 0,
+            second: 0,
+        },
+        chosen: 0,
+        outcomes: digest::START,
+        held: digest::START,
+        compared: Compared::new(),
+        group: [Block::new(); CALLS],
+        all: [Block::new(); CALLS],
+    };
+    run(&mut cases, &mut printer, &mut m)
 }

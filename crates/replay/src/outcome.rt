@@ -1,45 +1,49 @@
 // What a call answered, whichever it is.
 use crate::digest;
+use yuthaqim::numbered::NumberedReply;
 
-// The form of an accepted answer. The value is how much was written: words, or bytes, or those of a sheet.
-pub const WORDS: usize = 0;
+// The form of an accepted answer.
+#[derive(Clone, Copy, PartialEq, Eq)]
+pub enum Form {
+    // The value is how much was written: words, or bytes, or those of a sheet.
+    Words,
+    Bytes,
+    Sheet,
+    // The number of an index's entries; where one was made, twice as many bytes are written.
+    Entries,
+    // The lengths of two outputs, which are written one after the other.
+    Both,
+    // The bytes of several answers, and the sheets that they needed beside it.
+    Several,
+    // The bytes of a record and the entries of its index; the state after it is written behind them.
+    Entered,
+    // 1 where a question is covered, and the chosen views beside it, else 0 and the lowest unmatched link.
+    Quote,
+    // A sum, and the set that costs it beside it.
+    Price,
+    // The number of a join's steps, and the settled items beside it.
+    Steps,
+    // 1 and a first day beside it, or 0 where there is none.
+    Day,
+    // The set of extracts that a link changes, and the change number of its slip beside it.
+    Asked,
+}
 
-pub const BYTES: usize = 1;
+impl Form {
+    // Whether nothing is written beside the values.
+    pub fn is_values(self) -> bool {
+        matches!(
+            self,
+            Form::Quote | Form::Price | Form::Steps | Form::Day | Form::Asked
+        )
+    }
+}
 
-pub const SHEET: usize = 2;
-
-// The number of an index's entries; where one was made, twice as many bytes are written.
-pub const ENTRIES: usize = 3;
-
-// The lengths of two outputs, which are written one after the other.
-pub const BOTH: usize = 4;
-
-// The bytes of several answers, and the sheets that they needed beside it.
-pub const SEVERAL: usize = 5;
-
-// The bytes of a record and the entries of its index; the state after it is written behind them.
-pub const ENTERED: usize = 6;
-
-// 1 where a question is covered, and the chosen views beside it, else 0 and the lowest unmatched link.
-pub const QUOTE: usize = 7;
-
-// A sum, and the set that costs it beside it.
-pub const PRICE: usize = 8;
-
-// The number of a join's steps, and the settled items beside it.
-pub const STEPS: usize = 9;
-
-// 1 and a first day beside it, or 0 where there is none.
-pub const DAY: usize = 10;
-
-// The set of extracts that a link changes, and the change number of its slip beside it.
-pub const ASKED: usize = 11;
-
-// 0 or the refusal's number; the two values, of which a refusal's detail is the first; how much was written, a digest of it; and at how many
-// places of an output that the call alone knows the marks are not as they should be.
+// 0 or the refusal's number, as clients get it; the two values, of which a refusal's detail is the first; how much was written, a digest of it;
+// and at how many places of an output that the call alone knows the marks are not as they should be.
 #[derive(Clone, Copy)]
 pub struct Outcome {
-    pub form: usize,
+    pub form: Form,
     pub number: usize,
     pub value: usize,
     pub other: usize,
@@ -48,86 +52,84 @@ pub struct Outcome {
     pub faults: usize,
 }
 
-pub fn refused(number: usize, detail: usize) -> Outcome {
-    Outcome {
-        form: WORDS,
-        number,
-        value: detail,
-        other: 0,
-        written: 0,
-        digest: digest::START,
-        faults: 0,
+impl Outcome {
+    // Before there was a call.
+    pub fn none() -> Outcome {
+        Outcome {
+            digest: 0,
+            ..Outcome::refused(0, 0)
+        }
     }
-}
 
-// An output of one kind, by the digest of what was written.
-fn wrote(form: usize, number: usize, value: usize, digest: u64) -> Outcome {
-    Outcome {
-        form,
-        number,
-        value,
-        other: 0,
-        written: value,
-        digest,
-        faults: 0,
+    pub fn refused(number: usize, detail: usize) -> Outcome {
+        Outcome {
+            form: Form::Words,
+            number,
+            value: detail,
+            other: 0,
+            written: 0,
+            digest: digest::START,
+            faults: 0,
+        }
     }
-}
 
-pub fn words(number: usize, value: usize, out: &[u32]) -> Outcome {
-    if number != 0 {
-        return refused(number, value);
+    // An output of one form, by the words or bytes of which so many were written.
+    fn wrote<T: Copy + Default + Drop + Into<u64>>(
+        form: Form,
+        r: NumberedReply,
+        out: &[T],
+    ) -> Outcome {
+        if r.number != 0 {
+            return Outcome::refused(r.number, r.value);
+        }
+        Outcome {
+            form,
+            written: r.value,
+            digest: digest::over(digest::START, out, r.value),
+            ..Outcome::refused(0, r.value)
+        }
     }
-    wrote(
-        WORDS,
-        number,
-        value,
-        digest::over_words(digest::START, out, value),
-    )
-}
 
-fn bytes_of(form: usize, number: usize, value: usize, out: &[u8]) -> Outcome {
-    if number != 0 {
-        return refused(number, value);
+    pub fn words(r: NumberedReply, out: &[u32]) -> Outcome {
+        Outcome::wrote(Form::Words, r, out)
     }
-    wrote(
-        form,
-        number,
-        value,
-        digest::over_bytes(digest::START, out, value),
-    )
-}
 
-pub fn bytes(number: usize, value: usize, out: &[u8]) -> Outcome {
-    bytes_of(BYTES, number, value, out)
-}
-
-pub fn sheet(number: usize, value: usize, out: &[u8]) -> Outcome {
-    bytes_of(SHEET, number, value, out)
-}
-
-// The bytes of several answers, none where they were refused, and how many sheets they needed.
-pub fn several(number: usize, detail: usize, bytes: usize, sheets: usize, out: &[u8]) -> Outcome {
-    let value = if number == 0 { bytes } else { detail };
-    Outcome {
-        form: SEVERAL,
-        number,
-        value,
-        other: sheets,
-        written: bytes,
-        digest: digest::over_bytes(digest::START, out, bytes),
-        faults: 0,
+    pub fn bytes(r: NumberedReply, out: &[u8]) -> Outcome {
+        Outcome::wrote(Form::Bytes, r, out)
     }
-}
 
-// What is answered by values alone, also where it was refused, with a digest of all of them.
-pub fn values(form: usize, number: usize, value: usize, other: usize, digest: u64) -> Outcome {
-    Outcome {
-        form,
-        number,
-        value,
-        other,
-        written: 0,
-        digest,
-        faults: 0,
+    pub fn sheet(r: NumberedReply, out: &[u8]) -> Outcome {
+        Outcome::wrote(Form::Sheet, r, out)
+    }
+
+    // What is answered by values alone, also where it was refused, with a digest of all of them. Of a refusal the detail is said.
+    pub fn values(form: Form, number: usize, value: usize, other: usize, digest: u64) -> Outcome {
+        Outcome {
+            form,
+            number,
+            value,
+            other,
+            written: 0,
+            digest,
+            faults: 0,
+        }
+    }
+
+    pub fn is_accepted(self) -> bool {
+        self.number == 0
+    }
+
+    // How much the call needs of its output: what it answered, or what there was no room for.
+    pub fn needed(self) -> usize {
+        match self.number {
+            0 | 12 => self.value,
+            _ => 0,
+        }
+    }
+
+    // A digest of what was answered, beside a number more.
+    pub fn over(self, h: u64) -> u64 {
+        let n = digest::step(digest::step(h, self.number as u64), self.value as u64);
+        digest::step(digest::step(n, self.other as u64), self.digest)
     }
 }

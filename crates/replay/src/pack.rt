@@ -1,12 +1,11 @@
 // The file of a record's content, whatever it says.
-use crate::{cells, memory, records, slices};
+use crate::registers::Registers;
+use crate::{memory, records, registers, slices};
 
 // A value's last bits, so many, go to a place of the memory, which is a number of bits: the place after them.
 fn put_field(value: u32, width: usize, place: usize, memory: &mut [u8]) -> usize {
     let mut at = place;
-    let mut left = width;
-    while 0 < left {
-        left -= 1;
+    for left in (0..width).rev() {
         memory::set(memory, at, value & records::bit(left) != 0);
         at = slices::plus(at, 1);
     }
@@ -22,7 +21,7 @@ fn width(i: usize, n: usize, kind: usize) -> usize {
             1 => 14,
             _ => 32,
         }
-    } else if slices::less(i, items) % 3 == 2 {
+    } else if (i - items) % 3 == 2 {
         kind
     } else {
         12
@@ -38,21 +37,25 @@ fn put_fields(
     memory: &mut [u8],
 ) -> usize {
     let mut at = place;
-    let mut i: usize = 0;
-    while i < count {
-        at = put_field(slices::word_at(words, i), width(i, n, kind), at, memory);
-        i += 1;
+    for i in 0..count {
+        at = put_field(slices::at(words, i), width(i, n, kind), at, memory);
     }
     at
 }
 
 // The content becomes a part, with zero bits up to a whole byte. The kind of a link has so many bits: none where records are as they were
 // stored before links had kinds.
-pub fn record(part: usize, kind: usize, words: &[u32], memory: &mut [u8], cells: &mut [u64]) {
-    let start = cells::number(cells, cells::start(part)) % 0x1000_0000;
-    let count = cells::number(cells, cells::CONTENT);
-    let n = slices::word_at(words, 0) as usize;
+pub fn record(
+    part: usize,
+    kind: usize,
+    words: &[u32],
+    memory: &mut [u8],
+    registers: &mut Registers,
+) {
+    let start = registers.start(part) % 0x1000_0000;
+    let count = registers.at(registers::CONTENT);
+    let n = slices::at(words, 0) as usize;
     let end = put_fields(words, n, kind, count, start * 8, memory);
     let last = put_field(0, 7 - slices::plus(end, 7) % 8, end, memory);
-    cells::set(cells, cells::end(part), last / 8);
+    registers.set_end(part, last / 8);
 }

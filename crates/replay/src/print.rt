@@ -1,64 +1,28 @@
 // What is printed: names from the cases, single outcomes, and the counts of groups.
-ghost use Rattle.std.specs.Prelude.{◌≡◌, length};
-
-use crate::{cells, counts, digest, outcome, reader, slices};
+use crate::counts::{Block, Compared};
+use crate::outcome::{Form, Outcome};
+use crate::{digest, reader, slices};
 use std::io;
 use std::io::{Read, Write};
 
-fn say<W: Write>(printer: &mut W, s: &[u8]) -> io::Result<()> {
-    printer.write_all(s)
-}
-
-fn say_number<W: Write>(printer: &mut W, n: usize) -> io::Result<()> {
-    write!(printer, "{n}")
-}
-
-fn name_bytes() -> [u8; 256]
-    ensures { 256 ≡ length result }
-{
-    [0; 256]
-}
-
-fn name_in<R: Read, W: Write>(
-    cases: &mut R,
-    printer: &mut W,
-    size: usize,
-    s: &mut [u8],
-) -> io::Result<()> {
-    let n = slices::least(size, s.len());
-    reader::read_full(cases, &mut s[0..n])?;
-    let m = slices::least(size, s.len());
-    say(printer, &s[0..m])
-}
-
 // So many bytes of the cases, 256 at most.
 pub fn name<R: Read, W: Write>(cases: &mut R, printer: &mut W, size: usize) -> io::Result<()> {
-    let mut s = name_bytes();
-    name_in(cases, printer, size, &mut s)
-}
-
-fn say_byte<W: Write>(printer: &mut W, b: u8) -> io::Result<()> {
-    write!(printer, " {b:02x}")
-}
-
-fn say_word<W: Write>(printer: &mut W, w: u32) -> io::Result<()> {
-    write!(printer, " {w}")
+    let mut s = [0; 256];
+    let n = size.min(256);
+    reader::read_full(cases, &mut s[..n])?;
+    printer.write_all(&s[..n])
 }
 
 fn say_bytes<W: Write>(printer: &mut W, s: &[u8], n: usize) -> io::Result<()> {
-    let mut i: usize = 0;
-    while i < n {
-        say_byte(printer, slices::byte_at(s, i))?;
-        i += 1;
+    for b in s.iter().take(n) {
+        write!(printer, " {b:02x}")?;
     }
     Ok(())
 }
 
 fn say_words<W: Write>(printer: &mut W, s: &[u32], n: usize) -> io::Result<()> {
-    let mut i: usize = 0;
-    while i < n {
-        say_word(printer, slices::word_at(s, i))?;
-        i += 1;
+    for w in s.iter().take(n) {
+        write!(printer, " {w}")?;
     }
     Ok(())
 }
@@ -68,134 +32,97 @@ fn say_digest<W: Write>(printer: &mut W, d: u64) -> io::Result<()> {
 }
 
 // A short output whole, a long one by its digest.
-fn say_output<W: Write>(
-    printer: &mut W,
-    form: usize,
-    cells: &[u64],
-    out: &[u8],
-    words: &[u32],
-) -> io::Result<()> {
-    let n = cells::number(cells, cells::WRITTEN);
-    if 64 < n {
-        say_digest(printer, cells::at(cells, cells::DIGEST))
-    } else if form == outcome::WORDS {
-        say_words(printer, words, n)
+fn say_output<W: Write>(printer: &mut W, o: Outcome, out: &[u8], words: &[u32]) -> io::Result<()> {
+    if 64 < o.written {
+        say_digest(printer, o.digest)
+    } else if o.form == Form::Words {
+        say_words(printer, words, o.written)
     } else {
-        say_bytes(printer, out, n)
+        say_bytes(printer, out, o.written)
     }
 }
 
-// What is answered by values alone has its digest.
-fn say_values<W: Write>(
-    printer: &mut W,
-    form: usize,
-    value: usize,
-    other: usize,
-    digest: u64,
-) -> io::Result<()> {
-    match form {
-        outcome::QUOTE => {
-            if value == 1 {
-                say(printer, b"covered, chosen ")?;
-            } else {
-                say(printer, b"uncovered, lowest ")?;
-            }
-            say_number(printer, other)?;
-        }
-        outcome::PRICE => write!(printer, "cost {value}, set {other}")?,
-        outcome::ASKED => write!(printer, "changes {value}")?,
-        outcome::DAY => {
-            say(printer, b"first day ")?;
-            if value == 1 {
-                say_number(printer, other)?;
-            } else {
-                say(printer, b"none")?;
-            }
-        }
-        _ => write!(printer, "{value} steps")?,
-    }
-    say_digest(printer, digest)
-}
-
-fn say_lengths<W: Write>(
-    printer: &mut W,
-    form: usize,
-    value: usize,
-    other: usize,
-) -> io::Result<()> {
-    match form {
-        outcome::WORDS => write!(printer, "{value} words"),
-        outcome::ENTRIES => write!(printer, "{value} entries"),
-        outcome::BOTH => write!(printer, "{value} and {other} bytes"),
-        outcome::ENTERED => write!(printer, "{value} bytes and {other} entries"),
-        outcome::SEVERAL => write!(printer, "{value} bytes, {other} sheets"),
-        _ => write!(printer, "{value} bytes"),
+fn say_quote<W: Write>(printer: &mut W, covered: usize, other: usize) -> io::Result<()> {
+    match covered {
+        1 => write!(printer, "covered, chosen {other}"),
+        _ => write!(printer, "uncovered, lowest {other}"),
     }
 }
 
+fn say_day<W: Write>(printer: &mut W, found: usize, day: usize) -> io::Result<()> {
+    match found {
+        1 => write!(printer, "first day {day}"),
+        _ => write!(printer, "first day none"),
+    }
+}
+
+// What is answered by values alone has its digest, another output what was written.
 fn say_accepted<W: Write>(
     printer: &mut W,
-    cells: &[u64],
+    o: Outcome,
     out: &[u8],
     words: &[u32],
 ) -> io::Result<()> {
-    let form = cells::number(cells, cells::FORM);
-    let value = cells::number(cells, cells::VALUE);
-    let other = cells::number(cells, cells::OTHER);
-    if outcome::ENTERED < form {
-        say_values(printer, form, value, other, cells::at(cells, cells::DIGEST))
-    } else {
-        say_lengths(printer, form, value, other)?;
-        say_output(printer, form, cells, out, words)
+    let value = o.value;
+    let other = o.other;
+    match o.form {
+        Form::Quote => say_quote(printer, value, other)?,
+        Form::Price => write!(printer, "cost {value}, set {other}")?,
+        Form::Steps => write!(printer, "{value} steps")?,
+        Form::Day => say_day(printer, value, other)?,
+        Form::Asked => write!(printer, "changes {value}")?,
+        Form::Words => write!(printer, "{value} words")?,
+        Form::Entries => write!(printer, "{value} entries")?,
+        Form::Both => write!(printer, "{value} and {other} bytes")?,
+        Form::Entered => write!(printer, "{value} bytes and {other} entries")?,
+        Form::Several => write!(printer, "{value} bytes, {other} sheets")?,
+        Form::Bytes | Form::Sheet => write!(printer, "{value} bytes")?,
     }
+    if o.form.is_values() {
+        return say_digest(printer, o.digest);
+    }
+    say_output(printer, o, out, words)
 }
 
 // The names of the calls stand in the memory from here on, each in 32 bytes: its length, then itself.
 const NAMES: usize = 128000;
 
-fn wide(b: u8) -> usize {
-    b as usize
-}
-
 fn say_call<W: Write>(printer: &mut W, k: usize, memory: &[u8]) -> io::Result<()> {
-    let place = NAMES + k % cells::CALLS * 32;
-    let from = slices::least(place + 1, memory.len());
-    let n = slices::least(wide(slices::byte_at(memory, place)), memory.len() - from);
-    say(printer, b"  ")?;
-    say(printer, &memory[from..from + n])?;
-    say(printer, b": ")
+    let place = NAMES.saturating_add(k.saturating_mul(32));
+    let from = place.saturating_add(1).min(memory.len());
+    let size: u8 = slices::at(memory, place);
+    let n = usize::from(size).min(memory.len() - from);
+    printer.write_all(b"  ")?;
+    printer.write_all(&memory[from..from + n])?;
+    printer.write_all(b": ")
 }
 
-// The last call's outcome, and the end of the line.
-pub fn outcome<W: Write>(
-    printer: &mut W,
-    cells: &[u64],
-    out: &[u8],
-    words: &[u32],
-) -> io::Result<()> {
-    let number = cells::number(cells, cells::NUMBER);
-    if number == 0 {
-        say_accepted(printer, cells, out, words)?;
+// An outcome, and the end of the line.
+pub fn outcome<W: Write>(printer: &mut W, o: Outcome, out: &[u8], words: &[u32]) -> io::Result<()> {
+    let number = o.number;
+    let value = o.value;
+    if o.is_accepted() {
+        say_accepted(printer, o, out, words)?;
     } else {
-        let value = cells::number(cells, cells::VALUE);
         write!(printer, "refused {number} {value}")?;
     }
-    say(printer, b"\n")
+    writeln!(printer)
 }
 
 // The same after the call's name.
 pub fn named_outcome<W: Write>(
     printer: &mut W,
+    k: usize,
     memory: &[u8],
-    cells: &[u64],
+    o: Outcome,
     out: &[u8],
     words: &[u32],
 ) -> io::Result<()> {
-    say_call(printer, cells::number(cells, cells::CHOSEN), memory)?;
-    outcome(printer, cells, out, words)
+    say_call(printer, k, memory)?;
+    outcome(printer, o, out, words)
 }
 
-fn say_some<W: Write>(printer: &mut W, n: usize, what: &str) -> io::Result<()> {
+fn say_some<W: Write>(printer: &mut W, n: u64, what: &str) -> io::Result<()> {
     if n != 0 {
         write!(printer, " ({n} {what})")?;
     }
@@ -203,105 +130,62 @@ fn say_some<W: Write>(printer: &mut W, n: usize, what: &str) -> io::Result<()> {
 }
 
 // A refusal's number; of 1 to 10 the detail too, which is a file's number.
-fn say_refusal<W: Write>(
-    printer: &mut W,
-    cell: usize,
-    block: usize,
-    cells: &[u64],
-) -> io::Result<()> {
-    let n = cells::number(cells, slices::plus(block, cell));
-    if n != 0 {
-        let number = cell / 5;
-        write!(printer, ", {n} refused {number}")?;
-        if number < 11 {
-            let detail = cell % 5;
-            write!(printer, " {detail}")?;
-        }
+fn say_refusal<W: Write>(printer: &mut W, place: usize, n: u64) -> io::Result<()> {
+    let number = place / 5;
+    let detail = place % 5;
+    if n == 0 {
+        return Ok(());
+    }
+    write!(printer, ", {n} refused {number}")?;
+    if number < 11 {
+        write!(printer, " {detail}")?;
     }
     Ok(())
 }
 
-fn say_refusals<W: Write>(printer: &mut W, block: usize, cells: &[u64]) -> io::Result<()> {
-    let mut cell = counts::REFUSED;
-    while cell < counts::DIGEST {
-        say_refusal(printer, cell, block, cells)?;
-        cell += 1;
+fn say_refusals<W: Write>(printer: &mut W, block: &Block) -> io::Result<()> {
+    for (place, n) in block.answers.iter().enumerate().skip(5) {
+        say_refusal(printer, place, *n)?;
     }
     Ok(())
-}
-
-// How many calls there were.
-fn sum(block: usize, cells: &[u64]) -> usize {
-    let mut n = cells::number(cells, block);
-    let mut cell = counts::REFUSED;
-    while cell < counts::DIGEST {
-        n = slices::plus(n, cells::number(cells, slices::plus(block, cell)));
-        cell += 1;
-    }
-    n
-}
-
-fn clear(block: usize, cells: &mut [u64]) {
-    let mut cell: usize = 0;
-    while cell < cells::BLOCK {
-        cells::put(cells, slices::plus(block, cell), 0);
-        cell += 1;
-    }
 }
 
 // A call's line, where it was made.
-fn say_block<W: Write>(
-    printer: &mut W,
-    k: usize,
-    block: usize,
-    memory: &[u8],
-    cells: &[u64],
-) -> io::Result<()> {
-    let n = sum(block, cells);
-    if n != 0 {
-        let accepted = cells::number(cells, block);
-        let listing = cells::number(cells, slices::plus(block, counts::LISTING));
-        let covered = cells::number(cells, slices::plus(block, counts::COVERED));
-        let faults = cells::number(cells, slices::plus(block, counts::FAULTS));
-        let d = cells::at(cells, slices::plus(block, counts::DIGEST));
-        say_call(printer, k, memory)?;
-        write!(printer, "{n} calls, {accepted} accepted")?;
-        say_some(printer, listing, "list pairs")?;
-        say_some(printer, covered, "covered")?;
-        say_refusals(printer, block, cells)?;
-        write!(printer, "; {faults} faults")?;
-        if d != 0 {
-            say_digest(printer, d ^ digest::START)?;
-        }
-        say(printer, b"\n")?;
+fn say_block<W: Write>(printer: &mut W, k: usize, memory: &[u8], block: &Block) -> io::Result<()> {
+    let n = block.calls();
+    if n == 0 {
+        return Ok(());
+    }
+    let accepted = block.answers[0];
+    let faults = block.faults;
+    say_call(printer, k, memory)?;
+    write!(printer, "{n} calls, {accepted} accepted")?;
+    say_some(printer, block.listing, "list pairs")?;
+    say_some(printer, block.covered, "covered")?;
+    say_refusals(printer, block)?;
+    write!(printer, "; {faults} faults")?;
+    if block.digest != digest::START {
+        say_digest(printer, block.digest)?;
+    }
+    writeln!(printer)
+}
+
+// The lines of a group, after which it is counted anew.
+pub fn group<W: Write>(printer: &mut W, memory: &[u8], group: &mut [Block]) -> io::Result<()> {
+    for (k, block) in group.iter_mut().enumerate() {
+        say_block(printer, k, memory, block)?;
+        *block = Block::new();
     }
     Ok(())
 }
 
-fn say_compared<W: Write>(printer: &mut W, cells: &mut [u64]) -> io::Result<()> {
-    let n = cells::number(cells, cells::COMPARED);
+// What was compared since this was last printed.
+pub fn compared<W: Write>(printer: &mut W, compared: &mut Compared) -> io::Result<()> {
+    let n = compared.all;
+    let equal = compared.equal;
     if n != 0 {
-        let equal = cells::number(cells, cells::EQUAL);
         writeln!(printer, "  {equal} of {n} agree")?;
     }
-    cells::set(cells, cells::COMPARED, 0);
-    cells::set(cells, cells::EQUAL, 0);
+    *compared = Compared::new();
     Ok(())
-}
-
-// The lines of a group, from the first block on, after which it is counted anew.
-pub fn group<W: Write>(
-    printer: &mut W,
-    first: usize,
-    memory: &[u8],
-    cells: &mut [u64],
-) -> io::Result<()> {
-    let mut k: usize = 0;
-    while k < cells::CALLS {
-        let block = slices::plus(first, k * cells::BLOCK);
-        say_block(printer, k, block, memory, cells)?;
-        clear(block, cells);
-        k += 1;
-    }
-    say_compared(printer, cells)
 }

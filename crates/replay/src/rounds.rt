@@ -1,191 +1,169 @@
 // Calls one after the other: a single one, a round of what can be lent, and sweeps over damaged files.
+use crate::calls::Call;
+use crate::counts::CALLS;
+use crate::machine::{Machine, Needed};
 use crate::outcome::Outcome;
-use crate::{calls, cells, counts, marks, memory, slices};
+use crate::{calls, digest, marks, memory, registers, slices};
 
-// A call as the registers say.
-pub const ONCE: usize = 0;
+// What calls an instruction makes.
+#[derive(Clone, Copy, PartialEq, Eq)]
+pub enum Mode {
+    // A call as the registers say.
+    Once,
+    // The same, of the call of the last round or single call.
+    Again,
+    // A call as the registers say; then with a byte or word less than it needs, with too few words to work in, and with just what it needs.
+    Round,
+    // The same where there are two outputs: before the last a byte less is lent for the second alone.
+    Both,
+    // A file cut to each length, with each bit turned, or without its last byte. What a reader accepts is written back.
+    Cuts,
+    Flips,
+    Short,
+}
 
-// That; then with a byte or word less than it needs, with too few words to work in, and with just what it needs.
-pub const ROUND: usize = 1;
+impl Mode {
+    fn is_sweep(self) -> bool {
+        matches!(self, Mode::Cuts | Mode::Flips | Mode::Short)
+    }
 
-// The same where there are two outputs: before the last a byte less is lent for the second alone.
-pub const BOTH: usize = 2;
-
-// A file cut to each length, with each bit turned, or without its last byte. What a reader accepts is written back.
-pub const CUTS: usize = 3;
-
-pub const FLIPS: usize = 4;
-
-pub const SHORT: usize = 5;
-
-fn mark_output(k: usize, room: usize, out: &mut [u8], words: &mut [u32]) {
-    if k < calls::WRITE_PATTERN {
-        marks::mark_words(words, slices::least(room, words.len()));
-    } else {
-        marks::mark_bytes(out, slices::least(room, out.len()));
+    fn is_round(self) -> bool {
+        matches!(self, Mode::Round | Mode::Both)
     }
 }
 
-fn mark_work(n: usize, work: &mut [u32]) {
-    marks::mark_words(work, slices::least(n, work.len()));
-}
-
-fn mark(k: usize, cells: &[u64], out: &mut [u8], words: &mut [u32], work: &mut [u32]) {
-    mark_output(k, cells::number(cells, cells::ROOM), out, words);
-    mark_work(cells::number(cells, cells::WORK), work);
+// What is lent is marked.
+fn mark_lent(call: Call, m: &mut Machine) {
+    let room = m.registers.at(registers::ROOM);
+    if call.is_reader() {
+        let words = &mut m.words[..];
+        let n = room.min(words.len());
+        marks::mark_all(&mut words[..n]);
+    } else {
+        let out = &mut m.out[..];
+        let n = room.min(out.len());
+        marks::mark_all(&mut out[..n]);
+    }
+    let work = &mut m.work[..];
+    let n = m.registers.at(registers::WORK).min(work.len());
+    marks::mark_all(&mut work[..n]);
 }
 
 // At how many places of the output the marks are gone that should be there.
-fn output_faults(k: usize, written: usize, room: usize, out: &[u8], words: &[u32]) -> usize {
-    if k < calls::WRITE_PATTERN {
-        return marks::unmarked_words(words, written, slices::least(room, words.len()));
+fn output_faults(call: Call, written: usize, m: &Machine) -> usize {
+    let room = m.registers.at(registers::ROOM);
+    if call.is_reader() {
+        return marks::unmarked(&m.words[..room.min(m.words.len())], written);
     }
-    marks::unmarked_bytes(out, written, slices::least(room, out.len()))
+    marks::unmarked(&m.out[..room.min(m.out.len())], written)
 }
 
-fn faults(k: usize, o: Outcome, cells: &[u64], out: &[u8], words: &[u32], work: &[u32]) -> usize {
-    let room = cells::number(cells, cells::ROOM);
-    let w = slices::least(cells::number(cells, cells::WORK), work.len());
-    let f = output_faults(k, o.written, room, out, words);
-    let g = marks::work_faults(o.number, work, w);
+fn faults(call: Call, o: Outcome, m: &Machine) -> usize {
+    let f = output_faults(call, o.written, m);
+    let g = marks::work_faults(o.number, &m.work, m.registers.at(registers::WORK));
     slices::plus(o.faults, slices::plus(f, g))
 }
 
+// A reader leaves its content, the plain search none.
+fn content_after(call: Call, written: usize, before: usize) -> usize {
+    match call {
+        Call::Read(_) => written,
+        Call::Plain => 0,
+        _ => before,
+    }
+}
+
+fn count(k: usize, o: Outcome, faults: usize, m: &mut Machine) {
+    let k = k % CALLS;
+    m.group[k].count(o, faults, &m.out);
+    m.group[k].digest = o.over(m.group[k].digest);
+    m.all[k].count(o, faults, &m.out);
+    m.outcomes = o.over(m.outcomes);
+    m.last = o;
+    let before = m.registers.at(registers::CONTENT);
+    let content = content_after(Call::from(k), o.written, before);
+    m.registers.set(registers::CONTENT, content);
+}
+
 // One call: what is lent is marked, and looked at afterwards.
-fn make(
-    k: usize,
-    memory: &[u8],
-    out: &mut [u8],
-    words: &mut [u32],
-    work: &mut [u32],
-    cells: &mut [u64],
-) {
-    mark(k, cells, out, words, work);
-    let o = calls::call(k, cells, memory, out, words, work);
-    counts::count(k, o, faults(k, o, cells, out, words, work), out, cells);
+fn make(k: usize, m: &mut Machine) {
+    let call = Call::from(k);
+    mark_lent(call, m);
+    let o = calls::make(
+        k,
+        &m.registers,
+        &m.memory,
+        &mut m.out,
+        &mut m.words,
+        &mut m.work,
+    );
+    let f = faults(call, o, m);
+    count(k, o, f, m);
 }
 
-fn is_written_back(mode: usize, k: usize, cells: &[u64]) -> bool {
-    let accepted = cells::at(cells, cells::NUMBER) == 0;
-    (BOTH < mode) & (k < calls::WRITE_PATTERN) & accepted
-}
-
-fn make_and_write_back(
-    mode: usize,
-    k: usize,
-    memory: &[u8],
-    out: &mut [u8],
-    words: &mut [u32],
-    work: &mut [u32],
-    cells: &mut [u64],
-) {
-    make(k, memory, out, words, work, cells);
-    if is_written_back(mode, k, cells) {
-        make(k % 5 + 5, memory, out, words, work, cells);
+fn make_and_write_back(mode: Mode, k: usize, m: &mut Machine) {
+    make(k, m);
+    if mode.is_sweep() && Call::from(k).is_reader() && m.last.is_accepted() {
+        make(k % 5 + 5, m);
     }
 }
 
-// How much the last call needs of its output.
-pub fn needed(cells: &[u64]) -> usize {
-    let number = cells::at(cells, cells::NUMBER);
-    if (number == 0) | (number == 12) {
-        cells::number(cells, cells::VALUE)
-    } else {
-        0
-    }
+// A byte or word less than the last call needs.
+fn lend_less(m: &mut Machine) {
+    m.needed = Needed {
+        first: m.last.needed(),
+        second: m.last.other,
+    };
+    let first = m.needed.first.saturating_sub(1);
+    let second = m.needed.second.saturating_sub(1);
+    m.registers.set(registers::ROOM, first);
+    m.registers.set(registers::SECOND, second);
 }
 
-fn lend_less(cells: &mut [u64]) {
-    let first = needed(cells);
-    let second = cells::number(cells, cells::OTHER);
-    cells::set(cells, cells::NEEDED, first);
-    cells::set(cells, cells::NEEDED_SECOND, second);
-    cells::set(cells, cells::ROOM, slices::less(first, 1));
-    cells::set(cells, cells::SECOND, slices::less(second, 1));
-}
-
-fn lend_enough(cells: &mut [u64]) {
-    let first = cells::number(cells, cells::NEEDED);
-    cells::set(cells, cells::ROOM, first);
-    cells::set(cells, cells::WORK, 16384);
-}
-
-fn lend_second(cells: &mut [u64]) {
-    let second = cells::number(cells, cells::NEEDED_SECOND);
-    cells::set(cells, cells::SECOND, second);
+fn lend_enough(m: &mut Machine) {
+    m.registers.set(registers::ROOM, m.needed.first);
+    m.registers.set(registers::WORK, 16384);
 }
 
 // What is lent to call i of a round.
-fn lend(mode: usize, i: usize, cells: &mut [u64]) {
-    if (mode == ROUND) | (mode == BOTH) {
-        match i {
-            0 => (),
-            1 => lend_less(cells),
-            2 => cells::set(cells, cells::WORK, 16383),
-            3 => lend_enough(cells),
-            _ => lend_second(cells),
-        }
+fn lend(mode: Mode, i: usize, m: &mut Machine) {
+    if !mode.is_round() {
+        return;
+    }
+    match i {
+        0 => (),
+        1 => lend_less(m),
+        2 => m.registers.set(registers::WORK, 16383),
+        3 => lend_enough(m),
+        _ => m.registers.set(registers::SECOND, m.needed.second),
     }
 }
 
 // A part ends so far from its start.
-fn cut(mode: usize, size: usize, part: usize, cells: &mut [u64]) {
-    if (mode == CUTS) | (mode == SHORT) {
-        let start = cells::number(cells, cells::start(part));
-        cells::set(cells, cells::end(part), slices::plus(start, size));
+fn cut(mode: Mode, size: usize, part: usize, m: &mut Machine) {
+    if matches!(mode, Mode::Cuts | Mode::Short) {
+        let start = m.registers.start(part);
+        m.registers.set_end(part, slices::plus(start, size));
     }
 }
 
 // A bit of a part is turned.
-fn flip(mode: usize, bit: usize, part: usize, memory: &mut [u8], cells: &[u64]) {
-    if mode == FLIPS {
-        let start = cells::number(cells, cells::start(part)) % 0x1000_0000;
-        memory::flip(memory, slices::plus(start * 8, bit));
+fn flip(mode: Mode, bit: usize, part: usize, m: &mut Machine) {
+    if mode == Mode::Flips {
+        let start = m.registers.start(part) % 0x1000_0000;
+        memory::flip(&mut m.memory, slices::plus(start * 8, bit));
     }
 }
 
-fn turn(
-    mode: usize,
-    k: usize,
-    part: usize,
-    i: usize,
-    memory: &mut [u8],
-    out: &mut [u8],
-    words: &mut [u32],
-    work: &mut [u32],
-    cells: &mut [u64],
-) {
-    lend(mode, i, cells);
-    cut(mode, i, part, cells);
-    flip(mode, i, part, memory, cells);
-    make_and_write_back(mode, k, memory, out, words, work, cells);
-    flip(mode, i, part, memory, cells);
+fn turn(mode: Mode, k: usize, part: usize, i: usize, m: &mut Machine) {
+    lend(mode, i, m);
+    cut(mode, i, part, m);
+    flip(mode, i, part, m);
+    make_and_write_back(mode, k, m);
+    flip(mode, i, part, m);
 }
 
-// So many calls, for places from the first on.
-fn turns(
-    mode: usize,
-    k: usize,
-    part: usize,
-    first: usize,
-    stride: usize,
-    count: usize,
-    memory: &mut [u8],
-    out: &mut [u8],
-    words: &mut [u32],
-    work: &mut [u32],
-    cells: &mut [u64],
-) {
-    let mut i = first;
-    let mut left = count;
-    while 0 < left {
-        turn(mode, k, part, i, memory, out, words, work, cells);
-        i = slices::plus(i, stride);
-        left -= 1;
-    }
-}
-
-// The places of an instruction's calls.
+// The places of an instruction's calls: so many, from the first on.
 #[derive(Clone, Copy)]
 struct Places {
     first: usize,
@@ -193,68 +171,60 @@ struct Places {
     count: usize,
 }
 
-// Every place below a number, so many on each time.
-fn sweep(size: usize, stride: usize) -> Places {
-    let count = slices::quotient(slices::less(slices::plus(size, stride), 1), stride);
-    Places {
-        first: 0,
-        stride,
-        count,
+impl Places {
+    fn row(first: usize, count: usize) -> Places {
+        Places {
+            first,
+            stride: 1,
+            count,
+        }
+    }
+
+    // Every place below a number, so many on each time.
+    fn sweep(size: usize, stride: usize) -> Places {
+        let count = slices::quotient(slices::plus(size, stride).saturating_sub(1), stride);
+        Places {
+            first: 0,
+            stride,
+            count,
+        }
+    }
+
+    fn of(mode: Mode, part: usize, m: &Machine) -> Places {
+        let start = m.registers.start(part);
+        let size = m.registers.end(part).saturating_sub(start) % 0x1000_0000;
+        let stride = m.registers.at(registers::STRIDE);
+        match mode {
+            Mode::Once | Mode::Again => Places::row(0, 1),
+            Mode::Round => Places::row(0, 4),
+            Mode::Both => Places::row(0, 5),
+            Mode::Cuts => Places::sweep(size, stride),
+            Mode::Flips => Places::sweep(size * 8, stride),
+            Mode::Short => Places::row(size.saturating_sub(1), 1),
+        }
     }
 }
 
-fn places_of(mode: usize, part: usize, cells: &[u64]) -> Places {
-    let start = cells::number(cells, cells::start(part));
-    let size = slices::less(cells::number(cells, cells::end(part)), start) % 0x1000_0000;
-    let stride = cells::number(cells, cells::STRIDE);
-    match mode {
-        ROUND => Places {
-            first: 0,
-            stride: 1,
-            count: 4,
-        },
-        BOTH => Places {
-            first: 0,
-            stride: 1,
-            count: 5,
-        },
-        CUTS => sweep(size, stride),
-        FLIPS => sweep(size * 8, stride),
-        SHORT => Places {
-            first: slices::less(size, 1),
-            stride: 1,
-            count: 1,
-        },
-        _ => Places {
-            first: 0,
-            stride: 1,
-            count: 1,
-        },
+// A call for each place.
+fn turns(mode: Mode, k: usize, part: usize, places: Places, m: &mut Machine) {
+    let mut i = places.first;
+    for _ in 0..places.count {
+        turn(mode, k, part, i, m);
+        i = slices::plus(i, places.stride);
     }
 }
 
-// The calls of one instruction, after which the registers are as before.
-pub fn calls(
-    mode: usize,
-    k: usize,
-    part: usize,
-    memory: &mut [u8],
-    out: &mut [u8],
-    words: &mut [u32],
-    work: &mut [u32],
-    cells: &mut [u64],
-) {
-    let room = cells::at(cells, cells::ROOM);
-    let second = cells::at(cells, cells::SECOND);
-    let lent = cells::at(cells, cells::WORK);
-    let end = cells::at(cells, cells::end(part));
-    let p = places_of(mode, part, cells);
-    cells::put(cells, cells::OUTCOMES, 0);
-    turns(
-        mode, k, part, p.first, p.stride, p.count, memory, out, words, work, cells,
-    );
-    cells::put(cells, cells::ROOM, room);
-    cells::put(cells, cells::SECOND, second);
-    cells::put(cells, cells::WORK, lent);
-    cells::put(cells, cells::end(part), end);
+// The calls of one instruction, after which what is lent and where the part ends are as before.
+pub fn run(mode: Mode, k: usize, part: usize, m: &mut Machine) {
+    let room = m.registers.at(registers::ROOM);
+    let second = m.registers.at(registers::SECOND);
+    let lent = m.registers.at(registers::WORK);
+    let end = m.registers.end(part);
+    let places = Places::of(mode, part, m);
+    m.outcomes = digest::START;
+    turns(mode, k, part, places, m);
+    m.registers.set(registers::ROOM, room);
+    m.registers.set(registers::SECOND, second);
+    m.registers.set(registers::WORK, lent);
+    m.registers.set_end(part, end);
 }

@@ -2,8 +2,9 @@
 // `matching` itself.
 //
 // The content is pairs, ascending, two words for each: its code, 4096 * from + to, and the links of the question that it is a candidate for.
-use crate::outcome::Outcome;
-use crate::{cells, digest, draw, outcome, records, slices};
+use crate::outcome::{Form, Outcome};
+use crate::registers::Registers;
+use crate::{digest, draw, records, registers, slices};
 use matching::steps;
 
 // A pattern has no more components than items, so after so many steps nothing changes.
@@ -40,12 +41,12 @@ fn pair_code(from: usize, to: usize) -> u32 {
 }
 
 // A pair goes to its place where its code stands for one of the items: the next one.
-fn add_pair(p: Pair, cells: &[u64], words: &mut [u32]) -> Pair {
-    let items = cells::number(cells, cells::ITEMS);
+fn add_pair(p: Pair, registers: &Registers, words: &mut [u32]) -> Pair {
+    let items = registers.at(registers::ITEMS);
     let from = slices::quotient(p.code, items);
     let s = draw::next(p.state);
-    let gap = draw::below(s, cells::number(cells, cells::GAP));
-    let step = slices::plus(cells::number(cells, cells::STEP), gap);
+    let gap = draw::below(s, registers.at(registers::GAP));
+    let step = slices::plus(registers.at(registers::STEP), gap);
     let code = slices::plus(p.code, step);
     let state = records::after(s);
     if items <= from {
@@ -55,9 +56,9 @@ fn add_pair(p: Pair, cells: &[u64], words: &mut [u32]) -> Pair {
             state,
         };
     }
-    let form = cells::number(cells, cells::LINK_FORM);
-    slices::put_word(words, p.place, pair_code(from, slices::rest(p.code, items)));
-    slices::put_word(words, slices::plus(p.place, 1), mask(form, draw::next(s)));
+    let form = registers.at(registers::LINK_FORM);
+    slices::put(words, p.place, pair_code(from, slices::rest(p.code, items)));
+    slices::put(words, slices::plus(p.place, 1), mask(form, draw::next(s)));
     Pair {
         place: slices::plus(p.place, 2),
         code,
@@ -65,49 +66,39 @@ fn add_pair(p: Pair, cells: &[u64], words: &mut [u32]) -> Pair {
     }
 }
 
-fn add_pairs(count: usize, first: Pair, cells: &[u64], words: &mut [u32]) -> Pair {
+fn add_pairs(count: usize, first: Pair, registers: &Registers, words: &mut [u32]) -> Pair {
     let mut p = first;
-    let mut i: usize = 0;
-    while i < count {
-        p = add_pair(p, cells, words);
-        i += 1;
+    for _ in 0..count {
+        p = add_pair(p, registers, words);
     }
     p
 }
 
 // The content becomes so many pairs, as far as their codes stand for pairs of items.
-pub fn draw_pairs(count: usize, words: &mut [u32], cells: &mut [u64]) {
+pub fn draw_pairs(count: usize, words: &mut [u32], registers: &mut Registers) {
     let first = Pair {
         place: 0,
-        code: cells::number(cells, cells::FIRST),
-        state: slices::low(cells::number(cells, cells::SEED)),
+        code: registers.at(registers::FIRST),
+        state: slices::low(registers.at(registers::SEED)),
     };
-    let last = add_pairs(count, first, cells, words);
-    cells::set(cells, cells::CONTENT, last.place);
+    let last = add_pairs(count, first, registers, words);
+    registers.set(registers::CONTENT, last.place);
 }
 
 // The pairs and what they are candidates for stand in the words to work in, and zeros beyond them.
 fn lay(content: &[u32], work: &mut [u32]) {
-    let mut i: usize = 0;
-    while i < PAIRS_MOST {
-        slices::put_word(work, i, slices::word_at(content, 2 * i));
-        slices::put_word(work, PAIRS_MOST + i, slices::word_at(content, 2 * i + 1));
-        i += 1;
+    for i in 0..PAIRS_MOST {
+        slices::put(work, i, slices::at(content, 2 * i));
+        slices::put(work, PAIRS_MOST + i, slices::at(content, 2 * i + 1));
     }
-}
-
-fn wide(mask: u32) -> usize {
-    mask as usize
 }
 
 // A digest of what d pairs are held for, of links whose masks are below a limit.
 fn over_masks(start: u64, d: usize, limit: usize, work: &[u32]) -> u64 {
     let mut h = start;
-    let mut i: usize = 0;
-    while i < d {
-        let mask = slices::word_at(work, slices::plus(PAIRS_MOST, i));
-        h = digest::step(h, slices::rest(wide(mask), limit) as u64);
-        i += 1;
+    for i in 0..d {
+        let mask: u32 = slices::at(work, slices::plus(PAIRS_MOST, i));
+        h = digest::step(h, slices::rest(mask as usize, limit) as u64);
     }
     h
 }
@@ -133,7 +124,7 @@ fn after(
     let d = content.len() / 2;
     lay(content, work);
     let settled = steps::trial(question, d, k, pruned, work);
-    let more = slices::one_if(settled != before.settled);
+    let more = usize::from(settled != before.settled);
     let h = digest::step(before.digest, settled as u64);
     Seen {
         steps: slices::plus(before.steps, more),
@@ -148,22 +139,25 @@ fn after_each(question: &[u8], limit: usize, content: &[u32], work: &mut [u32]) 
         settled: 0,
         digest: digest::START,
     };
-    let mut k: usize = 0;
-    while k <= STEPS_MOST {
+    for k in 0..=STEPS_MOST {
         seen = after(k, false, seen, question, limit, content, work);
         seen = after(k, true, seen, question, limit, content, work);
-        k += 1;
     }
     seen
+}
+
+// The number of sets of so many links, 0 where there are over 32.
+fn sets(links: usize) -> usize {
+    if links < 33 { 1 << links } else { 0 }
 }
 
 // A question of so many links, from no step to all of them: how many there are, and the settled items at the end.
 pub fn each(question: &[u8], links: usize, content: &[u32], work: &mut [u32]) -> Outcome {
     if work.len() < 16384 {
-        return outcome::refused(14, 0);
+        return Outcome::refused(14, 0);
     }
-    let seen = after_each(question, slices::power(links), content, work);
+    let seen = after_each(question, sets(links), content, work);
     lay(&content[0..0], work);
     let settled = seen.settled as usize;
-    outcome::values(outcome::STEPS, 0, seen.steps, settled, seen.digest)
+    Outcome::values(Form::Steps, 0, seen.steps, settled, seen.digest)
 }

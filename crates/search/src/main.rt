@@ -5,10 +5,10 @@ use folder::{files, lent};
 use std::io;
 
 fn main(rt: HostRuntime) -> io::Result<()> {
-    let mut question = lent::question_bytes();
-    let mut record = lent::record_bytes();
-    let mut sheet = lent::output_bytes();
-    let mut work = lent::work_words();
+    let mut question = [0; lent::QUESTION];
+    let mut record = [0; lent::RECORD];
+    let mut sheet = [0; lent::OUTPUT];
+    let mut work = [0; lent::WORK];
     let n = files::read(&rt, b"question", &mut question);
     let m = files::read(&rt, b"record", &mut record);
     let reply = matching::search(&question[..n], &record[..m], &mut sheet, &mut work);

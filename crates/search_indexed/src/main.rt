@@ -3,19 +3,8 @@
 #![tactic(auto)]
 
 use folder::{entries, files, lent, lines};
-use packed::reply::{Refusal, Reply};
+use packed::reply::Reply;
 use std::io;
-
-// Of too many entries no more are lent than show it: all are counted here.
-fn counted(x: Refusal, count: usize) -> Refusal {
-    if count <= 4098 {
-        return x;
-    }
-    match x {
-        Refusal::WrongIndex(_) => Refusal::WrongIndex(count),
-        _ => x,
-    }
-}
 
 // By the first entries, as many as the file has or the buffer holds.
 fn search(
@@ -26,21 +15,18 @@ fn search(
     sheet: &mut [u8],
     work: &mut [u32],
 ) -> Reply {
-    let n = lent::least(count, index.len());
+    let n = count.min(index.len());
     let reply = matching::search_indexed(question, record, &index[..n], sheet, work);
-    match reply {
-        Reply::Done(_) => reply,
-        Reply::Refused(x) => Reply::Refused(counted(x, count)),
-    }
+    entries::counted(reply, count)
 }
 
 fn main(rt: HostRuntime) -> io::Result<()> {
-    let mut question = lent::question_bytes();
-    let mut record = lent::record_bytes();
-    let mut bytes = lent::index_bytes();
-    let mut index = lent::index_entries();
-    let mut sheet = lent::output_bytes();
-    let mut work = lent::work_words();
+    let mut question = [0; lent::QUESTION];
+    let mut record = [0; lent::RECORD];
+    let mut bytes = [0; lent::INDEX_BYTES];
+    let mut index = [0; lent::INDEX];
+    let mut sheet = [0; lent::OUTPUT];
+    let mut work = [0; lent::WORK];
     let size = files::read_whole(&rt, b"index", &mut bytes);
     if size % 2 == 1 {
         lines::failed(&rt, b"index");

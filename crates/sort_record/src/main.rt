@@ -6,9 +6,9 @@ use folder::{files, lent};
 use std::io;
 
 fn main(rt: HostRuntime) -> io::Result<()> {
-    let mut old = lent::old_record_bytes();
-    let mut record = lent::output_bytes();
-    let mut work = lent::work_words();
+    let mut old = [0; lent::OLD_RECORD];
+    let mut record = [0; lent::OUTPUT];
+    let mut work = [0; lent::WORK];
     let n = files::read(&rt, b"old", &mut old);
     let reply = packed::sort_record(&old[..n], &mut record, &mut work);
     folder::finish(&rt, reply, &record, b"record", b"record.new")

@@ -11,12 +11,13 @@ use Rattle.packed.proofs.RefusalNumbers.{refusal_numbered}
 use Rattle.matching.specs.Enter.{Commits}
 use Rattle.matching.specs.declared.state.State.{State}
 use Rattle.matching.specs.declared.state.Slip.{Slip}
-use Rattle.containment.specs.Quote.{quote_told}
 use Rattle.containment.specs.declared.quote_type.Coverage.{Coverage}
+use Rattle.containment.specs.Quote.{CoverageReply, covered_of, quote_told}
 use Rattle.containment.specs.declared.quote_type.Coverage.TheVariants as coverage-is
 use Rattle.containment.specs.declared.quote_type.Quote.{Quote}
 use Rattle.yuthaqim.specs.Numbered.{told_by, numbered_quote_told, numbered_both_told, numbered_several_told, numbered_cheapest_told, QuoteZeros, BothZeros, SeveralZeros, CheapestZeros, numbered_first_day_told, FirstDayZeros, numbered_asked_told, AskedZeros}
 use Rattle.yuthaqim.specs.declared.numbered.NumberedQuote.{NumberedQuote}
+use Rattle.std.specs.Prelude.{Ok, Err}
 
 pub settled_as : {none : List ℕ} {a : Outcome} {r r' : Told} {outs outs' : List (List ℕ)} {work work' : List ℕ}
     → r' ≡ r → Settled none a r outs outs' work work' → Settled none a r' outs outs' work work'
@@ -36,23 +37,20 @@ refused_told x done refused = rw (ne_eqb (number_of x) 0 (number_not_0 x))
 
 -- a quote in numbers, by the coverage that the quote has
 module _ (q : Quote) where
-  quote_with : {x : Coverage} → q.coverage ≡ x → quote_told (record { coverage = x; mapping = q.mapping; edges = q.edges; chosen = q.chosen; lowest = q.lowest }) ≡ quote_told q
+  quote_with : {x : CoverageReply} → q.coverage ≡ x → quote_told (record { coverage = x; mapping = q.mapping; edges = q.edges; chosen = q.chosen; lowest = q.lowest }) ≡ quote_told q
   quote_with e =
-      sym (ap (λ (x : Coverage). quote_told (record { coverage = x; mapping = q.mapping; edges = q.edges; chosen = q.chosen; lowest = q.lowest })) e)
+      sym (ap (λ (x : CoverageReply). quote_told (record { coverage = x; mapping = q.mapping; edges = q.edges; chosen = q.chosen; lowest = q.lowest })) e)
 
   abbrev pub in_numbers : ℕ → ℕ → ℕ → NumberedQuote
   in_numbers number detail covered =
       record { number = number; detail = detail; covered = covered; edges = q.edges; chosen = q.chosen; lowest = q.lowest; mapping = q.mapping }
 
-  pub quote_covered : q.coverage ≡ coverage-is.Covered → (numbered_quote_told (in_numbers 0 0 1) ≡ quote_told q) × QuoteZeros (in_numbers 0 0 1)
+  pub quote_given : (c : Coverage) {n : ℕ} → q.coverage ≡ Ok c → n ≡ covered_of (Ok c) → (numbered_quote_told (in_numbers 0 0 n) ≡ quote_told q) × QuoteZeros (in_numbers 0 0 n)
   unfolding numbered_quote_told told_by quote_told
-  quote_covered e = (quote_with e, record { no_detail = λ h. refl })
+  quote_given coverage-is.Covered e h = rw h (quote_with e, record { no_detail = λ z. refl })
+  quote_given coverage-is.Uncovered e h = rw h (quote_with e, record { no_detail = λ z. refl })
 
-  pub quote_uncovered : q.coverage ≡ coverage-is.Uncovered → (numbered_quote_told (in_numbers 0 0 0) ≡ quote_told q) × QuoteZeros (in_numbers 0 0 0)
-  unfolding numbered_quote_told told_by quote_told
-  quote_uncovered e = (quote_with e, record { no_detail = λ h. refl })
-
-  pub quote_refused : (x : Refusal) {n d : ℕ} → q.coverage ≡ coverage-is.Refused x → n ≡ number_of x → d ≡ detail_of x
+  pub quote_refused : (x : Refusal) {n d : ℕ} → q.coverage ≡ Err x → n ≡ number_of x → d ≡ detail_of x
       → (numbered_quote_told (in_numbers n d 0) ≡ quote_told q) × QuoteZeros (in_numbers n d 0)
   unfolding numbered_quote_told quote_told
   quote_refused x e p r = (rw (p, r, refused_told) (quote_with e), record { no_detail = λ h. absurd (number_not_0 x (sym p ∙ h)) })

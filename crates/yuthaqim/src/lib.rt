@@ -1,4 +1,5 @@
 // The client calls in numbers. Each is the call of the same name in the crate that has it; the crate yuthaqim_c exports them for C and Rust to link.
+// A name of C is a function of its own there and here, also where two differ in a few arguments, and its arguments stand apart as C passes them.
 #![tactic(auto)]
 
 pub mod numbered;
@@ -31,21 +32,21 @@ use numbered::{
 pub fn yuthaqim_read_pattern(bytes: &[u8], out: &mut [u32], work: &mut [u32]) -> NumberedReply
     ensures { OneOutput (pattern_read bytes.now) (numbered_reply_told result) out.old out.new work.old work.new }
 {
-    numbered::reply(packed::read_pattern(bytes, out, work))
+    packed::read_pattern(bytes, out, work).into()
 }
 
 // Reads a catalogue.
 pub fn yuthaqim_read_catalogue(bytes: &[u8], out: &mut [u32], work: &mut [u32]) -> NumberedReply
     ensures { OneOutput (catalogue_read bytes.now) (numbered_reply_told result) out.old out.new work.old work.new }
 {
-    numbered::reply(packed::read_catalogue(bytes, out, work))
+    packed::read_catalogue(bytes, out, work).into()
 }
 
 // Reads a record.
 pub fn yuthaqim_read_record(bytes: &[u8], out: &mut [u32], work: &mut [u32]) -> NumberedReply
     ensures { OneOutput (record_read bytes.now) (numbered_reply_told result) out.old out.new work.old work.new }
 {
-    numbered::reply(packed::read_record(bytes, out, work))
+    packed::read_record(bytes, out, work).into()
 }
 
 // Reads a sheet beside its pattern.
@@ -57,7 +58,7 @@ pub fn yuthaqim_read_sheet(
 ) -> NumberedReply
     ensures { OneOutput (sheet_read pattern.now bytes.now) (numbered_reply_told result) out.old out.new work.old work.new }
 {
-    numbered::reply(packed::read_sheet(pattern, bytes, out, work))
+    packed::read_sheet(pattern, bytes, out, work).into()
 }
 
 // Reads a book beside its catalogue.
@@ -69,35 +70,35 @@ pub fn yuthaqim_read_book(
 ) -> NumberedReply
     ensures { OneOutput (book_read catalogue.now bytes.now) (numbered_reply_told result) out.old out.new work.old work.new }
 {
-    numbered::reply(packed::read_book(catalogue, bytes, out, work))
+    packed::read_book(catalogue, bytes, out, work).into()
 }
 
 // Writes a pattern.
 pub fn yuthaqim_write_pattern(fields: &[u32], out: &mut [u8], work: &mut [u32]) -> NumberedReply
     ensures { OneOutput (pattern_written fields.now) (numbered_reply_told result) out.old out.new work.old work.new }
 {
-    numbered::reply(packed::write_pattern(fields, out, work))
+    packed::write_pattern(fields, out, work).into()
 }
 
 // Writes a catalogue.
 pub fn yuthaqim_write_catalogue(fields: &[u32], out: &mut [u8], work: &mut [u32]) -> NumberedReply
     ensures { OneOutput (catalogue_written fields.now) (numbered_reply_told result) out.old out.new work.old work.new }
 {
-    numbered::reply(packed::write_catalogue(fields, out, work))
+    packed::write_catalogue(fields, out, work).into()
 }
 
 // Writes a record.
 pub fn yuthaqim_write_record(fields: &[u32], out: &mut [u8], work: &mut [u32]) -> NumberedReply
     ensures { OneOutput (record_written fields.now) (numbered_reply_told result) out.old out.new work.old work.new }
 {
-    numbered::reply(packed::write_record(fields, out, work))
+    packed::write_record(fields, out, work).into()
 }
 
 // Sorts the edges of a record that was stored before they had kinds, or even an order: writes the record.
 pub fn yuthaqim_sort_record(old: &[u8], out: &mut [u8], work: &mut [u32]) -> NumberedReply
     ensures { OneOutput (record_sorted old.now) (numbered_reply_told result) out.old out.new work.old work.new }
 {
-    numbered::reply(packed::sort_record(old, out, work))
+    packed::sort_record(old, out, work).into()
 }
 
 // Writes a sheet beside its pattern.
@@ -109,7 +110,7 @@ pub fn yuthaqim_write_sheet(
 ) -> NumberedReply
     ensures { OneOutput (sheet_written pattern.now fields.now) (numbered_reply_told result) out.old out.new work.old work.new }
 {
-    numbered::reply(packed::write_sheet(pattern, fields, out, work))
+    packed::write_sheet(pattern, fields, out, work).into()
 }
 
 // Writes a book beside its catalogue.
@@ -121,7 +122,7 @@ pub fn yuthaqim_write_book(
 ) -> NumberedReply
     ensures { OneOutput (book_written catalogue.now fields.now) (numbered_reply_told result) out.old out.new work.old work.new }
 {
-    numbered::reply(packed::write_book(catalogue, fields, out, work))
+    packed::write_book(catalogue, fields, out, work).into()
 }
 
 // Searches a record for a pattern: writes the pattern's sheet.
@@ -133,21 +134,21 @@ pub fn yuthaqim_search(
 ) -> NumberedReply
     ensures { OneOutput (search_outcome pattern.now «record».now) (numbered_reply_told result) out.old out.new work.old work.new }
 {
-    numbered::reply(matching::search(pattern, record, out, work))
+    matching::search(pattern, record, out, work).into()
 }
 
 // Makes the index of a record: for each item how many links begin at lower ones, and then how many there are.
 pub fn yuthaqim_make_index(record: &[u8], out: &mut [u16], work: &mut [u32]) -> NumberedReply
     ensures { OneOutput (make_index_outcome «record».now) (numbered_reply_told result) out.old out.new work.old work.new }
 {
-    numbered::reply(matching::make_index(record, out, work))
+    matching::make_index(record, out, work).into()
 }
 
 // Checks that an index is the record's own: how many entries it has.
 pub fn yuthaqim_check_index(record: &[u8], index: &[u16], work: &mut [u32]) -> NumberedReply
     ensures { Settled [] (with_workspace (length work.old) (check_index_outcome «record».now index.now)) (numbered_reply_told result) [] [] work.old work.new }
 {
-    numbered::reply(matching::check_index(record, index, work))
+    matching::check_index(record, index, work).into()
 }
 
 // Searches a record for a pattern by the record's own index: writes the pattern's sheet.
@@ -160,7 +161,7 @@ pub fn yuthaqim_search_indexed(
 ) -> NumberedReply
     ensures { OneOutput (search_indexed_outcome pattern.now «record».now index.now) (numbered_reply_told result) out.old out.new work.old work.new }
 {
-    numbered::reply(matching::search_indexed(pattern, record, index, out, work))
+    matching::search_indexed(pattern, record, index, out, work).into()
 }
 
 // Makes the book of a catalogue from a record: writes a sheet for each view.
@@ -173,7 +174,7 @@ pub fn yuthaqim_make_book(
 ) -> NumberedReply
     ensures { OneOutput (make_book_outcome (brings catalogue.now one_way) «record».now) (numbered_reply_told result) out.old out.new work.old work.new }
 {
-    numbered::reply(matching::make_book(catalogue, one_way, record, out, work))
+    matching::make_book(catalogue, one_way, record, out, work).into()
 }
 
 // Quotes a question with a catalogue.
@@ -185,7 +186,7 @@ pub fn yuthaqim_quote(
 ) -> NumberedQuote
     ensures { Settled blank (with_workspace (length work.old) (quote_outcome question.now (brings catalogue.now one_way))) (numbered_quote_told result) [] [] work.old work.new × QuoteZeros result }
 {
-    numbered::quote(containment::quote(question, catalogue, one_way, work))
+    containment::quote(question, catalogue, one_way, work).into()
 }
 
 // Answers a question from a book: writes the question's sheet.
@@ -199,7 +200,7 @@ pub fn yuthaqim_answer(
 ) -> NumberedReply
     ensures { OneOutput (answer_outcome question.now (brings catalogue.now one_way) book.now) (numbered_reply_told result) out.old out.new work.old work.new }
 {
-    numbered::reply(answering::answer(question, catalogue, one_way, book, out, work))
+    answering::answer(question, catalogue, one_way, book, out, work).into()
 }
 
 // Answers a question from a book by a set of extracts: writes the question's sheet.
@@ -214,7 +215,7 @@ pub fn yuthaqim_answer_from(
 ) -> NumberedReply
     ensures { OneOutput (answer_from question.now (brings catalogue.now one_way) set book.now) (numbered_reply_told result) out.old out.new work.old work.new }
 {
-    numbered::reply(answering::answer_from(question, catalogue, one_way, set, book, out, work))
+    answering::answer_from(question, catalogue, one_way, set, book, out, work).into()
 }
 
 // Finds the part of a question that the extracts answer, and answers it from a book: writes the part as a pattern, and its sheet.
@@ -229,7 +230,7 @@ pub fn yuthaqim_part(
 ) -> NumberedBoth
     ensures { Settled [] (with_workspace (length work.old) (part_outcome question.now (brings catalogue.now one_way) book.now (length part.old) (length answer.old))) (numbered_both_told result) (part.old ∷ answer.old ∷ []) (part.new ∷ answer.new ∷ []) work.old work.new × BothZeros result }
 {
-    numbered::both(answering::part(question, catalogue, one_way, book, part, answer, work))
+    answering::part(question, catalogue, one_way, book, part, answer, work).into()
 }
 
 // Answers several questions from one book: writes their sheets one after the other.
@@ -244,9 +245,7 @@ pub fn yuthaqim_answer_several(
 ) -> NumberedSeveral
     ensures { Settled [] (with_workspace (length work.old) (several_outcome questions.now number (brings catalogue.now one_way) book.now (length out.old))) (numbered_several_told result) (out.old ∷ []) (out.new ∷ []) work.old work.new × SeveralZeros result }
 {
-    numbered::several(answering::answer_several(
-        questions, number, catalogue, one_way, book, out, work,
-    ))
+    answering::answer_several(questions, number, catalogue, one_way, book, out, work).into()
 }
 
 // Shows why a question is not covered: writes it as a record, and the same without its lowest unmatched link.
@@ -260,7 +259,7 @@ pub fn yuthaqim_show_uncovered(
 ) -> NumberedBoth
     ensures { Settled [] (with_workspace (length work.old) (show_outcome question.now (brings catalogue.now one_way) (length first.old) (length second.old))) (numbered_both_told result) (first.old ∷ second.old ∷ []) (first.new ∷ second.new ∷ []) work.old work.new × BothZeros result }
 {
-    numbered::both(answering::show_uncovered(question, catalogue, one_way, first, second, work))
+    answering::show_uncovered(question, catalogue, one_way, first, second, work).into()
 }
 
 // Finds the cheapest set of extracts that covers a question, by the charges of the extracts.
@@ -273,7 +272,7 @@ pub fn yuthaqim_cheapest(
 ) -> NumberedCheapest
     ensures { Settled [] (with_workspace (length work.old) (cheapest_outcome question.now (brings catalogue.now one_way) charges.now)) (numbered_cheapest_told result) [] [] work.old work.new × CheapestZeros result }
 {
-    numbered::cheapest(containment::cheapest(question, catalogue, one_way, charges, work))
+    containment::cheapest(question, catalogue, one_way, charges, work).into()
 }
 
 // A list of terms in plain numbers, as the calls for a day take it.
@@ -294,7 +293,7 @@ pub fn yuthaqim_quote_on(
 ) -> NumberedQuote
     ensures { Settled blank (with_workspace (length work.old) (quote_on question.now (brings catalogue.now one_way) terms day)) (numbered_quote_told result) [] [] work.old work.new × QuoteZeros result }
 {
-    numbered::quote(containment::quote_on(question, catalogue, one_way, terms, day, work))
+    containment::quote_on(question, catalogue, one_way, terms, day, work).into()
 }
 
 // Finds the cheapest set of extracts in force on a day that covers a question, by the charges of all extracts.
@@ -309,9 +308,7 @@ pub fn yuthaqim_cheapest_on(
 ) -> NumberedCheapest
     ensures { Settled [] (with_workspace (length work.old) (cheapest_on question.now (brings catalogue.now one_way) terms day charges.now)) (numbered_cheapest_told result) [] [] work.old work.new × CheapestZeros result }
 {
-    numbered::cheapest(containment::cheapest_on(
-        question, catalogue, one_way, terms, day, charges, work,
-    ))
+    containment::cheapest_on(question, catalogue, one_way, terms, day, charges, work).into()
 }
 
 // Finds the part of a question that the extracts in force on a day answer, and answers it from a book: writes the part as a pattern, and its sheet.
@@ -328,9 +325,10 @@ pub fn yuthaqim_part_on(
 ) -> NumberedBoth
     ensures { Settled [] (with_workspace (length work.old) (part_on question.now (brings catalogue.now one_way) terms day book.now (length part.old) (length answer.old))) (numbered_both_told result) (part.old ∷ answer.old ∷ []) (part.new ∷ answer.new ∷ []) work.old work.new × BothZeros result }
 {
-    numbered::both(answering::part_on(
+    answering::part_on(
         question, catalogue, one_way, terms, day, book, part, answer, work,
-    ))
+    )
+    .into()
 }
 
 // Shows why a question is not covered on a day: writes it as a record, and the same without the lowest link that no extract in force matches.
@@ -346,9 +344,10 @@ pub fn yuthaqim_show_on(
 ) -> NumberedBoth
     ensures { Settled [] (with_workspace (length work.old) (show_on question.now (brings catalogue.now one_way) terms day (length first.old) (length second.old))) (numbered_both_told result) (first.old ∷ second.old ∷ []) (first.new ∷ second.new ∷ []) work.old work.new × BothZeros result }
 {
-    numbered::both(answering::show_on(
+    answering::show_on(
         question, catalogue, one_way, terms, day, first, second, work,
-    ))
+    )
+    .into()
 }
 
 // Finds the first day, not before the given one, on which a question is covered.
@@ -362,7 +361,7 @@ pub fn yuthaqim_first_day(
 ) -> NumberedFirstDay
     ensures { Settled [] (with_workspace (length work.old) (first_day question.now (brings catalogue.now one_way) terms day)) (numbered_first_day_told result) [] [] work.old work.new × FirstDayZeros result }
 {
-    numbered::first_day(containment::first_day(question, catalogue, one_way, terms, day, work))
+    containment::first_day(question, catalogue, one_way, terms, day, work).into()
 }
 
 // Asks which extracts' lists a link would change, before it enters a record: the set of them, and the slip that commit takes.
@@ -376,7 +375,7 @@ pub fn yuthaqim_ask(
 ) -> NumberedAsked
     ensures { Settled [] (with_workspace (length work.old) (ask_outcome (brings catalogue.now one_way) «record».now state link)) (numbered_asked_told result) [] [] work.old work.new × AskedZeros result }
 {
-    numbered::asked(matching::ask(catalogue, one_way, record, state, link, work))
+    matching::ask(catalogue, one_way, record, state, link, work).into()
 }
 
 // Enters the link of a slip into a record: writes the record with it and the index of that, and counts on both numbers of the state.
@@ -390,6 +389,5 @@ pub fn yuthaqim_commit(
 ) -> NumberedBoth
     ensures { Commits «record».now state.old slip (numbered_both_told result) state.new out.old out.new index_out.old index_out.new work.old work.new × BothZeros result }
 {
-    let b = matching::commit(record, state, slip, out, index_out, work);
-    numbered::both(b)
+    matching::commit(record, state, slip, out, index_out, work).into()
 }

@@ -1,9 +1,9 @@
-// Answers in numbers: an enum doesn't cross to C.
-ghost use Rattle.std.specs.Prelude.{◌≡◌};
+// Answers in numbers: an enum doesn't cross to C. C reads each of these types by its own fields, so they stay types of their own.
+ghost use Rattle.std.specs.Prelude.{◌≡◌, Ok};
 ghost use Rattle.packed.specs.Refusals.{reply_told, both_told};
 ghost use Rattle.matching.specs.Ask.{ask_told};
 ghost use Rattle.containment.specs.Cheapest.{cheapest_told};
-ghost use Rattle.containment.specs.Quote.{quote_told};
+ghost use Rattle.containment.specs.Quote.{covered_of, quote_told};
 ghost use Rattle.answering.specs.Several.{several_told};
 ghost use Rattle.yuthaqim.specs.Numbered.{numbered_reply_told, numbered_quote_told, numbered_both_told, numbered_several_told, numbered_cheapest_told, QuoteZeros, BothZeros, SeveralZeros, CheapestZeros, numbered_first_day_told, FirstDayZeros, numbered_asked_told, AskedZeros};
 ghost use Rattle.containment.specs.Terms.{first_day_told};
@@ -14,7 +14,6 @@ use containment::days::FirstDay;
 use containment::quote_type::{Coverage, Quote};
 use matching::asking::Asked;
 use matching::state::Slip;
-use packed::reply;
 use packed::reply::{Both, Reply};
 
 // 0 and how much of the output was written, or a refusal's number and detail.
@@ -89,161 +88,177 @@ pub struct NumberedAsked {
     pub slip: Slip,
 }
 
-pub fn reply(r: Reply) -> NumberedReply
-    ensures { numbered_reply_told result ≡ reply_told r }
-{
-    match r {
-        Reply::Done(size) => NumberedReply {
-            number: 0,
-            value: size,
-        },
-        Reply::Refused(x) => NumberedReply {
-            number: reply::number_of(x),
-            value: reply::detail_of(x),
-        },
+impl From<Reply> for NumberedReply {
+    ghost from_gives = { λ r n. numbered_reply_told n ≡ reply_told r };
+
+    fn from(r: Reply) -> NumberedReply {
+        match r {
+            Ok(size) => NumberedReply {
+                number: 0,
+                value: size,
+            },
+            Err(x) => NumberedReply {
+                number: x.number(),
+                value: x.detail(),
+            },
+        }
     }
 }
 
-pub fn quote(q: Quote) -> NumberedQuote
-    ensures { (numbered_quote_told result ≡ quote_told q) × QuoteZeros result }
-{
-    let coverage = q.coverage;
-    let mapping = q.mapping;
-    match coverage {
-        Coverage::Covered => NumberedQuote {
-            number: 0,
-            detail: 0,
-            covered: 1,
-            edges: q.edges,
-            chosen: q.chosen,
-            lowest: q.lowest,
-            mapping,
-        },
-        Coverage::Uncovered => NumberedQuote {
-            number: 0,
-            detail: 0,
-            covered: 0,
-            edges: q.edges,
-            chosen: q.chosen,
-            lowest: q.lowest,
-            mapping,
-        },
-        Coverage::Refused(x) => NumberedQuote {
-            number: reply::number_of(x),
-            detail: reply::detail_of(x),
-            covered: 0,
-            edges: q.edges,
-            chosen: q.chosen,
-            lowest: q.lowest,
-            mapping,
-        },
-    }
-}
-
-pub fn both(b: Both) -> NumberedBoth
-    ensures { (numbered_both_told result ≡ both_told b) × BothZeros result }
-{
-    match b {
-        Both::Done(first, second) => NumberedBoth {
-            number: 0,
-            detail: 0,
-            first,
-            second,
-        },
-        Both::Refused(x) => NumberedBoth {
-            number: reply::number_of(x),
-            detail: reply::detail_of(x),
-            first: 0,
-            second: 0,
-        },
-    }
-}
-
-pub fn several(s: Several) -> NumberedSeveral
-    ensures { (numbered_several_told result ≡ several_told s) × SeveralZeros result }
-{
-    match s {
-        Several::Done(bytes, sheets) => NumberedSeveral {
-            number: 0,
-            detail: 0,
-            bytes,
-            sheets,
-        },
-        Several::Refused(x) => NumberedSeveral {
-            number: reply::number_of(x),
-            detail: reply::detail_of(x),
-            bytes: 0,
-            sheets: 0,
-        },
-    }
-}
-
-pub fn cheapest(c: Cheapest) -> NumberedCheapest
-    ensures { (numbered_cheapest_told result ≡ cheapest_told c) × CheapestZeros result }
+// 1 for a query that is covered, else 0.
+fn covered_of(c: Coverage) -> u32
+    ensures { result ≡ covered_of (Ok c) }
 {
     match c {
-        Cheapest::Of(set, sum, chosen) => NumberedCheapest {
-            number: 0,
-            detail: 0,
-            sum,
-            set,
-            chosen,
-        },
-        Cheapest::Refused(x) => NumberedCheapest {
-            number: reply::number_of(x),
-            detail: reply::detail_of(x),
-            sum: 0,
-            set: 0,
-            chosen: 0,
-        },
+        Coverage::Covered => 1,
+        Coverage::Uncovered => 0,
     }
 }
 
-pub fn first_day(d: FirstDay) -> NumberedFirstDay
-    ensures { (numbered_first_day_told result ≡ first_day_told d) × FirstDayZeros result }
-{
-    match d {
-        FirstDay::On(day) => NumberedFirstDay {
-            number: 0,
-            detail: 0,
-            found: 1,
-            day,
-        },
-        FirstDay::Never => NumberedFirstDay {
-            number: 0,
-            detail: 0,
-            found: 0,
-            day: 0,
-        },
-        FirstDay::Refused(x) => NumberedFirstDay {
-            number: reply::number_of(x),
-            detail: reply::detail_of(x),
-            found: 0,
-            day: 0,
-        },
-    }
-}
+impl From<Quote> for NumberedQuote {
+    ghost from_gives = { λ q n. (numbered_quote_told n ≡ quote_told q) × QuoteZeros n };
 
-pub fn asked(a: Asked) -> NumberedAsked
-    ensures { (numbered_asked_told result ≡ ask_told a) × AskedZeros result }
-{
-    match a {
-        Asked::Done(set, slip) => NumberedAsked {
-            number: 0,
-            detail: 0,
-            set,
-            slip,
-        },
-        Asked::Refused(x) => NumberedAsked {
-            number: reply::number_of(x),
-            detail: reply::detail_of(x),
-            set: 0,
-            slip: Slip {
-                from: 0,
-                to: 0,
-                kind: 0,
-                change: 0,
+    fn from(q: Quote) -> NumberedQuote {
+        let mapping = q.mapping;
+        match q.coverage {
+            Ok(c) => NumberedQuote {
+                number: 0,
+                detail: 0,
+                covered: covered_of(c),
+                edges: q.edges,
+                chosen: q.chosen,
+                lowest: q.lowest,
+                mapping,
             },
-        },
+            Err(x) => NumberedQuote {
+                number: x.number(),
+                detail: x.detail(),
+                covered: 0,
+                edges: q.edges,
+                chosen: q.chosen,
+                lowest: q.lowest,
+                mapping,
+            },
+        }
+    }
+}
+
+impl From<Both> for NumberedBoth {
+    ghost from_gives = { λ b n. (numbered_both_told n ≡ both_told b) × BothZeros n };
+
+    fn from(b: Both) -> NumberedBoth {
+        match b {
+            Ok((first, second)) => NumberedBoth {
+                number: 0,
+                detail: 0,
+                first,
+                second,
+            },
+            Err(x) => NumberedBoth {
+                number: x.number(),
+                detail: x.detail(),
+                first: 0,
+                second: 0,
+            },
+        }
+    }
+}
+
+impl From<Several> for NumberedSeveral {
+    ghost from_gives = { λ s n. (numbered_several_told n ≡ several_told s) × SeveralZeros n };
+
+    fn from(s: Several) -> NumberedSeveral {
+        match s {
+            Ok((bytes, sheets)) => NumberedSeveral {
+                number: 0,
+                detail: 0,
+                bytes,
+                sheets,
+            },
+            Err(x) => NumberedSeveral {
+                number: x.number(),
+                detail: x.detail(),
+                bytes: 0,
+                sheets: 0,
+            },
+        }
+    }
+}
+
+impl From<Cheapest> for NumberedCheapest {
+    ghost from_gives = { λ c n. (numbered_cheapest_told n ≡ cheapest_told c) × CheapestZeros n };
+
+    fn from(c: Cheapest) -> NumberedCheapest {
+        match c {
+            Ok((set, sum, chosen)) => NumberedCheapest {
+                number: 0,
+                detail: 0,
+                sum,
+                set,
+                chosen,
+            },
+            Err(x) => NumberedCheapest {
+                number: x.number(),
+                detail: x.detail(),
+                sum: 0,
+                set: 0,
+                chosen: 0,
+            },
+        }
+    }
+}
+
+impl From<FirstDay> for NumberedFirstDay {
+    ghost from_gives = { λ d n. (numbered_first_day_told n ≡ first_day_told d) × FirstDayZeros n };
+
+    fn from(d: FirstDay) -> NumberedFirstDay {
+        match d {
+            Ok(first) => match first {
+                Some(day) => NumberedFirstDay {
+                    number: 0,
+                    detail: 0,
+                    found: 1,
+                    day,
+                },
+                None => NumberedFirstDay {
+                    number: 0,
+                    detail: 0,
+                    found: 0,
+                    day: 0,
+                },
+            },
+            Err(x) => NumberedFirstDay {
+                number: x.number(),
+                detail: x.detail(),
+                found: 0,
+                day: 0,
+            },
+        }
+    }
+}
+
+impl From<Asked> for NumberedAsked {
+    ghost from_gives = { λ a n. (numbered_asked_told n ≡ ask_told a) × AskedZeros n };
+
+    fn from(a: Asked) -> NumberedAsked {
+        match a {
+            Ok((set, slip)) => NumberedAsked {
+                number: 0,
+                detail: 0,
+                set,
+                slip,
+            },
+            Err(x) => NumberedAsked {
+                number: x.number(),
+                detail: x.detail(),
+                set: 0,
+                slip: Slip {
+                    from: 0,
+                    to: 0,
+                    kind: 0,
+                    change: 0,
+                },
+            },
+        }
     }
 }

@@ -7,17 +7,11 @@ use Rattle.answering.proofs.answer.Goals as goal
 
 pub returns-then-work-lt-WORKSPACE : goal.returns-then-work-lt-WORKSPACE
 returns-then-work-lt-WORKSPACE c =
-    let args = c.args in
     let a = c.args in
     settles_small (answer_outcome a.question.now (brings a.catalogue.now a.one_way) a.book.now (length a.out.now)) a.out.now a.work.now c.if-work-lt-WORKSPACE.true
 
 pub returns : goal.returns
 returns c =
-    let args = c.args in
-    let if1 = c.if-work-lt-WORKSPACE in
-    let answer = c.answer-r in
-    let clear = c.clear in
     let a = c.args in
-    let k = c.answer-r in
-    settles_lent (answer_outcome a.question.now (brings a.catalogue.now a.one_way) a.book.now (length a.out.now)) a.out.now a.work.now k.new.work if1.false
-    k.ensures k.auto.work clear.ensures
+    settles_lent (answer_outcome a.question.now (brings a.catalogue.now a.one_way) a.book.now (length a.out.now)) a.out.now a.work.now c.answer-r.new.work c.if-work-lt-WORKSPACE.false
+    c.answer-r.ensures c.answer-r.auto.work c.clear.ensures

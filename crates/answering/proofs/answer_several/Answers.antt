@@ -15,5 +15,4 @@ returns-then-work-lt-WORKSPACE c =
 pub returns : goal.returns
 returns c =
     let a = c.args in
-    let k = c.answer_several-r in
-    lent_settled [] (several_outcome a.questions.now a.number (brings a.catalogue.now a.one_way) a.book.now (length a.out.now)) a.work.now c.if-work-lt-WORKSPACE.false k.ensures k.new.work k.auto.work c.clear.ensures
+    lent_settled [] (several_outcome a.questions.now a.number (brings a.catalogue.now a.one_way) a.book.now (length a.out.now)) a.work.now c.if-work-lt-WORKSPACE.false c.answer_several-r.ensures c.answer_several-r.new.work c.answer_several-r.auto.work c.clear.ensures

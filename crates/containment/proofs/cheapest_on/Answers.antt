@@ -1,23 +1,7 @@
 -- `containment::cheapest_on` meets its contract.
-use mathlib.Core.Path.{refl}
-use mathlib.Core.List.{[]}
-use Rattle.matching.specs.Offered.{brings}
 use Rattle.containment.specs.Terms.{cheapest_on}
-use Rattle.packed.proofs.CallLaws.{small_settled, lent_settled}
 use Rattle.containment.proofs.cheapest_on.Goals as goal
 
-pub returns-then-work-lt-WORKSPACE : goal.returns-then-work-lt-WORKSPACE
-returns-then-work-lt-WORKSPACE c =
-    let args = c.args in
-    let a = c.args in
-    small_settled [] (cheapest_on a.question.now (brings a.catalogue.now a.one_way) a.terms a.day a.charges.now) a.work.now [] c.if-work-lt-WORKSPACE.true refl
-
 pub returns : goal.returns
-returns c =
-    let args = c.args in
-    let if1 = c.if-work-lt-WORKSPACE in
-    let find-cheapest = c.find_cheapest_on-r in
-    let clear = c.clear in
-    let a = c.args in
-    let k = c.find_cheapest_on-r in
-    lent_settled [] (cheapest_on a.question.now (brings a.catalogue.now a.one_way) a.terms a.day a.charges.now) a.work.now if1.false k.ensures k.new.work k.auto.work clear.ensures
+unfolding cheapest_on
+returns c = c.cheapest_for.ensures

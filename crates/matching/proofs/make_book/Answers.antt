@@ -7,15 +7,12 @@ use Rattle.matching.proofs.make_book.Goals as goal
 
 pub returns-then-work-lt-WORKSPACE : goal.returns-then-work-lt-WORKSPACE
 returns-then-work-lt-WORKSPACE c =
-    let args = c.args in
     let a = c.args in
     settles_small (make_book_outcome (brings a.catalogue.now a.one_way) a.«record».now (length a.out.now)) a.out.now a.work.now c.if-work-lt-WORKSPACE.true
 
 pub returns : goal.returns
 returns c =
-    let args = c.args in
     let if1 = c.if-work-lt-WORKSPACE in
-    let make-book = c.make_book-r in
     let clear = c.clear in
     let a = c.args in
     let k = c.make_book-r in

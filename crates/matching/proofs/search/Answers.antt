@@ -6,15 +6,13 @@ use Rattle.matching.proofs.search.Goals as goal
 
 pub returns-then-work-lt-WORKSPACE : goal.returns-then-work-lt-WORKSPACE
 returns-then-work-lt-WORKSPACE c =
-    let args = c.args in
     let a = c.args in
     settles_small (search_outcome a.pattern.now a.«record».now (length a.out.now)) a.out.now a.work.now c.if-work-lt-WORKSPACE.true
 
 pub returns : goal.returns
+unfolding search_outcome
 returns c =
-    let args = c.args in
     let if1 = c.if-work-lt-WORKSPACE in
-    let at-search = c.search-r in
     let clear = c.clear in
     let a = c.args in
     let k = c.search-r in

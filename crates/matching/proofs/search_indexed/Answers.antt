@@ -10,6 +10,7 @@ returns-then-work-lt-WORKSPACE c =
     settles_small (search_indexed_outcome args.pattern.now args.«record».now args.index.now (length args.out.now)) args.out.now args.work.now c.if-work-lt-WORKSPACE.true
 
 pub returns : goal.returns
+unfolding search_indexed_outcome
 returns c =
     let args = c.args in
     let if1 = c.if-work-lt-WORKSPACE in

@@ -17,11 +17,10 @@ overflow_add-number c = omega (arith, rank_most (bit c.args.set) c.loop-i.i)
 
 pub loop-i-preserved : goal.loop-i-preserved
 loop-i-preserved c =
-    let a = c.args in
     let l = c.loop-i in
     let e = sym c.is_in.ensures in (
       search rules,
-      elim c.if-is_in.branch [ then-is_in w ↦ w.number-is ∙ number_more (bit a.set) l.i l.invariant.1 (e ∙ w.if-is_in.true) | else-is_in w ↦ w.number-is ∙ number_same (bit a.set) l.i l.invariant.1 (e ∙ w.if-is_in.false) ],
+      elim c.if-is_in.branch [ then-is_in w ↦ w.number-is ∙ number_more (bit c.args.set) l.i l.invariant.1 (e ∙ w.if-is_in.true) | else-is_in w ↦ w.number-is ∙ number_same (bit c.args.set) l.i l.invariant.1 (e ∙ w.if-is_in.false) ],
     )
 
 pub returns : goal.returns

@@ -1,14 +1,8 @@
 -- `answering::parting::part` meets its contract.
-use mathlib.Core.Path.{◌∙◌}
 use Rattle.matching.specs.Offered.{brings}
 use Rattle.containment.specs.Quote.{quoted}
 use Rattle.containment.specs.Part.{part_outcome}
 use Rattle.answering.proofs.parting.part.Goals as goal
-
-pub part_judged-requires : goal.part_judged-requires
-part_judged-requires c =
-    let a = c.args in
-    ((quoted a.question.now (brings a.catalogue.now a.one_way), c.judge-f.ensures), c.judge-f.auto.work ∙ c.requires)
 
 pub returns : goal.returns
 unfolding part_outcome

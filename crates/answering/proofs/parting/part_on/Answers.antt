@@ -1,13 +1,7 @@
 -- `answering::parting::part_on` meets its contract.
-use mathlib.Core.Path.{◌∙◌}
 use Rattle.matching.specs.Offered.{brings}
 use Rattle.containment.specs.Terms.{quoted_on, part_on}
 use Rattle.answering.proofs.parting.part_on.Goals as goal
-
-pub part_judged-requires : goal.part_judged-requires
-part_judged-requires c =
-    let a = c.args in
-    ((quoted_on a.question.now (brings a.catalogue.now a.one_way) a.terms a.day, c.judge_on-f.ensures), c.judge_on-f.auto.work ∙ c.requires)
 
 pub returns : goal.returns
 unfolding part_on

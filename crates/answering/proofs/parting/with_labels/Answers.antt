@@ -2,7 +2,7 @@
 use lib.ListN.{length}
 use Rattle.containment.specs.declared.query.Fields.{Fields}
 use borrow.Author.Rules.{rules}
-use mathlib.Core.Path.{◌≡◌, sym, subst, ◌∙◌}
+use mathlib.Core.Path.{sym, subst, ◌∙◌}
 use Prim.Native.Nat.{◌+◌, ◌≤◌, ◌<◌}
 use lib.ListN.{take}
 use native.Mathlib.Omega.{arith}
@@ -16,19 +16,12 @@ use Rattle.answering.proofs.parting.with_labels.Goals.{then-is_in, else-is_in}
 pub loop-u-init : goal.loop-u-init
 loop-u-init c = (search rules, search rules, labels_none c.args.nodes c.args.q.labels)
 
-pub is_in-requires : goal.is_in-requires
-is_in-requires c = omega (arith, c.requires.0.nodes)
-
-pub with_word-g-requires : goal.with_word-g-requires
-with_word-g-requires c = omega (arith, c.loop-u.invariant.1, c.requires.1, c.requires.0.nodes)
-
 pub loop-u-preserved : goal.loop-u-preserved
 loop-u-preserved c =
     let a = c.args in
     let l = c.loop-u in
-    let p = c.requires in
     let e = sym c.is_in.ensures in
-    let h : l.u < length a.q.labels = omega (arith, p.0.labels_long, p.0.nodes) in (
+    let h : l.u < length a.q.labels = omega (arith, c.requires.0.labels_long, c.requires.0.nodes) in (
       search rules,
       elim c.if-is_in.branch [
         | then-is_in w ↦ subst (λ (g : Fields). g.number ≤ a.f.number + (l.u + 1)) (sym w.g-is) (omega (arith, w.with_word-g.ensures.0, l.invariant.1))
@@ -39,8 +32,3 @@ loop-u-preserved c =
         | else-is_in w ↦ subst (Adds (at_places (bit a.nodes) (take (l.u + 1) a.q.labels)) a.f) (sym w.g-is) (labels_same a.nodes a.q.labels l.u h (e ∙ w.if-is_in.false) l.invariant.2)
       ],
     )
-
-pub returns : goal.returns
-returns c =
-    let e : c.loop-u.u ≡ c.args.q.nodes = omega arith in
-    (omega (arith, c.loop-u.invariant.1), rw e at c.loop-u.invariant.2)

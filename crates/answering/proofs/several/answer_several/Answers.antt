@@ -3,9 +3,9 @@ use mathlib.Core.Path.{refl, ◌∙◌}
 use mathlib.Core.List.{[], ◌∷◌}
 use lib.ListN.{length}
 use native.Mathlib.Omega.{arith}
+use Rattle.packed.proofs.Passing.{err_is}
 use Rattle.packed.proofs.CallLaws.{refusal_answered}
 use Rattle.matching.specs.Offered.{brings}
-use Rattle.engine.proofs.RowLaws.{blank_long}
 use Rattle.matching.proofs.OfferedLaws.{offered_on}
 use Rattle.containment.proofs.AnswerLaws.{views_small, views_by, counts_by}
 use Rattle.answering.proofs.SeveralLaws.{some_few, asked_by, miscounted, questions_refused, offer_refused, several_on}
@@ -17,45 +17,36 @@ returns-then-number c =
     let a = c.args in
     refusal_answered (a.out.now ∷ []) (miscounted a.questions.now (brings a.catalogue.now a.one_way) a.book.now a.number (length a.out.now) c.if-number.true) refl
 
-pub accept_questions-asked-requires : goal.accept_questions-asked-requires
-accept_questions-asked-requires c = ((some_few c.args.number c.if-number.false).1, c.requires)
-
-pub returns-in-Refused : goal.returns-in-Refused
-returns-in-Refused c =
+pub returns-in_err-accept_questions : goal.returns-in_err-accept_questions
+returns-in_err-accept_questions c =
     let a = c.args in
-    refusal_answered (a.out.now ∷ []) (questions_refused a.questions.now (brings a.catalogue.now a.one_way) a.book.now a.number (length a.out.now) c.if-number.false (rw c.in-Refused.is at c.accept_questions-asked.ensures)) refl
+    rw (err_is c.from_residual.result c.from_residual.ensures.1) (refusal_answered (a.out.now ∷ []) (questions_refused a.questions.now (brings a.catalogue.now a.one_way) a.book.now a.number (length a.out.now) c.if-number.false c.in_err-accept_questions.ensures) refl)
 
-pub accept_offer-verdict-requires : goal.accept_offer-verdict-requires
-accept_offer-verdict-requires c = c.accept_questions-asked.auto.work ∙ c.requires
-
-pub returns-in-Refused-verdict : goal.returns-in-Refused-verdict
-returns-in-Refused-verdict c =
+pub returns-in_err-views : goal.returns-in_err-views
+returns-in_err-views c =
     let a = c.args in
-    let q = rw c.in_default.is at c.accept_questions-asked.ensures in
-    refusal_answered (a.out.now ∷ []) (offer_refused a.questions.now (brings a.catalogue.now a.one_way) a.book.now a.number (length a.out.now) c.if-number.false q.is (rw c.in-Refused-verdict.is at c.accept_offer-verdict.ensures).0) refl
+    let q = c.in_ok-accept_questions.ensures in
+    rw (err_is c.from_residual-in_err-views.result c.from_residual-in_err-views.ensures.1) (refusal_answered (a.out.now ∷ []) (offer_refused a.questions.now (brings a.catalogue.now a.one_way) a.book.now a.number (length a.out.now) c.if-number.false q.is c.in_err-views.ensures) refl)
 
 pub map_queries-sets-requires : goal.map_queries-sets-requires
 map_queries-sets-requires c =
     let a = c.args in
-    let q = rw c.in_default.is at c.accept_questions-asked.ensures in
-    let h = rw c.in_default-verdict.is at c.accept_offer-verdict.ensures in
-    (asked_by a.questions.now a.number q (some_few a.number c.if-number.false).1, views_by a.catalogue.now h.is h.holds, counted_by a.catalogue.now h.is h.holds, omega (arith, views_small a.catalogue.now h.is), blank_long 4096 c.no_tables-tables.ensures, c.accept_offer-verdict.auto.work ∙ c.accept_questions-asked.auto.work ∙ c.requires)
+    let q = c.in_ok-accept_questions.ensures in
+    let h = c.in_ok-views.ensures in
+    (asked_by a.questions.now a.number q (some_few a.number c.if-number.false).1, views_by a.catalogue.now h.is h.holds, counted_by a.catalogue.now h.is h.holds, omega (arith, views_small a.catalogue.now h.is), c.accept_offer.auto.work ∙ c.accept_questions.auto.work ∙ c.requires)
 
 pub answer_book-requires : goal.answer_book-requires
 answer_book-requires c =
     let a = c.args in
-    let q = rw c.in_default.is at c.accept_questions-asked.ensures in
-    let h = rw c.in_default-verdict.is at c.accept_offer-verdict.ensures in
+    let q = c.in_ok-accept_questions.ensures in
+    let h = c.in_ok-views.ensures in
     let s = asked_by a.questions.now a.number q (some_few a.number c.if-number.false).1 in
-    (c.map_queries-sets.auto.work ∙ c.accept_offer-verdict.auto.work ∙ c.accept_questions-asked.auto.work ∙ c.requires, (some_few a.number c.if-number.false).0, (s, counts_by a.catalogue.now h.is h.holds a.one_way, c.map_queries-sets.ensures s (views_by a.catalogue.now h.is h.holds)))
-
-pub shape_of-work : goal.shape_of-work
-shape_of-work c = c.answer_book.auto.work ∙ c.map_queries-sets.auto.work ∙ c.accept_offer-verdict.auto.work ∙ c.accept_questions-asked.auto.work
+    (c.map_queries-sets.auto.work ∙ c.accept_offer.auto.work ∙ c.accept_questions.auto.work ∙ c.requires, (some_few a.number c.if-number.false).0, (s, counts_by a.catalogue.now h.is h.holds a.one_way, c.map_queries-sets.ensures s (views_by a.catalogue.now h.is h.holds)))
 
 pub returns : goal.returns
 returns c =
     let a = c.args in
-    let q = rw c.in_default.is at c.accept_questions-asked.ensures in
-    let h = rw c.in_default-verdict.is at c.accept_offer-verdict.ensures in
+    let q = c.in_ok-accept_questions.ensures in
+    let h = c.in_ok-views.ensures in
     let s = asked_by a.questions.now a.number q (some_few a.number c.if-number.false).1 in
     several_on a.questions.now (brings a.catalogue.now a.one_way) a.book.now a.number (length a.out.now) c.if-number.false q.is (offered_on h) (c.answer_book.ensures s (counts_by a.catalogue.now h.is h.holds a.one_way) (c.map_queries-sets.ensures s (views_by a.catalogue.now h.is h.holds)))

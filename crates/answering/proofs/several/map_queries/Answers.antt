@@ -21,7 +21,7 @@ few : (c : After-view_at-v) → c.view_at-v.result.pattern.edges ≤ 32
 few c = query_few (query c)
 
 pub loop-i-init : goal.loop-i-init
-loop-i-init c = (search rules, refl, asked_start, λ a v. mapped_start (asked_at a v c.args.one_way) c.requires.4 c.no_sets-used.ensures)
+loop-i-init c = (search rules, refl, asked_start, λ a v. mapped_start (asked_at a v c.args.one_way) c.told-tables refl)
 
 pub view_at-v-requires : goal.view_at-v-requires
 view_at-v-requires c =
@@ -29,7 +29,7 @@ view_at-v-requires c =
     record { small = c.requires.0.short; inside = omega arith; few = omega arith }
 
 pub map_views-table-requires : goal.map_views-table-requires
-map_views-table-requires c = (query (goal.at.map_views-table-requires c).After-view_at-v, c.requires.1, c.requires.2, c.requires.3, c.loop-i.invariant.1 ∙ c.requires.5)
+map_views-table-requires c = (query (goal.at.map_views-table-requires c).After-view_at-v, c.requires.1, c.requires.2, c.requires.3, c.loop-i.invariant.1 ∙ c.requires.4)
 
 pub masks_of-masks-requires : goal.masks_of-masks-requires
 masks_of-masks-requires c = (views_few c.requires.1, few (goal.at.masks_of-masks-requires c).After-view_at-v)
@@ -40,39 +40,19 @@ lowest_in-low-requires c = (few (goal.at.lowest_in-low-requires c).After-view_at
 pub use_views-set-requires : goal.use_views-set-requires
 use_views-set-requires c = (few (goal.at.use_views-set-requires c).After-view_at-v, views_few c.requires.1)
 
-pub put_table-requires : goal.put_table-requires
-put_table-requires c = (turn (goal.at.put_table-requires c).In-loop-i, (c.loop-i.invariant.3 c.requires.0 c.requires.1).long)
-
-pub offset_bounds-used-i : goal.offset_bounds-used-i
-offset_bounds-used-i c = omega (arith, turn (goal.at.offset_bounds-used-i c).In-loop-i)
-
-pub bounds-used-i : goal.bounds-used-i
-bounds-used-i c = turn (goal.at.bounds-used-i c).In-loop-i
-
 pub first_lowest-lowest-requires : goal.first_lowest-lowest-requires
 first_lowest-lowest-requires c = few (goal.at.first_lowest-lowest-requires c).After-view_at-v
-
-pub overflow_add-i : goal.overflow_add-i
-overflow_add-i c = omega (arith, turn (goal.at.overflow_add-i c).In-loop-i)
-
-pub loop-i-smaller : goal.loop-i-smaller
-loop-i-smaller c = let t = c.loop-i-test.true in omega arith
 
 pub loop-i-preserved : goal.loop-i-preserved
 loop-i-preserved c =
     let l = c.loop-i.invariant in
-    let t = c.loop-i-test.true in
-    let r = c.view_at-v.result in
-    let w = c.view_at-v.ensures in
-    let m = c.map_views-table in
-    let masks = c.masks_of-masks.ensures in
-    let low = c.lowest_in-low.ensures _ masks in (
+    let low = c.lowest_in-low.ensures _ c.masks_of-masks.ensures in (
       omega arith,
-      m.auto.work ∙ l.1,
-      asked_more l.2 t r w,
+      c.map_views-table.auto.work ∙ l.1,
+      asked_more l.2 c.loop-i-test.true c.view_at-v.result c.view_at-v.ensures,
       λ a v. mapped_more (l.3 a v) (turn (goal.at.loop-i-preserved c).In-loop-i)
-          (asked_found a v c.args.one_way _ (asked_next l.2 t r w a).holds (m.ensures (asked_query l.2 t r w a) v) (few (goal.at.loop-i-preserved c).After-view_at-v) low (c.use_views-set.ensures _ masks low))
-          c.put_table.ensures c.first_lowest-lowest.ensures,
+          (asked_found a v c.args.one_way _ (asked_next l.2 c.loop-i-test.true c.view_at-v.result c.view_at-v.ensures a).holds (c.map_views-table.ensures (asked_query l.2 c.loop-i-test.true c.view_at-v.result c.view_at-v.ensures a) v) low (c.use_views-set.ensures _ c.masks_of-masks.ensures low))
+          c.first_lowest-lowest.ensures,
     )
 
 pub returns : goal.returns

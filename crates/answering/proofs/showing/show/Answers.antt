@@ -1,14 +1,8 @@
 -- `answering::showing::show` meets its contract.
-use mathlib.Core.Path.{◌∙◌}
 use Rattle.matching.specs.Offered.{brings}
 use Rattle.containment.specs.Quote.{quoted}
 use Rattle.containment.specs.Show.{show_outcome}
 use Rattle.answering.proofs.showing.show.Goals as goal
-
-pub show_judged-requires : goal.show_judged-requires
-show_judged-requires c =
-    let a = c.args in
-    ((quoted a.question.now (brings a.catalogue.now a.one_way), c.judge-f.ensures), c.judge-f.auto.work ∙ c.requires)
 
 pub returns : goal.returns
 unfolding show_outcome

@@ -1,13 +1,7 @@
 -- `answering::showing::show_on` meets its contract.
-use mathlib.Core.Path.{◌∙◌}
 use Rattle.matching.specs.Offered.{brings}
 use Rattle.containment.specs.Terms.{quoted_on, show_on}
 use Rattle.answering.proofs.showing.show_on.Goals as goal
-
-pub show_judged-requires : goal.show_judged-requires
-show_judged-requires c =
-    let a = c.args in
-    ((quoted_on a.question.now (brings a.catalogue.now a.one_way) a.terms a.day, c.judge_on-f.ensures), c.judge_on-f.auto.work ∙ c.requires)
 
 pub returns : goal.returns
 unfolding show_on

@@ -1,5 +1,4 @@
 -- `containment::choose::drop_views` meets its contract.
-use borrow.Author.Rules.{rules}
 use borrow.Author.Tests.{eq-eqb, ne_eqb}
 use mathlib.Core.Path.{◌≡◌, refl, ap, sym, ◌∙◌}
 use native.Mathlib.Omega.{arith}
@@ -12,7 +11,7 @@ use Rattle.containment.proofs.choose.drop_views.Goals.{then-is_in+then-union-all
 
 pub loop-a-init : goal.loop-a-init
 unfolding kept
-loop-a-init c = (search rules, λ t h. refl)
+loop-a-init c = λ t h. refl
 
 pub overflow_sub-less : goal.overflow_sub-less
 overflow_sub-less c =
@@ -26,17 +25,15 @@ pub loop-a-preserved : goal.loop-a-preserved
 loop-a-preserved c =
     let l = c.loop-a in
     let b = c.is_in.ensures in
-    let all = c.first_edges-all.ensures in (
-      search rules,
-      λ t h.
-          elim c.if-is_in.branch [
-            | then-is_in+then-union-all w ↦ w.set-is ∙ turn_drops _ _ _ _ _ _ (l.invariant.1 t h) _ w.only.ensures (sym b ∙ w.if-is_in.true) (sym (union_covers t _ _ _ (w.union.ensures t _ h)) ∙ eq-eqb _ _ (w.if-union-all.true ∙ all))
-            | then-is_in+else-union-all w ↦ w.set-is ∙ turn_needs _ _ _ _ _ _ (l.invariant.1 t h) _ w.only.ensures (sym b ∙ w.if-is_in.true) (sym (union_covers t _ _ _ (w.union.ensures t _ h)) ∙ ne_eqb _ _ (λ z. w.if-union-all.false (z ∙ sym all)))
-            | else-is_in w ↦ w.set-is ∙ turn_lacks _ _ _ _ _ _ (l.invariant.1 t h) (sym b ∙ w.if-is_in.false)
-          ],
-    )
+    let all = c.first_edges-all.ensures in
+    λ t h.
+    elim c.if-is_in.branch [
+      | then-is_in+then-union-all w ↦ w.set-is ∙ turn_drops _ _ _ _ _ _ (l.invariant t h) _ w.only.ensures (sym b ∙ w.if-is_in.true) (sym (union_covers t _ _ _ (w.union.ensures t _ h)) ∙ eq-eqb _ _ (w.if-union-all.true ∙ all))
+      | then-is_in+else-union-all w ↦ w.set-is ∙ turn_needs _ _ _ _ _ _ (l.invariant t h) _ w.only.ensures (sym b ∙ w.if-is_in.true) (sym (union_covers t _ _ _ (w.union.ensures t _ h)) ∙ ne_eqb _ _ (λ z. w.if-union-all.false (z ∙ sym all)))
+      | else-is_in w ↦ w.set-is ∙ turn_lacks _ _ _ _ _ _ (l.invariant t h) (sym b ∙ w.if-is_in.false)
+    ]
 
 pub returns : goal.returns
 returns c =
     let e : c.loop-a.a ≡ c.args.k = omega arith in
-    λ t h. c.loop-a.invariant.1 t h ∙ ap (kept _ _ _ _) e
+    λ t h. c.loop-a.invariant t h ∙ ap (kept _ _ _ _) e

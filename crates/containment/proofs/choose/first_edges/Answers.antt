@@ -3,11 +3,5 @@ use native.Mathlib.Omega.{arith}
 use lib.Pow.{pow_pos, pow_mono}
 use Rattle.containment.proofs.choose.first_edges.Goals as goal
 
-pub overflow_sub-result : goal.overflow_sub-result
-overflow_sub-result c = omega (arith, pow_pos c.args.m, pow_mono {j = 32} c.requires)
-
-pub overflow_cast-result : goal.overflow_cast-result
-overflow_cast-result c = omega (arith, pow_pos c.args.m, pow_mono {j = 32} c.requires)
-
 pub returns : goal.returns
 returns c = omega (arith, pow_pos c.args.m, pow_mono {j = 32} c.requires)

@@ -1,5 +1,4 @@
 -- `containment::choose::union` meets its contract.
-use borrow.Author.Rules.{rules}
 use mathlib.Core.Path.{◌≡◌, sym, subst, ◌∙◌}
 use Prim.Native.Nat.{ℕ, ◌+◌}
 use native.Mathlib.Omega.{arith}
@@ -10,23 +9,21 @@ use Rattle.containment.proofs.choose.union.Goals as goal
 use Rattle.containment.proofs.choose.union.Goals.{then-is_in, else-is_in}
 
 pub loop-a-init : goal.loop-a-init
-loop-a-init c = (search rules, λ t m h. union_none t m _)
+loop-a-init c = λ t m h. union_none t m _
 
 pub loop-a-preserved : goal.loop-a-preserved
 loop-a-preserved c =
     let s = c.args.set in
     let l = c.loop-a in
-    let b = c.is_in.ensures in (
-      search rules,
-      λ t m h.
-          elim c.if-is_in.branch [
-            | then-is_in w ↦ subst (Mask (EdgeMatchedIn t m s (l.a + 1))) (sym w.matched-is) (union_in t m s l.a (l.invariant.1 t m h) (sym b ∙ w.if-is_in.true) (h l.a (omega arith)))
-            | else-is_in w ↦ subst (Mask (EdgeMatchedIn t m s (l.a + 1))) (sym w.matched-is) (union_out t m s l.a (l.invariant.1 t m h) (sym b ∙ w.if-is_in.false))
-          ],
-    )
+    let b = c.is_in.ensures in
+    λ t m h.
+    elim c.if-is_in.branch [
+      | then-is_in w ↦ subst (Mask (EdgeMatchedIn t m s (l.a + 1))) (sym w.matched-is) (union_in t m s l.a (l.invariant t m h) (sym b ∙ w.if-is_in.true) (h l.a (omega arith)))
+      | else-is_in w ↦ subst (Mask (EdgeMatchedIn t m s (l.a + 1))) (sym w.matched-is) (union_out t m s l.a (l.invariant t m h) (sym b ∙ w.if-is_in.false))
+    ]
 
 pub returns : goal.returns
 returns c =
     let a = c.args in
     let e : c.loop-a.a ≡ a.k = omega arith in
-    λ t m h. subst (λ (z : ℕ). Mask (EdgeMatchedIn t m a.set z) c.loop-a.matched) e (c.loop-a.invariant.1 t m h)
+    λ t m h. subst (λ (z : ℕ). Mask (EdgeMatchedIn t m a.set z) c.loop-a.matched) e (c.loop-a.invariant t m h)

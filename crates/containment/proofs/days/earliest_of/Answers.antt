@@ -3,18 +3,17 @@ use mathlib.Core.Path.{◌≡◌, ap, ◌∙◌}
 use native.Mathlib.Omega.{arith}
 use native.Mathlib.Numerals.{add-one}
 use Rattle.containment.specs.Terms.{earliest}
-use borrow.Author.Rules.{rules}
 use Rattle.containment.proofs.days.earliest_of.Goals as goal
 
 pub loop-a-init : goal.loop-a-init
 unfolding earliest
-loop-a-init c = (search rules, c.sooner_of-found.ensures _ c.masks_of-masks.ensures)
+loop-a-init c = c.sooner_of-found.ensures _ c.masks_of-masks.ensures
 
 pub loop-a-preserved : goal.loop-a-preserved
 unfolding earliest
-loop-a-preserved c = (search rules, c.sooner_of-found-in-loop-a.ensures _ c.masks_of-masks.ensures ∙ rw (add-one, ← c.loop-a.invariant.1))
+loop-a-preserved c = c.sooner_of-found-in-loop-a.ensures _ c.masks_of-masks.ensures ∙ rw (add-one, ← c.loop-a.invariant)
 
 pub returns : goal.returns
 returns c =
     let e : c.loop-a.a ≡ c.args.k = omega arith in
-    c.loop-a.invariant.1 ∙ ap (earliest _ _ _) e
+    c.loop-a.invariant ∙ ap (earliest _ _ _) e

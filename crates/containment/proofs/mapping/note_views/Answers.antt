@@ -1,12 +1,12 @@
 -- `containment::mapping::note_views` meets its contract.
 use native.Mathlib.Omega.{arith}
-use mathlib.Core.Path.{refl, sym, ◌∙◌}
+use mathlib.Core.Path.{refl, ◌∙◌}
 use Rattle.engine.proofs.MatchedLaws.{edges_twice}
 use Rattle.engine.proofs.StartLaws.{room_blank}
 use Rattle.engine.proofs.RowLaws.{blank_long}
 use Rattle.matching.proofs.RecordLaws.{ready_by, rises_by, ready_again, rises_again}
 use Rattle.containment.proofs.QueryLaws.{fair}
-use Rattle.containment.proofs.NotingLaws.{noted_start, noted_end, noted_long, noted_clear, noted_more, catalogued, views_few, counts_few, number_few, nodes_few, query_present, placed_again}
+use Rattle.containment.proofs.NotingLaws.{noted_start, noted_end, noted_long, noted_clear, noted_more, views_few, counts_few, number_few, nodes_few, query_present, placed_again, placed_many, placed_front}
 use Rattle.containment.proofs.mapping.note_views.Goals as goal
 
 pub places_of-places-requires : goal.places_of-places-requires
@@ -28,30 +28,12 @@ loop-a-init c =
       blank_long 16 c.no_words-held.ensures,
     )
 
-pub fill-f-requires : goal.fill-f-requires
-fill-f-requires c = (catalogued c.requires.1 c.requires.4, c.requires.2, c.loop-a-test.true, c.loop-a.invariant.2.ahead)
-
-pub slice_bounds-match_batch-end : goal.slice_bounds-match_batch-end
-slice_bounds-match_batch-end c = sym c.loop-a.invariant.4
-
-pub slice_bounds-match_batch-end-in-loop-a : goal.slice_bounds-match_batch-end-in-loop-a
-slice_bounds-match_batch-end-in-loop-a c = sym c.loop-a.invariant.5
-
-pub slice_bounds-match_batch-end-in-loop-a-2 : goal.slice_bounds-match_batch-end-in-loop-a-2
-slice_bounds-match_batch-end-in-loop-a-2 c = sym c.loop-a.invariant.6
-
 pub match_batch-requires : goal.match_batch-requires
 match_batch-requires c =
     let t = c.requires.0 in
     let l = c.loop-a.invariant in
     let h = c.requires.5 in
-    (c.fill-f.ensures.fair, ready_again l.1 (ready_by h c.requires.3), rises_again l.1 (omega (arith, number_few t h (c.requires.6 t))) (rises_by h), l.3)
-
-pub named-named-requires : goal.named-named-requires
-named-named-requires c =
-    let t = c.requires.0 in
-    let h = c.requires.5 in
-    (omega (arith, number_few t h (c.requires.6 t)), omega (arith, c.match_batch.ensures.0.edges.long, c.loop-a.invariant.1.long, h.long))
+    (c.fill-f.ensures.fair, ready_again l.1 (ready_by h c.requires.3), rises_again l.1 (omega (arith, number_few t h (c.requires.6 t))) (rises_by h), l.3, tt)
 
 pub note_batch-requires : goal.note_batch-requires
 note_batch-requires c =
@@ -65,16 +47,13 @@ note_batch-requires c =
       (_, c.named-named.ensures),
       omega (arith, f.some),
       omega (arith, f.most, views_few v),
-      (fair t).edges,
+      omega (arith, placed_many c.places_of-places.ensures, (fair t).edges),
       counts_few c.args.counts c.requires.2 v f,
       noted_long l.2 t v,
       d.edges.long ∙ l.1.long ∙ h.long,
-      λ i j. omega (arith, (c.places_of-places.ensures.each i j).0, few),
+      λ i j. omega (arith, ((placed_front c.places_of-places.ensures).each i (omega (arith, placed_many c.places_of-places.ensures))).0, few),
       noted_clear l.2 t v,
     )
-
-pub loop-a-smaller : goal.loop-a-smaller
-loop-a-smaller c = omega (arith, c.fill-f.ensures.some, c.fill-f.ensures.most)
 
 pub loop-a-preserved : goal.loop-a-preserved
 loop-a-preserved c =
@@ -84,7 +63,7 @@ loop-a-preserved c =
     let g = edges_twice l.1 d.edges in (
       c.fill-f.ensures.most,
       g,
-      noted_more c.requires.5 c.requires.6 l.2 c.fill-f.ensures c.args.counts c.requires.2 l.1 d (placed_again g (omega (arith, number_few t c.requires.5 (c.requires.6 t))) c.places_of-places.ensures) (c.note_batch.ensures _ c.named-named.ensures),
+      noted_more c.requires.5 c.requires.6 l.2 c.fill-f.ensures c.args.counts c.requires.2 l.1 d (placed_again g (omega (arith, number_few t c.requires.5 (c.requires.6 t))) (placed_front c.places_of-places.ensures)) (rw (placed_many c.places_of-places.ensures) at c.note_batch.ensures _ c.named-named.ensures),
       c.match_batch.ensures.1,
       c.match_batch.auto.leave ∙ l.4,
       c.match_batch.auto.arrive ∙ l.5,

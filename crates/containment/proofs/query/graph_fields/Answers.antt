@@ -9,26 +9,13 @@ use Rattle.containment.proofs.query.graph_fields.Goals as goal
 pub load_ranks-k-requires : goal.load_ranks-k-requires
 load_ranks-k-requires c = let pre = c.requires in (fair pre.0, pre.1)
 
-pub sort-requires : goal.sort-requires
-sort-requires c =
-    let ranks = c.load_ranks-k.ensures in
-    (omega (arith, ranks.few), omega (arith, ranks.long))
-
 pub label_fields-words-requires : goal.label_fields-words-requires
 label_fields-words-requires c = (fair c.requires.0, c.load_ranks-k.ensures.few)
-
-pub overflow_add-at : goal.overflow_add-at
-overflow_add-at c = omega (arith, (fair c.requires.0).nodes)
 
 pub store_ranked-requires : goal.store_ranked-requires
 store_ranked-requires c =
     let few = c.load_ranks-k.ensures.few in
     (search rules, omega (arith, c.label_fields-words.ensures.long, few, (fair c.requires.0).nodes))
-
-pub overflow_add-result : goal.overflow_add-result
-overflow_add-result c =
-    let few = c.load_ranks-k.ensures.few in
-    omega (arith, few, (fair c.requires.0).nodes)
 
 pub returns : goal.returns
 returns c =

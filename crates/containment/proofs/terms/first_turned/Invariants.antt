@@ -1,10 +1,7 @@
 -- `containment::terms::first_turned` meets its contract.
-use Prim.Native.Nat.{ℕ, ◌≤◌, ◌<◌, ◌-◌}
+use Prim.Native.Nat.{ℕ, ◌<◌}
 use Rattle.containment.specs.Terms.{from_day, to_day}
 use Rattle.containment.proofs.terms.first_turned.Given as goal
 
 abbrev pub invariant-loop-a : goal.invariant-loop-a
-invariant-loop-a l = (l.a ≤ l.k) × ((d : ℕ) → d < l.a → from_day l.t d < to_day l.t d)
-
-abbrev pub decreases-loop-a : goal.decreases-loop-a
-decreases-loop-a l = l.k - l.a
+invariant-loop-a l = (d : ℕ) → d < l.a → from_day l.t d < to_day l.t d

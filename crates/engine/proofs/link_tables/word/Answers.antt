@@ -21,15 +21,6 @@ lower c =
 pub returns-then-s-eq0 : goal.returns-then-s-eq0
 returns-then-s-eq0 c = word_none c.args.each.now c.args.i c.if-s-eq0.true
 
-pub overflow_cast-before : goal.overflow_cast-before
-overflow_cast-before c = omega (arith, lower (goal.at.overflow_cast-before c).After-one-named, c.requires.0)
-
-pub overflow_add-before : goal.overflow_add-before
-overflow_add-before c = omega (arith, lower (goal.at.overflow_add-before c).After-one-named, c.requires.0)
-
-pub offset_bounds-t-before : goal.offset_bounds-t-before
-offset_bounds-t-before c = omega (arith, lower (goal.at.offset_bounds-t-before c).After-one-named, c.requires.0)
-
 pub bounds-t-before : goal.bounds-t-before
 bounds-t-before c = omega (arith, lower (goal.at.bounds-t-before c).After-one-named, c.requires.0)
 

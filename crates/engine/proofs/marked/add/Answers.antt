@@ -10,4 +10,4 @@ pub returns : goal.returns
 returns c =
     let pre = c.requires in
     let args = c.args in
-    add_by _ args.x _ _ pre.0.long pre.1 (rw (one-mul (2 ^ (args.x % 32))) (mod-eq_of_lt (pow-lt {j = 32} (omega arith)))) c.least.ensures
+    add_by _ args.x _ _ pre.0.long pre.1 (rw (one-mul (2 ^ (args.x % 32))) (mod-eq_of_lt (pow-lt {j = 32} (omega arith)))) c.min.ensures

@@ -9,9 +9,6 @@ use Rattle.engine.proofs.marked.draw.Goals as goal
 pub returns-then-at-ge256 : goal.returns-then-at-ge256
 returns-then-at-ge256 c = no_word c.first_word-at.ensures c.if-at-ge256.true
 
-pub lowest-place-requires : goal.lowest-place-requires
-lowest-place-requires c = c.first_word-at.ensures.here (omega (arith, c.if-at-ge256.false))
-
 pub returns : goal.returns
 returns c =
     let l = c.lowest-place.ensures.0 in

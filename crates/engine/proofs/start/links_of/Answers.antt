@@ -1,5 +1,4 @@
 -- `engine::start::links_of` meets its contract.
-use native.Mathlib.Omega.{arith}
 use mathlib.Core.Path.{subst, sym}
 use Prim.Native.Nat.{ℕ}
 use Rattle.engine.specs.Masks.{Has}
@@ -11,24 +10,6 @@ use Rattle.engine.proofs.start.links_of.Goals as goal
 
 pub loop-left-init : goal.loop-left-init
 loop-left-init c = ((λ l h. h), taken_start c.args.leaving.now _, taken_start c.args.arriving.now _)
-
-pub lowest-l-requires : goal.lowest-l-requires
-lowest-l-requires c = c.loop-left-test.true
-
-pub offset_bounds-leaving-l : goal.offset_bounds-leaving-l
-offset_bounds-leaving-l c = omega (arith, c.lowest-l.ensures.0)
-
-pub bounds-leaving-l : goal.bounds-leaving-l
-bounds-leaving-l c = omega (arith, c.lowest-l.ensures.0)
-
-pub offset_bounds-arriving-l : goal.offset_bounds-arriving-l
-offset_bounds-arriving-l c = omega (arith, c.lowest-l.ensures.0)
-
-pub bounds-arriving-l : goal.bounds-arriving-l
-bounds-arriving-l c = omega (arith, c.lowest-l.ensures.0)
-
-pub one-taken-requires : goal.one-taken-requires
-one-taken-requires c = c.lowest-l.ensures.0
 
 pub loop-left-smaller : goal.loop-left-smaller
 loop-left-smaller c =

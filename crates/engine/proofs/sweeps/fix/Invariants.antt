@@ -2,8 +2,5 @@
 use Rattle.engine.specs.Rounds.{Fixed}
 use Rattle.engine.proofs.sweeps.fix.Given as goal
 
-abbrev pub invariant-loop-left : goal.invariant-loop-left
-invariant-loop-left l = Fixed l.n l.free l.due l.back l.d l.leaving l.arriving l.ending l.starting l.initial.work l.initial.leave l.initial.arrive l.initial.held 1 l.work l.leave l.arrive l.held
-
-abbrev pub decreases-loop-left : goal.decreases-loop-left
-decreases-loop-left l = l.left
+abbrev pub invariant-loop : goal.invariant-loop
+invariant-loop l = Fixed l.n l.rule.free l.rule.due l.rule.back l.d l.tables.leaving.now l.tables.arriving.now l.tables.ending.now l.tables.starting.now l.initial.work l.initial.leave l.initial.arrive l.initial.held 1 l.work l.leave l.arrive l.held

@@ -2,8 +2,8 @@
 use Rattle.engine.proofs.TurnLaws.{Turning, measure}
 use Rattle.engine.proofs.turns.settle.Given as goal
 
-abbrev pub invariant-loop-v : goal.invariant-loop-v
-invariant-loop-v l = Turning l.n l.due l.asked l.d l.leaving l.arriving l.ending l.starting l.work l.initial.leave l.initial.arrive l.leave l.arrive l.set
+abbrev pub invariant-loop-rule : goal.invariant-loop-rule
+invariant-loop-rule l = Turning l.pairs.n l.rule.due l.rule.back l.pairs.d l.tables.leaving.now l.tables.arriving.now l.tables.ending.now l.tables.starting.now l.pairs.work.now l.initial.leave l.initial.arrive l.leave l.arrive l.set
 
-abbrev pub decreases-loop-v : goal.decreases-loop-v
-decreases-loop-v l = measure l.n l.leave l.arrive l.set
+abbrev pub decreases-loop-rule : goal.decreases-loop-rule
+decreases-loop-rule l = measure l.pairs.n l.leave l.arrive l.set

@@ -7,21 +7,11 @@ use Rattle.listing.proofs.lines.line.Goals as goal
 pub returns-then-out-n : goal.returns-then-out-n
 unfolding line_outcome
 returns-then-out-n c =
-    let args = c.args in
-    let put-line = c.put_line-n in
-    let out = args.out.now in
-    let w = c.put_line-n in
-    let s = none_lent out w.new.out w.auto.out in
-    rw s (line_tight out _ w.ensures.end (rw s at c.if-out-n.true))
+    let s = none_lent c.args.out.now c.put_line-n.new.out c.put_line-n.auto.out in
+    rw s (line_tight c.args.out.now _ c.put_line-n.ensures.end (rw s at c.if-out-n.true))
 
 pub returns : goal.returns
 unfolding line_outcome
 returns c =
-    let args = c.args in
-    let put-line = c.put_line-n in
-    let if1 = c.if-out-n in
-    let put-line2 = c.put_line in
-    let out = args.out.now in
-    let w = c.put_line-n in
-    let s = none_lent out w.new.out w.auto.out in
-    line_given out _ w.ensures.end (rw s at if1.false) (rw s at put-line2.ensures.is)
+    let s = none_lent c.args.out.now c.put_line-n.new.out c.put_line-n.auto.out in
+    line_given c.args.out.now _ c.put_line-n.ensures.end (rw s at c.if-out-n.false) (rw s at c.put_line.ensures.is)

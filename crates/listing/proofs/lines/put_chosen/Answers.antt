@@ -2,7 +2,7 @@
 use native.Mathlib.Omega.{arith}
 use Rattle.containment.specs.Listing.{view_text, chosen_text}
 use Rattle.containment.proofs.ListingLaws.{chosen_so_far}
-use Rattle.listing.proofs.WrittenLaws.{concat_none, concat_more, concat_end, written_long}
+use Rattle.listing.proofs.WrittenLaws.{concat_none, concat_more, concat_end}
 use Rattle.listing.proofs.lines.put_chosen.Goals as goal
 
 pub loop-a-init : goal.loop-a-init
@@ -13,9 +13,6 @@ put_view-end-requires c = omega (arith, c.loop-a.invariant.1.end, chosen_so_far 
 
 pub loop-a-preserved : goal.loop-a-preserved
 loop-a-preserved c = (omega arith, concat_more (view_text c.args.set) c.loop-a.a c.loop-a.invariant.1 c.put_view-end.ensures)
-
-pub shape_of-out : goal.shape_of-out
-shape_of-out c = written_long c.loop-a.invariant.1
 
 pub returns : goal.returns
 unfolding chosen_text

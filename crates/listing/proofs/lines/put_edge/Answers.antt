@@ -9,36 +9,16 @@ pub returns-then-not-has : goal.returns-then-not-has
 unfolding edge_text
 returns-then-not-has c = rw (← c.has.ensures, c.if-not-has.true) (written_none _ _)
 
-pub put_number-dot-requires : goal.put_number-dot-requires
-put_number-dot-requires c =
-    let put = c.put-view in
-    omega (arith, put.ensures.end)
-
 pub put-edge-requires : goal.put-edge-requires
-put-edge-requires c =
-    let args = c.args in
-    let put = c.put-view in
-    let put-number = c.put_number-dot in
-    omega (arith, put.ensures.end, put-number.ensures.end, decimal_length args.a)
+put-edge-requires c = omega (arith, c.put-view.ensures.end, c.put_number-dot.ensures.end, decimal_length c.args.a)
 
 pub put_number-requires : goal.put_number-requires
-put_number-requires c =
-    let args = c.args in
-    let put = c.put-view in
-    let put-number = c.put_number-dot in
-    let put2 = c.put-edge in
-    omega (arith, put.ensures.end, put-number.ensures.end, put2.ensures.end, decimal_length args.a)
+put_number-requires c = omega (arith, c.put-view.ensures.end, c.put_number-dot.ensures.end, c.put-edge.ensures.end, decimal_length c.args.a)
 
 pub returns : goal.returns
 unfolding edge_text
 returns c =
-    let has = c.has in
-    let if1 = c.if-not-has in
-    let put = c.put-view in
-    let put-number = c.put_number-dot in
-    let put2 = c.put-edge in
-    let put-number2 = c.put_number in
-    rw (← has.ensures, if1.false)
-    (written_then put.ensures
-    (written_then put-number.ensures
-    (written_then put2.ensures put-number2.ensures)))
+    rw (← c.has.ensures, c.if-not-has.false)
+    (written_then c.put-view.ensures
+    (written_then c.put_number-dot.ensures
+    (written_then c.put-edge.ensures c.put_number.ensures)))

@@ -2,7 +2,7 @@
 use native.Mathlib.Omega.{arith}
 use Rattle.containment.specs.Listing.{edge_text, edges_text}
 use Rattle.containment.proofs.ListingLaws.{edges_so_far}
-use Rattle.listing.proofs.WrittenLaws.{concat_none, concat_more, concat_end, written_long}
+use Rattle.listing.proofs.WrittenLaws.{concat_none, concat_more, concat_end}
 use Rattle.listing.proofs.lines.put_edges.Goals as goal
 
 pub loop-b-init : goal.loop-b-init
@@ -13,9 +13,6 @@ put_edge-end-requires c = omega (arith, c.loop-b.invariant.1.end, edges_so_far c
 
 pub loop-b-preserved : goal.loop-b-preserved
 loop-b-preserved c = (omega arith, concat_more (edge_text c.args.a c.args.mask) c.loop-b.b c.loop-b.invariant.1 c.put_edge-end.ensures)
-
-pub shape_of-out : goal.shape_of-out
-shape_of-out c = written_long c.loop-b.invariant.1
 
 pub returns : goal.returns
 unfolding edges_text

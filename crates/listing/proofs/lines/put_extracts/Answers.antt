@@ -8,24 +8,13 @@ use Rattle.listing.proofs.lines.put_extracts.Goals as goal
 
 pub returns-then-set-eq0 : goal.returns-then-set-eq0
 unfolding chosen_line
-returns-then-set-eq0 c =
-    let if1 = c.if-set-eq0 in
-    let put = c.put in
-    rw (eq-eqb _ _ if1.true) put.ensures
+returns-then-set-eq0 c = rw (eq-eqb _ _ c.if-set-eq0.true) c.put.ensures
 
 pub put-requires-2 : goal.put-requires-2
-put-requires-2 c =
-    let args = c.args in
-    let put2 = c.put-start in
-    let put-chosen = c.put_chosen-end in
-    omega (arith, put2.ensures.end, put-chosen.ensures.end, chosen_length args.set)
+put-requires-2 c = omega (arith, c.put-start.ensures.end, c.put_chosen-end.ensures.end, chosen_length c.args.set)
 
 pub returns : goal.returns
 unfolding chosen_line
 returns c =
-    let if1 = c.if-set-eq0 in
-    let put2 = c.put-start in
-    let put-chosen = c.put_chosen-end in
-    let put3 = c.put-2 in
-    rw (ne_eqb _ _ if1.false)
-    (written_then put2.ensures (written_then put-chosen.ensures put3.ensures))
+    rw (ne_eqb _ _ c.if-set-eq0.false)
+    (written_then c.put-start.ensures (written_then c.put_chosen-end.ensures c.put-2.ensures))

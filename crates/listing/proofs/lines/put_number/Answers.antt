@@ -1,15 +1,11 @@
 -- `listing::put_number` meets its contract.
 use native.Mathlib.Omega.{arith}
 use Rattle.containment.proofs.ListingLaws.{decimal_length}
-use Rattle.listing.proofs.WrittenLaws.{number_start, number_within, number_more, number_end, written_long}
-use borrow.Author.Rules.{rules}
+use Rattle.listing.proofs.WrittenLaws.{number_within, number_more, number_end}
 use Rattle.listing.proofs.lines.put_number.Goals as goal
 
 pub overflow_add-end : goal.overflow_add-end
 overflow_add-end c = omega (arith, c.width.ensures, decimal_length c.args.n)
-
-pub loop-m-init : goal.loop-m-init
-loop-m-init c = (number_start c.args.n c.args.out.now c.args.at _ (search rules) (omega arith), omega arith)
 
 pub overflow_sub-i : goal.overflow_sub-i
 overflow_sub-i c = number_within c.loop-m.invariant.0 (omega arith)
@@ -19,6 +15,3 @@ loop-m-preserved c = (rw (c.store.ensures, c.last_digit.ensures) (number_more c.
 
 pub returns : goal.returns
 returns c = rw (c.store-2.ensures, c.last_digit-2.ensures) (number_end c.loop-m.invariant.0 (omega arith) c.loop-m.invariant.1)
-
-pub shape_of-out : goal.shape_of-out
-shape_of-out c = written_long (returns c)

@@ -1,5 +1,5 @@
 -- `listing::put_views` meets its contract.
-use Prim.Native.Nat.{◌-◌, ◌≤◌}
+use Prim.Native.Nat.{◌≤◌}
 use Rattle.containment.specs.Listing.{concat}
 use Rattle.listing.specs.Written.{TextWritten}
 use Rattle.containment.proofs.ListingLaws.{matches_line}
@@ -7,6 +7,3 @@ use Rattle.listing.proofs.lines.put_views.Given as goal
 
 abbrev pub invariant-loop-a : goal.invariant-loop-a
 invariant-loop-a l = (l.a ≤ 16) × (TextWritten (concat (matches_line l.mapping l.e) l.a) l.initial.out l.at l.out l.end)
-
-abbrev pub decreases-loop-a : goal.decreases-loop-a
-decreases-loop-a l = 16 - l.a

@@ -2,11 +2,7 @@
 use native.Mathlib.Omega.{arith}
 use Rattle.containment.proofs.ListingLaws.{decimal_length}
 use Rattle.listing.proofs.WrittenLaws.{count_more, count_end}
-use borrow.Author.Rules.{rules}
 use Rattle.listing.proofs.lines.width.Goals as goal
-
-pub loop-m-init : goal.loop-m-init
-loop-m-init c = record { small = search rules; count = omega arith }
 
 pub overflow_add-w : goal.overflow_add-w
 overflow_add-w c = omega (arith, c.loop-m.invariant.count, decimal_length c.args.n)

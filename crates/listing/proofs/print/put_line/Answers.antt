@@ -11,4 +11,4 @@ returns-in_default c =
 pub returns : goal.returns
 returns c =
     let a = c.args in
-    line_whole a.q a.k a.buf.now (omega arith) (rw c.in-Done.is at c.line.ensures)
+    line_whole a.q a.k a.buf.now (omega arith) (rw c.in-Ok.is at c.line.ensures)

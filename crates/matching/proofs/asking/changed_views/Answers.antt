@@ -1,32 +1,19 @@
 -- `matching::asking::changed_views` meets its contract.
 use native.Mathlib.Omega.{arith}
-use mathlib.Core.Path.{sym, ◌∙◌}
+use mathlib.Core.Path.{refl, ◌∙◌}
 use Rattle.engine.proofs.StartLaws.{room_blank}
-use Rattle.engine.proofs.RowLaws.{blank_long}
 use Rattle.matching.proofs.BookLaws.{batch_range, past_ready}
 use Rattle.matching.proofs.AskLaws.{asking_start, asking_small, asking_next, asking_end}
 use Rattle.matching.proofs.asking.changed_views.Goals as goal
 
 pub loop-a-init : goal.loop-a-init
-loop-a-init c = (asking_start, room_blank 4096 _ c.requires.0.ready.nodes c.no_words-leave.ensures c.no_words-arrive.ensures c.no_words-held.ensures, blank_long 4096 c.no_words-leave.ensures, blank_long 4096 c.no_words-arrive.ensures, blank_long 4096 c.no_words-held.ensures)
-
-pub fill-f-requires : goal.fill-f-requires
-fill-f-requires c = (c.requires.0.views, c.requires.0.counted, omega (arith, c.loop-a-test), c.loop-a.invariant.0.past.begins)
-
-pub slice_bounds-match_batch-end : goal.slice_bounds-match_batch-end
-slice_bounds-match_batch-end c = sym c.loop-a.invariant.2
-
-pub slice_bounds-match_batch-end-in-loop-a : goal.slice_bounds-match_batch-end-in-loop-a
-slice_bounds-match_batch-end-in-loop-a c = sym c.loop-a.invariant.3
-
-pub slice_bounds-match_batch-end-in-loop-a-2 : goal.slice_bounds-match_batch-end-in-loop-a-2
-slice_bounds-match_batch-end-in-loop-a-2 c = sym c.loop-a.invariant.4
+loop-a-init c = (asking_start, room_blank 4096 _ c.requires.0.ready.nodes refl refl refl, refl, refl, refl)
 
 pub match_batch-requires : goal.match_batch-requires
 match_batch-requires c =
     let inv = c.loop-a.invariant in
     let t = past_ready inv.0.past c.requires.0 in
-    (c.fill-f.ensures.fair, t.0, t.1, inv.1)
+    (c.fill-f.ensures.fair, t.0, t.1, inv.1, tt)
 
 pub listed_views-set-requires : goal.listed_views-set-requires
 listed_views-set-requires c =
@@ -49,9 +36,6 @@ loop-a-preserved c =
     let q = c.match_batch.ensures in
     let kept = c.match_batch.auto in
     (asking_next pre.0 inv.0 pre.1 c.fill-f.ensures q.0 c.listed_views-set.ensures, q.1, kept.leave ∙ inv.2, kept.arrive ∙ inv.3, kept.held ∙ inv.4)
-
-pub shape_of-work : goal.shape_of-work
-shape_of-work c = c.loop-a.invariant.0.past.edges.long
 
 pub returns : goal.returns
 returns c = asking_end c.requires.0 c.loop-a.invariant.0 (omega arith)

@@ -5,8 +5,5 @@ use Rattle.matching.proofs.asking.listed_views.Goals as goal
 pub returns-then-x-eq0 : goal.returns-then-x-eq0
 returns-then-x-eq0 c = lists_none c.args.edges c.args.a c.args.b c.args.m c.args.work.now _ c.if-x-eq0.true
 
-pub views_with-requires : goal.views_with-requires
-views_with-requires c = c.requires.0
-
 pub returns : goal.returns
 returns c = c.views_with.ensures.is _ _ c.named-named.ensures

@@ -1,17 +1,11 @@
 -- `matching::asking::views_with` meets its contract.
 use native.Mathlib.Omega.{arith}
-use Rattle.matching.proofs.BookLaws.{walk_start, walk_below, walk_fits, walk_next}
-use Rattle.matching.proofs.AskLaws.{lists_start, lists_next, lists_few, lists_end}
+use Rattle.matching.proofs.BookLaws.{walk_start, walk_fits, walk_next}
+use Rattle.matching.proofs.AskLaws.{lists_start, lists_next, lists_end}
 use Rattle.matching.proofs.asking.views_with.Goals as goal
 
 pub loop-j-init : goal.loop-j-init
 loop-j-init c = (walk_start c.requires, lists_start)
-
-pub offset_bounds-edges-j : goal.offset_bounds-edges-j
-offset_bounds-edges-j c = omega (arith, walk_below c.loop-j.invariant.0 (omega (arith, c.loop-j-test)))
-
-pub bounds-edges-j : goal.bounds-edges-j
-bounds-edges-j c = omega (arith, walk_below c.loop-j.invariant.0 (omega (arith, c.loop-j-test)))
 
 pub bits_from-has-requires : goal.bits_from-has-requires
 bits_from-has-requires c = walk_fits c.loop-j.invariant.0 (omega (arith, c.loop-j-test))
@@ -19,20 +13,8 @@ bits_from-has-requires c = walk_fits c.loop-j.invariant.0 (omega (arith, c.loop-
 pub lists_all-full-requires : goal.lists_all-full-requires
 lists_all-full-requires c = walk_fits c.loop-j.invariant.0 (omega (arith, c.loop-j-test))
 
-pub only_if-set-requires : goal.only_if-set-requires
-only_if-set-requires c = omega (arith, walk_below c.loop-j.invariant.0 (omega (arith, c.loop-j-test)))
-
-pub overflow_add-set : goal.overflow_add-set
-overflow_add-set c = omega (arith, lists_few (lists_next c.loop-j.invariant.0 c.loop-j.invariant.1 c.bits_from-has.ensures c.lists_all-full.ensures c.only_if-set.ensures) (omega (arith, walk_below c.loop-j.invariant.0 (omega (arith, c.loop-j-test)))))
-
 pub overflow_add-o : goal.overflow_add-o
 overflow_add-o c = omega (arith, walk_fits c.loop-j.invariant.0 (omega (arith, c.loop-j-test)))
-
-pub overflow_add-j : goal.overflow_add-j
-overflow_add-j c = omega (arith, walk_below c.loop-j.invariant.0 (omega (arith, c.loop-j-test)))
-
-pub loop-j-smaller : goal.loop-j-smaller
-loop-j-smaller c = omega (arith, c.loop-j-test)
 
 pub loop-j-preserved : goal.loop-j-preserved
 loop-j-preserved c = (walk_next c.loop-j.invariant.0 (omega (arith, c.loop-j-test)), lists_next c.loop-j.invariant.0 c.loop-j.invariant.1 c.bits_from-has.ensures c.lists_all-full.ensures c.only_if-set.ensures)

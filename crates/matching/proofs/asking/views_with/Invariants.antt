@@ -1,11 +1,7 @@
 -- `matching::asking::views_with` meets its contract.
-use Prim.Native.Nat.{◌-◌}
 use Rattle.matching.specs.Asking.{ListsBy}
 use Rattle.matching.proofs.BookLaws.{Walk}
 use Rattle.matching.proofs.asking.views_with.Given as goal
 
 abbrev pub invariant-loop-j : goal.invariant-loop-j
 invariant-loop-j l = Walk l.edges l.a l.b l.o l.j × ListsBy l.edges l.a l.j l.x l.named l.set
-
-abbrev pub decreases-loop-j : goal.decreases-loop-j
-decreases-loop-j l = l.b - l.j

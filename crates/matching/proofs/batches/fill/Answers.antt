@@ -1,6 +1,6 @@
 -- `matching::batches::fill` meets its contract.
 use native.Mathlib.Omega.{arith}
-use Rattle.matching.proofs.BatchLaws.{over_no, filling_start, filling_stands, filling_fair, filling_full, filling_some, filling_next, filling_end}
+use Rattle.matching.proofs.BatchLaws.{over_no, filling_start, filling_fair, filling_full, filling_some, filling_next, filling_end}
 use Rattle.matching.proofs.batches.fill.Goals as goal
 
 pub loop-next-init : goal.loop-next-init
@@ -9,29 +9,10 @@ loop-next-init c =
     let none = c.none-b.ensures in
     filling_start _ pre.0 pre.2 pre.3 none.0 none.1 none.2
 
-pub offset_bounds-edges-next : goal.offset_bounds-edges-next
-offset_bounds-edges-next c = omega (arith, c.loop-next-test, c.loop-next.invariant.few)
-
-pub bounds-edges-next : goal.bounds-edges-next
-bounds-edges-next c = omega (arith, c.loop-next-test, c.loop-next.invariant.few)
-
-pub overflow_cast-edges : goal.overflow_cast-edges
-overflow_cast-edges c =
-    let z = c.loop-next.invariant in
-    omega (arith, (c.requires.1 z.fields z.is).small c.loop-next.next)
-
-pub overflow_add-b : goal.overflow_add-b
-overflow_add-b c =
-    let z = c.loop-next.invariant in
-    omega (arith, z.fair.edges, (c.requires.1 z.fields z.is).small c.loop-next.next)
-
 pub returns-then-b-edges-gt-EDGES : goal.returns-then-b-edges-gt-EDGES
 returns-then-b-edges-gt-EDGES c =
     let z = c.loop-next.invariant in
     filling_some z (omega (arith, c.if-b-edges-gt-EDGES.true, (c.requires.1 z.fields z.is).small c.loop-next.next))
-
-pub view_at-v-requires : goal.view_at-v-requires
-view_at-v-requires c = filling_stands c.loop-next.invariant (omega (arith, c.loop-next-test))
 
 pub overflow_add-b-in-loop-next : goal.overflow_add-b-in-loop-next
 overflow_add-b-in-loop-next c =
@@ -54,12 +35,6 @@ returns-then-b-p c =
     let view = c.view_at-v in
     filling_full z (omega (arith, some)) view.result view.ensures c.if-b-p.true
 
-pub is_both-both-requires : goal.is_both-both-requires
-is_both-both-requires c =
-    let z = c.loop-next.invariant in
-    let some = c.loop-next-test in
-    omega (arith, some, z.few)
-
 pub add-b-requires : goal.add-b-requires
 add-b-requires c =
     let z = c.loop-next.invariant in
@@ -67,12 +42,6 @@ add-b-requires c =
     let view = c.view_at-v in
     let room = over_no _ _ c.if-b-p.false in
     (z.fair, filling_fair z (omega (arith, some)) view.result view.ensures, room.0, room.1)
-
-pub overflow_add-next : goal.overflow_add-next
-overflow_add-next c = omega (arith, c.loop-next-test)
-
-pub loop-next-smaller : goal.loop-next-smaller
-loop-next-smaller c = omega (arith, c.loop-next-test)
 
 pub loop-next-preserved : goal.loop-next-preserved
 loop-next-preserved c =

@@ -1,16 +1,8 @@
 -- `matching::calls::book_sizes` meets its contract.
 use native.Mathlib.Omega.{arith}
-use mathlib.Core.Path.{refl, ◌∙◌}
-use Rattle.matching.proofs.BookLaws.{batch_range, sizes_next, past_start, past_next, past_ready, sized_end}
+use mathlib.Core.Path.{◌∙◌}
+use Rattle.matching.proofs.BookLaws.{batch_range, sizes_next, past_next, past_ready, sized_end}
 use Rattle.matching.proofs.calls.book_sizes.Goals as goal
-
-pub loop-a-init : goal.loop-a-init
-loop-a-init c =
-    let pre = c.requires in
-    (past_start pre.1 pre.2, record { each = λ cs e j h l. absurd (omega arith) }, pre.3, pre.4, refl, refl, refl)
-
-pub fill-f-requires : goal.fill-f-requires
-fill-f-requires c = (c.requires.0.views, c.requires.0.counted, omega (arith, c.loop-a-test), c.loop-a.invariant.0.begins)
 
 pub match_sizes-requires : goal.match_sizes-requires
 match_sizes-requires c =
@@ -29,18 +21,6 @@ loop-a-preserved c =
     let q = c.match_sizes.ensures in
     let kept = c.match_sizes.auto in
     (past_next inv.0 v q.0.edges, sizes_next c.requires.0 v inv.0.edges q.0 q.2 q.3 inv.1, q.3.long ∙ inv.2, q.1, kept.leave ∙ inv.4, kept.arrive ∙ inv.5, kept.held ∙ inv.6)
-
-pub shape_of-work : goal.shape_of-work
-shape_of-work c = c.loop-a.invariant.0.edges.long
-
-pub shape_of-leave : goal.shape_of-leave
-shape_of-leave c = c.loop-a.invariant.4
-
-pub shape_of-arrive : goal.shape_of-arrive
-shape_of-arrive c = c.loop-a.invariant.5
-
-pub shape_of-held : goal.shape_of-held
-shape_of-held c = c.loop-a.invariant.6
 
 pub returns : goal.returns
 returns c = (sized_end c.loop-a.invariant.0 c.requires.0 (omega arith) c.loop-a.invariant.2 c.loop-a.invariant.1, c.loop-a.invariant.3)

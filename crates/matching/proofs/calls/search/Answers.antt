@@ -1,35 +1,25 @@
 -- `matching::calls::search` meets its contract.
 use mathlib.Core.Path.{refl, ◌∙◌}
 use lib.ListN.{length}
+use Rattle.packed.proofs.Passing.{err_is}
 use Rattle.packed.proofs.CallLaws.{body_refused, body_goes_on}
 use Rattle.engine.specs.Simulation.{pattern_of}
-use Rattle.matching.specs.Search.{search_for, search_outcome}
+use Rattle.matching.specs.Index.{search_by}
 use Rattle.matching.proofs.AnswerFits.{given_fair, given_same}
 use Rattle.matching.proofs.calls.search.Goals as goal
 
-pub returns-in_default : goal.returns-in_default
-unfolding search_outcome
-returns-in_default c =
-    let args = c.args in
-    let accept-pattern = c.accept_pattern-f in
+pub returns-in_err-f : goal.returns-in_err-f
+returns-in_err-f c =
     let a = c.args in
-    rw c.in_default.is (body_refused (λ ps. search_for (pattern_of ps) a.«record».now (length a.out.now)) a.out.now refl c.in_default.field-0 (rw c.in_default.is at accept-pattern.ensures).0)
+    rw (err_is c.from_residual.result c.from_residual.ensures.1) (body_refused (λ ps. search_by (pattern_of ps) a.«record».now a.index (length a.out.now)) a.out.now refl c.in_err-f.field-0.0 c.in_err-f.ensures)
 
 pub search_for-requires : goal.search_for-requires
 search_for-requires c =
-    let args = c.args in
-    let pre = c.requires in
-    let accept-pattern = c.accept_pattern-f in
-    let q = rw c.in-Done.is at accept-pattern.ensures in
-    let f = given_fair args.pattern.now q in
-    (accept-pattern.auto.work ∙ pre, f.0, f.1)
+    let f = given_fair c.args.pattern.now c.in_ok-f.ensures in
+    (c.accept_pattern.auto.work ∙ c.requires, f.0, f.1)
 
 pub returns : goal.returns
-unfolding search_outcome
 returns c =
-    let args = c.args in
-    let accept-pattern = c.accept_pattern-f in
-    let search-for = c.search_for in
     let a = c.args in
-    let q = rw c.in-Done.is at accept-pattern.ensures in
-    body_goes_on (λ ps. search_for (pattern_of ps) a.«record».now (length a.out.now)) q.is (rw (given_same a.pattern.now q) at search-for.ensures)
+    let q = c.in_ok-f.ensures in
+    body_goes_on (λ ps. search_by (pattern_of ps) a.«record».now a.index (length a.out.now)) q.is (rw (given_same a.pattern.now q) at c.search_for.ensures)

@@ -1,7 +1,7 @@
 -- `matching::calls::write_book` meets its contract.
 use native.Mathlib.Omega.{arith}
 use mathlib.Core.Path.{refl, ◌∙◌}
-use Rattle.matching.proofs.BookLaws.{written_start, views_few, batch_range, past_start, past_next, past_ready, book_long, book_marked, book_room, book_next, book_end}
+use Rattle.matching.proofs.BookLaws.{written_start, batch_range, past_start, past_next, past_ready, book_marked, book_room, book_next, book_end}
 use Rattle.matching.proofs.calls.write_book.Goals as goal
 
 pub loop-a-init : goal.loop-a-init
@@ -9,24 +9,11 @@ loop-a-init c =
     let pre = c.requires in
     (past_start pre.1 pre.2, record { is = λ cs e. written_start _ _ _ _ }, pre.5, refl, refl, refl)
 
-pub fill-f-requires : goal.fill-f-requires
-fill-f-requires c = (c.requires.0.views, c.requires.0.counted, omega (arith, c.loop-a-test), c.loop-a.invariant.0.begins)
-
-pub list_nothing-nothing-requires : goal.list_nothing-nothing-requires
-list_nothing-nothing-requires c = omega (arith, c.fill-f.ensures.most, views_few c.requires.0)
-
 pub match_again-d-requires : goal.match_again-d-requires
 match_again-d-requires c =
     let inv = c.loop-a.invariant in
     let t = past_ready inv.0 c.requires.0 in
     (c.fill-f.ensures.fair, t.0, t.1, inv.2)
-
-pub counts-c-requires : goal.counts-c-requires
-counts-c-requires c =
-    let pre = c.requires in
-    let inv = c.loop-a.invariant in
-    let z = book_marked inv.0 pre.0 pre.3 pre.4 inv.1 c.fill-f.ensures c.list_nothing-nothing.ensures c.match_again-d.ensures.0 in
-    (z.most, z.long)
 
 pub write_sheets-at-requires : goal.write_sheets-at-requires
 write_sheets-at-requires c =
@@ -48,21 +35,6 @@ loop-a-preserved c =
     let q = c.match_again-d.ensures in
     let kept = c.match_again-d.auto in
     (past_next inv.0 v q.0.edges, book_next inv.0 pre.0 pre.3 pre.4 inv.1 v c.list_nothing-nothing.ensures q.0 c.write_sheets-at.ensures, q.1, kept.leave ∙ inv.3, kept.arrive ∙ inv.4, kept.held ∙ inv.5)
-
-pub shape_of-out : goal.shape_of-out
-shape_of-out c = book_long c.loop-a.invariant.0 c.requires.0 c.requires.3 c.requires.4 c.loop-a.invariant.1
-
-pub shape_of-work : goal.shape_of-work
-shape_of-work c = c.loop-a.invariant.0.edges.long
-
-pub shape_of-leave : goal.shape_of-leave
-shape_of-leave c = c.loop-a.invariant.3
-
-pub shape_of-arrive : goal.shape_of-arrive
-shape_of-arrive c = c.loop-a.invariant.4
-
-pub shape_of-held : goal.shape_of-held
-shape_of-held c = c.loop-a.invariant.5
 
 pub returns : goal.returns
 returns c = book_end c.loop-a.invariant.0 c.requires.0 (omega arith) c.loop-a.invariant.1

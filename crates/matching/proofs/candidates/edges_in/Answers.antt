@@ -1,10 +1,11 @@
 -- `matching::candidates::edges_in` meets its contract.
+use mathlib.Core.Path.{sym, subst, ◌∙◌}
+use lib.Dec.{T}
 use native.Mathlib.Omega.{arith}
-use Rattle.engine.proofs.MaskBits.{has_say, has_by}
 use Rattle.matching.proofs.candidates.edges_in.Goals as goal
 
-pub returns-then-b-eq1 : goal.returns-then-b-eq1
-returns-then-b-eq1 c = (omega arith, (λ e l. (l, has_by _ _ c.if-b-eq1.true)), λ e l h. l)
+pub returns-then-is_in : goal.returns-then-is_in
+returns-then-is_in c = (omega arith, (λ e l. (l, subst T (sym (sym c.is_in.ensures ∙ c.if-is_in.true)) tt)), λ e l h. l)
 
-pub returns-else-b-eq1 : goal.returns-else-b-eq1
-returns-else-b-eq1 c = (omega arith, (λ e l. absurd (omega arith)), λ e l h. absurd (c.if-b-eq1.false (has_say _ _ h)))
+pub returns-else-is_in : goal.returns-else-is_in
+returns-else-is_in c = (omega arith, (λ e l. absurd (omega arith)), λ e l h. absurd (subst T (sym c.is_in.ensures ∙ c.if-is_in.false) h))

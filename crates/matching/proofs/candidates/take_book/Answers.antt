@@ -2,7 +2,7 @@
 use mathlib.Core.Path.{◌≡◌}
 use native.Mathlib.Omega.{arith}
 use lib.ListN.{length}
-use Rattle.matching.proofs.TakingSheets.{book_start, book_sheet, book_more, book_end}
+use Rattle.matching.proofs.TakingSheets.{book_start, book_more, book_end}
 use Rattle.matching.proofs.candidates.take_book.Goals as goal
 use Rattle.matching.proofs.candidates.take_book.Goals.{Start}
 
@@ -12,37 +12,6 @@ sixteen c = c.well_formed.1.0.1.0.1
 
 pub loop-a-init : goal.loop-a-init
 loop-a-init c = book_start _ _ _ _ _ _ _ _
-
-pub edges_in-within-requires : goal.edges_in-within-requires
-edges_in-within-requires c =
-    let pre = c.requires in
-    omega (arith, c.loop-a-test.true, pre.1.few)
-
-pub offset_bounds-counts-a : goal.offset_bounds-counts-a
-offset_bounds-counts-a c =
-    let pre = c.requires in
-    let loop-test = c.loop-a-test in
-    omega (arith, loop-test.true, pre.1.few)
-
-pub bounds-counts-a : goal.bounds-counts-a
-bounds-counts-a c =
-    let pre = c.requires in
-    let loop-test = c.loop-a-test in
-    omega (arith, loop-test.true, pre.1.few)
-
-pub take_sheet-at-requires : goal.take_sheet-at-requires
-take_sheet-at-requires c =
-    let pre = c.requires in
-    let loop = c.loop-a in
-    let loop-test = c.loop-a-test in
-    let edges-in = c.edges_in-within in
-    (omega (arith, loop-test.true, pre.1.few), omega (arith, edges-in.ensures.0, pre.0), book_sheet loop.invariant pre.1 loop-test.true)
-
-pub overflow_add-a : goal.overflow_add-a
-overflow_add-a c =
-    let pre = c.requires in
-    let loop-test = c.loop-a-test in
-    omega (arith, loop-test.true, pre.1.few)
 
 pub loop-a-preserved : goal.loop-a-preserved
 loop-a-preserved c =
@@ -54,9 +23,6 @@ loop-a-preserved c =
     book_more loop.invariant pre.1 loop-test.true
     (omega (arith, pre.1.few, sixteen (goal.at.loop-a-preserved c).Start))
     edges-in.ensures.1 edges-in.ensures.2 take-sheet.ensures.0 take-sheet.ensures.1
-
-pub shape_of-work : goal.shape_of-work
-shape_of-work c = c.loop-a.invariant.taken.around.long
 
 pub returns : goal.returns
 returns c = book_end c.loop-a.invariant c.loop-a-test.false

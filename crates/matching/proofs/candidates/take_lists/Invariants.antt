@@ -1,10 +1,6 @@
 -- `matching::candidates::take_lists` meets its contract.
-use Prim.Native.Nat.{◌-◌}
 use Rattle.matching.proofs.TakingSheets.{TakingSheet}
 use Rattle.matching.proofs.candidates.take_lists.Given as goal
 
 abbrev pub invariant-loop-f : goal.invariant-loop-f
 invariant-loop-f l = TakingSheet l.s l.start l.lists l.t l.a l.m l.d l.initial.work l.work l.at l.f
-
-abbrev pub decreases-loop-f : goal.decreases-loop-f
-decreases-loop-f l = l.lists - l.f

@@ -1,13 +1,6 @@
 -- `matching::candidates::take_sheet` meets its contract.
-use Rattle.matching.proofs.TakingSheets.{sheet_lists, sheet_end_lem}
+use Rattle.matching.proofs.TakingSheets.{sheet_end_lem}
 use Rattle.matching.proofs.candidates.take_sheet.Goals as goal
-
-pub take_lists-end-requires : goal.take_lists-end-requires
-take_lists-end-requires c =
-    let args = c.args in
-    let pre = c.requires in
-    let lists_at = c.lists_at-lists in
-    (pre.0, pre.1, sheet_lists args.s.now args.start args.edges lists_at.result lists_at.ensures.0 pre.2)
 
 pub returns : goal.returns
 returns c =

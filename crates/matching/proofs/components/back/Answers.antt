@@ -9,9 +9,6 @@ use Rattle.matching.proofs.components.back.Goals as goal
 pub loop-v-init : goal.loop-v-init
 loop-v-init c = (omega arith, union_start _)
 
-pub one_where-r-requires : goal.one_where-r-requires
-one_where-r-requires c = (omega arith, omega arith)
-
 pub loop-v-preserved : goal.loop-v-preserved
 loop-v-preserved c = (omega arith, union_more (λ e k. (e ≡ k) × Has (get_or c.args.t.now e 0) c.args.u) _ c.loop-v.invariant.1 c.one_where-r.ensures)
 

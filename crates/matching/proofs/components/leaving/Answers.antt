@@ -9,9 +9,6 @@ use Rattle.matching.proofs.components.leaving.Goals as goal
 pub loop-e-init : goal.loop-e-init
 loop-e-init c = (omega arith, union_start _)
 
-pub one_where-r-requires : goal.one_where-r-requires
-one_where-r-requires c = (c.requires.1 c.loop-e.e c.loop-e-test.true, omega arith)
-
 pub loop-e-preserved : goal.loop-e-preserved
 loop-e-preserved c = (omega arith, union_more (λ e k. (e ≡ k) × Has c.args.x (get_or c.args.from.now e 0)) _ c.loop-e.invariant.1 c.one_where-r.ensures)
 

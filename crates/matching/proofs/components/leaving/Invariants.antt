@@ -1,10 +1,7 @@
 -- `matching::components::leaving` meets its contract.
-use Prim.Native.Nat.{◌≤◌, ◌-◌}
+use Prim.Native.Nat.{◌≤◌}
 use Rattle.matching.specs.Stepping.{LeavingLinks}
 use Rattle.matching.proofs.components.leaving.Given as goal
 
 abbrev pub invariant-loop-e : goal.invariant-loop-e
 invariant-loop-e l = (l.e ≤ l.m) × LeavingLinks l.from l.e l.x l.r
-
-abbrev pub decreases-loop-e : goal.decreases-loop-e
-decreases-loop-e l = l.m - l.e

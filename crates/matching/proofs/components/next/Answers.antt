@@ -3,9 +3,6 @@ use native.Mathlib.Omega.{arith}
 use Rattle.matching.proofs.ReachLaws.{passed_more, next_found, next_none}
 use Rattle.matching.proofs.components.next.Goals as goal
 
-pub loop-u-init : goal.loop-u-init
-loop-u-init c = (omega arith, λ j l. absurd (omega arith))
-
 pub returns-then-bar-eq0 : goal.returns-then-bar-eq0
 returns-then-bar-eq0 c = next_found c.args.t.now c.args.components.now c.args.n c.args.settled c.loop-u.u c.loop-u-test.true c.if-bar-eq0.true
 

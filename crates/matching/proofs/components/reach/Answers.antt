@@ -1,21 +1,11 @@
 -- `matching::components::reach` meets its contract.
 use mathlib.Core.Path.{refl}
-use native.Mathlib.Omega.{arith}
 use Rattle.engine.proofs.MaskBits.{has_by}
 use Rattle.matching.proofs.ReachLaws.{within_start, within_more, within_less, within_end}
 use Rattle.matching.proofs.components.reach.Goals as goal
 
-pub overflow_cast-u : goal.overflow_cast-u
-overflow_cast-u c = let f = c.requires.0.nodes in let g = c.requires.1 in omega arith
-
-pub one_where-x-requires : goal.one_where-x-requires
-one_where-x-requires c = (omega arith, let f = c.requires.0.nodes in let g = c.requires.1 in omega arith)
-
 pub loop-x-init : goal.loop-x-init
 loop-x-init c = within_start c.requires.0 _ _ c.requires.1 c.one_where-x.ensures (has_by 1 0 refl)
-
-pub spread-y-requires : goal.spread-y-requires
-spread-y-requires c = (c.requires.0.edges, λ e l. let f = c.requires.0 in let a = f.from e l in let b = f.to e l in let n = f.nodes in (omega arith, omega arith))
 
 pub returns-then-y-x : goal.returns-then-y-x
 returns-then-y-x c = within_end c.requires.0 _ _ _ c.requires.1 c.loop-x.invariant c.spread-y.ensures c.if-y-x.true

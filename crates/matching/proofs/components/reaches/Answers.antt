@@ -2,18 +2,11 @@
 use mathlib.Core.Path.{sym}
 use native.Mathlib.Nat.{zero-add}
 use native.Mathlib.Omega.{arith}
-use Rattle.engine.proofs.Filling.{filling_start, filling_more, filling_front}
-use Rattle.engine.proofs.RowLaws.{blank_long}
+use Rattle.engine.proofs.Filling.{filling_more, filling_front}
 use Rattle.matching.proofs.components.reaches.Goals as goal
 
-pub loop-u-init : goal.loop-u-init
-loop-u-init c = filling_start _ _ _ _
-
-pub reach-requires : goal.reach-requires
-reach-requires c = (c.requires, c.loop-u-test.true)
-
 pub loop-u-preserved : goal.loop-u-preserved
-loop-u-preserved c = filling_more _ _ _ c.loop-u.invariant _ _ c.loop-u-test.true (omega (arith, blank_long 16 c.no_masks-t.ensures, c.requires.nodes)) (sym (zero-add _)) c.reach.ensures
+loop-u-preserved c = filling_more _ _ _ c.loop-u.invariant _ _ c.loop-u-test.true (omega (arith, c.requires.nodes)) (sym (zero-add _)) c.reach.ensures
 
 pub returns : goal.returns
 returns c = filling_front _ _ c.loop-u.invariant c.loop-u-test.false

@@ -1,23 +1,18 @@
 -- `matching::entering::commit` meets its contract.
-use mathlib.Core.Path.{refl, ◌∙◌}
+use mathlib.Core.Path.{refl}
 use mathlib.Core.List.{[], ◌∷◌}
 use lib.ListN.{length}
 use Rattle.packed.specs.declared.reply.Refusal.TheVariants.{SmallWorkspace}
-use Rattle.packed.specs.declared.reply.Both.TheVariants as both_is
-use Rattle.packed.proofs.CallLaws.{lent_long, small_settled, lent_settled}
+use Rattle.packed.proofs.CallLaws.{small_settled, lent_settled}
 use Rattle.matching.specs.Enter.{state_of, commit_outcome}
 use Rattle.matching.proofs.EnteringLaws.{commits_by}
 use Rattle.matching.proofs.entering.commit.Goals as goal
+use Rattle.std.specs.Prelude.{Err}
 
 pub returns-then-work-lt-WORKSPACE : goal.returns-then-work-lt-WORKSPACE
 returns-then-work-lt-WORKSPACE c =
-    commits_by c.args.«record».now c.args.links c.args.change c.args.slip (both_is.Refused SmallWorkspace) c.after.result c.after.ensures
+    commits_by c.args.«record».now c.args.links c.args.change c.args.slip (Err SmallWorkspace) c.after.result c.after.ensures
     (small_settled [] (commit_outcome c.args.«record».now (state_of c.args.links c.args.change) c.args.slip (length c.args.out.now) (length c.args.index_out.now)) c.args.work.now (c.args.out.now ∷ c.args.index_out.now ∷ []) c.if-work-lt-WORKSPACE.true refl)
-
-pub shape_of-work : goal.shape_of-work
-shape_of-work c =
-    let e = c.enter_record-r in
-    c.clear.auto.work ∙ lent_long c.args.work.now e.new.work c.if-work-lt-WORKSPACE.false e.auto.work
 
 pub returns : goal.returns
 returns c =

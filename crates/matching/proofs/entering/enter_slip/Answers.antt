@@ -3,6 +3,7 @@ use mathlib.Core.Path.{◌≡◌}
 use mathlib.Core.List.{[], ◌∷◌}
 use lib.ListN.{length}
 use native.Mathlib.Omega.{arith}
+use Rattle.packed.proofs.Passing.{err_is}
 use Rattle.packed.proofs.GraphLaws.{holds_bounds}
 use Rattle.matching.proofs.EnteringLaws.{slip_old, slip_last, link_refused, link_accepted, enters_at, counted_by}
 use Rattle.matching.proofs.entering.enter_slip.Goals as goal
@@ -13,20 +14,19 @@ returns-then-slip-change c = (λ ws e. slip_old ws c.args.links c.args.change c.
 pub returns-then-change-eq-CHANGE_MOST : goal.returns-then-change-eq-CHANGE_MOST
 returns-then-change-eq-CHANGE_MOST c = (λ ws e. slip_last ws c.args.links c.args.change c.args.slip (length c.args.out.now) (length c.args.index_out.now) (c.args.out.now ∷ c.args.index_out.now ∷ []) c.if-slip-change.false c.if-change-eq-CHANGE_MOST.true, tt)
 
-pub judge-verdict-requires : goal.judge-verdict-requires
-judge-verdict-requires c = let b = holds_bounds c.requires.0 in (b.0, b.1, c.requires.0.long)
+pub judge-requires : goal.judge-requires
+judge-requires c = let b = holds_bounds c.requires.0 in (b.0, b.1, c.requires.0.long)
 
 pub write_both-requires : goal.write_both-requires
 write_both-requires c =
     let h = c.requires.0 in
-    let e = rw c.in-Done.is at (c.judge-verdict.ensures c.args.«record».now c.requires.0) in
+    let e = c.in_ok-at.ensures c.args.«record».now c.requires.0 in
     (h, c.requires.1, enters_at h c.args.links _ e)
 
-pub returns-in-Done : goal.returns-in-Done
-returns-in-Done c =
-    let a = c.args in
+pub returns : goal.returns
+returns c =
     let h = c.requires.0 in
-    let j = rw c.in-Done.is at (c.judge-verdict.ensures c.args.«record».now c.requires.0) in
+    let j = c.in_ok-at.ensures c.args.«record».now c.requires.0 in
     let w = c.write_both in (
       λ ws e.
           let q : h.fields ≡ ws = cc (h.is, e) in
@@ -34,8 +34,8 @@ returns-in-Done c =
       counted_by w.result (omega (arith, j.count, j.may.room)) (omega (arith, c.if-change-eq-CHANGE_MOST.false, c.ranges.change)),
     )
 
-pub returns-in-Refused : goal.returns-in-Refused
-returns-in-Refused c =
+pub returns-in_err-at : goal.returns-in_err-at
+returns-in_err-at c =
     let h = c.requires.0 in
-    let j = rw c.in-Refused.is at (c.judge-verdict.ensures c.args.«record».now c.requires.0) in
-    (λ ws e. (let q : h.fields ≡ ws = cc (h.is, e) in link_refused ws c.args.links c.args.change c.args.slip (length c.args.out.now) (length c.args.index_out.now) (c.args.out.now ∷ c.args.index_out.now ∷ []) c.if-slip-change.false c.if-change-eq-CHANGE_MOST.false c.in-Refused.x (rw q at j)), tt)
+    let j = c.in_err-at.ensures c.args.«record».now c.requires.0 in
+    rw (err_is c.from_residual.result c.from_residual.ensures.1) ((λ ws e. (let q : h.fields ≡ ws = cc (h.is, e) in link_refused ws c.args.links c.args.change c.args.slip (length c.args.out.now) (length c.args.index_out.now) (c.args.out.now ∷ c.args.index_out.now ∷ []) c.if-slip-change.false c.if-change-eq-CHANGE_MOST.false c.in_err-at.field-0.0 (rw q at j)), tt))

@@ -7,9 +7,6 @@ use Rattle.matching.proofs.RecordLaws.{order_by}
 use Rattle.matching.proofs.EnteringLaws.{size_is, entries_are, now_ready, index_given}
 use Rattle.matching.proofs.entering.write_both.Goals as goal
 
-pub overflow_add-more : goal.overflow_add-more
-overflow_add-more c = let b = enters_bounds c.requires.0 c.requires.2 in omega (arith, b.1)
-
 pub record_size-size-requires : goal.record_size-size-requires
 record_size-size-requires c = let b = enters_bounds c.requires.0 c.requires.2 in (b.2, omega (arith, b.1))
 

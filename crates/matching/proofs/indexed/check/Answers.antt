@@ -3,6 +3,7 @@ use mathlib.Core.Path.{refl}
 use mathlib.Core.List.{[], ◌∷◌}
 use native.Mathlib.Omega.{arith}
 use lib.ListN.{length}
+use Rattle.packed.proofs.Passing.{err_is}
 use Rattle.packed.specs.Calls.{give}
 use Rattle.packed.proofs.CallLaws.{answers_refused}
 use Rattle.engine.specs.Simulation.{graph_of}
@@ -14,23 +15,20 @@ use Rattle.matching.proofs.indexed.check.Goals as goal
 
 pub judge-requires : goal.judge-requires
 judge-requires c =
-    let load-record = c.load_record-g in
-    let h = rw c.in-Of.is at load-record.ensures in
+    let h = c.in_ok-n.ensures in
     let r = ready_by h.0 (omega (arith, h.1)) in
     (ready_ends r, order_by h.0, r.nodes)
 
-pub returns-in-Of : goal.returns-in-Of
-returns-in-Of c =
+pub returns : goal.returns
+returns c =
     let args = c.args in
-    let load-record = c.load_record-g in
     let judge = c.judge in
-    let h = rw c.in-Of.is at load-record.ensures in
+    let h = c.in_ok-n.ensures in
     checked_by h.1 h.0 args.index.now judge.result judge.ensures
 
-pub returns-in-Refused : goal.returns-in-Refused
+pub returns-in_err-n : goal.returns-in_err-n
 unfolding check_index_outcome
-returns-in-Refused c =
+returns-in_err-n c =
     let args = c.args in
-    let load-record = c.load_record-g in
-    let q = rw c.in-Refused.is at load-record.ensures in
-    answers_refused (λ rs. own_index (index_of (graph_of rs)) args.index.now (give (length args.index.now ∷ []) [])) [] q refl
+    let q = c.in_err-n.ensures in
+    rw (err_is c.from_residual.result c.from_residual.ensures.1) (answers_refused (λ rs. own_index (index_of (graph_of rs)) args.index.now (give (length args.index.now ∷ []) [])) [] q refl)

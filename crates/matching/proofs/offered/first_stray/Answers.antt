@@ -7,9 +7,6 @@ use Rattle.matching.proofs.OfferedLaws.{stray_by}
 use borrow.Author.Rules.{rules}
 use Rattle.matching.proofs.offered.first_stray.Goals as goal
 
-pub loop-a-init : goal.loop-a-init
-loop-a-init c = (search rules, search rules, λ d l h. l)
-
 pub returns-then-is_in : goal.returns-then-is_in
 returns-then-is_in c =
     let loop = c.loop-a in

@@ -8,28 +8,17 @@ use Rattle.matching.proofs.steps.nodes.Goals as goal
 pub returns-then-d-lt1 : goal.returns-then-d-lt1
 returns-then-d-lt1 c = (omega arith, no_ends c.requires (omega arith), λ k e. omega arith)
 
-pub bounds-work-last : goal.bounds-work-last
-bounds-work-last c =
-    let pre = c.requires in
-    omega (arith, pre.most, pre.long)
-
-pub last_end-t-requires : goal.last_end-t-requires
-last_end-t-requires c =
-    let pre = c.requires in
-    omega (arith, pre.most, pre.long)
-
 pub returns : goal.returns
 returns c =
     let p = c.requires in
     let s = p.small (c.args.d - 1) (omega arith) in
-    let g = c.greater.ensures in
-    let few = g.2 4096 (omega arith) c.last_end-t.ensures.0 in
-    let t = c.last_end-t.ensures in (
+    let g = c.max.ensures in
+    let t = c.last_end-t.ensures in
+    let few = t.0 in (
       omega arith,
-      all_ends p _ _ refl t.1 g.0 g.1,
+      all_ends p _ _ refl t.1 (omega arith) (omega arith),
       λ k e.
           (let a = e.from (c.args.d - 1) (omega arith) in
           let b = t.2 (k - 1) (λ i l. let z = e.to i l in omega arith) in
-          let z = g.2 k (omega arith) (omega arith) in
           omega arith),
     )

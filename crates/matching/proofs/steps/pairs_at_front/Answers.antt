@@ -1,10 +1,9 @@
 -- `matching::steps::pairs_at_front` meets its contract.
+use mathlib.Core.Path.{◌≡◌, subst}
+use Prim.Native.Nat.{ℕ}
 use native.Mathlib.Omega.{arith}
-use Rattle.matching.proofs.SteppingLaws.{front_none, front_more, front_low, front_wide, front_full}
+use Rattle.matching.proofs.SteppingLaws.{Front, front_more, front_low, front_wide, front_full}
 use Rattle.matching.proofs.steps.pairs_at_front.Goals as goal
-
-pub loop-i-init : goal.loop-i-init
-loop-i-init c = (front_none c.args.work.now c.requires, omega arith)
 
 pub returns-then-i-d : goal.returns-then-i-d
 returns-then-i-d c =
@@ -27,4 +26,5 @@ loop-i-preserved c = (front_more _ c.loop-i.invariant.0 c.loop-i-test.true (omeg
 pub returns : goal.returns
 returns c =
     let inv = c.loop-i.invariant in
-    record { pool = inv.0.pool; upto = inv.1; most = λ l p. front_full _ inv.0 (omega arith) p }
+    let f = subst (λ (i : ℕ). Front c.args.work.now c.loop-i.least i) (let q : c.loop-i.i ≡ 8192 = omega (arith, inv.0.pool.most, c.loop-i-test) in q) inv.0 in
+    record { pool = f.pool; upto = omega (arith, inv.1, c.loop-i-test); most = λ l p. front_full _ f (omega arith) p }

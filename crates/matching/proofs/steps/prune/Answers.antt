@@ -8,10 +8,7 @@ pub rest-requires : goal.rest-requires
 rest-requires c =
     let pre = c.requires in
     let nodes = c.nodes-n in
-    (every_prepared pre.1 nodes.ensures.0 nodes.ensures.1 refl refl refl, nodes.ensures.0)
-
-pub shape_of-work : goal.shape_of-work
-shape_of-work c = c.rest.ensures.falls.long
+    (every_prepared pre.1 nodes.ensures.0 nodes.ensures.1 refl refl refl, nodes.ensures.0, tt)
 
 pub returns : goal.returns
 returns c =

@@ -1,14 +1,10 @@
 -- `matching::steps::start` meets its contract.
-use Rattle.engine.proofs.RoundLaws.{fixed_prepared}
-use Rattle.matching.proofs.SteppingLaws.{fresh_prepared, prepared_looked, started_by}
+use Rattle.matching.proofs.SteppingLaws.{fresh_prepared, started_by}
 use mathlib.Core.Path.{refl}
 use Rattle.matching.proofs.steps.start.Goals as goal
 
 pub round-requires : goal.round-requires
 round-requires c = fresh_prepared c.requires.0 c.requires.1
-
-pub loose-requires : goal.loose-requires
-loose-requires c = prepared_looked (fixed_prepared c.round.ensures.0 (fresh_prepared c.requires.0 c.requires.1))
 
 pub returns : goal.returns
 returns c = started_by c.requires.0 c.requires.1 c.round.ensures.0 c.round.ensures.1 _ refl refl c.loose.ensures (λ e l h. c.requires.1.links.hit e l)

@@ -1,11 +1,7 @@
 -- `matching::steps::step` meets its contract.
-use native.Mathlib.Omega.{arith}
 use mathlib.Core.Path.{refl}
 use Rattle.matching.proofs.SteppingLaws.{stepped_skip, stepped_rest}
 use Rattle.matching.proofs.steps.step.Goals as goal
-
-pub leaving-due-requires : goal.leaving-due-requires
-leaving-due-requires c = (c.requires.0.edges, λ e l. let a = c.requires.0.from e l in let b = c.requires.0.nodes in omega arith)
 
 pub returns-then-hurt-eq0 : goal.returns-then-hurt-eq0
 returns-then-hurt-eq0 c =

@@ -1,6 +1,7 @@
 -- `packed::accept::accept_book` meets its contract.
 use lib.ListN.{take}
 use Rattle.packed.specs.Formats.{book}
+use Rattle.packed.proofs.Counted.{all_left}
 use Rattle.packed.proofs.CallLaws.{read_finds, read_long, accepts_by}
 use Rattle.packed.proofs.accept.accept_book.Goals as goal
 
@@ -15,4 +16,4 @@ returns c =
     let if1 = c.if-s-gt-BOOK_MOST in
     let judge-book = c.judge_book in
     let a = c.args in
-    rw c.reply_of.ensures (accepts_by (read_finds 65536 4 (book (take a.k a.edges)) a.s.now if1.false) judge-book.result _ _ judge-book.ensures)
+    rw c.reply_of.ensures (accepts_by (read_finds 65536 4 (book (take a.k a.edges)) a.s.now if1.false) judge-book.result _ _ (rw (all_left c.args.k) at judge-book.ensures))

@@ -2,18 +2,9 @@
 use mathlib.Core.Path.{ap, ◌∙◌}
 use Prim.Native.Nat.{ℕ, ◌+◌, ◌%◌}
 use native.Mathlib.Omega.{arith}
-use lib.Pow.{pow_pos}
 use Rattle.packed.specs.Bits.{bits_of}
 use Rattle.packed.proofs.BitFields.{pow_word, high_lt, bits_of_high}
 use Rattle.packed.proofs.bits.patch_high.Goals as goal
-
-pub nonzero_rem-result : goal.nonzero_rem-result
-nonzero_rem-result c = rw (pow_word c.args.m 32 (omega arith)) (pow_pos c.args.m)
-
-pub overflow_add-result : goal.overflow_add-result
-overflow_add-result c =
-    let a = c.args in
-    rw (pow_word a.m 32 (omega arith)) (omega (arith, high_lt a.x a.m a.c c.requires.0 c.requires.1 c.requires.2 (omega (arith, c.ranges.x))))
 
 pub overflow_cast-result-2 : goal.overflow_cast-result-2
 overflow_cast-result-2 c =

@@ -8,9 +8,6 @@ use Rattle.packed.proofs.BitFields.{put_split}
 use borrow.Author.Rules.{rules}
 use Rattle.packed.proofs.bits.put_bits.Goals as goal
 
-pub overflow_shr-v : goal.overflow_shr-v
-overflow_shr-v c = omega arith
-
 pub put_chunk-requires : goal.put_chunk-requires
 put_chunk-requires c =
     let a = c.args in

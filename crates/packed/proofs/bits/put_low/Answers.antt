@@ -23,11 +23,6 @@ loop-left-preserved c =
           ∙ rw l.invariant.3 (put_more (bits a.out.now) (8 * a.q) a.n l.left (8 * l.p) a.v (omega arith) (omega arith) (omega arith)),
     )
 
-pub nonzero_rem-v-2 : goal.nonzero_rem-v-2
-nonzero_rem-v-2 c =
-    let left = c.loop-left.left in
-    rw (pow_word left 32 (omega arith)) (pow_pos left)
-
 pub put_chunk-requires : goal.put_chunk-requires
 put_chunk-requires c =
     let left = c.loop-left.left in

@@ -8,8 +8,8 @@ returns c =
     record {
       nodes = refl;
       edges = refl;
-      labels = spread_start _ _ _ _ _ c.no_labels.ensures;
-      from = spread_start _ _ _ _ _ c.no_ends.ensures;
-      to = spread_start _ _ _ _ _ c.no_ends-2.ensures;
-      kind = spread_start _ _ _ _ _ c.no_ends-3.ensures;
+      labels = spread_start _ _ _ _ _ refl;
+      from = spread_start _ _ _ _ _ refl;
+      to = spread_start _ _ _ _ _ refl;
+      kind = spread_start _ _ _ _ _ refl;
     }

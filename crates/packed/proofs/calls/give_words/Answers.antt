@@ -8,14 +8,12 @@ use Rattle.packed.proofs.calls.give_words.Goals as goal
 
 pub returns-then-out-n : goal.returns-then-out-n
 returns-then-out-n c =
-    let args = c.args in
     let pre = c.requires in
     let a = c.args in
     fitted_tight fit_fits a.out.now (take a.n a.words.now) refl refl (simp length-take (omega (arith, pre))) (lt-ltb _ _ c.if-out-n.true)
 
 pub returns : goal.returns
 returns c =
-    let args = c.args in
     let pre = c.requires in
     let if1 = c.if-out-n in
     let copy-words = c.copy_words in

@@ -5,47 +5,36 @@ use lib.ListN.{length}
 use Rattle.packed.specs.Formats.{book}
 use Rattle.packed.specs.Contents.{edge_counts}
 use Rattle.packed.specs.Calls.{fit, read_book, within_pairs, judged, book_read}
+use Rattle.packed.specs.declared.reply.File.TheVariants.{Sheet}
 use Rattle.packed.specs.declared.reply.Refusal.TheVariants.{TooManyPairs}
+use Rattle.packed.proofs.Passing.{err_is}
 use Rattle.packed.proofs.WalkLaws.{book_pairs_lem}
 use Rattle.packed.proofs.CallLaws.{read_says, fit_fits, fitted_tight, fitted_again, body_refused, body_declined, body_goes_on, gathered_many, gathered_few, none_lent}
 use Rattle.packed.proofs.calls.read_book.Goals as goal
 
-pub returns-in_default : goal.returns-in_default
+pub returns-in_err-views : goal.returns-in_err-views
 unfolding book_read
-returns-in_default c =
-    let args = c.args in
-    let accept-catalogue = c.accept_catalogue-first in
+returns-in_err-views c =
     let a = c.args in
-    rw c.in_default.is (body_refused (λ cs. judged (read_book cs a.bytes.now) (λ o. within_pairs cs o (fit (length a.out.now) o))) a.out.now refl c.in_default.field-0 (rw c.in_default.is at accept-catalogue.ensures).0)
+    rw (err_is c.from_residual.result c.from_residual.ensures.1) (body_refused (λ cs. judged (read_book cs a.bytes.now) (λ o. within_pairs cs o (fit (length a.out.now) o))) a.out.now refl c.in_err-views.field-0.0 c.in_err-views.ensures)
 
-pub accept_book-verdict-requires : goal.accept_book-verdict-requires
-accept_book-verdict-requires c =
-    let accept-catalogue = c.accept_catalogue-first in
-    let q = rw c.in-Done.is at accept-catalogue.ensures in
-    q.holds.few
-
-pub returns-in_default-verdict : goal.returns-in_default-verdict
+pub returns-in_err-n : goal.returns-in_err-n
 unfolding book_read
-returns-in_default-verdict c =
-    let args = c.args in
-    let accept-catalogue = c.accept_catalogue-first in
-    let accept-book = c.accept_book-verdict in
+returns-in_err-n c =
     let a = c.args in
-    let j = c.accept_book-verdict in
-    let q = rw c.in-Done.is at accept-catalogue.ensures in
-    rw c.in_default-verdict.is (body_goes_on (λ cs. judged (read_book cs a.bytes.now) (λ o. within_pairs cs o (fit (length a.out.now) o))) q.is
-    (body_refused (λ o. within_pairs q.fields o (fit (length a.out.now) o)) a.out.now (none_lent a.out.now j.new.words j.auto.words) c.in_default-verdict.field-0 (rw q.holds.are at (rw c.in_default-verdict.is at j.ensures))))
+    let j = c.accept_book in
+    let q = c.in_ok-views.ensures in
+    rw (err_is c.from_residual-in_err-n.result c.from_residual-in_err-n.ensures.1) (body_goes_on (λ cs. judged (read_book cs a.bytes.now) (λ o. within_pairs cs o (fit (length a.out.now) o))) q.is
+    (body_refused (λ o. within_pairs q.fields o (fit (length a.out.now) o)) a.out.now (none_lent a.out.now j.new.words j.auto.words) c.in_err-n.field-0.0 (rw q.holds.are at (rw c.in_err-n.was at j.ensures))))
 
 pub gather_book-requires : goal.gather_book-requires
 gather_book-requires c =
-    let args = c.args in
     let pre = c.requires in
-    let accept-catalogue = c.accept_catalogue-first in
-    let accept-book = c.accept_book-verdict in
+    let accept-catalogue = c.accept_catalogue in
     let a = c.args in
-    let j = c.accept_book-verdict in
-    let q = rw c.in-Done.is at accept-catalogue.ensures in
-    let t = rw q.holds.are at (rw c.in-Done-verdict.is at j.ensures) in
+    let j = c.accept_book in
+    let q = c.in_ok-views.ensures in
+    let t = rw q.holds.are at (rw c.in_ok-n.was at j.ensures) in
     let ms = edge_counts q.fields in
     let d = read_says 65536 4 (book ms) a.bytes.now t.fields t.is in
     (d.1, q.holds.few, q.holds.small, accept-catalogue.auto.work ∙ pre)
@@ -53,32 +42,26 @@ gather_book-requires c =
 pub returns-then-gather_book-gt-PAIRS_MOST : goal.returns-then-gather_book-gt-PAIRS_MOST
 unfolding book_read
 returns-then-gather_book-gt-PAIRS_MOST c =
-    let args = c.args in
-    let accept-catalogue = c.accept_catalogue-first in
-    let accept-book = c.accept_book-verdict in
     let gather-book = c.gather_book in
     let a = c.args in
-    let j = c.accept_book-verdict in
-    let q = rw c.in-Done.is at accept-catalogue.ensures in
-    let t = rw q.holds.are at (rw c.in-Done-verdict.is at j.ensures) in
+    let j = c.accept_book in
+    let q = c.in_ok-views.ensures in
+    let t = rw q.holds.are at (rw c.in_ok-n.was at j.ensures) in
     let ms = edge_counts q.fields in
     let d = read_says 65536 4 (book ms) a.bytes.now t.fields t.is in
     body_goes_on (λ cs. judged (read_book cs a.bytes.now) (λ o. within_pairs cs o (fit (length a.out.now) o))) q.is
-    (body_declined (λ o. within_pairs q.fields o (fit (length a.out.now) o)) t.is a.out.now (none_lent a.out.now j.new.words j.auto.words) (TooManyPairs 4)
+    (body_declined (λ o. within_pairs q.fields o (fit (length a.out.now) o)) t.is a.out.now (none_lent a.out.now j.new.words j.auto.words) (TooManyPairs Sheet)
     (gathered_many ms t.fields (rw q.holds.are at gather-book.ensures) (book_pairs_lem ms a.bytes.now t.fields d.0) (fit (length a.out.now) t.fields) c.if-gather_book-gt-PAIRS_MOST.true))
 
 pub returns-then-out-n : goal.returns-then-out-n
 unfolding book_read
 returns-then-out-n c =
-    let args = c.args in
-    let accept-catalogue = c.accept_catalogue-first in
-    let accept-book = c.accept_book-verdict in
     let gather-book = c.gather_book in
     let if1 = c.if-gather_book-gt-PAIRS_MOST in
     let a = c.args in
-    let j = c.accept_book-verdict in
-    let q = rw c.in-Done.is at accept-catalogue.ensures in
-    let t = rw q.holds.are at (rw c.in-Done-verdict.is at j.ensures) in
+    let j = c.accept_book in
+    let q = c.in_ok-views.ensures in
+    let t = rw q.holds.are at (rw c.in_ok-n.was at j.ensures) in
     let ms = edge_counts q.fields in
     let d = read_says 65536 4 (book ms) a.bytes.now t.fields t.is in
     body_goes_on (λ cs. judged (read_book cs a.bytes.now) (λ o. within_pairs cs o (fit (length a.out.now) o))) q.is
@@ -86,26 +69,17 @@ returns-then-out-n c =
     (fitted_tight fit_fits a.out.now t.fields (none_lent a.out.now j.new.words j.auto.words)
     (gathered_few ms t.fields (rw q.holds.are at gather-book.ensures) (book_pairs_lem ms a.bytes.now t.fields d.0) (fit (length a.out.now) t.fields) if1.false) t.number (lt-ltb _ _ c.if-out-n.true)))
 
-pub accept_book-requires : goal.accept_book-requires
-accept_book-requires c =
-    let accept-catalogue = c.accept_catalogue-first in
-    let q = rw c.in-Done.is at accept-catalogue.ensures in
-    q.holds.few
-
 pub returns : goal.returns
 unfolding book_read
 returns c =
-    let args = c.args in
-    let accept-catalogue = c.accept_catalogue-first in
-    let accept-book = c.accept_book-verdict in
     let gather-book = c.gather_book in
     let if1 = c.if-gather_book-gt-PAIRS_MOST in
     let if2 = c.if-out-n in
-    let accept-book2 = c.accept_book in
+    let accept-book2 = c.accept_book-2 in
     let a = c.args in
-    let j = c.accept_book-verdict in
-    let q = rw c.in-Done.is at accept-catalogue.ensures in
-    let t = rw q.holds.are at (rw c.in-Done-verdict.is at j.ensures) in
+    let j = c.accept_book in
+    let q = c.in_ok-views.ensures in
+    let t = rw q.holds.are at (rw c.in_ok-n.was at j.ensures) in
     let ms = edge_counts q.fields in
     let d = read_says 65536 4 (book ms) a.bytes.now t.fields t.is in
     body_goes_on (λ cs. judged (read_book cs a.bytes.now) (λ o. within_pairs cs o (fit (length a.out.now) o))) q.is

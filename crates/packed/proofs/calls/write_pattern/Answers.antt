@@ -5,40 +5,35 @@ use lib.ListN.{length}
 use Rattle.packed.specs.Format.{encode}
 use Rattle.packed.specs.Formats.{pattern}
 use Rattle.packed.specs.Calls.{fit, pattern_written}
+use Rattle.packed.proofs.Passing.{err_is}
 use Rattle.packed.proofs.CallLaws.{write_finds, accepted_by, refused_by, fit_fits, body_refused, body_goes_on, fitted_tight, fitted_given, none_lent, judges_fields_front}
 use Rattle.packed.proofs.calls.write_pattern.Goals as goal
 
 pub returns-then-out-n : goal.returns-then-out-n
 unfolding pattern_written
 returns-then-out-n c =
-    let args = c.args in
-    let judge-pattern-fields = c.judge_pattern_fields-p in
-    let j = c.judge_pattern_fields-p in
+    let j = c.judge_pattern_fields in
     let a = c.args in
-    let q = rw c.in-Upto.is at j.ensures in
+    let q = c.in_ok-n.ensures in
     body_goes_on (fit (length a.out.now)) (accepted_by (write_finds 1 pattern a.fields.now) q.is)
     (fitted_tight fit_fits a.out.now q.fields (none_lent a.out.now j.new.out j.auto.out) refl q.number (lt-ltb _ _ c.if-out-n.true))
 
-pub returns-else-out-n : goal.returns-else-out-n
+pub returns : goal.returns
 unfolding pattern_written
-returns-else-out-n c =
-    let args = c.args in
-    let judge-pattern-fields = c.judge_pattern_fields-p in
+returns c =
     let if1 = c.if-out-n in
-    let judge-pattern-fields2 = c.judge_pattern_fields in
-    let j = c.judge_pattern_fields-p in
+    let judge-pattern-fields2 = c.judge_pattern_fields-2 in
+    let j = c.judge_pattern_fields in
     let a = c.args in
-    let q = rw c.in-Upto.is at j.ensures in
+    let q = c.in_ok-n.ensures in
     body_goes_on (fit (length a.out.now)) (accepted_by (write_finds 1 pattern a.fields.now) q.is)
     (fitted_given fit_fits a.out.now q.fields (none_lent a.out.now j.new.out j.auto.out) refl q.number (le-ltb _ _ if1.false)
     (judges_fields_front (encode pattern a.fields.now) 1 judge-pattern-fields2.result q.fields _ _ judge-pattern-fields2.ensures q.is))
 
-pub returns-in-Refused : goal.returns-in-Refused
+pub returns-in_err-n : goal.returns-in_err-n
 unfolding pattern_written
-returns-in-Refused c =
-    let args = c.args in
-    let judge-pattern-fields = c.judge_pattern_fields-p in
-    let j = c.judge_pattern_fields-p in
+returns-in_err-n c =
+    let j = c.judge_pattern_fields in
     let a = c.args in
-    let q = rw c.in-Refused.is at j.ensures in
-    body_refused (fit (length a.out.now)) a.out.now (none_lent a.out.now j.new.out j.auto.out) c.in-Refused.x (refused_by (write_finds 1 pattern a.fields.now) c.in-Refused.x q)
+    let q = c.in_err-n.ensures in
+    rw (err_is c.from_residual.result c.from_residual.ensures.1) (body_refused (fit (length a.out.now)) a.out.now (none_lent a.out.now j.new.out j.auto.out) c.in_err-n.field-0.0 (refused_by (write_finds 1 pattern a.fields.now) c.in_err-n.field-0.0 q))

@@ -4,37 +4,32 @@ use lib.ListN.{length}
 use Rattle.packed.specs.Format.{encode}
 use Rattle.packed.specs.Formats.{sheet}
 use Rattle.packed.specs.Calls.{fit_file}
+use Rattle.packed.proofs.Passing.{err_is}
 use Rattle.packed.proofs.CallLaws.{write_finds, accepted_by, refused_by, fit_file_fits, body_refused, body_goes_on, fitted_tight, fitted_given, none_lent, judges_fields_front}
 use Rattle.packed.proofs.calls.write_sheet_of.Goals as goal
 
 pub returns-then-out-n : goal.returns-then-out-n
 returns-then-out-n c =
-    let args = c.args in
-    let judge-sheet-fields = c.judge_sheet_fields-p in
-    let j = c.judge_sheet_fields-p in
+    let j = c.judge_sheet_fields in
     let a = c.args in
-    let q = rw c.in-Upto.is at j.ensures in
+    let q = c.in_ok-n.ensures in
     body_goes_on (fit_file (length a.out.now)) (accepted_by (write_finds 4 (sheet a.m) a.fields.now) q.is)
     (fitted_tight fit_file_fits a.out.now q.fields (none_lent a.out.now j.new.out j.auto.out) refl q.number c.if-out-n.true)
 
-pub returns-else-out-n : goal.returns-else-out-n
-returns-else-out-n c =
-    let args = c.args in
-    let judge-sheet-fields = c.judge_sheet_fields-p in
+pub returns : goal.returns
+returns c =
     let if1 = c.if-out-n in
-    let judge-sheet-fields2 = c.judge_sheet_fields in
-    let j = c.judge_sheet_fields-p in
+    let judge-sheet-fields2 = c.judge_sheet_fields-2 in
+    let j = c.judge_sheet_fields in
     let a = c.args in
-    let q = rw c.in-Upto.is at j.ensures in
+    let q = c.in_ok-n.ensures in
     body_goes_on (fit_file (length a.out.now)) (accepted_by (write_finds 4 (sheet a.m) a.fields.now) q.is)
     (fitted_given fit_file_fits a.out.now q.fields (none_lent a.out.now j.new.out j.auto.out) refl q.number if1.false
     (judges_fields_front (encode (sheet a.m) a.fields.now) 4 judge-sheet-fields2.result q.fields _ _ judge-sheet-fields2.ensures q.is))
 
-pub returns-in-Refused : goal.returns-in-Refused
-returns-in-Refused c =
-    let args = c.args in
-    let judge-sheet-fields = c.judge_sheet_fields-p in
-    let j = c.judge_sheet_fields-p in
+pub returns-in_err-n : goal.returns-in_err-n
+returns-in_err-n c =
+    let j = c.judge_sheet_fields in
     let a = c.args in
-    let q = rw c.in-Refused.is at j.ensures in
-    body_refused (fit_file (length a.out.now)) a.out.now (none_lent a.out.now j.new.out j.auto.out) c.in-Refused.x (refused_by (write_finds 4 (sheet a.m) a.fields.now) c.in-Refused.x q)
+    let q = c.in_err-n.ensures in
+    rw (err_is c.from_residual.result c.from_residual.ensures.1) (body_refused (fit_file (length a.out.now)) a.out.now (none_lent a.out.now j.new.out j.auto.out) c.in_err-n.field-0.0 (refused_by (write_finds 4 (sheet a.m) a.fields.now) c.in_err-n.field-0.0 q))

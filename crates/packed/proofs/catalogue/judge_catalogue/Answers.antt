@@ -1,20 +1,14 @@
 -- `packed::catalogue::judge_catalogue` meets its contract.
-use mathlib.Core.Path.{refl}
 use native.Mathlib.Omega.{arith}
-use Rattle.packed.proofs.Files.{judged_ok, judged_tail, judged_bad}
+use Rattle.packed.proofs.Passing.{err_is}
+use Rattle.packed.proofs.Files.{judged_bad, up_to}
 use Rattle.packed.proofs.catalogue.judge_catalogue.Goals as goal
 
-pub returns-in_default : goal.returns-in_default
-returns-in_default c =
-    let read-views = c.read_views-p in
-    rw c.in_default.is (judged_bad (rw c.in_default.is at read-views.ensures))
-
-pub returns-then-byte-s : goal.returns-then-byte-s
-returns-then-byte-s c =
-    let q = rw c.in-Upto.is at c.read_views-p.ensures in
-    (judged_tail c.in-Upto.byte q.0 (omega arith), refl)
+pub returns-in_err-byte : goal.returns-in_err-byte
+returns-in_err-byte c = rw (err_is c.from_residual.result c.from_residual.ensures.1) (judged_bad c.in_err-byte.ensures)
 
 pub returns : goal.returns
 returns c =
-    let q = rw c.in-Upto.is at c.read_views-p.ensures in
-    (judged_ok c.in-Upto.byte q.0 (omega arith), q.1)
+    let p = c.close_file.ensures in
+    let q = c.in_ok-byte.ensures in
+    up_to _ _ c.close_file.result _ _ (p.0 _ _ _ q.0) p.1 (omega (arith, q.1))

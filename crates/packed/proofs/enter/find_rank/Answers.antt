@@ -1,6 +1,5 @@
 -- `packed::enter::find_rank` meets its contract.
-use native.Mathlib.Omega.{arith}
-use Rattle.packed.proofs.EnteringLaws.{looked_none, looked_more, looked_all, looked_found, one_fits}
+use Rattle.packed.proofs.EnteringLaws.{looked_none, looked_more, looked_all, looked_found}
 use Rattle.packed.proofs.enter.find_rank.Goals as goal
 
 pub loop-i-init : goal.loop-i-init
@@ -8,9 +7,6 @@ loop-i-init c = looked_none _ _ _
 
 pub returns-then-other-rank : goal.returns-then-other-rank
 returns-then-other-rank c = looked_found _ _ _ _ _ c.loop-i-test.true c.requires c.rank_of-other.ensures c.if-other-rank.true
-
-pub overflow_add-n : goal.overflow_add-n
-overflow_add-n c = omega (arith, one_fits c.rank_of-other.result c.args.rank c.is_lower-n.result c.is_lower-n.ensures, c.loop-i.invariant.few, c.loop-i.invariant.upto)
 
 pub loop-i-preserved : goal.loop-i-preserved
 loop-i-preserved c = looked_more c.loop-i.invariant c.loop-i-test.true c.requires _ _ c.rank_of-other.ensures c.if-other-rank.false c.is_lower-n.ensures

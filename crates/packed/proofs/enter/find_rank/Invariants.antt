@@ -1,10 +1,6 @@
 -- `packed::enter::find_rank` meets its contract.
-use Prim.Native.Nat.{◌-◌}
 use Rattle.packed.proofs.EnteringLaws.{Looked}
 use Rattle.packed.proofs.enter.find_rank.Given as goal
 
 abbrev pub invariant-loop-i : goal.invariant-loop-i
 invariant-loop-i l = Looked l.rank l.work l.m l.n l.i
-
-abbrev pub decreases-loop-i : goal.decreases-loop-i
-decreases-loop-i l = l.m - l.i

@@ -1,12 +1,7 @@
 -- `packed::field::write_padding` meets its contract.
 use mathlib.Core.Path.{◌∙◌}
-use native.Mathlib.Omega.{arith}
-use lib.Pow.{pow_pos}
 use Rattle.packed.proofs.Closing.{next_byte, gap_bits}
 use Rattle.packed.proofs.field.write_padding.Goals as goal
-
-pub put_bits-requires : goal.put_bits-requires
-put_bits-requires c = (omega arith, omega arith, pow_pos _)
 
 pub returns : goal.returns
 returns c =

@@ -5,12 +5,6 @@ use Rattle.packed.proofs.gather.finish.Goals as goal
 pub returns-then-held-gt-PAIRS_MOST : goal.returns-then-held-gt-PAIRS_MOST
 returns-then-held-gt-PAIRS_MOST c = λ codes t. different_many t c.if-held-gt-PAIRS_MOST.true
 
-pub absorb-requires : goal.absorb-requires
-absorb-requires c =
-    let pre = c.requires in
-    let if1 = c.if-held-gt-PAIRS_MOST in
-    (gathers_kept pre.1 if1.false).can
-
 pub returns : goal.returns
 returns c =
     let if1 = c.if-held-gt-PAIRS_MOST in

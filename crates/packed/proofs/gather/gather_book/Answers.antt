@@ -1,11 +1,10 @@
 -- `packed::gather::gather_book` meets its contract.
-use borrow.Author.Rules.{rules}
-use mathlib.Core.Path.{◌≡◌, ◌∙◌}
+use mathlib.Core.Path.{◌≡◌}
 use mathlib.Core.List.{[]}
 use native.Mathlib.Omega.{arith}
 use lib.ListN.{length}
 use Rattle.packed.proofs.Walks.{book_none, book_more}
-use Rattle.packed.proofs.Gathering.{gathers_none, walked_start, walked_gathering, walked_long, walked_more, walked_end}
+use Rattle.packed.proofs.Gathering.{gathers_none, walked_start, walked_more, walked_end}
 use Rattle.packed.proofs.gather.gather_book.Goals as goal
 use Rattle.packed.proofs.gather.gather_book.Goals.{Start}
 
@@ -16,11 +15,6 @@ sixteen c = c.well_formed.1.0.1.0.1
 pub loop-j-init : goal.loop-j-init
 loop-j-init c = (gathers_none _ _ c.no_pairs-sofar.ensures.0 c.no_pairs-sofar.ensures.1 c.requires.3, walked_start _ _ _, omega arith, omega arith)
 
-pub gather_sheet-w-requires : goal.gather_sheet-w-requires
-gather_sheet-w-requires c =
-    let l = c.loop-j in
-    (search rules, omega (arith, l.invariant.3, l.invariant.2), c.requires.2 l.j, walked_gathering l.invariant.1 ([], l.invariant.0))
-
 pub loop-j-preserved : goal.loop-j-preserved
 loop-j-preserved c =
     let l = c.loop-j in
@@ -28,15 +22,6 @@ loop-j-preserved c =
     let h = c.loop-j-test.true in
     let q = sixteen (goal.at.loop-j-preserved c).Start in
     (l.invariant.0, walked_more _ _ _ _ l.invariant.1 (book_more _ _ _ _ _ _ h (omega arith) e.0) e.2, omega arith, omega (arith, l.invariant.3, e.1, c.requires.2 l.j))
-
-pub finish-requires : goal.finish-requires
-finish-requires c = walked_gathering c.loop-j.invariant.1 ([], c.loop-j.invariant.0)
-
-pub shape_of-work : goal.shape_of-work
-shape_of-work c =
-    let loop = c.loop-j in
-    let finish = c.finish in
-    finish.auto.work ∙ walked_long loop.invariant.1 ([], loop.invariant.0)
 
 pub returns : goal.returns
 returns c =

@@ -1,6 +1,6 @@
 -- `packed::gather::gather_book` meets its contract.
 use mathlib.Core.List.{[]}
-use Prim.Native.Nat.{◌+◌, ◌-◌, ◌*◌, ◌≤◌}
+use Prim.Native.Nat.{◌+◌, ◌*◌, ◌≤◌}
 use lib.ListN.{take, drop}
 use Rattle.packed.specs.Walks.{book_pairs, list_bits, Gathers}
 use Rattle.packed.proofs.Gathering.{Walked}
@@ -12,6 +12,3 @@ invariant-loop-j l =
     × Walked (book_pairs l.s 0 (take l.k l.counts)) l.initial.sofar l.initial.work (book_pairs l.s l.at (drop l.j (take l.k l.counts))) l.sofar l.work
     × (l.j ≤ l.k)
     × (l.at ≤ (32 * list_bits + 8) * l.j)
-
-abbrev pub decreases-loop-j : goal.decreases-loop-j
-decreases-loop-j l = l.k - l.j

@@ -6,7 +6,7 @@ use native.Mathlib.Omega.{arith}
 use lib.ListN.{length, get_or}
 use Rattle.packed.specs.Formats.{standing as standing_of}
 use Rattle.packed.proofs.Walks.{book_from_none, book_from_more}
-use Rattle.packed.proofs.Gathering.{gathers_none, walked_start, walked_gathering, walked_long, walked_more, walked_end}
+use Rattle.packed.proofs.Gathering.{gathers_none, walked_start, walked_more, walked_end}
 use Rattle.packed.proofs.gather.gather_fields.Goals as goal
 use Rattle.packed.proofs.gather.gather_fields.Goals.{Start}
 
@@ -16,13 +16,6 @@ sixteen c = c.well_formed.1.0.1.0.1
 
 pub loop-j-init : goal.loop-j-init
 loop-j-init c = (gathers_none _ _ c.no_pairs-sofar.ensures.0 c.no_pairs-sofar.ensures.1 c.requires.2, walked_start _ _ _, omega arith, omega arith)
-
-pub gather_list_fields-w-requires : goal.gather_list_fields-w-requires
-gather_list_fields-w-requires c =
-    let l = c.loop-j in
-    let pre = c.requires in
-    let standing = c.standing-lists in
-    (omega (arith, l.invariant.3, l.invariant.2, pre.0), omega (arith, standing.ensures.1, pre.1 l.j), walked_gathering l.invariant.1 ([], l.invariant.0))
 
 pub loop-j-preserved : goal.loop-j-preserved
 loop-j-preserved c =
@@ -40,15 +33,6 @@ loop-j-preserved c =
       omega arith,
       omega (arith, l.invariant.3, e.1, standing.ensures.1, pre.1 l.j),
     )
-
-pub finish-requires : goal.finish-requires
-finish-requires c = walked_gathering c.loop-j.invariant.1 ([], c.loop-j.invariant.0)
-
-pub shape_of-work : goal.shape_of-work
-shape_of-work c =
-    let loop = c.loop-j in
-    let finish = c.finish in
-    finish.auto.work ∙ walked_long loop.invariant.1 ([], loop.invariant.0)
 
 pub returns : goal.returns
 returns c =

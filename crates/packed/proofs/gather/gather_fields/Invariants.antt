@@ -1,6 +1,6 @@
 -- `packed::gather::gather_fields` meets its contract.
 use mathlib.Core.List.{[]}
-use Prim.Native.Nat.{◌+◌, ◌-◌, ◌*◌, ◌≤◌}
+use Prim.Native.Nat.{◌+◌, ◌*◌, ◌≤◌}
 use lib.ListN.{take, drop}
 use Rattle.packed.specs.Walks.{book_pairs_from, Gathers}
 use Rattle.packed.proofs.Gathering.{Walked}
@@ -12,6 +12,3 @@ invariant-loop-j l =
     × Walked (book_pairs_from l.words 0 (take l.k l.counts)) l.initial.sofar l.initial.work (book_pairs_from l.words l.at (drop l.j (take l.k l.counts))) l.sofar l.work
     × (l.j ≤ l.k)
     × (l.at ≤ (32 * 32769 + 1) * l.j)
-
-abbrev pub decreases-loop-j : goal.decreases-loop-j
-decreases-loop-j l = l.k - l.j

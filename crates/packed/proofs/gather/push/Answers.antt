@@ -1,7 +1,5 @@
 -- `packed::gather::push` meets its contract.
-use mathlib.Core.Path.{◌∙◌}
 use native.Mathlib.Omega.{arith}
-use lib.ListN.{length-set}
 use Rattle.packed.proofs.Gathering.{gathers_many, gathers_kept, kept_gathers, kept_more, kept_full, absorbed_gathers}
 use Rattle.packed.proofs.gather.push.Goals as goal
 
@@ -17,9 +15,6 @@ absorb-n-requires c =
     let if1 = c.if-held-gt-PAIRS_MOST in
     let if2 = c.if-fill-lt-CHUNK_LAST in
     (kept_full _ pre.0.1 if1.false if2.false pre.1).can
-
-pub shape_of-work : goal.shape_of-work
-shape_of-work c = c.absorb-n.ensures.long ∙ simp length-set
 
 pub returns : goal.returns
 returns c =

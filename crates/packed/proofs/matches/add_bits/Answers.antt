@@ -1,5 +1,4 @@
 -- `packed::matches::add_bits` meets its contract.
-use Prim.Native.Nat.{◌+◌}
 use mathlib.Core.Path.{sym}
 use native.Mathlib.Omega.{arith}
 use native.Mathlib.Nat.{div-one}
@@ -11,61 +10,15 @@ use Rattle.packed.proofs.matches.add_bits.Goals as goal
 pub loop-left-init : goal.loop-left-init
 loop-left-init c = (adding_start _ _, sym (div-one _))
 
-pub overflow_add-e : goal.overflow_add-e
-overflow_add-e c =
-    let s = next_bit c.args.x c.loop-left.k c.loop-left.left (omega arith) c.loop-left.invariant.1 c.loop-left-test.true in
-    omega (arith, s.inside)
-
-pub overflow_cast-e : goal.overflow_cast-e
-overflow_cast-e c =
-    let s = next_bit c.args.x c.loop-left.k c.loop-left.left (omega arith) c.loop-left.invariant.1 c.loop-left-test.true in
-    omega (arith, s.inside)
-
-pub offset_bounds-c-e : goal.offset_bounds-c-e
-offset_bounds-c-e c =
-    let s = next_bit c.args.x c.loop-left.k c.loop-left.left (omega arith) c.loop-left.invariant.1 c.loop-left-test.true in
-    omega (arith, s.inside)
-
 pub bounds-c-e : goal.bounds-c-e
 bounds-c-e c =
     let s = next_bit c.args.x c.loop-left.k c.loop-left.left (omega arith) c.loop-left.invariant.1 c.loop-left-test.true in
     omega (arith, s.inside, c.loop-left.invariant.0.long, c.requires.0)
 
-pub overflow_add-c : goal.overflow_add-c
-overflow_add-c c =
-    let s = next_bit c.args.x c.loop-left.k c.loop-left.left (omega arith) c.loop-left.invariant.1 c.loop-left-test.true in
-    let e = c.loop-left.k + count_trailing_zeros 32 c.loop-left.left in
-    omega (arith, c.requires.1 e s.inside, c.loop-left.invariant.0.left e (omega arith) s.inside)
-
-pub offset_bounds-c-e-in-loop-left : goal.offset_bounds-c-e-in-loop-left
-offset_bounds-c-e-in-loop-left c =
-    let s = next_bit c.args.x c.loop-left.k c.loop-left.left (omega arith) c.loop-left.invariant.1 c.loop-left-test.true in
-    omega (arith, s.inside)
-
 pub bounds-c-e-in-loop-left : goal.bounds-c-e-in-loop-left
 bounds-c-e-in-loop-left c =
     let s = next_bit c.args.x c.loop-left.k c.loop-left.left (omega arith) c.loop-left.invariant.1 c.loop-left-test.true in
     omega (arith, s.inside, c.loop-left.invariant.0.long, c.requires.0)
-
-pub overflow_shr-left : goal.overflow_shr-left
-overflow_shr-left c =
-    let s = next_bit c.args.x c.loop-left.k c.loop-left.left (omega arith) c.loop-left.invariant.1 c.loop-left-test.true in
-    omega (arith, s.inside)
-
-pub overflow_add-k : goal.overflow_add-k
-overflow_add-k c =
-    let s = next_bit c.args.x c.loop-left.k c.loop-left.left (omega arith) c.loop-left.invariant.1 c.loop-left-test.true in
-    omega (arith, s.inside)
-
-pub overflow_add-k-in-loop-left : goal.overflow_add-k-in-loop-left
-overflow_add-k-in-loop-left c =
-    let s = next_bit c.args.x c.loop-left.k c.loop-left.left (omega arith) c.loop-left.invariant.1 c.loop-left-test.true in
-    omega (arith, s.inside)
-
-pub loop-left-smaller : goal.loop-left-smaller
-loop-left-smaller c =
-    let s = next_bit c.args.x c.loop-left.k c.loop-left.left (omega arith) c.loop-left.invariant.1 c.loop-left-test.true in
-    omega (arith, s.inside)
 
 pub loop-left-preserved : goal.loop-left-preserved
 loop-left-preserved c =

@@ -1,11 +1,11 @@
 -- `packed::matches::counts` meets its contract.
-use mathlib.Core.Path.{◌≡◌}
+use mathlib.Core.Path.{◌≡◌, refl}
 use native.Mathlib.Omega.{arith}
 use Rattle.packed.proofs.MatchLaws.{counts_start, counts_next, counts_most, counts_few}
 use Rattle.packed.proofs.matches.counts.Goals as goal
 
 pub loop-i-init : goal.loop-i-init
-loop-i-init c = (omega arith, counts_start _ _ c.no_counts-c.ensures)
+loop-i-init c = (omega arith, counts_start _ _ refl)
 
 pub add_bits-requires : goal.add_bits-requires
 add_bits-requires c =

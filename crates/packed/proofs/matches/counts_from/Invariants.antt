@@ -1,10 +1,7 @@
 -- `packed::matches::counts_from` meets its contract. The invariant: the first e of the counts were copied.
-use Prim.Native.Nat.{◌≤◌, ◌-◌}
+use Prim.Native.Nat.{◌≤◌}
 use Rattle.packed.specs.Matches.{PartOfCounts}
 use Rattle.packed.proofs.matches.counts_from.Given as goal
 
 abbrev pub invariant-loop-e : goal.invariant-loop-e
 invariant-loop-e l = (l.e ≤ l.m) × PartOfCounts l.o l.e l.c l.d
-
-abbrev pub decreases-loop-e : goal.decreases-loop-e
-decreases-loop-e l = l.m - l.e

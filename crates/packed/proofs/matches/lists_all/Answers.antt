@@ -2,16 +2,10 @@
 use mathlib.Core.Path.{ap, ◌∙◌}
 use Prim.Native.Nat.{ℕ, ◌-◌, ◌^◌}
 use lib.Dec.{eqb}
-use lib.Pow.{pow_pos}
 use native.Mathlib.Omega.{arith}
 use Rattle.packed.proofs.BitFields.{pow_word}
 use Rattle.packed.proofs.NamedLaws.{all_named}
 use Rattle.packed.proofs.matches.lists_all.Goals as goal
-
-pub overflow_sub-result : goal.overflow_sub-result
-overflow_sub-result c =
-    let m = c.args.m in
-    rw (pow_word m 64 (omega arith)) (omega (arith, pow_pos m))
 
 pub returns : goal.returns
 returns c =

@@ -9,36 +9,10 @@ use Rattle.packed.proofs.matches.put_pair.Goals as goal
 pub loop-left-init : goal.loop-left-init
 loop-left-init c = putting_start _ _ _ _
 
-pub overflow_add-e : goal.overflow_add-e
-overflow_add-e c =
-    let s = next_bit c.args.x c.loop-left.k c.loop-left.left (omega arith) c.loop-left.invariant.rest c.loop-left-test.true in
-    omega (arith, s.inside)
-
-pub overflow_cast-e : goal.overflow_cast-e
-overflow_cast-e c =
-    let s = next_bit c.args.x c.loop-left.k c.loop-left.left (omega arith) c.loop-left.invariant.rest c.loop-left-test.true in
-    omega (arith, s.inside)
-
-pub offset_bounds-places-e : goal.offset_bounds-places-e
-offset_bounds-places-e c =
-    let s = next_bit c.args.x c.loop-left.k c.loop-left.left (omega arith) c.loop-left.invariant.rest c.loop-left-test.true in
-    omega (arith, s.inside)
-
 pub bounds-places-e : goal.bounds-places-e
 bounds-places-e c =
     let s = next_bit c.args.x c.loop-left.k c.loop-left.left (omega arith) c.loop-left.invariant.rest c.loop-left-test.true in
     omega (arith, s.inside, c.loop-left.invariant.long, c.requires.1)
-
-pub put_three-requires : goal.put_three-requires
-put_three-requires c =
-    let s = next_bit c.args.x c.loop-left.k c.loop-left.left (omega arith) c.loop-left.invariant.rest c.loop-left-test.true in
-    let e = c.loop-left.k + count_trailing_zeros 32 c.loop-left.left in
-    (omega (arith, c.requires.2 e s.inside, c.loop-left.invariant.ahead e (omega arith)), c.requires.0)
-
-pub offset_bounds-places-e-in-loop-left : goal.offset_bounds-places-e-in-loop-left
-offset_bounds-places-e-in-loop-left c =
-    let s = next_bit c.args.x c.loop-left.k c.loop-left.left (omega arith) c.loop-left.invariant.rest c.loop-left-test.true in
-    omega (arith, s.inside)
 
 pub bounds-places-e-in-loop-left : goal.bounds-places-e-in-loop-left
 bounds-places-e-in-loop-left c =
@@ -51,35 +25,10 @@ overflow_add-places c =
     let e = c.loop-left.k + count_trailing_zeros 32 c.loop-left.left in
     omega (arith, c.requires.2 e s.inside, c.loop-left.invariant.ahead e (omega arith))
 
-pub offset_bounds-places-e-in-loop-left-2 : goal.offset_bounds-places-e-in-loop-left-2
-offset_bounds-places-e-in-loop-left-2 c =
-    let s = next_bit c.args.x c.loop-left.k c.loop-left.left (omega arith) c.loop-left.invariant.rest c.loop-left-test.true in
-    omega (arith, s.inside)
-
 pub bounds-places-e-in-loop-left-2 : goal.bounds-places-e-in-loop-left-2
 bounds-places-e-in-loop-left-2 c =
     let s = next_bit c.args.x c.loop-left.k c.loop-left.left (omega arith) c.loop-left.invariant.rest c.loop-left-test.true in
     omega (arith, s.inside, c.loop-left.invariant.long, c.requires.1)
-
-pub overflow_shr-left : goal.overflow_shr-left
-overflow_shr-left c =
-    let s = next_bit c.args.x c.loop-left.k c.loop-left.left (omega arith) c.loop-left.invariant.rest c.loop-left-test.true in
-    omega (arith, s.inside)
-
-pub overflow_add-k : goal.overflow_add-k
-overflow_add-k c =
-    let s = next_bit c.args.x c.loop-left.k c.loop-left.left (omega arith) c.loop-left.invariant.rest c.loop-left-test.true in
-    omega (arith, s.inside)
-
-pub overflow_add-k-in-loop-left : goal.overflow_add-k-in-loop-left
-overflow_add-k-in-loop-left c =
-    let s = next_bit c.args.x c.loop-left.k c.loop-left.left (omega arith) c.loop-left.invariant.rest c.loop-left-test.true in
-    omega (arith, s.inside)
-
-pub loop-left-smaller : goal.loop-left-smaller
-loop-left-smaller c =
-    let s = next_bit c.args.x c.loop-left.k c.loop-left.left (omega arith) c.loop-left.invariant.rest c.loop-left-test.true in
-    omega (arith, s.inside)
 
 pub loop-left-preserved : goal.loop-left-preserved
 loop-left-preserved c =

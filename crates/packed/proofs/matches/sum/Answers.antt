@@ -11,9 +11,6 @@ pub loop-e-init : goal.loop-e-init
 unfolding sum_of
 loop-e-init c = (omega arith, refl, omega arith)
 
-pub overflow_add-s : goal.overflow_add-s
-overflow_add-s c = omega (arith, c.requires.1 c.loop-e.e)
-
 pub loop-e-preserved : goal.loop-e-preserved
 loop-e-preserved c =
     let l = c.loop-e in

@@ -22,18 +22,6 @@ bounds-places-e c =
     let loop = c.loop-e in
     omega (arith, loop.invariant.2.long, pre.0)
 
-pub overflow_mul-at : goal.overflow_mul-at
-overflow_mul-at c =
-    let pre = c.requires in
-    let loop = c.loop-e in
-    omega (arith, pre.1 loop.e)
-
-pub overflow_add-at : goal.overflow_add-at
-overflow_add-at c =
-    let pre = c.requires in
-    let loop = c.loop-e in
-    omega (arith, pre.1 loop.e)
-
 pub overflow_add-at-in-loop-e : goal.overflow_add-at-in-loop-e
 overflow_add-at-in-loop-e c =
     let pre = c.requires in

@@ -1,5 +1,5 @@
 -- `packed::matches::write_counts` meets its contract. The invariant: the first e counts were written.
-use Prim.Native.Nat.{◌≤◌, ◌-◌}
+use Prim.Native.Nat.{◌≤◌}
 use mathlib.Core.Path.{◌≡◌}
 use lib.ListN.{length}
 use Rattle.packed.specs.Matches.{CountsWritten}
@@ -7,6 +7,3 @@ use Rattle.packed.proofs.matches.write_counts.Given as goal
 
 abbrev pub invariant-loop-e : goal.invariant-loop-e
 invariant-loop-e l = (l.e ≤ l.m) × (length l.out ≡ length l.initial.out) × CountsWritten l.e l.c l.initial.out l.places l.at l.out
-
-abbrev pub decreases-loop-e : goal.decreases-loop-e
-decreases-loop-e l = l.m - l.e

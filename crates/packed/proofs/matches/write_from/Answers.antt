@@ -8,12 +8,6 @@ lengths-d-requires c =
     let pre = c.requires in
     (pre.2, counts_few _ _ _ pre.1 pre.0.most)
 
-pub write_listing-at-requires : goal.write_listing-at-requires
-write_listing-at-requires c =
-    let pre = c.requires in
-    let l = c.lengths-d.ensures in
-    (pre.0, l.1 _ _ pre.1, l.0, pre.2)
-
 pub returns : goal.returns
 returns c =
     let slice-known = c.slice_known-1 in

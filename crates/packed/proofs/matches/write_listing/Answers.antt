@@ -1,13 +1,7 @@
 -- `packed::matches::write_listing` meets its contract.
 use mathlib.Core.Path.{sym, ◌∙◌}
-use native.Mathlib.Omega.{arith}
 use Rattle.packed.proofs.MatchLaws.{listing_none, listing_all}
 use Rattle.packed.proofs.matches.write_listing.Goals as goal
-
-pub sum-requires : goal.sum-requires
-sum-requires c =
-    let pre = c.requires in
-    (omega (arith, pre.3), pre.2)
 
 pub returns-then-sum-eq0 : goal.returns-then-sum-eq0
 returns-then-sum-eq0 c =
@@ -16,13 +10,6 @@ returns-then-sum-eq0 c =
     let if1 = c.if-sum-eq0 in
     let put-bits = c.put_bits in
     listing_none pre.1 (sym sum.ensures.0 ∙ if1.true) put-bits.ensures
-
-pub write_lists-requires : goal.write_lists-requires
-write_lists-requires c =
-    let pre = c.requires in
-    let sum = c.sum in
-    let if1 = c.if-sum-eq0 in
-    (pre.0, (pre.1.all (λ z. if1.false (sum.ensures.0 ∙ z))).0, pre.2, pre.3)
 
 pub returns : goal.returns
 returns c =

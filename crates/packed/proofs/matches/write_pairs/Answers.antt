@@ -11,12 +11,6 @@ use Rattle.packed.proofs.matches.write_pairs.Goals as goal
 pub loop-i-init : goal.loop-i-init
 loop-i-init c = (omega arith, scattering_start _ _ _ _ _ c.requires.2 c.requires.3)
 
-pub put_pair-requires : goal.put_pair-requires
-put_pair-requires c =
-    let pre = c.requires in
-    let loop = c.loop-i in
-    (omega arith, loop.invariant.1.written.long, λ e l. omega (arith, loop.invariant.1.most e l, pre.0.most))
-
 pub loop-i-preserved : goal.loop-i-preserved
 loop-i-preserved c =
     let i = c.loop-i.i in

@@ -1,21 +1,14 @@
 -- `packed::pattern::judge_pattern` meets its contract.
-use mathlib.Core.Path.{refl}
 use native.Mathlib.Omega.{arith}
-use Rattle.packed.specs.Formats.{pattern}
-use Rattle.packed.proofs.Files.{judged_whole_ok, judged_whole_tail, judged_whole_bad}
+use Rattle.packed.proofs.Passing.{err_is}
+use Rattle.packed.proofs.Files.{judged_bad, up_to}
 use Rattle.packed.proofs.pattern.judge_pattern.Goals as goal
 
-pub returns-in_default : goal.returns-in_default
-returns-in_default c =
-    let read-pattern = c.read_pattern-p in
-    rw c.in_default.is (judged_whole_bad pattern (rw c.in_default.is at read-pattern.ensures))
-
-pub returns-then-byte-s : goal.returns-then-byte-s
-returns-then-byte-s c =
-    let q = rw c.in-Upto.is at c.read_pattern-p.ensures in
-    (judged_whole_tail pattern c.in-Upto.byte q.0 (omega arith), refl)
+pub returns-in_err-at : goal.returns-in_err-at
+returns-in_err-at c = rw (err_is c.from_residual.result c.from_residual.ensures.1) (judged_bad c.in_err-at.ensures)
 
 pub returns : goal.returns
 returns c =
-    let q = rw c.in-Upto.is at c.read_pattern-p.ensures in
-    (judged_whole_ok pattern c.in-Upto.byte q.0 (omega arith), q.1)
+    let p = c.close_file.ensures in
+    let q = c.in_ok-at.ensures in
+    up_to _ _ c.close_file.result _ _ (p.0 _ _ _ q.0) p.1 (omega (arith, q.1))

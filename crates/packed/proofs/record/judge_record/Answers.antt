@@ -1,13 +1,9 @@
 -- `packed::record::judge_record` meets its contract.
+use Rattle.packed.proofs.Passing.{err_is}
 use Rattle.packed.proofs.Files.{judged_bad}
 use Rattle.packed.proofs.record.judge_record.Goals as goal
 
-pub judge_parts-requires : goal.judge_parts-requires
-judge_parts-requires c =
-    let v = rw c.in-Values.is at c.read_counts-f.ensures in
-    (c.requires.0, c.requires.1, v.0, v.1)
-
-pub returns-in-Refused : goal.returns-in-Refused
-returns-in-Refused c =
-    let v = rw c.in-Refused.is at c.read_counts-f.ensures in
-    (judged_bad v, tt)
+pub returns-in_err-nodes : goal.returns-in_err-nodes
+returns-in_err-nodes c =
+    let v = c.in_err-nodes.ensures in
+    rw (err_is c.from_residual.result c.from_residual.ensures.1) ((judged_bad v, tt))

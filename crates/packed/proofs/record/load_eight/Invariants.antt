@@ -1,10 +1,7 @@
 -- `packed::record::load_eight` meets its contract. The invariant: j edges more were read.
-use Prim.Native.Nat.{◌+◌, ◌-◌, ◌*◌, ◌<◌, ◌≤◌}
+use Prim.Native.Nat.{◌+◌, ◌*◌, ◌≤◌}
 use Rattle.packed.specs.LoadedGraph.{MoreJudged}
 use Rattle.packed.proofs.record.load_eight.Given as goal
 
 abbrev pub invariant-loop-j : goal.invariant-loop-j
-invariant-loop-j l = (l.j ≤ 8) × (0 < l.j → 0 < l.next) × MoreJudged l.s (8 * l.byte + 3) l.nodes l.j l.least l.initial.work l.k l.next l.work
-
-abbrev pub decreases-loop-j : goal.decreases-loop-j
-decreases-loop-j l = 8 - l.j
+invariant-loop-j l = (l.j ≤ 8) × MoreJudged l.s (8 * l.byte + 3) l.nodes l.j l.least l.initial.work l.k l.next l.work

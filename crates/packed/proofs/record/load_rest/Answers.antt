@@ -1,18 +1,12 @@
 -- `packed::record::load_rest` meets its contract.
 use borrow.Author.Rules.{rules}
 use native.Mathlib.Omega.{arith}
-use mathlib.Core.Path.{refl}
+use mathlib.Core.Path.{◌≡◌, refl}
 use Rattle.packed.proofs.Records.{rank_lt, judged_end, judged_cut, judged_stray, judged_falls, judged_more}
 use Rattle.packed.proofs.record.load_rest.Goals as goal
 
 pub loop-k-init : goal.loop-k-init
 loop-k-init c = (refl, omega arith, c.requires.4, λ w₀ e. e)
-
-pub get_bits-rank-requires : goal.get_bits-rank-requires
-get_bits-rank-requires c =
-    let pre = c.requires in
-    let i = c.loop-k.invariant in
-    (omega arith, omega (arith, i.1, pre.5, c.loop-k-test.true, pre.1), omega (arith, pre.0))
 
 pub returns-then-nodes-code : goal.returns-then-nodes-code
 returns-then-nodes-code c =
@@ -42,19 +36,14 @@ loop-k-preserved c =
       λ w₀ e. judged_more (i.3 w₀ e) _ _ (omega (arith, pre.5, c.loop-k-test.true)) i.1 (omega (arith, pre.5, c.loop-k-test.true, pre.1)) c.get_bits-rank.ensures c.if-nodes-code.false c.if-rank-least.false (omega (arith, i.0, pre.5, c.loop-k-test.true, pre.2, pre.3)) c.word_of.ensures,
     )
 
-pub cut_edge-requires : goal.cut_edge-requires
-cut_edge-requires c =
-    let pre = c.requires in
+pub returns-then-whole-number : goal.returns-then-whole-number
+returns-then-whole-number c =
+    let q : c.loop-k.k ≡ c.args.whole = omega (arith, c.loop-k.invariant.2, c.loop-k-test.false) in
     let i = c.loop-k.invariant in
-    (pre.0, omega (arith, i.1, i.2, pre.5, pre.1), omega (arith, i.1, i.2, pre.5, c.loop-k-test.false, c.if-k-number.true, pre.1))
-
-pub returns-then-k-number : goal.returns-then-k-number
-returns-then-k-number c =
-    let i = c.loop-k.invariant in
-    λ w₀ e. judged_cut (i.3 w₀ e) _ i.1 c.if-k-number.true c.cut_edge.ensures
+    λ w₀ e. judged_cut (i.3 w₀ e) _ i.1 (rw q c.if-whole-number.true) c.cut_edge.ensures
 
 pub returns : goal.returns
 returns c =
     let pre = c.requires in
     let i = c.loop-k.invariant in
-    λ w₀ e. judged_end (i.3 w₀ e) _ i.1 (omega (arith, i.2, pre.5, c.loop-k-test.false, c.if-k-number.false))
+    λ w₀ e. judged_end (i.3 w₀ e) _ i.1 (omega (arith, i.2, pre.5, c.loop-k-test.false, c.if-whole-number.false))

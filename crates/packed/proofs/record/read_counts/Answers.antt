@@ -1,28 +1,22 @@
 -- `packed::record::read_counts` meets its contract.
-use mathlib.Core.Path.{refl}
-use native.Mathlib.Omega.{arith}
+use Rattle.packed.proofs.Passing.{err_is}
 use Rattle.packed.proofs.ReadingLaws.{refused}
 use Rattle.packed.proofs.Records.{record_is, value_none, record_nodes}
 use Rattle.packed.proofs.record.read_counts.Goals as goal
 
-pub returns-in-Refused : goal.returns-in-Refused
-returns-in-Refused c =
-    let p = rw c.in-Refused.is at c.read_field-f.ensures in
-    rw record_is (p _)
+pub returns-in_err-nodes : goal.returns-in_err-nodes
+returns-in_err-nodes c =
+    let p = c.in_err-nodes.ensures in
+    rw (err_is c.from_residual.result c.from_residual.ensures.1) (rw record_is (p _))
 
-pub read_field-g-requires : goal.read_field-g-requires
-read_field-g-requires c =
-    let p = rw c.in-Value.is at c.read_field-f.ensures in
-    (record { small = c.requires; inside = omega (arith, p.fits); few = omega arith }, omega arith, omega arith, refl)
-
-pub returns-in-Value-g : goal.returns-in-Value-g
-returns-in-Value-g c =
-    let p = rw c.in-Value.is at c.read_field-f.ensures in
-    let q = rw c.in-Value-g.is at c.read_field-g.ensures in
+pub returns : goal.returns
+returns c =
+    let p = c.in_ok-nodes.ensures in
+    let q = c.in_ok-v.ensures in
     (value_none p, value_none q)
 
-pub returns-in-Refused-g : goal.returns-in-Refused-g
-returns-in-Refused-g c =
-    let p = rw c.in-Value.is at c.read_field-f.ensures in
-    let q = rw c.in-Refused-g.is at c.read_field-g.ensures in
-    refused (record_nodes (value_none p)) (q _)
+pub returns-in_err-v : goal.returns-in_err-v
+returns-in_err-v c =
+    let p = c.in_ok-nodes.ensures in
+    let q = c.in_err-v.ensures in
+    rw (err_is c.from_residual-in_err-v.result c.from_residual-in_err-v.ensures.1) (refused (record_nodes (value_none p)) (q _))

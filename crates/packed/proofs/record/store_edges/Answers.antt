@@ -12,12 +12,6 @@ use Rattle.packed.proofs.record.store_edges.Goals as goal
 pub loop-k-init : goal.loop-k-init
 loop-k-init c = (omega arith, refl, threes_start (λ c. c / 4096 % 4096) (λ c. c % 4096) (λ c. c / 2 ^ 24) c.args.out.now c.args.work.now c.args.at)
 
-pub bounds-out-to : goal.bounds-out-to
-bounds-out-to c = simp length-set (omega (arith, c.loop-k.invariant.1, c.loop-k-test.true, c.requires.1))
-
-pub bounds-out-kind : goal.bounds-out-kind
-bounds-out-kind c = simp length-set (omega (arith, c.loop-k.invariant.1, c.loop-k-test.true, c.requires.1))
-
 pub loop-k-preserved : goal.loop-k-preserved
 loop-k-preserved c =
     let i = c.loop-k.invariant in

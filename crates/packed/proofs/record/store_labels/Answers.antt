@@ -3,11 +3,8 @@ use mathlib.Core.Path.{◌∙◌, ap}
 use Prim.Native.Nat.{ℕ}
 use native.Mathlib.Omega.{arith}
 use Rattle.packed.specs.Bits.{field}
-use Rattle.packed.proofs.GraphLaws.{labels_stored, labels_more, labels_end}
+use Rattle.packed.proofs.GraphLaws.{labels_more, labels_end}
 use Rattle.packed.proofs.record.store_labels.Goals as goal
-
-pub loop-v-init : goal.loop-v-init
-loop-v-init c = (omega arith, labels_stored _ _)
 
 pub loop-v-preserved : goal.loop-v-preserved
 loop-v-preserved c =

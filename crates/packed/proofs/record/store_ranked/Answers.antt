@@ -12,12 +12,6 @@ use Rattle.packed.proofs.record.store_ranked.Goals as goal
 pub loop-e-init : goal.loop-e-init
 loop-e-init c = (omega arith, refl, threes_start (λ r. r / 8 / 4096) (λ r. r / 8 % 4096) (λ r. r % 8) c.args.out.now c.args.work.now c.args.at)
 
-pub bounds-out-to : goal.bounds-out-to
-bounds-out-to c = simp length-set (omega (arith, c.loop-e.invariant.1, c.loop-e-test.true, c.requires.1))
-
-pub bounds-out-kind : goal.bounds-out-kind
-bounds-out-kind c = simp length-set (omega (arith, c.loop-e.invariant.1, c.loop-e-test.true, c.requires.1))
-
 pub loop-e-preserved : goal.loop-e-preserved
 loop-e-preserved c =
     let i = c.loop-e.invariant in

@@ -1,8 +1,8 @@
 -- `packed::record::store_record` meets its contract.
 use mathlib.Core.Path.{◌≡◌, ◌∙◌, ap}
 use native.Mathlib.Omega.{arith}
-use lib.ListN.{length, length-set}
-use lib.Seq.{sets, length-sets}
+use lib.ListN.{length-set}
+use lib.Seq.{sets}
 use Rattle.packed.proofs.GraphLaws.{holds_bounds, labels_long, content_stored}
 use Rattle.packed.proofs.record.store_record.Goals as goal
 
@@ -11,9 +11,6 @@ overflow_cast-out c = omega (arith, (holds_bounds c.requires.0).0)
 
 pub overflow_cast-out-2 : goal.overflow_cast-out-2
 overflow_cast-out-2 c = omega (arith, (holds_bounds c.requires.0).1)
-
-pub bounds-out-1 : goal.bounds-out-1
-bounds-out-1 c = simp length-set (omega (arith, c.requires.2))
 
 pub store_labels-requires : goal.store_labels-requires
 store_labels-requires c = (c.requires.1, (holds_bounds c.requires.0).2, simp length-set (omega (arith, c.requires.2)))
@@ -25,6 +22,3 @@ pub returns : goal.returns
 returns c =
     λ ws e.
     c.store_edges.ensures ∙ content_stored c.args.out.now c.requires.0 c.requires.2 c.store_labels.ensures ∙ ap (sets c.args.out.now 0) (let z : c.requires.0.fields ≡ ws = cc c.requires.0.is in z)
-
-pub shape_of-out : goal.shape_of-out
-shape_of-out c = ap length (returns c c.requires.0.fields c.requires.0.is) ∙ length-sets c.args.out.now 0 c.requires.0.fields

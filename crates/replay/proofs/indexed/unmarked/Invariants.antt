@@ -1,6 +1,0 @@
--- `replay::indexed::unmarked` is safe and ends.
-use Rattle.std.proofs.Common.{◌-◌}
-use Rattle.replay.proofs.indexed.unmarked.Given as goal
-
-abbrev pub decreases-loop-i : goal.decreases-loop-i
-decreases-loop-i l = l.to - l.i
