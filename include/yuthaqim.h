@@ -22,8 +22,8 @@
  * YUTHAQIM_DESK all of them are as they were.
  *
  * The stack, as measured on large files: sorting an old record 123,192 bytes, committing 115,488, answering several
- * questions 109,816, finding a part 103,288, answering 95,976, making a book 91,432, searching by an index 90,472,
- * searching 90,424, asking 89,048, quoting 44,904, the cheapest set 35,368, the first day 33,400, showing 30,872,
+ * questions 109,816, finding a part 100,296, answering 95,976, making a book 91,432, searching by an index 90,472,
+ * searching 90,424, asking 89,048, quoting 44,904, the cheapest set 35,368, the first day 33,400, showing 31,064,
  * checking an index 8,592, reading a book 6,712, writing one 6,680, the others under 2,400. So 128 KB suffice.
  *
  * Content is a file's fields in order, one word each, padding left out. That of a pattern or a record is the number of

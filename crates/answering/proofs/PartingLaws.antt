@@ -1,13 +1,16 @@
 -- The content of a part of a query, made word by word, and its rows picked from the query's table.
-use Prim.Native.Nat.{ℕ, ◌+◌, ◌^◌, ◌<◌, ◌≤◌}
-use mathlib.Core.Path.{◌≡◌, sym, ap, ap₂, subst, ◌∙◌}
+use Prim.Native.Nat.{ℕ, zero, suc, ◌+◌, ◌/◌, ◌%◌, ◌^◌, ◌<◌, ◌≤◌}
+use mathlib.Core.Path.{◌≡◌, refl, sym, ap, ap₂, subst, ◌∙◌}
 use mathlib.Core.Bool.{Bool, true, false}
 use mathlib.Core.Logic.{◌⊎◌, inl, inr, ⊎_elim}
 use mathlib.Core.List.{List, [], ◌∷◌, ◌++◌, append-nil, append_assoc}
 use lib.ListN.{length, take, get_or, set, replicate, length-set, length-replicate}
 use lib.Seq.{take-suc, get_or-set_same, get_or-set_other, length-take-le}
 use lib.Bits.{bit_or}
-use lib.Dec.{T}
+use lib.Count.{ones, ones_in, ones_cat, ones-le}
+use lib.Pow.{mod-pow-add, pow_pos}
+use native.Mathlib.Nat.{mod-lt}
+use lib.Dec.{T, eqb}
 use native.Mathlib.Omega.{arith}
 use native.Mathlib.Numerals.{add-one}
 use Rattle.packed.specs.Bits.{one}
@@ -54,6 +57,23 @@ number_more p i e t = omega (arith, e, rank_more p i, ap one t, ap (rank p) (add
 
 pub number_same : (p : ℕ → Bool) (i : ℕ) {n : ℕ} → n ≡ rank p i → p i ≡ false → n ≡ rank p (i + 1)
 number_same p i e t = omega (arith, e, rank_more p i, ap one t, ap (rank p) (add-one i))
+
+-- a digit counts itself
+digit_ones : (b : ℕ) → b < 2 → ones b ≡ one (eqb b 1)
+unfolding ones ones_in
+digit_ones zero l = refl
+digit_ones (suc zero) l = refl
+digit_ones (suc (suc b)) l = absurd (omega arith)
+
+-- how many of the low digits are set
+pub ones_rank : (s n : ℕ) → ones (s % 2 ^ n) ≡ rank (bit s) n
+unfolding rank bit
+ones_rank s zero = omega (arith, ones-le 0 (s % 2 ^ 0) (omega arith))
+ones_rank s (suc n) =
+    let z : suc n ≡ 1 + n = omega arith in
+    ap (λ (k : ℕ). ones (s % 2 ^ k)) z ∙ ap ones (mod-pow-add s 1 n)
+    ∙ ones_cat n (s / 2 ^ n % 2) (s % 2 ^ n) (mod-lt s (pow_pos n))
+    ∙ omega (arith, digit_ones (s / 2 ^ n % 2) (omega arith), ones_rank s n, rank_more (bit s) n)
 
 -- ---- words more
 pub adds_none : {f : Fields} → Adds [] f f

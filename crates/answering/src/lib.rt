@@ -12,31 +12,15 @@ ghost use Rattle.packed.specs.Calls.{OneOutput, Settled, with_workspace};
 ghost use Rattle.packed.specs.Refusals.{reply_told, both_told};
 ghost use Rattle.matching.specs.Offered.{brings};
 ghost use Rattle.containment.specs.Answer.{answer_from, answer_outcome};
-ghost use Rattle.containment.specs.Part.{part_outcome};
+ghost use Rattle.containment.specs.Part.{part_for, part_outcome};
 ghost use Rattle.answering.specs.Several.{several_outcome, several_told};
-ghost use Rattle.containment.specs.Show.{show_outcome};
-ghost use Rattle.containment.specs.Terms.{part_on, show_on};
+ghost use Rattle.containment.specs.Show.{show_for, show_outcome};
+ghost use Rattle.containment.specs.Terms.{quoted_for, part_on, show_on};
 
 use containment::terms::Terms;
-use packed::reply::{Both, Refusal, Reply};
-use packed::{limits, workspace};
+use packed::reply::{Both, Reply};
+use packed::{lent, limits};
 use several::Several;
-
-// How much of the workspace is zero after every call.
-const CLEARED: usize = limits::WORKSPACE;
-
-// The call is lent the words to work in, and these are cleared behind it; without enough of them it is refused. A function that takes the call as a
-// closure would not do: its caller learns nothing of the outputs that the closure fills.
-macro_rules! lent {
-    ($work:ident, $small:expr, $call:expr) => {{
-        if $work.len() < limits::WORKSPACE {
-            return $small;
-        }
-        let r = $call;
-        workspace::clear($work, CLEARED);
-        r
-    }};
-}
 
 // Answers a question from a book by the extracts that its quote chooses: writes the question's sheet.
 pub fn answer(
@@ -51,11 +35,10 @@ pub fn answer(
 {
     lent!(
         work,
-        Err(Refusal::SmallWorkspace),
         answering::answer(
             question,
             catalogue,
-            one_way as u32,
+            u32::from(one_way),
             book,
             out,
             &mut work[0..limits::WORKSPACE],
@@ -77,14 +60,39 @@ pub fn answer_from(
 {
     lent!(
         work,
-        Err(Refusal::SmallWorkspace),
         answering::answer_from(
             question,
             catalogue,
-            one_way as u32,
-            set as u32,
+            u32::from(one_way),
+            u32::from(set),
             book,
             out,
+            &mut work[0..limits::WORKSPACE],
+        )
+    )
+}
+
+// Why a question is not covered on a day with its terms, or for none.
+fn show_for(
+    question: &[u8],
+    catalogue: &[u8],
+    one_way: u16,
+    day: Option<(Terms, u16)>,
+    first: &mut [u8],
+    second: &mut [u8],
+    work: &mut [u32],
+) -> Both
+    ensures { Settled [] (with_workspace (length work.old) (quoted_for day question.now (brings catalogue.now one_way) (show_for (length first.old) (length second.old)))) (both_told result) (first.old ∷ second.old ∷ []) (first.new ∷ second.new ∷ []) work.old work.new }
+{
+    lent!(
+        work,
+        showing::show(
+            question,
+            catalogue,
+            u32::from(one_way),
+            day,
+            first,
+            second,
             &mut work[0..limits::WORKSPACE],
         )
     )
@@ -101,15 +109,32 @@ pub fn show_uncovered(
 ) -> Both
     ensures { Settled [] (with_workspace (length work.old) (show_outcome question.now (brings catalogue.now one_way) (length first.old) (length second.old))) (both_told result) (first.old ∷ second.old ∷ []) (first.new ∷ second.new ∷ []) work.old work.new }
 {
+    show_for(question, catalogue, one_way, None, first, second, work)
+}
+
+// The part that can be had on a day with its terms, or for none.
+fn part_for(
+    question: &[u8],
+    catalogue: &[u8],
+    one_way: u16,
+    day: Option<(Terms, u16)>,
+    book: &[u8],
+    part: &mut [u8],
+    answer: &mut [u8],
+    work: &mut [u32],
+) -> Both
+    ensures { Settled [] (with_workspace (length work.old) (quoted_for day question.now (brings catalogue.now one_way) (part_for book.now (length part.old) (length answer.old)))) (both_told result) (part.old ∷ answer.old ∷ []) (part.new ∷ answer.new ∷ []) work.old work.new }
+{
     lent!(
         work,
-        Err(Refusal::SmallWorkspace),
-        showing::show(
+        parting::part(
             question,
             catalogue,
-            one_way as u32,
-            first,
-            second,
+            u32::from(one_way),
+            day,
+            book,
+            part,
+            answer,
             &mut work[0..limits::WORKSPACE],
         )
     )
@@ -127,19 +152,7 @@ pub fn part(
 ) -> Both
     ensures { Settled [] (with_workspace (length work.old) (part_outcome question.now (brings catalogue.now one_way) book.now (length part.old) (length answer.old))) (both_told result) (part.old ∷ answer.old ∷ []) (part.new ∷ answer.new ∷ []) work.old work.new }
 {
-    lent!(
-        work,
-        Err(Refusal::SmallWorkspace),
-        parting::part(
-            question,
-            catalogue,
-            one_way as u32,
-            book,
-            part,
-            answer,
-            &mut work[0..limits::WORKSPACE],
-        )
-    )
+    part_for(question, catalogue, one_way, None, book, part, answer, work)
 }
 
 // Answers several questions from one book: writes their sheets one after the other, each as its question gets it by itself. The result also says how
@@ -157,12 +170,11 @@ pub fn answer_several(
 {
     lent!(
         work,
-        Err(Refusal::SmallWorkspace),
         several::answer_several(
             questions,
             number,
             catalogue,
-            one_way as u32,
+            u32::from(one_way),
             book,
             out,
             &mut work[0..limits::WORKSPACE],
@@ -184,20 +196,15 @@ pub fn part_on(
 ) -> Both
     ensures { Settled [] (with_workspace (length work.old) (part_on question.now (brings catalogue.now one_way) terms day book.now (length part.old) (length answer.old))) (both_told result) (part.old ∷ answer.old ∷ []) (part.new ∷ answer.new ∷ []) work.old work.new }
 {
-    lent!(
+    part_for(
+        question,
+        catalogue,
+        one_way,
+        Some((terms, day)),
+        book,
+        part,
+        answer,
         work,
-        Err(Refusal::SmallWorkspace),
-        parting::part_on(
-            question,
-            catalogue,
-            one_way as u32,
-            terms,
-            day,
-            book,
-            part,
-            answer,
-            &mut work[0..limits::WORKSPACE],
-        )
     )
 }
 
@@ -214,18 +221,13 @@ pub fn show_on(
 ) -> Both
     ensures { Settled [] (with_workspace (length work.old) (show_on question.now (brings catalogue.now one_way) terms day (length first.old) (length second.old))) (both_told result) (first.old ∷ second.old ∷ []) (first.new ∷ second.new ∷ []) work.old work.new }
 {
-    lent!(
+    show_for(
+        question,
+        catalogue,
+        one_way,
+        Some((terms, day)),
+        first,
+        second,
         work,
-        Err(Refusal::SmallWorkspace),
-        showing::show_on(
-            question,
-            catalogue,
-            one_way as u32,
-            terms,
-            day,
-            first,
-            second,
-            &mut work[0..limits::WORKSPACE],
-        )
     )
 }

@@ -4,23 +4,22 @@ ghost use Rattle.std.proofs.lemmas.List.Edits.{sets};
 ghost use Rattle.packed.specs.Format.{ok, encode};
 ghost use Rattle.packed.specs.Formats.{pattern};
 ghost use Rattle.packed.specs.Refusals.{both_told};
-ghost use Rattle.packed.specs.Calls.{Outcome, Fulfils};
+ghost use Rattle.packed.specs.Calls.{Fulfils};
 ghost use Rattle.engine.specs.Simulation.{Edge, bit};
 ghost use Rattle.engine.specs.Masks.{Mask};
 ghost use Rattle.engine.specs.Loaded.{Fair, pattern_in};
 ghost use Rattle.matching.specs.Part.{rank, at_places, part_of, pattern_fields};
 ghost use Rattle.matching.specs.Offered.{brings};
 ghost use Rattle.containment.specs.Choice.{Passing, matched_in};
-ghost use Rattle.containment.specs.Quote.{Quoted, used_by};
+ghost use Rattle.containment.specs.Quote.{used_by};
 ghost use Rattle.containment.specs.Answer.{answer_for};
-ghost use Rattle.containment.specs.Part.{part_bytes, part_quoted, fit_part, part_for, part_outcome};
-ghost use Rattle.containment.specs.Steps.{quoted_as, HoldsFields, JudgedTo, AnyJudged};
-ghost use Rattle.containment.specs.Terms.{part_on};
+ghost use Rattle.containment.specs.Part.{part_bytes, part_quoted, fit_part, part_for};
+ghost use Rattle.containment.specs.Steps.{quoted_as, HoldsFields};
+ghost use Rattle.containment.specs.Terms.{quoted_for};
 ghost use Rattle.answering.specs.Parting.{EndTaken, taken_fields, Adds, Takes, Picked, in_rows, Partable};
 
 use crate::answering;
 use crate::answering::BookPairs;
-use containment::judging::Judged;
 use containment::query::Fields;
 use containment::terms::Terms;
 use containment::{choose, judging, mapping, query};
@@ -57,13 +56,7 @@ pub fn number_in(set: u32, n: usize) -> u32
     requires { n ≤ 32 }
     ensures { (result ≡ rank (bit set) n) × (result ≤ n) }
 {
-    let mut number: u32 = 0;
-    for i in 0..n {
-        if sets::is_in(set, i) {
-            number += 1;
-        }
-    }
-    number
+    (set & choose::first_edges(n)).count_ones()
 }
 
 // The content with one word more.
@@ -139,7 +132,8 @@ pub fn part_fields(q: Pattern, taken: u32) -> Fields
     with_edges(g, q, taken, nodes)
 }
 
-// The rows of the part, which has some of the first m edges of the query, from the query's table.
+// The rows of the part, which has some of the first m edges of the query, from the query's table. They go word by word, as `Picked` counts them: whole rows
+// copied would want the place j counted by hand all the same.
 pub fn part_rows(table: &[u32; 512], taken: u32, m: usize) -> [u32; 512]
     requires { m ≤ 32 }
     ensures { Picked (in_rows taken) table.now (16 * m) result }
@@ -197,18 +191,21 @@ fn part_pairs(
     Ok((size, length))
 }
 
-// The part, once what the client brings beside the book is judged.
-fn part_judged(
-    judged: Result<Judged, Refusal>,
+// For a day with its terms by the views in force, for none by all.
+pub fn part(
+    question: &[u8],
+    catalogue: &[u8],
+    one_way: u32,
+    day: Option<(Terms, u16)>,
     book: &[u8],
     part: &mut [u8],
     answer: &mut [u8],
     work: &mut [u32],
 ) -> Both
-    requires { AnyJudged judged × (length work.old ≡ 16384) }
-    ensures { (g : (Quoted → Outcome) → Outcome) → JudgedTo g judged → Fulfils [] (g (part_for book.now (length part.old) (length answer.old))) (both_told result) (part.old ∷ answer.old ∷ []) (part.new ∷ answer.new ∷ []) }
+    requires { length work.old ≡ 16384 }
+    ensures { Fulfils [] (quoted_for day question.now (brings catalogue.now one_way) (part_for book.now (length part.old) (length answer.old))) (both_told result) (part.old ∷ answer.old ∷ []) (part.new ∷ answer.new ∷ []) }
 {
-    let f = judged?;
+    let f = judging::judge_for(question, catalogue, one_way, day, work)?;
     let table = f.table;
     let q = f.query;
     let k = f.views;
@@ -226,39 +223,4 @@ fn part_judged(
         number: d,
     };
     part_pairs(q, &table, usable, taken, b, part, answer, work)
-}
-
-pub fn part(
-    question: &[u8],
-    catalogue: &[u8],
-    one_way: u32,
-    book: &[u8],
-    part: &mut [u8],
-    answer: &mut [u8],
-    work: &mut [u32],
-) -> Both
-    requires { length work.old ≡ 16384 }
-    ensures { Fulfils [] (part_outcome question.now (brings catalogue.now one_way) book.now (length part.old) (length answer.old)) (both_told result) (part.old ∷ answer.old ∷ []) (part.new ∷ answer.new ∷ []) }
-{
-    let f = judging::judge(question, catalogue, one_way, work);
-    part_judged(f, book, part, answer, work)
-}
-
-// For a day, by the views in force. It is apart from `part` since other things are judged, in an order of their own; the rest is one function.
-pub fn part_on(
-    question: &[u8],
-    catalogue: &[u8],
-    one_way: u32,
-    terms: Terms,
-    day: u16,
-    book: &[u8],
-    part: &mut [u8],
-    answer: &mut [u8],
-    work: &mut [u32],
-) -> Both
-    requires { length work.old ≡ 16384 }
-    ensures { Fulfils [] (part_on question.now (brings catalogue.now one_way) terms day book.now (length part.old) (length answer.old)) (both_told result) (part.old ∷ answer.old ∷ []) (part.new ∷ answer.new ∷ []) }
-{
-    let f = judging::judge_on(question, catalogue, one_way, terms, day, work);
-    part_judged(f, book, part, answer, work)
 }

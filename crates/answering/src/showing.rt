@@ -1,14 +1,12 @@
 // A showing of why a query is not covered, with room to work in: 16,384 words, which are left in any state.
 ghost use Rattle.std.specs.Prelude.{◌≡◌, [], ◌∷◌, length};
-ghost use Rattle.packed.specs.Calls.{Outcome, Fulfils, record_bytes, fit_both};
+ghost use Rattle.packed.specs.Calls.{Fulfils, record_bytes, fit_both};
 ghost use Rattle.matching.specs.Offered.{brings};
 ghost use Rattle.packed.specs.Refusals.{both_told};
-ghost use Rattle.containment.specs.Quote.{Quoted};
-ghost use Rattle.containment.specs.Show.{show_for, show_outcome};
-ghost use Rattle.containment.specs.Steps.{Query, shown_fields, JudgedTo, AnyJudged};
-ghost use Rattle.containment.specs.Terms.{show_on};
+ghost use Rattle.containment.specs.Show.{show_for};
+ghost use Rattle.containment.specs.Steps.{Query, shown_fields};
+ghost use Rattle.containment.specs.Terms.{quoted_for};
 
-use containment::judging::Judged;
 use containment::terms::Terms;
 use containment::{choose, judging, query};
 use packed::by_value::Pattern;
@@ -32,17 +30,20 @@ fn show_both(q: Pattern, e: usize, first: &mut [u8], second: &mut [u8], work: &m
     Ok((a, b))
 }
 
-// The same, once what the client brings is judged, or why there is nothing to show.
-fn show_judged(
-    judged: Result<Judged, Refusal>,
+// For a day with its terms of the views in force, for none of all; or why there is nothing to show.
+pub fn show(
+    question: &[u8],
+    catalogue: &[u8],
+    one_way: u32,
+    day: Option<(Terms, u16)>,
     first: &mut [u8],
     second: &mut [u8],
     work: &mut [u32],
 ) -> Both
-    requires { AnyJudged judged × (length work.old ≡ 16384) }
-    ensures { (g : (Quoted → Outcome) → Outcome) → JudgedTo g judged → Fulfils [] (g (show_for (length first.old) (length second.old))) (both_told result) (first.old ∷ second.old ∷ []) (first.new ∷ second.new ∷ []) }
+    requires { length work.old ≡ 16384 }
+    ensures { Fulfils [] (quoted_for day question.now (brings catalogue.now one_way) (show_for (length first.old) (length second.old))) (both_told result) (first.old ∷ second.old ∷ []) (first.new ∷ second.new ∷ []) }
 {
-    let f = judged?;
+    let f = judging::judge_for(question, catalogue, one_way, day, work)?;
     let table = f.table;
     let q = f.query;
     let e = choose::lowest_unmatched(&table, f.usable, f.views, q.edges);
@@ -50,37 +51,4 @@ fn show_judged(
         return show_both(q, e, first, second, work);
     }
     Err(Refusal::Contained)
-}
-
-pub fn show(
-    question: &[u8],
-    catalogue: &[u8],
-    one_way: u32,
-    first: &mut [u8],
-    second: &mut [u8],
-    work: &mut [u32],
-) -> Both
-    requires { length work.old ≡ 16384 }
-    ensures { Fulfils [] (show_outcome question.now (brings catalogue.now one_way) (length first.old) (length second.old)) (both_told result) (first.old ∷ second.old ∷ []) (first.new ∷ second.new ∷ []) }
-{
-    let f = judging::judge(question, catalogue, one_way, work);
-    show_judged(f, first, second, work)
-}
-
-// For a day, of the views in force. It is apart from `show` since other things are judged, in an order of their own; the rest is one function.
-pub fn show_on(
-    question: &[u8],
-    catalogue: &[u8],
-    one_way: u32,
-    terms: Terms,
-    day: u16,
-    first: &mut [u8],
-    second: &mut [u8],
-    work: &mut [u32],
-) -> Both
-    requires { length work.old ≡ 16384 }
-    ensures { Fulfils [] (show_on question.now (brings catalogue.now one_way) terms day (length first.old) (length second.old)) (both_told result) (first.old ∷ second.old ∷ []) (first.new ∷ second.new ∷ []) }
-{
-    let f = judging::judge_on(question, catalogue, one_way, terms, day, work);
-    show_judged(f, first, second, work)
 }

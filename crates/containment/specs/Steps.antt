@@ -60,10 +60,6 @@ abbrev pub JudgedTo : ((Quoted → Outcome) → Outcome) → Result Judged Refus
 JudgedTo f (Ok r) = Handed f r
 JudgedTo f (Err x) = (k : Quoted → Outcome) → f k ≡ refuse (number_of x) (detail_of x)
 
--- it was judged, in whatever way
-abbrev pub AnyJudged : Result Judged Refusal → Type 0
-AnyJudged r = (f : (Quoted → Outcome) → Outcome) × JudgedTo f r
-
 -- ---- a book
 
 -- the book s of a catalogue with the content cs was accepted and is not crowded; its d different pairs stand in the workspace

@@ -21,24 +21,9 @@ ghost use Rattle.containment.specs.Terms.{spread_of, quoted_for, quote_on, cheap
 use costing::Cheapest;
 use days::FirstDay;
 use packed::reply::Refusal;
-use packed::{limits, workspace};
+use packed::{lent, limits};
 use quote_type::Quote;
 use terms::{Term, Terms};
-
-// How much of the workspace is zero after every call.
-const CLEARED: usize = limits::WORKSPACE;
-
-// The call is lent the words to work in, and these are cleared behind it; without enough of them it is refused.
-macro_rules! lent {
-    ($work:ident, $small:expr, $call:expr) => {{
-        if $work.len() < limits::WORKSPACE {
-            return $small;
-        }
-        let r = $call;
-        workspace::clear($work, CLEARED);
-        r
-    }};
-}
 
 // A quote for a day with its terms, or for none.
 fn quote_for(
@@ -56,7 +41,7 @@ fn quote_for(
         quoting::quote(
             question,
             catalogue,
-            one_way as u32,
+            u32::from(one_way),
             day,
             &mut work[0..limits::WORKSPACE],
         )
@@ -98,11 +83,10 @@ fn cheapest_for(
 {
     lent!(
         work,
-        Err(Refusal::SmallWorkspace),
         costing::find_cheapest(
             question,
             catalogue,
-            one_way as u32,
+            u32::from(one_way),
             day,
             charges,
             &mut work[0..limits::WORKSPACE],
@@ -172,11 +156,10 @@ pub fn first_day(
 {
     lent!(
         work,
-        Err(Refusal::SmallWorkspace),
         days::find_first_day(
             question,
             catalogue,
-            one_way as u32,
+            u32::from(one_way),
             terms,
             day,
             &mut work[0..limits::WORKSPACE],

@@ -11,7 +11,7 @@ ghost use Rattle.matching.specs.Entering.{LinkJudged, Written, Entered, Counted,
 use crate::state::{Link, Slip};
 use engine::index;
 use packed::reply::{Both, File, Refusal, Reply};
-use packed::{enter, graph, limits, workspace};
+use packed::{enter, graph, lent, limits};
 
 // The change number that no other follows.
 const CHANGE_MOST: u32 = 4_294_967_295;
@@ -99,11 +99,7 @@ fn enter_slip(
     if change == CHANGE_MOST {
         return Err(Refusal::LastChange(change as usize));
     }
-    let link = Link {
-        from: slip.from,
-        to: slip.to,
-        kind: slip.kind,
-    };
+    let link = Link::from(slip);
     let at = judge(links, link, n, m, work)?;
     write_both(record, n, m, at, link, out, index_out, work)
 }
@@ -155,18 +151,18 @@ pub fn commit(
 ) -> Answered
     ensures { Commits «record».now (state_of links change) slip (both_told result.answer) (state_of result.links result.change) out.old out.new index_out.old index_out.new work.old work.new }
 {
-    if work.len() < limits::WORKSPACE {
-        return after(Err(Refusal::SmallWorkspace), links, change);
-    }
-    let r = enter_record(
-        record,
-        links,
-        change,
-        slip,
-        out,
-        index_out,
-        &mut work[0..limits::WORKSPACE],
+    let r = lent!(
+        work,
+        after(Err(Refusal::SmallWorkspace), links, change),
+        enter_record(
+            record,
+            links,
+            change,
+            slip,
+            out,
+            index_out,
+            &mut work[0..limits::WORKSPACE],
+        )
     );
-    workspace::clear(work, limits::WORKSPACE);
     after(r, links, change)
 }

@@ -24,24 +24,9 @@ ghost use Rattle.matching.specs.Index.{make_index_outcome, check_index_outcome, 
 ghost use Rattle.matching.specs.Enter.{Commits};
 
 use asking::Asked;
-use packed::reply::{Both, Refusal, Reply};
-use packed::{limits, workspace};
+use packed::reply::{Both, Reply};
+use packed::{lent, limits};
 use state::{Link, Slip, State};
-
-// How many words of the workspace a call leaves zero.
-const CLEARED: usize = limits::WORKSPACE;
-
-// The call is lent the words to work in, and these are cleared behind it; without enough of them it is refused.
-macro_rules! lent {
-    ($work:ident, $small:expr, $call:expr) => {{
-        if $work.len() < limits::WORKSPACE {
-            return $small;
-        }
-        let r = $call;
-        workspace::clear($work, CLEARED);
-        r
-    }};
-}
 
 // Searches a record for a pattern: writes the pattern's sheet.
 pub fn search(pattern: &[u8], record: &[u8], out: &mut [u8], work: &mut [u32]) -> Reply
@@ -49,7 +34,6 @@ pub fn search(pattern: &[u8], record: &[u8], out: &mut [u8], work: &mut [u32]) -
 {
     lent!(
         work,
-        Err(Refusal::SmallWorkspace),
         calls::search(pattern, record, None, out, &mut work[0..limits::WORKSPACE])
     )
 }
@@ -66,7 +50,6 @@ pub fn make_book(
 {
     lent!(
         work,
-        Err(Refusal::SmallWorkspace),
         calls::make_book(
             catalogue,
             one_way as u32,
@@ -83,7 +66,6 @@ pub fn make_index(record: &[u8], out: &mut [u16], work: &mut [u32]) -> Reply
 {
     lent!(
         work,
-        Err(Refusal::SmallWorkspace),
         indexed::make(record, out, &mut work[0..limits::WORKSPACE])
     )
 }
@@ -94,7 +76,6 @@ pub fn check_index(record: &[u8], index: &[u16], work: &mut [u32]) -> Reply
 {
     lent!(
         work,
-        Err(Refusal::SmallWorkspace),
         indexed::check(record, index, &mut work[0..limits::WORKSPACE])
     )
 }
@@ -111,7 +92,6 @@ pub fn search_indexed(
 {
     lent!(
         work,
-        Err(Refusal::SmallWorkspace),
         calls::search(
             pattern,
             record,
@@ -136,7 +116,6 @@ pub fn ask(
 {
     lent!(
         work,
-        Err(Refusal::SmallWorkspace),
         asking::ask(
             catalogue,
             one_way as u32,

@@ -29,16 +29,21 @@ ghost use Rattle.packed.specs.Refusals.{reply_told};
 ghost use Rattle.packed.specs.OldRecord.{record_sorted};
 ghost use Rattle.packed.specs.Calls.{OneOutput, pattern_read, catalogue_read, record_read, sheet_read, book_read, pattern_written, catalogue_written, record_written, sheet_written, book_written};
 
-use reply::{Refusal, Reply};
+use reply::Reply;
 
-// The call has the words to work in, and these are cleared behind it; without enough of them it is refused.
+// The call has the words to work in, and these are cleared behind it; without enough of them it is refused, as a Result or by what is given for that. It is
+// for the crates above too. A function that takes the call as a closure would learn nothing of the outputs that this captures.
+#[macro_export]
 macro_rules! lent {
-    ($work:ident, $call:expr) => {{
-        if $work.len() < limits::WORKSPACE {
-            return Err(Refusal::SmallWorkspace);
+    ($work:ident, $call:expr) => {
+        $crate::lent!($work, Err($crate::reply::Refusal::SmallWorkspace), $call)
+    };
+    ($work:ident, $small:expr, $call:expr) => {{
+        if $work.len() < $crate::limits::WORKSPACE {
+            return $small;
         }
         let r = $call;
-        workspace::clear($work, limits::WORKSPACE);
+        $crate::workspace::clear($work, $crate::limits::WORKSPACE);
         r
     }};
 }

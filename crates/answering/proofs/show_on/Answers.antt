@@ -1,18 +1,7 @@
 -- `answering::show_on` meets its contract.
-use mathlib.Core.Path.{refl}
-use mathlib.Core.List.{[], ◌∷◌}
-use lib.ListN.{length}
-use Rattle.packed.proofs.CallLaws.{small_settled, lent_settled}
-use Rattle.matching.specs.Offered.{brings}
 use Rattle.containment.specs.Terms.{show_on}
 use Rattle.answering.proofs.show_on.Goals as goal
 
-pub returns-then-work-lt-WORKSPACE : goal.returns-then-work-lt-WORKSPACE
-returns-then-work-lt-WORKSPACE c =
-    let a = c.args in
-    small_settled [] (show_on a.question.now (brings a.catalogue.now a.one_way) a.terms a.day (length a.first.now) (length a.second.now)) a.work.now (a.first.now ∷ a.second.now ∷ []) c.if-work-lt-WORKSPACE.true refl
-
 pub returns : goal.returns
-returns c =
-    let a = c.args in
-    lent_settled [] (show_on a.question.now (brings a.catalogue.now a.one_way) a.terms a.day (length a.first.now) (length a.second.now)) a.work.now c.if-work-lt-WORKSPACE.false c.show_on-r.ensures c.show_on-r.new.work c.show_on-r.auto.work c.clear.ensures
+unfolding show_on
+returns c = c.show_for.ensures

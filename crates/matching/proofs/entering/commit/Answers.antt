@@ -1,7 +1,9 @@
 -- `matching::entering::commit` meets its contract.
+use borrow.Author.Rules.{rules}
 use mathlib.Core.Path.{refl}
 use mathlib.Core.List.{[], ◌∷◌}
 use lib.ListN.{length}
+use native.Mathlib.Omega.{arith}
 use Rattle.packed.specs.declared.reply.Refusal.TheVariants.{SmallWorkspace}
 use Rattle.packed.proofs.CallLaws.{small_settled, lent_settled}
 use Rattle.matching.specs.Enter.{state_of, commit_outcome}
@@ -9,13 +11,13 @@ use Rattle.matching.proofs.EnteringLaws.{commits_by}
 use Rattle.matching.proofs.entering.commit.Goals as goal
 use Rattle.std.specs.Prelude.{Err}
 
-pub returns-then-work-lt-WORKSPACE : goal.returns-then-work-lt-WORKSPACE
-returns-then-work-lt-WORKSPACE c =
-    commits_by c.args.«record».now c.args.links c.args.change c.args.slip (Err SmallWorkspace) c.after.result c.after.ensures
-    (small_settled [] (commit_outcome c.args.«record».now (state_of c.args.links c.args.change) c.args.slip (length c.args.out.now) (length c.args.index_out.now)) c.args.work.now (c.args.out.now ∷ c.args.index_out.now ∷ []) c.if-work-lt-WORKSPACE.true refl)
-
 pub returns : goal.returns
 returns c =
-    let e = c.enter_record-r in
+    commits_by c.args.«record».now c.args.links c.args.change c.args.slip (Err SmallWorkspace) c.after.result c.after.ensures
+    (small_settled [] (commit_outcome c.args.«record».now (state_of c.args.links c.args.change) c.args.slip (length c.args.out.now) (length c.args.index_out.now)) c.args.work.now (c.args.out.now ∷ c.args.index_out.now ∷ []) (omega arith) refl)
+
+pub returns-2 : goal.returns-2
+returns-2 c =
+    let e = c.enter_record in
     commits_by c.args.«record».now c.args.links c.args.change c.args.slip e.result c.after-2.result c.after-2.ensures
-    (lent_settled [] (commit_outcome c.args.«record».now (state_of c.args.links c.args.change) c.args.slip (length c.args.out.now) (length c.args.index_out.now)) c.args.work.now c.if-work-lt-WORKSPACE.false e.ensures.0 e.new.work e.auto.work c.clear.ensures)
+    (lent_settled [] (commit_outcome c.args.«record».now (state_of c.args.links c.args.change) c.args.slip (length c.args.out.now) (length c.args.index_out.now)) c.args.work.now (omega arith) e.ensures.0 e.new.work e.auto.work (search rules))

@@ -30,7 +30,7 @@ returns c =
     let w = c.write_both in (
       λ ws e.
           let q : h.fields ≡ ws = cc (h.is, e) in
-          link_accepted ws c.args.links c.args.change c.args.slip (length c.args.out.now) (length c.args.index_out.now) (c.args.out.now ∷ c.args.index_out.now ∷ []) c.if-slip-change.false c.if-change-eq-CHANGE_MOST.false (rw q at j.judged) (w.ensures ws e),
+          link_accepted ws c.args.links c.args.change c.args.slip (length c.args.out.now) (length c.args.index_out.now) (c.args.out.now ∷ c.args.index_out.now ∷ []) c.if-slip-change.false c.if-change-eq-CHANGE_MOST.false (rw (q, c.from-link.ensures) at j.judged) (rw c.from-link.ensures at w.ensures ws e),
       counted_by w.result (omega (arith, j.count, j.may.room)) (omega (arith, c.if-change-eq-CHANGE_MOST.false, c.ranges.change)),
     )
 
@@ -38,4 +38,4 @@ pub returns-in_err-at : goal.returns-in_err-at
 returns-in_err-at c =
     let h = c.requires.0 in
     let j = c.in_err-at.ensures c.args.«record».now c.requires.0 in
-    rw (err_is c.from_residual.result c.from_residual.ensures.1) ((λ ws e. (let q : h.fields ≡ ws = cc (h.is, e) in link_refused ws c.args.links c.args.change c.args.slip (length c.args.out.now) (length c.args.index_out.now) (c.args.out.now ∷ c.args.index_out.now ∷ []) c.if-slip-change.false c.if-change-eq-CHANGE_MOST.false c.in_err-at.field-0.0 (rw q at j)), tt))
+    rw (err_is c.from_residual.result c.from_residual.ensures.1) ((λ ws e. (let q : h.fields ≡ ws = cc (h.is, e) in link_refused ws c.args.links c.args.change c.args.slip (length c.args.out.now) (length c.args.index_out.now) (c.args.out.now ∷ c.args.index_out.now ∷ []) c.if-slip-change.false c.if-change-eq-CHANGE_MOST.false c.in_err-at.field-0.0 (rw (q, c.from-link.ensures) at j)), tt))
