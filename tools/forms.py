@@ -65,6 +65,18 @@ def own_results(text):
             yield m.group(1), text.count("\n", 0, m.start()) + 1
 
 
+# What a regular expression finds by itself: the point, what it is, how it is written; point 0 is what takes its place.
+WRITTEN = [
+    (1, "their variants made or matched", r"\b(?:Field|Two|Three|Part|Reply|Both|Graph|Place|Asked|Several|Cheapest|FirstDay)::[A-Z]\w+|\bCoverage::Refused"),
+    (1, "refusals handed on by hand", r"else \{\s*return \w+;\s*\}|::Refused\((\w+)\) => (?:\{\s*return )?\w+::Refused\(\1\)|Err\((\w+)\) => (?:\{\s*return )?Err\(\2\)|Refused\((\w+)\) = \w+ \{\s*return"),
+    (1, "a verdict with values beside it that it empties", r"(?m)^ +pub (?:verdict|part|answer): (?:Reply|Part|Both)"),
+    (1, "numbers for kinds of files", r"\bfile: u32|Refusal::\w+\([1-9]\)"),
+    (3, "while", r"\bwhile ([^{]*)\{"),
+    (0, "for", r"(?m)^ *for "),
+    (0, "iterators and the library's loops", r"\.(?:iter|iter_mut|rev|zip|map|all|any|sum|fill|copy_within|copy_from_slice|partition_point|position|enumerate)\("),
+]
+
+
 def places(files):
     """A list of (point, kind, crate, place) for all that is counted in sources, but twins and shared clauses."""
     found = []
@@ -77,20 +89,9 @@ def places(files):
         at = lambda m: text.count("\n", 0, m.start()) + 1
         for _, line in own_results(code):
             add(1, "own enums of the shape of Option or Result", path, line)
-        for m in re.finditer(r"\b(?:Field|Two|Three|Part|Reply|Both|Graph|Place|Asked|Several|Cheapest|FirstDay)::[A-Z]\w+|\bCoverage::Refused", code):
-            add(1, "their variants made or matched", path, at(m))
-        for m in re.finditer(r"else \{\s*return \w+;\s*\}|::Refused\((\w+)\) => (?:\{\s*return )?\w+::Refused\(\1\)|Err\((\w+)\) => (?:\{\s*return )?Err\(\2\)|Refused\((\w+)\) = \w+ \{\s*return", code):
-            add(1, "refusals handed on by hand", path, at(m))
-        for m in re.finditer(r"^ +pub (?:verdict|part|answer): (?:Reply|Part|Both)", code, re.M):
-            add(1, "a verdict with values beside it that it empties", path, at(m))
-        for m in re.finditer(r"\bfile: u32|Refusal::\w+\([1-9]\)", code):
-            add(1, "numbers for kinds of files", path, at(m))
-        for m in re.finditer(r"\bwhile ([^{]*)\{", code):
-            add(3, "while", path, at(m))
-        for m in re.finditer(r"^ *for ", code, re.M):
-            add(0, "for", path, at(m))
-        for m in re.finditer(r"\.(?:iter|iter_mut|rev|zip|map|all|any|sum|fill|copy_within|copy_from_slice|partition_point|position|enumerate)\(", code):
-            add(0, "iterators and the library's loops", path, at(m))
+        for point, kind, pattern in WRITTEN:
+            for m in re.finditer(pattern, code):
+                add(point, kind, path, at(m))
         for name, line, head, body in functions(code):
             plain = re.sub(r"\s+", " ", body).strip("{} ")
             if re.fullmatch(r"\w+ as \w+", plain) or re.fullmatch(r"if (\w+) < (\w+) \{ (return )?\w+;? \} (else \{ )?\w+( \})?", plain):
