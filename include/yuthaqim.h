@@ -21,10 +21,10 @@
  * before a call. Afterwards the first YUTHAQIM_WORK_WORDS of them are zero and those beyond are as they were; on
  * YUTHAQIM_DESK all of them are as they were.
  *
- * The stack, as measured on large files: sorting an old record 123,192 bytes, committing 115,488, answering several
- * questions 109,816, finding a part 100,296, answering 95,976, making a book 91,432, searching by an index 90,472,
- * searching 90,424, asking 89,048, quoting 44,904, the cheapest set 35,368, the first day 33,400, showing 31,064,
- * checking an index 8,592, reading a book 6,712, writing one 6,680, the others under 2,400. So 128 KB suffice.
+ * The stack, as measured on large files: sorting an old record 123,192 bytes, committing 115,480, answering several
+ * questions 108,600, finding a part 100,280, answering 95,960, making a book 91,432, searching by an index 90,440,
+ * searching 90,408, asking 89,032, quoting 36,408, the first day 33,384, showing 31,048, the cheapest set 30,824,
+ * checking an index 8,592, reading a book 6,712, writing one 6,696, the others under 1,900. So 128 KB suffice.
  *
  * Content is a file's fields in order, one word each, padding left out. That of a pattern or a record is the number of
  * items, the number of links, the kind of each item or in a record its kinds, and for each link its from, its to and its

@@ -114,6 +114,8 @@ fn settle(
 }
 
 // The cheapest set of usable views from the table of a quote, by the charges of k views; beside it the set that a quote by these chooses.
+// It is a call of its own, so that its tables don't lie on the stack while the question is judged.
+#[inline(never)]
 fn cheapest_of(mapping: &[u32; 512], usable: u32, charges: &[u32], k: usize, m: usize) -> Cheapest
     requires { (k ≤ 16) × (m ≤ 32) × (length charges.now ≡ k) × (length mapping.now ≡ 512) }
     ensures { cheapest_told result ≡ told_of [] (cheapest_from mapping.now usable m charges.now k) }

@@ -23,7 +23,8 @@ pub fn refused(x: Refusal) -> Quote
     }
 }
 
-// A quote from its table, by the views in the set.
+// A quote from its table, by the views in the set. It is a call of its own, so that its tables don't lie on the stack while the question is judged.
+#[inline(never)]
 fn quote_of(mapping: [u32; 512], set: u32, m: usize, k: usize) -> Quote
     requires { (m ≤ 32) × (k ≤ 16) × (length mapping ≡ 512) }
     ensures { quote_told result ≡ told 0 (flat (values_from mapping set m k)) }

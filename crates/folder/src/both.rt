@@ -6,9 +6,9 @@ use std::rt::Files;
 
 // Where an output goes: the name that it takes, and the one that it has until then.
 #[derive(Clone, Copy)]
-struct Names<'a> {
-    name: &'a [u8],
-    temporary: &'a [u8],
+pub struct Names<'a> {
+    pub name: &'a [u8],
+    pub temporary: &'a [u8],
 }
 
 // Both under their temporary names, or neither.
@@ -46,7 +46,7 @@ fn place(rt: &(impl Files + Eprint), first: Names, second: Names, folder: &[u8])
 }
 
 // Each becomes the file of its name, by way of a new file of its temporary name, and a line says how long they are.
-fn keep(
+fn keep_whole(
     rt: &(impl Files + Print + Eprint),
     first: &[u8],
     first_names: Names,
@@ -72,24 +72,27 @@ fn keep(
     Ok(())
 }
 
-// The first n bytes of the one output and m of the other. A call never answers more than it was lent.
-fn keep_written(
+// The first n bytes of the one output and m of the other become the files of these names, each by way of a new file of its temporary name, and a line
+// says how long they are. `folder` is the name of the second with a slash behind it. A call never answers more than it was lent.
+pub fn keep(
     rt: &(impl Files + Print + Eprint),
-    first: Option<&[u8]>,
+    first: &[u8],
+    n: usize,
     first_names: Names,
-    second: Option<&[u8]>,
+    second: &[u8],
+    m: usize,
     second_names: Names,
     folder: &[u8],
 ) -> io::Result<()> {
-    let Some(first) = first else {
+    let Some(first) = first.get(..n) else {
         lines::failed(rt, first_names.name);
         return Ok(());
     };
-    let Some(second) = second else {
+    let Some(second) = second.get(..m) else {
         lines::failed(rt, second_names.name);
         return Ok(());
     };
-    keep(rt, first, first_names, second, second_names, folder)
+    keep_whole(rt, first, first_names, second, second_names, folder)
 }
 
 // A call that wrote a part of a question and its answer is finished: they become the files `part` and `part_answer`. A refusal is printed and leaves
@@ -109,11 +112,13 @@ pub fn finish_part(
         temporary: b"part_answer.new",
     };
     match found {
-        Ok((n, m)) => keep_written(
+        Ok((n, m)) => keep(
             rt,
-            part.get(..n),
+            part,
+            n,
             part_names,
-            answer.get(..m),
+            answer,
+            m,
             answer_names,
             b"part_answer/",
         ),
@@ -137,11 +142,13 @@ pub fn finish_show(
         temporary: b"second.new",
     };
     match shown {
-        Ok((n, m)) => keep_written(
+        Ok((n, m)) => keep(
             rt,
-            first.get(..n),
+            first,
+            n,
             first_names,
-            second.get(..m),
+            second,
+            m,
             second_names,
             b"second/",
         ),

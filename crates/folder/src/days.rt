@@ -29,13 +29,18 @@ impl Days {
         days
     }
 
-    // The first line, of sixteen at most, whose from-day isn't below its to-day.
-    pub fn first_turned(&self) -> Option<usize> {
+    // The first of so many lines, sixteen at most, whose from-day isn't below its to-day.
+    pub fn first_turned_of(&self, lines: usize) -> Option<usize> {
         self.from
             .iter()
             .zip(&self.to)
-            .take(self.count)
+            .take(lines)
             .position(|(from, to)| *to <= *from)
+    }
+
+    // The first of all its lines.
+    pub fn first_turned(&self) -> Option<usize> {
+        self.first_turned_of(self.count)
     }
 }
 

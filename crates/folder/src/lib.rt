@@ -37,14 +37,23 @@ fn fault(text: Result<usize, WrongLine>, wanted: usize) -> usize {
     line.min(wanted.wrapping_add(1))
 }
 
-// The numbers of the file of this name, one to a line. One that has anything else, or another number of them, is a failure, and is said to be one.
+// The numbers of the file of this name, one to a line, as many as there are places. One that has anything else is a failure, and is said to be one.
+pub fn list_into(rt: &(impl Files + Eprint), name: &[u8], out: &mut [u32]) -> bool {
+    let wanted = out.len();
+    let text = numbers::read_list(rt, name, out);
+    if text == Ok(wanted) {
+        return true;
+    }
+    lines::failed_at(rt, name, fault(text, wanted));
+    false
+}
+
+// The same, where how many there are stands in the type.
 pub fn list<const N: usize>(rt: &(impl Files + Eprint), name: &[u8]) -> Option<[u32; N]> {
     let mut list = [0; N];
-    let text = numbers::read_list(rt, name, &mut list);
-    if text == Ok(N) {
+    if list_into(rt, name, &mut list) {
         return Some(list);
     }
-    lines::failed_at(rt, name, fault(text, N));
     None
 }
 

@@ -1,10 +1,10 @@
 -- The views of an accepted catalogue in batches: which bits are whose, what filling a batch keeps, and what a view's bits say once it is matched.
-use Prim.Native.Nat.{ℕ, zero, suc, ◌+◌, ◌<◌, ◌≤◌}
+use Prim.Native.Nat.{ℕ, zero, suc, ◌+◌, ◌*◌, ◌<◌, ◌≤◌}
 use mathlib.Core.Path.{◌≡◌, refl, sym, ap, subst, ◌∙◌}
 use mathlib.Core.Bool.{Bool, true, false, ◌||◌}
 use mathlib.Core.Logic.{◌⊎◌, inl, inr, ⊎_elim}
 use mathlib.Core.List.{List, []}
-use lib.ListN.{length, drop, get_or, get_or-map}
+use lib.ListN.{length, drop, get_or, length-drop, get_or-map}
 use lib.Seq.{get_or-take, drop-cons}
 use lib.Dec.{ltb}
 use borrow.Author.Tests.{ltb-true, ltb-false}
@@ -12,6 +12,7 @@ use native.Mathlib.Omega.{arith}
 use Rattle.packed.specs.Contents.{edges_of, views_of, edge_counts}
 use Rattle.packed.specs.Calls.{accepted, read_catalogue}
 use Rattle.packed.specs.Accepting.{HoldsViews}
+use Rattle.packed.specs.Reading.{Stands}
 use Rattle.packed.specs.Matches.{matches_from, sum_of}
 use Rattle.packed.specs.declared.by_value.Pattern.{Pattern as Given}
 use Rattle.packed.proofs.OrderCases.{lt_or_ge}
@@ -50,6 +51,18 @@ module _ (cs : List ℕ) where
   -- and by the table that was made when the catalogue was accepted
   pub table_of : {k : ℕ} {counts : List ℕ} → HoldsViews cs k counts → (j : ℕ) → j < k → get_or counts j 0 ≡ edges_of (get_or (views_of cs) j [])
   table_of {k} {counts} h j l = sym (get_or-take k counts j 0 l) ∙ ap (λ (t : List ℕ). get_or t j 0) h.are ∙ count_of j
+
+  -- the first view's bits are the lowest, and those of each other come behind those of the one before
+  pub stands_start : (a : ℕ) → StandsAt cs a a 0
+  stands_start a = omega arith
+
+  pub stands_next : (a j at : ℕ) → StandsAt cs a j at → StandsAt cs a (j + 1) (at + edges_of (get_or (views_of cs) j []))
+  stands_next a j at s = omega (arith, s, sum_next j (edge_counts cs), count_of j)
+
+  -- there are 32 bits
+  pub stands_fits : (a j at next : ℕ) → StandsAt cs a j at → j < next → sum_of next (edge_counts cs) ≤ sum_of a (edge_counts cs) + 32
+      → at + edges_of (get_or (views_of cs) j []) ≤ 32
+  stands_fits a j at next s l few = omega (arith, s, sum_next j (edge_counts cs), sum_grows (j + 1) next (edge_counts cs) (omega arith), count_of j)
 
 -- ---- filling a batch
 -- so many edges and nodes are too many
@@ -126,6 +139,10 @@ filling_start {c} {k} one {a} q l begins f n e =
     }
 
 module _ {c : List ℕ} {one k a : ℕ} {b : Batch} {byte next : ℕ} (z : Filling c one k a b byte next) where
+  pub filling_stands : next < k → Stands c (8 * byte) 0
+  filling_stands some =
+      record { small = z.small; inside = omega (arith, z.ahead.inside (omega (arith, length-drop next (views_of z.fields), z.number))); few = omega arith }
+
   -- what is answered, where a view was added
   fills_by : a < next → Fills c one k a (record { batch = b; next = next; byte = byte })
   fills_by l =

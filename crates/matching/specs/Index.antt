@@ -26,5 +26,6 @@ abbrev pub search_by : Pattern → List ℕ → Option (Bor (List ℕ)) → ℕ 
 search_by P r None room = search_for P r room
 search_by P r (Some index) room = search_indexed_for P r index.now room
 
+-- inner: the same, once the pattern is judged
 abbrev pub search_by_outcome : List ℕ → List ℕ → Option (Bor (List ℕ)) → ℕ → Outcome
 search_by_outcome p r index room = judged (read_pattern p) (λ ps. search_by (pattern_of ps) r index room)

@@ -22,7 +22,8 @@ const EDGES: usize = 32;
 const NODES: usize = 64;
 
 // The batch of the view a, which begins on the byte, and of those after it that have room, in their order. The numbers of edges tell where there is
-// none, so that a view is read once.
+// none, so that a view is read once. It is a call of its own, so that a pattern by value doesn't lie on the stack while a batch is matched.
+#[inline(never)]
 pub fn fill(
     catalogue: &[u8],
     one_way: u32,

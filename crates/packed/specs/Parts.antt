@@ -2,13 +2,15 @@
 use Rattle.std.specs.Prelude.{ℕ, Option, Result}
 use Rattle.packed.specs.declared.reply.Refusal.{Refusal}
 
--- inner: one field, two, three
+-- inner: one field
 abbrev pub ReadValue : Type 0
 ReadValue = Result ℕ Refusal
 
+-- inner: two fields
 abbrev pub ReadTwo : Type 0
 ReadTwo = Result (ℕ × ℕ) Refusal
 
+-- inner: three fields
 abbrev pub ReadThree : Type 0
 ReadThree = Result (ℕ × ℕ × ℕ) Refusal
 

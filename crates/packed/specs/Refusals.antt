@@ -1,7 +1,7 @@
 -- The number and the detail of each refusal, and of every answer that is an enum: 0 for success, and then its values.
 use Rattle.std.specs.Prelude.{ℕ, List, [], ◌∷◌, Ok, Err}
 use Rattle.packed.specs.declared.reply.File.{File}
-use Rattle.packed.specs.declared.reply.File.TheVariants.{Pattern, Catalogue, Record, Sheet}
+use Rattle.packed.specs.declared.reply.File.TheVariants.{Pattern, Catalogue, Record, Sheet, Other}
 use Rattle.packed.specs.declared.reply.Refusal.{Refusal}
 use Rattle.packed.specs.declared.reply.Refusal.TheVariants.{TooLong, Truncated, OutOfRange, NoSuchNode, DuplicateEdge, NotAscending, IsolatedNode, ZeroCount, Trailing, TooManyPairs, NotContained, NoRoom, Contained, SmallWorkspace, WrongCharges, WrongIndex, WrongQuestions, WrongTerms, WrongSet, OldSlip, LastChange}
 use Rattle.packed.specs.declared.reply.Wrong.{Wrong}
@@ -14,8 +14,9 @@ file_number Pattern = 1
 file_number Catalogue = 2
 file_number Record = 3
 file_number Sheet = 4
+file_number (Other n) = n
 
--- the number of the refusal of a field whose value lies outside its range
+-- inner: the number of the refusal of a field whose value lies outside its range
 abbrev pub wrong_number : Wrong → ℕ
 wrong_number Range = 3
 wrong_number Node = 4

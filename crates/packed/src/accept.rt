@@ -29,7 +29,8 @@ pub struct CatalogueFile {
     pub edges: [u32; 16],
 }
 
-// A pattern: its content stands at the front of the workspace.
+// A pattern: its content stands at the front of the workspace. As a call of its own it takes the stack for a pattern beside that of the caller.
+#[inline(always)]
 pub fn accept_pattern(s: &[u8], work: &mut [u32]) -> Result<PatternFile, Refusal>
     requires { length work.old ≡ 16384 }
     ensures { AcceptsPattern (read_pattern s.now) result work.new }

@@ -2,13 +2,15 @@
 ghost use Rattle.std.specs.Prelude.{◌≡◌};
 ghost use Rattle.packed.specs.Refusals.{file_number, wrong_number, number_of, detail_of};
 
-// The kinds of files. A lone sheet is a book's, and an old record a record.
+// The kinds of files. A lone sheet is a book's, and an old record a record. No call here tells of another one, but a refusal may come from elsewhere, to be
+// printed, and keeps the number that it has.
 #[derive(Clone, Copy, PartialEq, Eq)]
 pub enum File {
     Pattern,
     Catalogue,
     Record,
     Sheet,
+    Other(u32),
 }
 
 impl File {
@@ -21,6 +23,7 @@ impl File {
             File::Catalogue => 2,
             File::Record => 3,
             File::Sheet => 4,
+            File::Other(number) => number as usize,
         }
     }
 }

@@ -14,6 +14,7 @@ use graph::Graph;
 pub fn sheet(pattern: &[u32], record: &[u32], out: &mut [u32]) -> usize {
     let pattern = Graph::pattern(pattern);
     let record = Graph::record(record);
-    let related = simulation::simulate(pattern, record);
+    let mut related = [[false; 4096]; 16];
+    simulation::simulate(pattern, record, &mut related);
     listing::list(pattern, record, &related, out)
 }

@@ -30,14 +30,12 @@ fn start_node(label: u32, record: Graph, row: &mut Row) {
     }
 }
 
-fn start(pattern: Graph, record: Graph) -> Pairs
+fn start(pattern: Graph, record: Graph, related: &mut Pairs)
     requires { pattern.nodes ≤ 16 }
 {
-    let mut related = [[false; 4096]; 16];
     for u in 0..pattern.nodes {
         start_node(pattern.label(u), record, &mut related[u]);
     }
-    related
 }
 
 // How edges are seen: as they leave a node, or as they arrive at one.
@@ -56,20 +54,19 @@ impl Way {
     }
 }
 
-// The nodes of the record from which an edge of this kind leads to a partner of the pattern's node u.
-fn reached(way: Way, u: usize, kind: u32, record: Graph, related: &Pairs) -> Row {
-    let mut reached = [false; 4096];
+// Marks the nodes of the record from which an edge of this kind leads to a partner of the pattern's node u. The row serves all edges, so that a small record clears few flags.
+fn mark_reached(way: Way, u: usize, kind: u32, record: Graph, related: &Pairs, reached: &mut Row) {
+    reached[..record.nodes].fill(false);
     for i in 0..record.edges {
         let edge = way.seen(record.edge(i));
         if edge.kind == kind && is_related(related, u, edge.to) {
             reached[edge.from] = true;
         }
     }
-    reached
 }
 
 // Drops the partners that aren't reached: whether there were some.
-fn keep_reached(row: &mut Row, reached: &Row) -> bool {
+fn keep_reached(row: &mut [bool], reached: &[bool]) -> bool {
     let mut dropped = false;
     for (held, is_reached) in row.iter_mut().zip(reached) {
         if *held && !*is_reached {
@@ -81,39 +78,41 @@ fn keep_reached(row: &mut Row, reached: &Row) -> bool {
 }
 
 // Drops the partners of the pattern's node that this edge leaves, or at which it arrives, from which none of its kind leads to a partner of the other.
-fn support(way: Way, edge: Edge, record: Graph, related: &mut Pairs) -> bool {
+fn support(way: Way, edge: Edge, record: Graph, related: &mut Pairs, reached: &mut Row) -> bool {
     let edge = way.seen(edge);
-    let reached = reached(way, edge.to, edge.kind, record, related);
+    let n = record.nodes;
+    mark_reached(way, edge.to, edge.kind, record, related, reached);
     match related.get_mut(edge.from) {
-        Some(row) => keep_reached(row, &reached),
+        Some(row) => keep_reached(&mut row[..n], &reached[..n]),
         None => false,
     }
 }
 
 // One pass over the pattern's edges, as each leaves the one node and as it arrives at the other: whether a pair was dropped.
-fn pass(pattern: Graph, record: Graph, related: &mut Pairs) -> bool {
+fn pass(pattern: Graph, record: Graph, related: &mut Pairs, reached: &mut Row) -> bool {
     let mut dropped = false;
     for i in 0..pattern.edges {
         let edge = pattern.edge(i);
-        dropped |= support(Way::Leaving, edge, record, related);
-        dropped |= support(Way::Arriving, edge, record, related);
+        dropped |= support(Way::Leaving, edge, record, related, reached);
+        dropped |= support(Way::Arriving, edge, record, related, reached);
     }
     dropped
 }
 
 // Passes until one drops nothing: each of the others drops one of 65,536 pairs at least.
 fn passes(pattern: Graph, record: Graph, related: &mut Pairs) {
+    let mut reached = [false; 4096];
     for _ in 0..65537 {
-        if !pass(pattern, record, related) {
+        if !pass(pattern, record, related, &mut reached) {
             break;
         }
     }
 }
 
-pub fn simulate(pattern: Graph, record: Graph) -> Pairs
+// The pairs come with no flag set, and are lent, since they would be copied if they were given.
+pub fn simulate(pattern: Graph, record: Graph, related: &mut Pairs)
     requires { pattern.nodes ≤ 16 }
 {
-    let mut related = start(pattern, record);
-    passes(pattern, record, &mut related);
-    related
+    start(pattern, record, related);
+    passes(pattern, record, related);
 }
